@@ -9,8 +9,8 @@ use crate::folders::{FolderSource, Folders};
 use crate::warning::{outline_of, tell_uncompared, tell_warnings};
 use disk_model::Disk;
 use history_store::{Refusal, Store};
-use import_check::Release;
-use line_server::{ServeFault, Source, SourceFault};
+use import_check::{Release, Scope};
+use line_server::{ServeFault, Source, SourceFault, scope_for};
 use std::alloc::Global;
 use std::io::{self, Write};
 
@@ -28,15 +28,20 @@ impl<F: Folders, E: Write> Source for CheckSource<'_, F, E> {
 
     ghost releases = { λ s. F.releases s.folder.folders.now s.folder.dir.now };
 
-    fn release(&mut self, alloc: Global, name: &str) -> Result<Release, SourceFault> {
-        self.folder.release(alloc, name)
+    fn release(
+        &mut self,
+        alloc: Global,
+        name: &str,
+        scope: Scope,
+    ) -> Result<Release, SourceFault> {
+        self.folder.release(alloc, name, scope)
     }
 
-    fn note_refusal(&mut self, alloc: Global, name: &str, refusal: Refusal) {
+    fn note_refusal(&mut self, alloc: Global, name: &str, scope: Scope, refusal: Refusal) {
         if matches!(refusal, Refusal::Contradiction { .. }) {
             self.refused = Some(refusal);
         } else {
-            self.folder.note_refusal(alloc, name, refusal);
+            self.folder.note_refusal(alloc, name, scope, refusal);
         }
     }
 }
@@ -58,14 +63,15 @@ impl<F: Folders, E: Write> CheckSource<'_, F, E> {
             return;
         }
         // What there is to say of the folder was said when it was read first.
-        let again = self
-            .folder
-            .folders
-            .release(alloc, self.folder.dir, name, true, &mut io::sink());
+        let scope = scope_for(store);
+        let again =
+            self.folder
+                .folders
+                .release(alloc, self.folder.dir, name, scope, true, &mut io::sink());
         match again {
             Ok(release) => self.tell_of(alloc, name, release, store),
             Err(_) => {
-                self.tell_one(alloc, name);
+                self.tell_one(alloc, name, scope);
                 tell_uncompared(self.folder.faults);
             }
         }
@@ -104,21 +110,22 @@ impl<F: Folders, E: Write> CheckSource<'_, F, E> {
         if self.refused.is_none() {
             return;
         }
+        let scope = scope_for(store);
         let Ok(files) = files_without_bytes(alloc, &release.files) else {
-            self.tell_one(alloc, name);
+            self.tell_one(alloc, name, scope);
             return;
         };
         match store.contradictions(release, MOST_TOLD) {
             Ok(found) => tell_contradictions(alloc, &files, &found, store, self.folder.faults),
-            Err(_) => self.tell_one(alloc, name),
+            Err(_) => self.tell_one(alloc, name, scope),
         }
     }
 
     /// Tells the contradiction for which the release was refused,
     /// as an import does. Whether it is the only one isn't known.
-    fn tell_one(&mut self, alloc: Global, name: &str) {
+    fn tell_one(&mut self, alloc: Global, name: &str, scope: Scope) {
         if let Some(refused) = self.refused {
-            self.folder.note_refusal(alloc, name, refused);
+            self.folder.note_refusal(alloc, name, scope, refused);
             let _ = writeln!(
                 self.folder.faults,
                 "sctd: there may be more contradictions, which couldn't be looked for"

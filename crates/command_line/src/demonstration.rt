@@ -1,7 +1,7 @@
 //! The demonstration: the script that it serves, and the releases that the script imports.
 
 use history_store::Refusal;
-use import_check::Release;
+use import_check::{Release, Scope};
 use line_server::{Source, SourceFault};
 use samples::sample;
 use std::alloc::Global;
@@ -39,9 +39,14 @@ impl Source for Samples {
 
     ghost is_honest = { λ _. ⊤ };
 
-    ghost releases = { λ _ name. sample_files name };
+    ghost releases = { λ _ _ name. sample_files name };
 
-    fn release(&mut self, alloc: Global, name: &str) -> Result<Release, SourceFault> {
+    fn release(
+        &mut self,
+        alloc: Global,
+        name: &str,
+        _scope: Scope,
+    ) -> Result<Release, SourceFault> {
         match sample(alloc, name) {
             Ok(Some(release)) => Ok(release),
             Ok(None) => Err(SourceFault::NoFolder),
@@ -49,5 +54,5 @@ impl Source for Samples {
         }
     }
 
-    fn note_refusal(&mut self, _alloc: Global, _name: &str, _refusal: Refusal) {}
+    fn note_refusal(&mut self, _alloc: Global, _name: &str, _scope: Scope, _refusal: Refusal) {}
 }

@@ -3,11 +3,11 @@
 ghost use Rattle.std.specs.Prelude.{◌≡◌, ℕ, List, IfOk, IfErr, true, false};
 ghost use Rattle.line_server.specs.Sources.{Releases, IsGiven};
 
-use crate::progress::{Progress, tell_taken};
+use crate::progress::{Progress, tell_later, tell_taken};
 use crate::telling::{Context, Told, is_about_row, tell_row, tell_why};
 use disk_model::{DiskFault, sync_folder_of};
 use history_store::Refusal;
-use import_check::Release;
+use import_check::{Release, Scope};
 use line_server::{Source, SourceFault};
 use release_folder::{FolderFault, read_release};
 use shown_names::Shown;
@@ -49,17 +49,19 @@ pub trait Folders {
         ensures found { result ≡ true → finds self.now dir.now }
         ensures missing { result ≡ false → lacks self.now dir.now };
 
-    /// The release in a folder below one. Where there is none, `faults` is told why. It is also
-    /// told which files are read and passed over; if `quiet`, only of those that may be wrong.
+    /// The release in a folder below one, as far as the scope asks for its files. Where there is
+    /// none, `faults` is told why. It is also told which files are read and passed over; if `quiet`,
+    /// only of those that may be wrong.
     fn release<E: Write>(
         &self,
         alloc: Global,
         dir: &str,
         name: &str,
+        scope: Scope,
         quiet: bool,
         faults: &mut E,
     ) -> Result<Release, SourceFault>
-        ensures { is_honest self.now → IsGiven result (releases self.now dir.now name.now) };
+        ensures { is_honest self.now → IsGiven result (releases self.now dir.now scope name.now) };
 }
 
 /// The real folders. Nothing is claimed of what they hold.
@@ -76,7 +78,7 @@ impl<R: Files<File = File> + AllocGlobal + Clone + Drop> Folders for R {
 
     ghost is_honest = { λ _. ⊥ };
 
-    ghost releases = { λ _ _ _. None };
+    ghost releases = { λ _ _ _ _. None };
 
     ghost finds = { λ _ _. Unit {0} };
 
@@ -123,15 +125,25 @@ impl<R: Files<File = File> + AllocGlobal + Clone + Drop> Folders for R {
         alloc: Global,
         dir: &str,
         name: &str,
+        scope: Scope,
         quiet: bool,
         faults: &mut E,
     ) -> Result<Release, SourceFault> {
-        let read = {
-            let mut progress = Progress { faults, quiet };
-            read_release(self, alloc, dir, name, &mut progress)
+        let (read, later) = {
+            let mut progress = Progress {
+                faults,
+                scope,
+                quiet,
+                later: 0,
+            };
+            let read = read_release(self, alloc, dir, name, scope, &mut progress);
+            (read, progress.later)
         };
         match read {
-            Ok(release) => Ok(release),
+            Ok(release) => {
+                tell_later(later, quiet, faults);
+                Ok(release)
+            }
             Err(fault) => match fault.fault() {
                 FolderFault::OutOfMemory => Err(SourceFault::OutOfMemory),
                 FolderFault::NoFolder => {
@@ -170,24 +182,29 @@ impl<F: Folders, E: Write> Source for FolderSource<'_, F, E> {
 
     ghost releases = { λ s. F.releases s.folders.now s.dir.now };
 
-    fn release(&mut self, alloc: Global, name: &str) -> Result<Release, SourceFault> {
+    fn release(
+        &mut self,
+        alloc: Global,
+        name: &str,
+        scope: Scope,
+    ) -> Result<Release, SourceFault> {
         let given = self
             .folders
-            .release(alloc, self.dir, name, self.quiet, self.faults);
+            .release(alloc, self.dir, name, scope, self.quiet, self.faults);
         if let Ok(release) = &given {
-            tell_taken(release, self.doing, self.quiet, self.faults);
+            tell_taken(release, self.doing, scope, self.quiet, self.faults);
         }
         given
     }
 
-    fn note_refusal(&mut self, alloc: Global, name: &str, refusal: Refusal) {
+    fn note_refusal(&mut self, alloc: Global, name: &str, scope: Scope, refusal: Refusal) {
         if !is_about_row(refusal) {
             return;
         }
         // What there is to say of the folder was said when it was read first.
         let again = self
             .folders
-            .release(alloc, self.dir, name, true, &mut io::sink());
+            .release(alloc, self.dir, name, scope, true, &mut io::sink());
         match again {
             Ok(release) => tell_row(&release.files, refusal, self.faults),
             Err(_) => tell_row(&[], refusal, self.faults),

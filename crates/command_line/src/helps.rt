@@ -27,8 +27,9 @@ The guide tells more: docs/GUIDE.md, \"Importing a release\"";
 pub(crate) const SERVE: &str =
     "A line is the number of a session, 0 to 1023, a command and its arguments, with
 single spaces between them. A date is eight digits. A kind is C (concepts),
-D (descriptions), R (relationships), A (association members) or V (relationships
-with concrete values). An id is an SCTID, of an association member its UUID.
+D (descriptions), R (relationships), A (association members), V (relationships
+with concrete values) or M (members of other reference sets; layout 3). An id is
+an SCTID, of a member its UUID.
 
 Questions, of the latest version of each component up to a date:
   0 GET C 1000004 20210131       the component's row
@@ -37,23 +38,37 @@ Questions, of the latest version of each component up to a date:
   0 TERMS 20210131 10 we         at most 10 active descriptions that begin with \"we\"
   0 SEARCH 20210131 - 10 we      the same; an id in place of - gives those behind it
   0 REPLACED 1000004 20210131    the active associations of the component
-  0 ABOUT D 1000004 20210131     the active rows of a kind (D, R, V, A) about it
+  0 ABOUT D 1000004 20210131     the active rows of a kind (D, R, V, A, M) about it
   0 PAGE C 20210131 - 100        at most 100 rows of the kind, from the first id on
   0 PAGE C 20210131 1000004 100  the same, behind this id
   0 STATUS                       how many imports, rows and segments there are, and
                                  how many rows are left to a merge
 
+Questions of reference sets (layout 3), which are concepts, as 723264001:
+  0 CALLED 1000004 20210131 900000000000509007
+                                 what the concept was called in a language: each
+                                 active description in it, and its member
+  0 VALUES 723264001 20210131 - 100
+                                 the active members, in the order of the components
+                                 that they refer to; one in place of - gives those
+                                 behind it
+  0 MEMBERS 723264001 20210131 - 100
+                                 all members, from the first UUID on
+
 Questions of an audit:
   0 ANCESTORS 1000004 20210131       all concepts above the concept
   0 DESCENDANTS 138875005 20210131   all concepts below it
   0 REPLACES 2000001 20210131        the active associations that lead to the component
-  0 TIMELINE D 1000004               all versions of what was ever about it (D, R, V, A)
+  0 TIMELINE D 1000004               all versions of what was ever about it
+                                     (D, R, V, A, M)
   0 DELTA C 20200131 20210131 - 100  what changed after the one date, up to the other
   0 DATES                            the dates that have rows
+  0 DIGEST                           the SHA-256 of all rows that the session sees
   0 AT 1 GET C 1000004 20210131      a question, of what the first import brought
 
 Imports and pins:
   0 IMPORT r3                    imports the release in this folder below DIR
+  0 CHECK r3                     answers what IMPORT would, and changes nothing
   0 RECEIPT 1                    how many rows import 1 brought, up to which date
   0 PIN                          the session sees the present imports from now on
   0 PIN 1                        it sees the first import alone

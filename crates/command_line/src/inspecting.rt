@@ -10,7 +10,7 @@ use crate::endings::{Ending, refuse};
 use crate::telling::{Figures, Told};
 use disk_model::Disk;
 use history_store::{Refusal, Store};
-use import_check::Release;
+use import_check::{Release, Scope};
 use line_server::{ServeFault, Source, SourceFault};
 use std::alloc::Global;
 use std::io::Write;
@@ -27,13 +27,18 @@ impl Source for NoReleases {
 
     ghost is_honest = { λ _. ⊤ };
 
-    ghost releases = { λ _ _. None };
+    ghost releases = { λ _ _ _. None };
 
-    fn release(&mut self, _alloc: Global, _name: &str) -> Result<Release, SourceFault> {
+    fn release(
+        &mut self,
+        _alloc: Global,
+        _name: &str,
+        _scope: Scope,
+    ) -> Result<Release, SourceFault> {
         Err(SourceFault::NoFolder)
     }
 
-    fn note_refusal(&mut self, _alloc: Global, _name: &str, _refusal: Refusal) {}
+    fn note_refusal(&mut self, _alloc: Global, _name: &str, _scope: Scope, _refusal: Refusal) {}
 }
 
 /// Tells the status of the store of a device, which comes back; and what is told of

@@ -1,6 +1,6 @@
 //! What people are told while a release is imported.
 
-use import_check::{Release, ReleaseFile};
+use import_check::{Release, ReleaseFile, Scope};
 use release_folder::{Watcher, is_nearly_to_take, kind_to_take, lacks};
 use rf2_values::Kind;
 use shown_names::Shown;
@@ -10,8 +10,12 @@ use std::io::Write;
 #[derive(Drop)]
 pub(crate) struct Progress<'a, E: Write> {
     pub faults: &'a mut E,
+    /// Which files the release is asked for.
+    pub scope: Scope,
     /// People are told of nothing but what may be wrong.
     pub quiet: bool,
+    /// How many files were passed over that are read of the whole package.
+    pub later: u64,
 }
 
 impl<E: Write> Watcher for Progress<'_, E> {
@@ -22,35 +26,86 @@ impl<E: Write> Watcher for Progress<'_, E> {
     }
 
     fn passes_over(&mut self, path: &str) {
-        if is_nearly_to_take(path.as_bytes()) {
+        if is_nearly_to_take(path.as_bytes(), self.scope) {
             let _ = writeln!(
                 self.faults,
                 "sctd: warning: passed over {path}, whose name is nearly one to take: \
 mind its case, and an x before it"
             );
-        } else if is_out_of_place(path) {
+        } else if is_to_take(path, self.scope) {
+            let folders = folders_in(self.scope);
             let _ = writeln!(
                 self.faults,
                 "sctd: warning: passed over {path}, whose name is one to take: \
-a release has it in Terminology or Refset/Content"
+a release has it in {folders}"
             );
-        } else if !self.quiet {
-            let _ = writeln!(self.faults, "sctd: passed over {path}");
+        } else {
+            if is_in_place(path) && is_to_take(path, Scope::Whole) {
+                self.later = self.later.saturating_add(1);
+            }
+            if !self.quiet {
+                let _ = writeln!(self.faults, "sctd: passed over {path}");
+            }
         }
     }
 }
 
-/// Whether a file that was passed over has a name to take. So it stands in a folder that isn't read.
-fn is_out_of_place(path: &str) -> bool {
+/// Where a release has the files that are read.
+fn folders_in(scope: Scope) -> &'static str {
+    match scope {
+        Scope::Basic => "Terminology or Refset/Content",
+        Scope::Whole => "Terminology or a folder of Refset",
+    }
+}
+
+/// Whether a file has a name to take. So where it was passed over it stands in another folder.
+fn is_to_take(path: &str, scope: Scope) -> bool {
     let name = match path.rsplit_once('/') {
         Some((_, name)) => name,
         None => path,
     };
-    kind_to_take(name.as_bytes()).is_some()
+    kind_to_take(name.as_bytes(), scope).is_some()
+}
+
+/// Whether a file stands in a folder that is read of the whole package.
+fn is_in_place(path: &str) -> bool {
+    match path.rsplit_once('/') {
+        Some((folder, _)) => match folder.split_once('/') {
+            Some((above, name)) => above == "Refset" && !name.contains('/'),
+            None => folder == "Terminology",
+        },
+        None => false,
+    }
+}
+
+/// Tells that files of a release were passed over that are read of the whole package, and what they
+/// take.
+pub(crate) fn tell_later<E: Write>(later: u64, quiet: bool, faults: &mut E) {
+    if later > 0 && !quiet {
+        let _ = writeln!(
+            faults,
+            "sctd: passed over {later} of its files, of text definitions and reference sets: a \
+store keeps them from layout 3 on; sctd upgrade, and import the release again"
+        );
+    }
+}
+
+/// The kinds of which a Full release has files in most cases.
+fn common_kinds(scope: Scope) -> &'static [Kind] {
+    match scope {
+        Scope::Basic => &[Kind::Description, Kind::Relationship],
+        Scope::Whole => &[Kind::Description, Kind::Relationship, Kind::Member],
+    }
 }
 
 /// Tells which files of a release were taken, and what is done with it now.
-pub(crate) fn tell_taken<E: Write>(release: &Release, doing: &str, quiet: bool, faults: &mut E) {
+pub(crate) fn tell_taken<E: Write>(
+    release: &Release,
+    doing: &str,
+    scope: Scope,
+    quiet: bool,
+    faults: &mut E,
+) {
     if !quiet {
         for file in &release.files {
             let name = Shown(file.name.as_bytes());
@@ -68,9 +123,9 @@ pub(crate) fn tell_taken<E: Write>(release: &Release, doing: &str, quiet: bool, 
             "sctd: warning: no Concept, Description or Relationship file was taken"
         );
     }
-    for kind in [Kind::Description, Kind::Relationship] {
-        if lacks(&release.files, kind) {
-            let word = word_of(kind);
+    for kind in common_kinds(scope) {
+        if lacks(&release.files, *kind) {
+            let word = word_of(*kind);
             let _ = writeln!(
                 faults,
                 "sctd: warning: a Full file of concepts was taken, and no {word} file"

@@ -1,5 +1,5 @@
 -- The kinds of the new rows of a release that is read.
-use Rattle.std.proofs.Common.{◌≡◌, inl, inr, ℕ, List, [], ◌∷◌, map, sym, ap, subst}
+use Rattle.std.proofs.Common.{◌≡◌, inl, inr, ℕ, zero, suc, ◌+◌, ◌<◌, ◌≤◌, List, [], ◌∷◌, length, map, get_or, sym, ap, subst, ◌∙◌, arith}
 use Rattle.std.proofs.lemmas.List.Elements.{All-from_recursion}
 use Rattle.rf2_values.specs.declared.row.Kind.{Kind}
 use Rattle.rf2_values.specs.declared.row.Kind.TheVariants as kinds
@@ -47,6 +47,22 @@ kind_in (file ∷ files) (rows ∷ lists) row spelled has = elim (Has-append_cas
   | inl here ↦ inl (sym (spelled_kind _ rows spelled.0.texts row spelled.0.spelled here))
   | inr there ↦ inr (kind_in files lists row spelled.1 there)
 ]
+
+-- ---- whether there are members
+
+abbrev kinds_of : List ReleaseFile → List Kind
+kinds_of files = map (λ (file : ReleaseFile). file.kind) files
+
+pub kind_at : (files : List ReleaseFile) (i : ℕ) (file : ReleaseFile) → i < length files → file ≡ get_or files i file → file.kind ≡ kinds.Member → Has (kinds_of files) kinds.Member
+kind_at [] i file lt is member = absurd (omega (arith, lt))
+kind_at (f ∷ files) zero file lt is member = inl (ap (λ (x : ReleaseFile). x.kind) (sym is) ∙ member)
+kind_at (f ∷ files) (suc i) file lt is member = inr (kind_at files i file (omega (arith, lt)) is member)
+
+pub none_at_all : (files : List ReleaseFile) (i : ℕ) → length files ≤ i → ((k : ℕ) (d : ReleaseFile) → k < i → (get_or files k d).kind ≡ kinds.Member → ⊥) → Has (kinds_of files) kinds.Member → ⊥
+none_at_all [] i past none has = has
+none_at_all (f ∷ files) zero past none has = absurd (omega (arith, past))
+none_at_all (f ∷ files) (suc i) past none (inl same) = none 0 f (omega arith) same
+none_at_all (f ∷ files) (suc i) past none (inr there) = none_at_all files i (omega (arith, past)) (λ k d lt. none (suc k) d (omega (arith, lt))) there
 
 -- ---- and the next version has it, where the release isn't for a later one
 

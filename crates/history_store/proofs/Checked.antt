@@ -1,8 +1,8 @@
 -- What the check of a release answers, and what it leaves.
-use Rattle.std.proofs.Common.{◌≡◌, ◌↔◌, inl, ℕ, ◌+◌, ◌≤◌, Bool, false, IsTrue, List, length, Result, Ok, refl, sym, ap, subst, ◌∙◌}
+use Rattle.std.proofs.Common.{◌≡◌, ◌↔◌, inl, ℕ, ◌+◌, ◌≤◌, Bool, false, IsTrue, List, length, Result, Ok, Err, refl, sym, ap, subst, ◌∙◌}
 use Rattle.std.specs.List.{sum_by}
 use Rattle.std.proofs.lemmas.Bool.{false≢true}
-use Rattle.disk_model.specs.Disk.{Moments}
+use Rattle.disk_model.specs.Disk.{Moments, EachImage}
 use Rattle.rf2_values.specs.Row.{RowValue}
 use Rattle.history_model.specs.declared.receipt.Receipt.{Receipt}
 use Rattle.history_model.specs.declared.stamped.StampedRow.{StampedRow}
@@ -11,7 +11,10 @@ use Rattle.import_check.specs.declared.release.Release.{Release}
 use Rattle.import_check.specs.declared.found.NewRows.{NewRows}
 use Rattle.import_check.specs.Known.{already_known}
 use Rattle.import_check.specs.Release.{IsReleaseOf}
-use Rattle.import_check.specs.NewRows.{IsRead, IsAcceptedAs, BringsByKey}
+use Rattle.import_check.specs.NewRows.{IsRead, IsRefusal, IsAcceptedAs, BringsByKey}
+use Rattle.import_check.specs.declared.fault.ImportFault.{ImportFault}
+use Rattle.import_check.specs.declared.fault.ImportFault.TheVariants as importfault
+use Rattle.fault_counts.specs.declared.fault.ReadFault.TheVariants as readfault
 use Rattle.history_store.specs.declared.refusal.Refusal.{Refusal}
 use Rattle.history_store.specs.declared.refusal.Refusal.TheVariants as refusals
 use Rattle.history_store.specs.declared.checking.Ready.{Ready}
@@ -22,7 +25,10 @@ use Rattle.history_store.specs.Reading.{row_cost}
 use Rattle.history_store.specs.StoreValue.{StoreValue, IsAcknowledged}
 use Rattle.history_store.specs.Prepared.{IsNotSpent, IsForLater, IsAdmitted}
 use Rattle.history_store.specs.Queries.{ReadsThroughCache}
-use Rattle.history_store.specs.Answers.{Counts, CountsRefusal, IsImportRefusal, IsStill}
+use Rattle.store_image.specs.Images.{Represents}
+use Rattle.history_store.specs.Answers.{Counts, CountsRefusal, IsImportRefusal, IsRefused, IsRefusalOnAnyDisk, IsStill}
+use Rattle.history_store.specs.Refusals.{refusal_of}
+use Rattle.history_store.specs.Private.Answers.{IsNotFresh}
 use Rattle.history_store.specs.Checking.{IsChecking, IsCheckingOf, IsCheckingOnAnyDisk, IsCheckingRefusal}
 use Rattle.history_store.specs.Private.Prepared.{IsUnprepared}
 use Rattle.history_store.specs.Private.Ready.{IsMadeReady, IsNext}
@@ -49,11 +55,37 @@ counted_but _ old new other same = same
 pub not_device : (rows : List StampedRow) (catalog : Catalog) (e : Refusal) → IsUnprepared e rows catalog → e ≡ refusals.DiskFault → ⊥
 not_device rows catalog e why device = subst (λ x. IsUnprepared x rows catalog) device why
 
+-- ---- the new rows of a release are not had
+
+module _ {D : Type 0} (honest : Type 0) (s : StoreValue D) (release : Release) (still : s.needs_reopen ≡ false) (admits : IsAdmitted s.history s.catalog release) where
+  pub not_fresh : (e : Refusal) → IsNotFresh honest e (full s.history) release → honest → IsCheckingRefusal e s release
+  not_fresh e why up = subst (λ (x : Refusal). IsCheckingRefusal x s release) (sym why.1) (each why.0 why.2) where
+    each : (fault : ImportFault) → IsRefusal honest (full s.history) release fault → IsCheckingRefusal (refusal_of fault) s release
+    each importfault.OutOfMemory refused = (still, admits)
+    each (importfault.Known readfault.OutOfMemory) refused = (still, admits)
+    each (importfault.Known readfault.DiskFault) refused = (still, admits, refused.0)
+    each (importfault.Known readfault.Damaged) refused = absurd (refused.1 up refl)
+    each (importfault.Row file line fault) refused = (still, (admits, refused))
+    each (importfault.Contradiction file line key) refused = (still, (admits, key, refused.1 up))
+
+  pub not_fresh_at_all : (e : Refusal) → IsNotFresh honest e (full s.history) release → IsRefusalOnAnyDisk e s release
+  not_fresh_at_all e why = subst (λ (x : Refusal). IsRefusalOnAnyDisk x s release) (sym why.1) (each why.0 why.2) where
+    each : (fault : ImportFault) → IsRefusal honest (full s.history) release fault → IsRefusalOnAnyDisk (refusal_of fault) s release
+    each importfault.OutOfMemory refused = (still, admits)
+    each (importfault.Known readfault.OutOfMemory) refused = (still, admits)
+    each (importfault.Known readfault.DiskFault) refused = (still, admits, refused.0)
+    each (importfault.Known readfault.Damaged) refused = (still, admits, refused.0)
+    each (importfault.Row file line fault) refused = (still, admits, refused)
+    each (importfault.Contradiction file line key) refused = (still, admits, refused.0)
+
 -- ---- what is ready
 
 -- a release is read once it is known that the counts have room and that it isn't for a later version
 pub admitted : (h : History) (catalog : Catalog) (release : Release) (later : Bool) → IsNotSpent h.imports catalog.epoch → (IsTrue later ↔ IsForLater catalog.layout release) → later ≡ false → IsAdmitted h catalog release
-admitted h catalog release later room tests no = record { room = room; version = λ is. absurd (false≢true (sym no ∙ tests.1 is)) }
+admitted h catalog release later room tests isn_t = record { room = room; version = λ is. absurd (false≢true (sym isn_t ∙ tests.1 is)) }
+
+pub not_later : {D : Type 0} (u old : StoreValue D) (release : Release) → u ≡ old → IsAdmitted u.history u.catalog release → IsForLater old.catalog.layout release → ⊥
+not_later {D} u old release first admits = (subst (λ (x : StoreValue D). IsAdmitted x.history x.catalog release) first admits).version
 
 pub ready_at : {D : Type 0} (honest : Type 0) (u old w mid : StoreValue D) (release : Release) (fresh : NewRows) (next : Next) (number new : ℕ) → u ≡ old → IsAdmitted u.history u.catalog release → w ≡ mid → IsHistory w.history → IsStill old mid
     → BringsByKey (full old.history) release fresh → (honest → IsAcceptedAs (full old.history) release fresh) → number ≡ w.history.imports + 1 → new ≡ length fresh.rows.items → IsNext w fresh next
@@ -139,3 +171,32 @@ module _ {D : Type 0} (is_honest : D → Type 0) (moments_of : D → Moments) (f
     bytes_read = read.bytes_read;
     bytes_unread = read.bytes_unread;
   }
+
+  -- a check that was refused while known rows were read, or because of what the files say
+  pub turned_back : (u : StoreValue D) (e : Refusal) → u ≡ old → u.needs_reopen ≡ false → IsAdmitted u.history u.catalog release → (is_honest old.disk → old.needs_reopen ≡ false → IsAcknowledged moments_of old) → IsNotFresh (is_honest old.disk) e (full old.history) release → IsRefused e old mid
+      → (is_honest old.disk → moments_of mid.disk ≡ moments_of old.disk) → (is_honest old.disk ↔ is_honest mid.disk) → CountsRefusal e (failures_of old.disk) (failures_of mid.disk) → other_calls_of mid.disk ≡ other_calls_of old.disk → ReadsThroughCache bytes_read_of old mid
+      → ((rows : List RowValue) → IsReleaseOf release rows → bytes_read_of mid.disk ≤ bytes_read_of old.disk + sum_by row_cost (already_known (full old.history) rows)) → ((IsRead release → ⊥) → bytes_read_of mid.disk ≤ bytes_read_of old.disk)
+      → IsChecking (Err e) release is_honest moments_of failures_of bytes_read_of other_calls_of old mid
+  turned_back u e first was_open admits stood why refused moments honesty failures other_calls looked_up bytes_read bytes_unread =
+      let still : old.needs_reopen ≡ false = subst (λ (x : StoreValue D). x.needs_reopen ≡ false) first was_open in
+      let here : IsAdmitted old.history old.catalog release = subst (λ (x : StoreValue D). IsAdmitted x.history x.catalog release) first admits in
+      let Stands : Moments → History → Catalog → Type 0 = λ m h x. EachImage m.state (λ c. Represents c h x.layout x.epoch x.entries) in
+      record {
+        answer = λ up. (not_fresh (is_honest old.disk) old release still here e why up, refused);
+        kept = (not_fresh_at_all (is_honest old.disk) old release still here e why, refused);
+        closed = λ closed. absurd (false≢true (sym still ∙ closed));
+        later = λ later. absurd (here.version later);
+        moments = moments;
+        acknowledged = λ up open_still. record {
+          open_still = open_still;
+          each =
+              subst (λ (m : Moments). Stands m mid.history mid.catalog) (sym (moments up))
+              (subst (λ (h : History). Stands (moments_of old.disk) h mid.catalog) (sym refused.history) (subst (λ (x : Catalog). Stands (moments_of old.disk) old.history x) (sym refused.catalog) (stood up still).each));
+        };
+        honesty = honesty;
+        failures = failures;
+        other_calls = other_calls;
+        looked_up = looked_up;
+        bytes_read = bytes_read;
+        bytes_unread = bytes_unread;
+      }

@@ -33,6 +33,7 @@ mod Listing
 mod ReadyImports
 mod Foreseen
 mod ForeseenByKey
+mod Later
 mod KeptBlocks
 mod Forgotten
 mod Upgraded

@@ -15,7 +15,7 @@ use Rattle.history_store.specs.declared.refusal.Refusal.TheVariants as refusals
 use Rattle.history_store.specs.Catalog.{Catalog}
 use Rattle.history_store.specs.Reading.{row_cost}
 use Rattle.history_store.specs.StoreValue.{StoreValue, IsAcknowledged}
-use Rattle.history_store.specs.Prepared.{IsForLater, IsAdmitted}
+use Rattle.history_store.specs.Prepared.{IsNotSpent, IsForLater, IsAdmitted}
 use Rattle.history_store.specs.Queries.{ReadsThroughCache}
 use Rattle.history_store.specs.Answers.{Counts, IsTaken, IsTakenByKey, IsRefused, IsStill}
 use Rattle.history_store.specs.Answers.{IsImportRefusal, IsRefusalOnAnyDisk}
@@ -98,3 +98,17 @@ CheckedIsImportedOnAnyDisk D = (old checked new : StoreValue D) (release : Relea
     (answer result : Result Receipt Refusal)
     → IsCheckingOnAnyDisk answer old checked release → IsImportOnAnyDisk result checked new release
     → (result ≡ answer) ⊎ (DependsOnReading answer ⊎ DependsOnReading result)
+
+-- ---- when a release is refused as one for a later version
+
+-- the store is open, its counts aren't spent, and the release is for a later version
+abbrev pub IsTooEarly : {D : Type 0} → StoreValue D → Release → Type 0
+IsTooEarly s release = (s.needs_reopen ≡ false)
+    × IsNotSpent s.history.imports s.catalog.epoch × IsForLater s.catalog.layout release
+
+-- An import and a check are refused so there, and nowhere else, whatever the disk.
+abbrev pub LaterIsRefused : Type 0 → Type 0
+LaterIsRefused D =
+    (old new : StoreValue D) (release : Release) (result : Result Receipt Refusal)
+    → IsImportOnAnyDisk result old new release ⊎ IsCheckingOnAnyDisk result old new release
+    → (result ≡ Err refusals.LaterVersion) ↔ IsTooEarly old release

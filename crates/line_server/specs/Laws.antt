@@ -1,12 +1,15 @@
 -- What holds of every run of lines, on an honest disk.
-use Rattle.std.specs.Prelude.{◌≡◌, ℕ, false, ◌≤◌, List, [], map, Option, Some, None}
+use Rattle.std.specs.Prelude.{◌≡◌, ◌≢◌, ℕ, false, ◌≤◌, List, [], map, Option, Some, None}
 use Rattle.std.specs.Prelude.{Result, Ok, Err, slice_index_or}
 use Rattle.store_life.specs.DeviceView.{DeviceView}
 use Rattle.std.specs.List.{AllByRecursion}
 use Rattle.history_model.specs.History.{rows_at}
 use Rattle.history_model.specs.Brought.{ImportReceiptOf}
+use Rattle.import_check.specs.declared.scope.Scope.TheVariants as scopes
 use Rattle.import_check.specs.declared.release.Release.{Release}
+use Rattle.import_check.specs.Release.{files_of}
 use Rattle.history_store.specs.declared.refusal.Refusal.TheVariants as store
+use Rattle.history_store.specs.Prepared.{HasMembers}
 use Rattle.history_store.specs.StoreValue.{IsAcknowledged}
 use Rattle.line_commands.specs.Questions.{Question, Receipt as AskReceipt}
 use Rattle.line_commands.specs.Commands.{Command, Ask, Import, Check}
@@ -106,6 +109,18 @@ CheckForetells D honest = (releases : Releases) (line text : List ℕ) (session 
     → Replies (honest old.store.disk) releases line one old checked
     → Replies (honest checked.store.disk) releases text two checked new
     → IsSure one → IsSure two → two ≡ one
+
+-- no release has members where the basic files are asked for
+abbrev pub GivesNoMembers : Releases → Type 0
+GivesNoMembers releases = (name : List ℕ) (release : Release)
+    → releases scopes.Basic name ≡ Some (files_of release) → HasMembers release → ⊥
+
+-- With such releases no line is answered 14, whatever the disk does.
+abbrev pub NoneIsLater : (D : Type 0) → (D → Type 0) → Type 0
+NoneIsLater D honest = (releases : Releases) (line : List ℕ) (outcome : Result Answer LineRefusal)
+    (old new : Server D)
+    → GivesNoMembers releases → Replies (honest old.store.disk) releases line outcome old new
+    → outcome ≢ Err (refusals.Store store.LaterVersion)
 
 -- an import that was answered OK is the one that its turn imported
 abbrev pub OkIsImported : (D : Type 0) → DeviceView D → Type 0

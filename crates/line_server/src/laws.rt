@@ -7,6 +7,7 @@ ghost use Rattle.line_server.specs.Sources.{source_view};
 ghost use Rattle.line_server.specs.Laws.{OkIsImported, RefusedIsNotImported, ImportedIsOk};
 ghost use Rattle.line_server.specs.Laws.{RunNeedsNoSource};
 ghost use Rattle.line_server.specs.Laws.{CheckForetells, DamageHoldsBack, HonestMeetsNoDamage};
+ghost use Rattle.line_server.specs.Laws.{NoneIsLater};
 ghost use Rattle.line_server.specs.Laws.{RunKeepsPin, PinnedSeesItsImports, PinnedSeesItsReceipts};
 ghost use Rattle.line_server.specs.Laws.{PinnedRunsAreUndisturbed, PinnedReceiptsAreUndisturbed};
 
@@ -50,6 +51,11 @@ pub fn damage_holds_back<D: Disk>()
 /// On an honest disk no damage is met.
 pub fn honest_meets_no_damage<D: Disk>()
     ensures { HonestMeetsNoDamage D (device_view D.is_honest D.moments D.failures D.bytes_read) }
+{}
+
+/// No line is answered 14 where the source gives no members while the basic files are asked for.
+pub fn none_is_later<D: Disk>()
+    ensures { NoneIsLater D D.is_honest }
 {}
 
 /// An import that was answered OK is the one that its turn imported.

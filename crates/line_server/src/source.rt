@@ -27,12 +27,7 @@ pub trait Source {
     ghost releases: { Self → Releases };
 
     /// The release under a name, as far as the scope asks for its files.
-    fn release(
-        &mut self,
-        alloc: Global,
-        name: &str,
-        scope: Scope,
-    ) -> Result<Release, SourceFault>
+    fn release(&mut self, alloc: Global, name: &str, scope: Scope) -> Result<Release, SourceFault>
         ensures honesty { is_honest self.old → is_honest self.new }
         ensures stays { is_honest self.old → releases self.new ≡ releases self.old }
         ensures given { is_honest self.old → IsGiven result (releases self.old scope name.now) };

@@ -47,3 +47,9 @@ loop-row-preserved-in_ok-push-2 c =
     let inv = c.loop-row.invariant in
     let next = more_placed c.args.form c.args.rows.items c.loop-row.index c.push.new.self c.loop-row.row-iterator c.next.new.self c.loop-row.bytes.items _ c.in-Some.row inv.split c.in-Some.ensures.steps inv.bytes inv.each c.in_ok-push.ensures.ok c.in_ok-put_record.ensures.bytes c.in_ok-put_record.ensures.stamped in
     record { split = next.0; bytes = next.1; each = next.2 }
+
+pub loop-row-preserved-in_ok-push-3 : goal.loop-row-preserved-in_ok-push-3
+loop-row-preserved-in_ok-push-3 c =
+    let inv = c.loop-row.invariant in
+    let next = more_placed c.args.form c.args.rows.items c.loop-row.index c.push.new.self c.loop-row.row-iterator c.next.new.self c.loop-row.bytes.items _ c.in-Some.row inv.split c.in-Some.ensures.steps inv.bytes inv.each c.in_ok-push.ensures.ok c.in_ok-put_record.ensures.bytes c.in_ok-put_record.ensures.stamped in
+    record { split = next.0; bytes = next.1; each = next.2 }

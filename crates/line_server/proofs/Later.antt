@@ -1,0 +1,66 @@
+-- That no release is for a later version, where the source gives no members unasked.
+use Rattle.std.proofs.Common.{◌≡◌, ◌⊎◌, ℕ, Bool, true, false, List, Some, Result, Ok, Err, sym, ap, subst, ◌∙◌, inl, inr}
+use Rattle.std.proofs.lemmas.Bool.{false≢true}
+use Rattle.directory.specs.declared.layout.Layout.{Layout}
+use Rattle.directory.specs.declared.layout.Layout.TheVariants as layouts
+use Rattle.import_check.specs.declared.release.Release.{Release}
+use Rattle.import_check.specs.Release.{files_of}
+use Rattle.history_store.specs.declared.refusal.Refusal.{Refusal}
+use Rattle.history_store.specs.declared.refusal.Refusal.TheVariants as store
+use Rattle.history_store.specs.Prepared.{IsForLater}
+use Rattle.line_commands.specs.Questions.{Question, Children, Descendants, Dates, Receipt}
+use Rattle.line_commands.specs.Commands.{Command, Ask, At, Import, Check, Pin, Unpin, Merge, Step, Publish, Abandon, Trim, Status}
+use Rattle.line_server.specs.declared.refusal.LineRefusal.{LineRefusal}
+use Rattle.line_server.specs.declared.refusal.LineRefusal.TheVariants as refusals
+use Rattle.line_server.specs.Sources.{Releases, scope_of}
+use Rattle.line_server.specs.ReplyValue.{Answer}
+use Rattle.line_server.specs.Replies.{Server, IsOutcome, IsStoreRefusal, IsRefusalAt, IsClosed, IsLacking, imports_seen}
+use Rattle.line_server.specs.Laws.{GivesNoMembers, NoneIsLater}
+
+abbrev is_later : Refusal → Bool
+is_later store.LaterVersion = true
+is_later _ = false
+
+abbrev comes_later : Result Answer LineRefusal → Bool
+comes_later (Err (refusals.Store refusal)) = is_later refusal
+comes_later _ = false
+
+module _ {D : Type 0} (honest : Type 0) (releases : Releases) (none : GivesNoMembers releases) (old new : Server D) where
+  asked_rightly : (layout : Layout) (name : List ℕ) (release : Release) → releases (scope_of layout) name ≡ Some (files_of release) → IsForLater layout release → ⊥
+  asked_rightly layouts.One name release has later = none name release has later
+  asked_rightly layouts.Two name release has later = none name release has later
+  asked_rightly layouts.Three name release has later = later
+
+  closed_never : IsClosed store.LaterVersion old new → ⊥
+  closed_never c = false≢true (sym (ap is_later c.0))
+
+  listed_never : IsClosed store.LaterVersion old new ⊎ IsLacking store.LaterVersion old new → ⊥
+  listed_never (inl c) = closed_never c
+  listed_never (inr l) = false≢true (sym (ap is_later l.0))
+
+  asked_never : (seen : ℕ) (question : Question) → IsRefusalAt honest seen question store.LaterVersion old new → ⊥
+  asked_never seen (Receipt number) r = closed_never r.1
+  asked_never seen (Children concept date) r = listed_never r
+  asked_never seen (Descendants concept date) r = listed_never r
+  asked_never seen Dates r = listed_never r
+  asked_never seen question r = r.cause
+
+  refused_never : (session : ℕ) (command : Command) → IsStoreRefusal honest releases session command store.LaterVersion old new → ⊥
+  refused_never session (Ask question) r = asked_never (imports_seen old session) question r
+  refused_never session (At number question) r = asked_never number question r.1
+  refused_never session (Import name) r = asked_rightly old.store.catalog.layout name r.release r.has r.at_all.0.2
+  refused_never session (Check name) r = asked_rightly old.store.catalog.layout name r.release r.has r.at_all.0.2
+  refused_never session (Pin number) r = r
+  refused_never session Unpin r = r
+  refused_never session Merge r = r.0.0
+  refused_never session (Step rows) r = r.0.0
+  refused_never session Publish r = r.0.0
+  refused_never session Abandon r = r.0.0
+  refused_never session Trim r = r.0.0
+  refused_never session Status r = closed_never r
+
+pub none_is_later : (D : Type 0) (honest : D → Type 0) → NoneIsLater D honest
+none_is_later D honest releases line outcome old new none (inl (session, command, asks, inl h)) e = false≢true (ap comes_later (sym h.refused ∙ e))
+none_is_later D honest releases line outcome old new none (inl (session, command, asks, inr h)) e =
+    refused_never (honest old.store.disk) releases none old new session command (subst (λ (o : Result Answer LineRefusal). IsOutcome (honest old.store.disk) releases session command o old new) e h.comes_out)
+none_is_later D honest releases line outcome old new none (inr r) e = false≢true (ap comes_later (sym r.2 ∙ e))
