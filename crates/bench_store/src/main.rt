@@ -21,6 +21,7 @@ use crate::reading::read_three_times;
 use crate::segments::open_and_ask;
 use disk_model::FileDisk;
 use history_store::Store;
+use import_check::Scope;
 use release_folder::read_folder;
 use std::process::ExitCode;
 use std::rt::HostRuntime;
@@ -48,7 +49,7 @@ fn make(rt: &HostRuntime, path: &str) -> Option<u64> {
 /// Imports a release of a folder. How many rows are new.
 fn import(rt: &HostRuntime, path: &str, folder: &str, name: &str) -> Option<u64> {
     let mut store = open_store(rt, path)?;
-    let release = read_folder(rt, rt.alloc(), folder, name).ok()?;
+    let release = read_folder(rt, rt.alloc(), folder, name, Scope::Basic).ok()?;
     match store.import(release) {
         Ok(receipt) => Some(receipt.new),
         Err(_) => None,

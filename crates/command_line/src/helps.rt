@@ -123,6 +123,9 @@ pub(crate) const UPGRADE: &str = "Examples:
   sctd upgrade --store terms.store
   sctd merge --store terms.store
 
+A release that was imported before is imported again, to bring its text definitions and
+reference sets.
+
 The guide tells more: docs/GUIDE.md, \"Upgrading to layout 3\"";
 
 pub(crate) const DEMO: &str = "Example:

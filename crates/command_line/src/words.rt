@@ -233,7 +233,7 @@ fn layout<'a>(alloc: Global) -> Arg<'a>
     Arg::new(alloc, "layout")
         .long("layout")
         .value_name("N")
-        .help("The version of the store's layout, 2 or 3; 3 has checksums")
+        .help("The version of the store's layout: 2, or 3 for checksums and all reference sets")
         .value_parser(ValueParser::Unsigned(2, 3))
         .default_value("2")
         .action(ArgAction::Set)
@@ -315,7 +315,7 @@ fn digest<'a>(alloc: Global) -> Result<Command<'a>, AllocError>
 fn upgrade<'a>(alloc: Global) -> Result<Command<'a>, AllocError>
     ensures { IfOk result (IsCommand upgrade_command) }
 {
-    let about = "Brings a store to layout version 3, which has checksums; there is no way back";
+    let about = "Brings a store to layout version 3: checksums, all reference sets, and no way back";
     new_command(alloc, "upgrade", about, helps::UPGRADE).arg(store(alloc))
 }
 

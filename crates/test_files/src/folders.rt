@@ -1,6 +1,6 @@
 //! Releases in unpacked folders: which files are taken, and what stood in the way.
 
-use import_check::{Release, ReleaseFile};
+use import_check::{Release, ReleaseFile, Scope};
 use release_folder::{
     FolderFault, Unwatched, Watcher, is_nearly_to_take, kind_to_take, lacks, read_folder,
     read_release,
@@ -37,16 +37,21 @@ fn write_all(
 
 /// The release of a name below the folder `releases`.
 fn read_named(rt: &HostRuntime, name: &str) -> Result<Release, Fail> {
-    match read_folder(rt, rt.alloc(), "releases", name) {
+    match read_folder(rt, rt.alloc(), "releases", name, Scope::Basic) {
         Ok(read) => Ok(read),
         Err(fault) => Err(Fail::from(fault)),
     }
 }
 
-/// Whether there is no release of a name below the folder `releases`.
+/// Whether there is no release of a name below the folder `releases`, in neither scope.
 fn is_no_folder(rt: &HostRuntime, name: &str) -> bool {
-    let read = read_folder(rt, rt.alloc(), "releases", name);
-    matches!(read, Err(FolderFault::NoFolder))
+    for scope in [Scope::Basic, Scope::Whole] {
+        let read = read_folder(rt, rt.alloc(), "releases", name, scope);
+        if !matches!(read, Err(FolderFault::NoFolder)) {
+            return false;
+        }
+    }
+    true
 }
 
 /// Whether a file is one of a release, byte for byte.
@@ -146,16 +151,16 @@ fn files_of_one_kind_come_in_the_byte_order_of_their_names(rt: HostRuntime) -> R
 }
 
 /// What stood in the way of a release below the folder `releases`.
-fn obstacle_of(rt: &HostRuntime, name: &str) -> Result<String, Fail> {
-    match read_release(rt, rt.alloc(), "releases", name, &mut Unwatched) {
+fn obstacle_of(rt: &HostRuntime, name: &str, scope: Scope) -> Result<String, Fail> {
+    match read_release(rt, rt.alloc(), "releases", name, scope, &mut Unwatched) {
         Ok(_) => Ok(String::from_str(rt.alloc(), "a release")?),
         Err(fault) => Ok(format!(in rt.alloc(); "{fault}")?),
     }
 }
 
-/// Whether this stood in the way of a release.
+/// Whether this stood in the way of a release, of which the basic files were asked for.
 fn is_in_the_way(rt: &HostRuntime, name: &str, text: &str) -> Result<bool, Fail> {
-    Ok(obstacle_of(rt, name)?.as_str() == text)
+    Ok(obstacle_of(rt, name, Scope::Basic)?.as_str() == text)
 }
 
 /// Folders that are made below the folder `releases`.
@@ -268,8 +273,10 @@ fn names_that_are_nearly_ones_to_take(rt: HostRuntime) {
         "sct2_Relationshipconcretevalues_Full_INT_20200131.txt",
         "der2_crefset_associationFull_INT_20200131.txt",
     ] {
-        assert!(rt; is_nearly_to_take(name.as_bytes()), "{name}");
-        assert!(rt; kind_to_take(name.as_bytes()).is_none(), "{name}");
+        for scope in [Scope::Basic, Scope::Whole] {
+            assert!(rt; is_nearly_to_take(name.as_bytes(), scope), "{name}");
+            assert!(rt; kind_to_take(name.as_bytes(), scope).is_none(), "{name}");
+        }
     }
     for name in [
         "",
@@ -283,7 +290,9 @@ fn names_that_are_nearly_ones_to_take(rt: HostRuntime) {
         "sct2_Concept_Full_INT_20200131.csv",
         "readme.txt",
     ] {
-        assert!(rt; !is_nearly_to_take(name.as_bytes()), "{name}");
+        for scope in [Scope::Basic, Scope::Whole] {
+            assert!(rt; !is_nearly_to_take(name.as_bytes(), scope), "{name}");
+        }
     }
 }
 
@@ -335,15 +344,24 @@ fn make_watched(rt: &HostRuntime) -> Result<(), Fail> {
     Ok(rt.symlink("..", "releases/watched/Refset/round")?)
 }
 
-#[test]
-fn a_watcher_is_told_of_each_file(rt: HostRuntime) -> Result<(), Fail> {
-    make_watched(&rt)?;
+/// Whether the watcher is told these lines while a release is read, and it is read.
+fn are_told(
+    rt: &HostRuntime,
+    name: &str,
+    scope: Scope,
+    wanted: &[&str],
+) -> bool {
     let mut notes = Notes {
         alloc: rt.alloc(),
         lines: Vec::new(rt.alloc()),
     };
-    let read = read_release(&rt, rt.alloc(), "releases", "watched", &mut notes);
-    assert!(rt; read.is_ok());
+    let read = read_release(rt, rt.alloc(), "releases", name, scope, &mut notes);
+    read.is_ok() && are_lines(notes.lines.as_slice(), wanted)
+}
+
+#[test]
+fn a_watcher_is_told_of_each_file(rt: HostRuntime) -> Result<(), Fail> {
+    make_watched(&rt)?;
     let wanted = [
         "passes over Refset/Map/sct2_Concept_Full_INT_20200131.txt",
         "passes over Refset/round",
@@ -354,7 +372,27 @@ fn a_watcher_is_told_of_each_file(rt: HostRuntime) -> Result<(), Fail> {
         "reads sct2_Concept_Full_INT_20200131.txt",
         "reads sct2_Concept_Full_INT_20200131.txt",
     ];
-    assert!(rt; are_lines(notes.lines.as_slice(), &wanted));
+    assert!(rt; are_told(&rt, "watched", Scope::Basic, &wanted));
+    // Of the whole package the file in Refset/Map is read too, and what is
+    // below the link, which stands in the place of a folder that is read.
+    let wanted = [
+        "passes over Refset/round/Refset/Content/sct2_Concept_Full_INT_20200131.txt",
+        "passes over Refset/round/Refset/Map/sct2_Concept_Full_INT_20200131.txt",
+        "passes over Refset/round/Refset/round",
+        "passes over Refset/round/Terminology/older/a.txt",
+        "passes over Refset/round/Terminology/readme.txt",
+        "passes over Refset/round/Terminology/sct2_Concept_Full_INT_20200131.txt",
+        "passes over Refset/round/notes\\n.txt",
+        "passes over Refset/round/old/sct2_Concept_Full_INT_20200131.txt",
+        "passes over Terminology/older/a.txt",
+        "passes over Terminology/readme.txt",
+        "passes over notes\\n.txt",
+        "passes over old/sct2_Concept_Full_INT_20200131.txt",
+        "reads sct2_Concept_Full_INT_20200131.txt",
+        "reads sct2_Concept_Full_INT_20200131.txt",
+        "reads sct2_Concept_Full_INT_20200131.txt",
+    ];
+    assert!(rt; are_told(&rt, "watched", Scope::Whole, &wanted));
     Ok(())
 }
 
@@ -364,17 +402,12 @@ fn a_link_in_the_place_of_a_folder_is_followed(rt: HostRuntime) -> Result<(), Fa
     write_in(&rt, "releases/target", "readme.txt", b"")?;
     fs::create_dir_all(&rt, "releases/linked")?;
     rt.symlink("../target", "releases/linked/Terminology")?;
-    let mut notes = Notes {
-        alloc: rt.alloc(),
-        lines: Vec::new(rt.alloc()),
-    };
-    let read = read_release(&rt, rt.alloc(), "releases", "linked", &mut notes);
-    assert!(rt; read.is_ok());
     let wanted = [
         "passes over Terminology/readme.txt",
         "reads sct2_Concept_Full_INT_20200131.txt",
     ];
-    assert!(rt; are_lines(notes.lines.as_slice(), &wanted));
+    assert!(rt; are_told(&rt, "linked", Scope::Basic, &wanted));
+    assert!(rt; are_told(&rt, "linked", Scope::Whole, &wanted));
     Ok(())
 }
 
@@ -416,5 +449,161 @@ fn what_a_full_release_lacks(rt: HostRuntime) -> Result<(), Fail> {
         "sct2_Description_Full-en_INT_20200131.txt",
     )?)?;
     assert!(rt; !lacks(&files, Kind::Description));
+    Ok(())
+}
+
+/// Names of files that stand in packages, and of which kind they are in each scope.
+const NAMES: [(&str, Option<Kind>, Option<Kind>); 26] = [
+    ("sct2_Concept_Full_INT_20260131.txt", Some(Kind::Concept), Some(Kind::Concept)),
+    ("sct2_Description_Delta-de_XX_20260131.txt", Some(Kind::Description), Some(Kind::Description)),
+    ("sct2_TextDefinition_Full-en_INT_20260131.txt", None, Some(Kind::Description)),
+    ("sct2_TextDefinition_Snapshot-en_INT_20260131.txt", None, None),
+    ("sct2_Relationship_Full_INT_20260131.txt", Some(Kind::Relationship), Some(Kind::Relationship)),
+    ("sct2_RelationshipConcreteValues_Full_INT_20260131.txt", Some(Kind::Concrete), Some(Kind::Concrete)),
+    ("sct2_StatedRelationship_Full_INT_20260131.txt", None, None),
+    ("sct2_Identifier_Full_INT_20260131.txt", None, None),
+    ("der2_cRefset_AssociationFull_INT_20260131.txt", Some(Kind::Association), Some(Kind::Association)),
+    ("der2_cRefset_AssociationReferenceFull_INT_20260131.txt", Some(Kind::Association), Some(Kind::Association)),
+    ("der2_cRefset_AttributeValueFull_INT_20260131.txt", None, Some(Kind::Member)),
+    ("der2_cRefset_LanguageFull-en_INT_20260131.txt", None, Some(Kind::Member)),
+    ("der2_cRefset_LanguageSnapshot-en_INT_20260131.txt", None, None),
+    ("der2_Refset_SimpleFull_INT_20260131.txt", None, Some(Kind::Member)),
+    ("der2_sRefset_SimpleMapDelta_INT_20260131.txt", None, Some(Kind::Member)),
+    ("der2_ssRefset_ModuleDependencyFull_INT_20260131.txt", None, Some(Kind::Member)),
+    ("der2_iisssccRefset_ExtendedMapFull_INT_20260131.txt", None, Some(Kind::Member)),
+    ("sct2_sRefset_OWLExpressionFull_INT_20260131.txt", None, Some(Kind::Member)),
+    ("sct2_sRefset_OWLExpressionFull_INT_20260131.csv", None, None),
+    ("der2_sRefset_AssociationFull_INT_20260131.txt", None, Some(Kind::Member)),
+    ("der2_cdRefset_LanguageFull_INT_20260131.txt", None, None),
+    ("der2_CRefset_LanguageFull_INT_20260131.txt", None, None),
+    ("xder2_cRefset_LanguageFull-en_INT_20260131.txt", None, None),
+    ("der2_cRefsetLanguageFull_INT_20260131.txt", None, None),
+    ("der2_ccc", None, None),
+    ("doc_RefsetFull_INT_20260131.txt", None, None),
+];
+
+/// Whether a name is that of these kinds of file.
+fn is_of_kinds(name: &str, basic: Option<Kind>, whole: Option<Kind>) -> bool {
+    let bytes = name.as_bytes();
+    kind_to_take(bytes, Scope::Basic) == basic && kind_to_take(bytes, Scope::Whole) == whole
+}
+
+#[test]
+fn kinds_of_files_in_each_scope(rt: HostRuntime) {
+    for (name, basic, whole) in NAMES {
+        assert!(rt; is_of_kinds(name, basic, whole), "{name}");
+    }
+    for name in [
+        "xder2_cRefset_LanguageFull-en_INT_20260131.txt",
+        "der2_CREFSET_languagefull-en_INT_20260131.txt",
+        "sct2_textdefinition_Full-en_INT_20260131.txt",
+        "Refset/Map/Xder2_sRefset_SimpleMapFull_INT_20260131.txt",
+    ] {
+        assert!(rt; is_nearly_to_take(name.as_bytes(), Scope::Whole), "{name}");
+        assert!(rt; !is_nearly_to_take(name.as_bytes(), Scope::Basic), "{name}");
+    }
+}
+
+/// The folders and the files of a package, as they are read.
+const PACKAGE: [(&str, &str); 8] = [
+    ("Terminology", "sct2_Concept_Full_INT_20260131.txt"),
+    ("Terminology", "sct2_TextDefinition_Full-en_INT_20260131.txt"),
+    ("Terminology", "sct2_sRefset_OWLExpressionFull_INT_20260131.txt"),
+    ("Refset/Content", "der2_Refset_SimpleFull_INT_20260131.txt"),
+    ("Refset/Content", "der2_cRefset_AssociationFull_INT_20260131.txt"),
+    ("Refset/Language", "der2_cRefset_LanguageFull-en_INT_20260131.txt"),
+    ("Refset/Map", "der2_sRefset_SimpleMapFull_INT_20260131.txt"),
+    ("Refset/map", "der2_iisssccRefset_ExtendedMapFull_INT_20260131.txt"),
+];
+
+/// Writes a package, and files beside its own that aren't read.
+fn write_package(rt: &HostRuntime) -> Result<(), Fail> {
+    for (folder, name) in PACKAGE {
+        let folder = format!(in rt.alloc(); "releases/package/{folder}")?;
+        write_in(rt, &folder, name, b"id")?;
+    }
+    for (folder, name) in [
+        ("Refset", "der2_Refset_SimpleFull_INT_20260131.txt"),
+        ("Refset/Map/old", "der2_sRefset_SimpleMapFull_INT_20250131.txt"),
+        ("Refset/Language", "der2_cRefset_LanguageSnapshot-en_INT_20260131.txt"),
+    ] {
+        let folder = format!(in rt.alloc(); "releases/package/{folder}")?;
+        write_in(rt, &folder, name, b"id")?;
+    }
+    Ok(())
+}
+
+/// Whether the files of the package that stand at these places are those that are read of it.
+fn are_read(rt: &HostRuntime, scope: Scope, places: &[usize]) -> bool {
+    let Ok(read) = read_folder(rt, rt.alloc(), "releases", "package", scope) else {
+        return false;
+    };
+    for (file, place) in read.files.iter().zip(places) {
+        match PACKAGE.get(*place) {
+            Some((_, name)) if file.name.as_str() == *name => {}
+            _ => return false,
+        }
+    }
+    read.files.len() == places.len()
+}
+
+#[test]
+fn a_package_is_read_whole_or_in_its_basic_files(rt: HostRuntime) -> Result<(), Fail> {
+    write_package(&rt)?;
+    assert!(rt; are_read(&rt, Scope::Basic, &[0, 4]));
+    assert!(rt; are_read(&rt, Scope::Whole, &[0, 1, 2, 3, 4, 5, 6, 7]));
+    // A link to a folder is read as one.
+    rt.symlink("Map", "releases/package/Refset/also")?;
+    assert!(rt; are_read(&rt, Scope::Basic, &[0, 4]));
+    assert!(rt; are_read(&rt, Scope::Whole, &[0, 1, 2, 3, 4, 5, 6, 6, 7]));
+    Ok(())
+}
+
+/// Folders of packages that can't be read whole.
+const WHOLE_FOLDERS: [&str; 5] = [
+    "releases/device/Refset/Language",
+    "releases/nowhere/Refset",
+    "releases/plain/Refset",
+    "releases/none/Refset/Language",
+    "releases/nested/Refset/Map/der2_sRefset_SimpleMapFull_INT_20260131.txt",
+];
+
+/// What stands in their way.
+const WHOLE_OBSTACLES: [(&str, &str); 5] = [
+    (
+        "device",
+        "releases/device/Refset/Language/der2_cRefset_LanguageFull-en_INT_20260131.txt: not a \
+         regular file",
+    ),
+    (
+        "nowhere",
+        "releases/nowhere/Refset/Language: a link that leads nowhere",
+    ),
+    (
+        "plain",
+        "releases/plain/Refset/Content: Not a directory (os error 20)",
+    ),
+    (
+        "none",
+        "releases/none: no file to take in Terminology or Refset",
+    ),
+    (
+        "nested",
+        "releases/nested/Refset/Map/der2_sRefset_SimpleMapFull_INT_20260131.txt: not a regular file",
+    ),
+];
+
+#[test]
+fn what_stood_in_the_way_of_a_whole_package_is_told(rt: HostRuntime) -> Result<(), Fail> {
+    for path in WHOLE_FOLDERS {
+        fs::create_dir_all(&rt, path)?;
+    }
+    let device = "releases/device/Refset/Language/der2_cRefset_LanguageFull-en_INT_20260131.txt";
+    rt.symlink("/dev/zero", device)?;
+    rt.symlink("there", "releases/nowhere/Refset/Language")?;
+    write_in(&rt, "releases/plain/Refset", "Content", b"")?;
+    for (name, text) in WHOLE_OBSTACLES {
+        assert!(rt; obstacle_of(&rt, name, Scope::Whole)?.as_str() == text, "{name}");
+    }
     Ok(())
 }

@@ -37,7 +37,7 @@ fn examples_of(rt: &HostRuntime, help: &str) -> Result<String, Fail> {
 fn the_lines_in_the_help_are_requests(rt: HostRuntime) -> Result<(), Fail> {
     let help = run_whole(&rt, "sctd serve --help", b"")?;
     let examples = examples_of(&rt, help.as_str())?;
-    assert_eq!(rt; examples.lines().count(), 27);
+    assert_eq!(rt; examples.lines().count(), 32);
     let made = run_whole(&rt, "sctd init --store helps-store", b"")?;
     assert!(rt; made.as_str() == "OK\n");
     fs::create_dir_all(&rt, "helps-releases")?;

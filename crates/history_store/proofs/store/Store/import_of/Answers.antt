@@ -1,4 +1,4 @@
-use Rattle.std.proofs.Common.{refl, subst}
+use Rattle.std.proofs.Common.{refl}
 use Rattle.history_store.proofs.Held.{lent_sound}
 use Rattle.history_store.proofs.store.Store.import_of.Goals as goal
 
