@@ -11,10 +11,10 @@ table: how many a second, the median, and the microseconds of the processor a re
 hub and program. --hub takes another hub than examples/hub.py. Clients are two processes, which need
 a processor of their own.
 
-With --package the release is a whole package in a store of layout 3, and the gateway has a language,
-so $lookup asks for preferred terms and members too. Then the reference set that has each concept
-is expanded page by page on the last day, twice, by one client: it prints how many codes there are,
-what the first page takes, for which all members are read, and what the others take.
+With --package the release is a whole package in a store of layout 3, and the gateway has a
+language, so $lookup asks for preferred terms and members too. Then the reference set that has each
+concept is expanded page by page on the last day, twice, by one client: it prints how many codes
+there are, what the first page takes, for which all members are read, and what the others take.
 """
 
 import argparse
