@@ -19,7 +19,7 @@ CTV3 = "900000000000497000"
 # A map of the house's own, of which no release has the concept.
 HOUSE_MAP = str(sctid(4712, "00"))
 TEXT_DEFINITION = "900000000000550004"
-DEFINITION = "A break of bones of the wrist <joint>."
+DEFINITION = "A break of bones of the wrist."
 FIXED = "id effectiveTime active moduleId refsetId referencedComponentId"
 FILES = {
     "T": ("Terminology/sct2_TextDefinition_Delta-en_INT_%s.txt", demo.COLUMNS["D"]),
@@ -153,8 +153,8 @@ def languages(maker: WholeMaker) -> None:
 
 
 def indicators(maker: WholeMaker) -> None:
-    """Why two concepts were retired: of the first another reason is given later, the second has two.
-    A third one is active and has two indicators, of what is to come."""
+    """Why two concepts were retired: of the first another reason is given later, the second has
+    two. A third one is active and has two indicators, of what is to come."""
     wrist, radius, carpal = (maker.codes[name] for name in ("wrist", "radius", "carpal"))
     maker.member("value", "20210131", INDICATORS, carpal, PENDING_MOVE)
     maker.member("value", "20210131", INDICATORS, carpal, AMBIGUOUS)

@@ -21,7 +21,7 @@ from sctd_gateway.store import View, called_of, members_of
 
 from . import demo_members as demo
 from .demo_releases import SAME_AS
-from .house import SCT, House, Json, issue, parts_of, properties, told, version
+from .house import SCT, House, Json, Shared, issue, parts_of, properties, told, version
 
 LOOKUP, EXPAND = "CodeSystem/$lookup", "ValueSet/$expand"
 TRANSLATE = "ConceptMap/$translate"
@@ -41,14 +41,8 @@ FSN, SYNONYM = "900000000000003001", "900000000000013009"
 class Whole(unittest.TestCase):
     """A store of layout 3 with whole packages."""
 
-    house: House
-
-    @classmethod
-    def setUpClass(cls) -> None:
-        cls.house = House(layout=3, is_whole=True, words=WORDS)
-        cls.addClassCleanup(cls.house.end)
-
     def setUp(self) -> None:
+        self.house = Shared.get_whole(WORDS)
         self.codes = self.house.codes
 
     def lookup(self, name: str, **words: Any) -> Json:
@@ -490,7 +484,7 @@ class Page(Whole):
 
     def test_definition(self) -> None:
         text = self.page("wrist")
-        shown = demo.DEFINITION.replace("<", "&lt;").replace(">", "&gt;")
+        shown = demo.DEFINITION
         self.assertEqual(self.row(text, "Text definition"), [[shown], [shown]])
         self.assertNotIn(shown, self.row(text, "Synonyms")[0])
         self.assertIn("Text definition added: <bdi>%s</bdi>" % shown, text)
