@@ -543,6 +543,20 @@ FAULTS = [
         MEMBERS,
     ),
     Fault(
+        "of any number of concepts it is asked whether they are active",
+        "refsets.py",
+        "    if len(codes) > limits.WALK_CONCEPTS:",
+        "    if False:",
+        MEMBERS,
+    ),
+    Fault(
+        "any number of reference sets are looked at",
+        "refsets.py",
+        "    if len(below) > limits.REFSET_CHOICE:",
+        "    if False:",
+        MEMBERS,
+    ),
+    Fault(
         "descriptions are codes of a reference set",
         "refsets.py",
         "tuple(filter(is_id_of_concept, await components_of(view, refset, day)))",
@@ -678,8 +692,8 @@ FAULTS = [
     Fault(
         "the page doesn't say why a code was retired",
         "page_record.py",
-        "for reason in side.reasons for name in",
-        "for reason in [] for name in",
+        "for reason in side.reasons]",
+        "for reason in []]",
         MEMBERS,
     ),
     Fault(

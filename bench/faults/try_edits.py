@@ -201,11 +201,14 @@ def proved_owner(owner: str) -> str:
 
 def proved_name(function: Function, names: Iterable[str]) -> str | None:
     """The prover's name of a function: of those in its module with its own name, the one whose type
-    the head of the `impl` block names."""
+    the head of the `impl` block names. A method may stand in another module than its type, by which
+    the prover names it."""
     before = f"{function.module}::" if function.module else ""
-    found = [it for it in names if it.startswith(before)]
-    found = [it for it in found if it.rpartition("::")[2] == function.name]
+    named = [it for it in names if it.rpartition("::")[2] == function.name]
+    found = [it for it in named if it.startswith(before)]
     found = [it for it in found if it[len(before) :].count("::") == bool(function.owner)]
+    if not found and function.owner:
+        found = [it for it in named if it.split("::")[-2] == proved_owner(function.owner)]
     if len(found) > 1:
         exact = [it for it in found if it.split("::")[-2] == proved_owner(function.owner)]
         if exact:

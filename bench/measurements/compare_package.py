@@ -18,9 +18,9 @@ question in a process of its own, and their answers have to be the same lines:
 - what 10,000 concepts were called (CALLED), of which the shell's answer is a join.
 
 As in compare_shell.py, a table is printed: wall and processor seconds and peaks of both sides.
-Behind it stand the bytes of both files, what the open store takes in memory, both a row too, and
-the same of a store that took only what version 2 keeps. The status is 1 where an answer is another
-one. Standard library, and the command sqlite3.
+Behind it stand the bytes of both files, what an open store takes in memory more than an empty one,
+and the same of a store that took only what version 2 keeps. The status is 1 where an answer is
+another one. Standard library, and the command sqlite3.
 """
 
 from __future__ import annotations
@@ -170,7 +170,8 @@ def query_of_called(concept: str, date: str, refset: str) -> Question:
     described, named = NEWEST.format("d", date, "D"), NEWEST.format("x", date, "Language")
     return Question(
         "0 CALLED %s %s %s" % (concept, date, refset),
-        "SELECT d.*, x.* FROM D d JOIN Language x ON x.referencedComponentId = d.id WHERE"
+        # (By the order of the tables: else it begins with all members of the language.)
+        "SELECT d.*, x.* FROM D d CROSS JOIN Language x ON x.referencedComponentId = d.id WHERE"
         " d.active = 1 AND d.conceptId = %s AND x.active = 1 AND x.refsetId = %s%s%s"
         " ORDER BY d.id, x.id;" % (concept, refset, described, named))
 
@@ -239,13 +240,20 @@ def ask_both(table: Table, served: Served, shell: Shell, title: str,
     table.show(title, Cost(wall, used), theirs, rows == answered)
 
 
-def show_memory(what: str, sctd: Sctd, rows: int) -> None:
-    """Prints what an open store takes."""
+def held_by(sctd: Sctd) -> int:
+    """How many bytes the program holds in memory once it has opened a store."""
     served = Served(sctd)
-    held, bytes_of_file = served.held(), os.path.getsize(sctd.path)
-    print("%s: %d rows; open %d bytes, %.1f a row; file %d bytes, %.1f a row" % (
-        what, rows, held, held / rows, bytes_of_file, bytes_of_file / rows), flush=True)
+    held = served.held()
     served.end()
+    return held
+
+
+def show_memory(what: str, sctd: Sctd, rows: int, ground: int) -> None:
+    """Prints what an open store takes, and what that is more than an empty one."""
+    held, size = held_by(sctd), os.path.getsize(sctd.path)
+    more = (held - ground) / rows
+    print("%s: %d rows; open %d bytes, %.1f a row beside those of an empty store; file %.1f a row" % (
+        what, rows, held, more, size / rows), flush=True)
 
 
 def rows_in(told: bytes) -> int:
@@ -263,6 +271,7 @@ def compare(program: str, folder: Path, count: int) -> bool:
         subprocess.check_call([sys.executable, maker, "--package", str(place), str(count)])
     table, shell = Table(count), Shell(place)
     basic, sctd = (Sctd(program, place, layout) for layout in (2, 3))
+    ground = held_by(sctd)
     told, ours = sctd.take(full)
     table.show("import the Full release, with its indexes", ours, shell.take(full, INDEXES))
     rows = rows_in(told)
@@ -278,8 +287,8 @@ def compare(program: str, folder: Path, count: int) -> bool:
     ask_both(table, served, shell, "values of a language, 1,000 a page", values)
     ask_both(table, served, shell, "what 10,000 concepts were called", drawn.called())
     served.end()
-    show_memory("version 3, all files", sctd, rows + rows_in(told))
-    show_memory("version 2, its files", basic, rows_in(basic.take(full)[0]))
+    show_memory("version 3, all files", sctd, rows + rows_in(told), ground)
+    show_memory("version 2, its files", basic, rows_in(basic.take(full)[0]), ground)
     print("bytes of the shell's file: %d" % os.path.getsize(shell.path))
     return table.alike
 

@@ -11,10 +11,10 @@ table: how many a second, the median, and the microseconds of the processor a re
 hub and program. --hub takes another hub than examples/hub.py. Clients are two processes, which need
 a processor of their own.
 
-With --package the release is a whole package in a store of layout 3, and the gateway has a language,
-so $lookup asks for preferred terms and members too. Then the reference set that has each concept is
-expanded page by page on the last day, twice, by one client: it prints how many codes there are, what
-the first page takes, for which all members are read, and what the others take.
+With --package the release is a whole package in a store of layout 3, and the gateway has a
+language, so $lookup asks for preferred terms and members too. Then the reference set that has each
+concept is expanded page by page on the last day, twice, by one client: it prints how many codes
+there are, what the first page takes, for which all members are read, and what the others take.
 """
 
 import argparse
@@ -200,7 +200,7 @@ def expanded(path, day):
     client.close()
     if len(codes) != said["expansion"]["total"]:
         raise SystemExit("$expand: %d codes, and not %d" % (len(codes), said["expansion"]["total"]))
-    line = "$expand of %d codes in pages of %d: the first %.0f ms, the others %.0f ms (%.0f to %.0f)"
+    line = "$expand of %d codes by %d: the first %.0f ms, the others %.0f ms (%.0f to %.0f)"
     others = waits[1:] or waits
     shown = (statistics.median(others), min(others), max(others))
     print(line % (len(codes), PAGE, waits[0], *shown), flush=True)

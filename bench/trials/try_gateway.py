@@ -35,7 +35,8 @@ RUNS = [
         "test_lines",
         "test_recorded",
     ),
-    ("test_hub", "test_releases", "test_large_answers"),
+    ("test_hub", "test_large_answers"),
+    ("test_releases",),
     ("test_members",),
 ]
 

@@ -257,6 +257,39 @@ def try_packages(tries):
     import_told(tries, "a package imported again", "layout2", "whole", "OK 2 2 1", [])
 
 
+def try_refsets(tries):
+    """What stands in Refset and isn't a folder, of a package that is read whole."""
+    words = ["import", "--quiet", "--store", "layout3", "--releases", "releases"]
+    places = [("a FIFO", "fifo3", os.mkfifo, LANGUAGE, "not a regular file"),
+              ("an endless device", "zero3", endless, LANGUAGE, "not a regular file"),
+              ("a dangling file", "lost3", dangling, LANGUAGE, "leads nowhere"),
+              ("a misnamed file", "odd3", misnamed, b"\xff.txt", "isn't UTF-8: \\xff.txt"),
+              ("a misnamed folder", "odd4", os.mkdir, b"../\xff", "isn't UTF-8: \\xff"),
+              ("a dangling folder", "lost4", dangling, "../Metadata", "Metadata: a link that leads")]
+    for what, name, make, at, why in places:
+        write_package(tries, name, {"Refset/Map/readme.txt": ""})
+        folder = tries.path("releases", name, "Refset", "Language")
+        os.mkdir(folder)
+        make(os.path.join(os.fsencode(folder), os.fsencode(at)))
+        tries.refused(what + " in Refset", [*words, name], "ERR 45 NoFolder", why)
+    write_package(tries, "notes", {"Refset/Language": "", "Refset/Content/readme.txt": ""})
+    os.mkfifo(tries.path("releases", "notes", "Refset", "fifo"))
+    import_told(tries, "what is no folder in Refset", "layout3", "notes", "OK 7 0 1",
+                ["passed over Refset/Language", "passed over Refset/fifo"])
+
+
+def endless(path):
+    os.symlink("/dev/zero", path)
+
+
+def dangling(path):
+    os.symlink("nowhere", path)
+
+
+def misnamed(path):
+    write(path, "")
+
+
 def try_forged(tries):
     """Names and paths with control characters make no line of their own on standard error."""
     forged = "store\nsctd: all is well\x1b[2J\r"
@@ -601,8 +634,8 @@ def main(words):
             write_release(tries, "r%d" % number, "%d0131" % (2019 + number))
         made = tries.run(["init", "--store", "store"])
         tries.check("init", made == (0, "OK\n", ""), made)
-        for part in (try_folders, try_names, try_telling, try_lacking, try_packages, try_forged,
-                     try_new_rights, try_demonstration, try_traps, try_stores, try_rights,
+        for part in (try_folders, try_names, try_telling, try_lacking, try_packages, try_refsets,
+                     try_forged, try_new_rights, try_demonstration, try_traps, try_stores, try_rights,
                      try_full_disk, try_few_files, try_replaced, try_other_user, try_at_once):
             part(tries)
     print("%d tried, %d not as wanted, %d skipped" % (tries.done, tries.wrong, tries.skipped))

@@ -152,7 +152,7 @@ def whole(page, codes, picture):
         "in short \u201cWrist fracture\u201d",
         "(since 31 January 2021: Duplicate component)",
         "Preferred term",
-        "A break of bones of the wrist <joint>.",
+        "A break of bones of the wrist.",
         "Why retired",
         "Wrists of the house",
         "since 31 January 2015",

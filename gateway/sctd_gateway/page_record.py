@@ -74,7 +74,9 @@ class Side(NamedTuple):
 
     @property
     def reasons(self) -> list[str]:
-        return reasons_of(one.row for one in self.members)
+        """Why the concept was retired, in codes. (An active one may have an indicator too.)"""
+        is_retired = self.status == "inactive"
+        return reasons_of(one.row for one in self.members) if is_retired else []
 
     def called(self, code: str) -> str:
         """A concept of the metadata by its name."""
@@ -230,8 +232,9 @@ def sentence(side: Side, versions: Iterable[Concept]) -> Html:
     for row in versions:
         if row.time <= side.day:
             since = "" if row.is_active else since or row.time
-    reasons = [name for reason in side.reasons for name in (": ", term(side.called(reason)))]
-    retired = [" (since ", time(since), *reasons, ")"] if since else []
+    reasons = [term(side.called(reason)) for reason in side.reasons]
+    why = [": ", reasons[0], *(joined(", ", one) for one in reasons[1:])] if reasons else []
+    retired = [" (since ", time(since), *why, ")"] if since else []
     short = [", in short \u201c", term(side.short_name), "\u201d"] if side.short_name else []
     return joined(
         "On ",

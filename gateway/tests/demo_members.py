@@ -14,11 +14,12 @@ US, GB, GERMAN = "900000000000509007", "900000000000508004", "722130004"
 PREFERRED, ACCEPTABLE = "900000000000548007", "900000000000549004"
 INDICATORS = "900000000000489007"
 AMBIGUOUS, DUPLICATE = "900000000000484002", "900000000000482003"
+PENDING_MOVE = "900000000000492006"
 CTV3 = "900000000000497000"
 # A map of the house's own, of which no release has the concept.
 HOUSE_MAP = str(sctid(4712, "00"))
 TEXT_DEFINITION = "900000000000550004"
-DEFINITION = "A break of bones of the wrist <joint>."
+DEFINITION = "A break of bones of the wrist."
 FIXED = "id effectiveTime active moduleId refsetId referencedComponentId"
 FILES = {
     "T": ("Terminology/sct2_TextDefinition_Delta-en_INT_%s.txt", demo.COLUMNS["D"]),
@@ -152,11 +153,15 @@ def languages(maker: WholeMaker) -> None:
 
 
 def indicators(maker: WholeMaker) -> None:
-    """Why two concepts were retired; of the first another reason is given later."""
-    wrist, radius = maker.codes["wrist"], maker.codes["radius"]
+    """Why two concepts were retired: of the first another reason is given later, the second has
+    two. A third one is active and has two indicators, of what is to come."""
+    wrist, radius, carpal = (maker.codes[name] for name in ("wrist", "radius", "carpal"))
+    maker.member("value", "20210131", INDICATORS, carpal, PENDING_MOVE)
+    maker.member("value", "20210131", INDICATORS, carpal, AMBIGUOUS)
     known = maker.member("value", "20210131", INDICATORS, wrist, AMBIGUOUS)
     maker.member("value", "20220731", INDICATORS, wrist, DUPLICATE, known=known)
     maker.member("value", "20220731", INDICATORS, radius, DUPLICATE)
+    maker.member("value", "20220731", INDICATORS, radius, AMBIGUOUS)
 
 
 def simple_sets(maker: WholeMaker) -> None:

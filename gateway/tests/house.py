@@ -213,9 +213,11 @@ class House:
 
 
 class Shared:
-    """The house that the tests share which leave it as it is."""
+    """The houses that the tests share which leave them as they are: one whose store keeps no
+    members, and one of whole packages."""
 
     one: House | None = None
+    whole: House | None = None
 
     @classmethod
     def get(cls) -> House:
@@ -224,10 +226,17 @@ class Shared:
         return cls.one
 
     @classmethod
+    def get_whole(cls, words: Sequence[str]) -> House:
+        if cls.whole is None:
+            cls.whole = House(layout=3, is_whole=True, words=words)
+        return cls.whole
+
+    @classmethod
     def end(cls) -> None:
-        if cls.one:
-            cls.one.end()
-            cls.one = None
+        for house in (cls.one, cls.whole):
+            if house:
+                house.end()
+        cls.one = cls.whole = None
 
 
 def version(day: str) -> str:

@@ -4,7 +4,9 @@ import asyncio
 import os
 import re
 import unittest
-from typing import Any
+from collections.abc import Sequence
+from types import SimpleNamespace
+from typing import Any, cast
 from urllib.parse import urlencode
 
 from make_release import sctid
@@ -12,13 +14,14 @@ from sctd_gateway import languages, limits, refsets
 from sctd_gateway.hub import HubGone, TooCostly
 from sctd_gateway.page_history import Names
 from sctd_gateway.page_members import memberships, refset_entries
+from sctd_gateway.pool import Member, Session
 from sctd_gateway.problems import Problem
 from sctd_gateway.snomed import RefsetMember
 from sctd_gateway.store import View, called_of, members_of
 
 from . import demo_members as demo
 from .demo_releases import SAME_AS
-from .house import SCT, House, Json, issue, parts_of, properties, told, version
+from .house import SCT, House, Json, Shared, issue, parts_of, properties, told, version
 
 LOOKUP, EXPAND = "CodeSystem/$lookup", "ValueSet/$expand"
 TRANSLATE = "ConceptMap/$translate"
@@ -38,14 +41,8 @@ FSN, SYNONYM = "900000000000003001", "900000000000013009"
 class Whole(unittest.TestCase):
     """A store of layout 3 with whole packages."""
 
-    house: House
-
-    @classmethod
-    def setUpClass(cls) -> None:
-        cls.house = House(layout=3, is_whole=True, words=WORDS)
-        cls.addClassCleanup(cls.house.end)
-
     def setUp(self) -> None:
+        self.house = Shared.get_whole(WORDS)
         self.codes = self.house.codes
 
     def lookup(self, name: str, **words: Any) -> Json:
@@ -246,8 +243,9 @@ class Reasons(Whole):
             ("wrist", "2021-01-31", [demo.AMBIGUOUS]),
             ("wrist", "2022-07-30", [demo.AMBIGUOUS]),
             ("wrist", "2022-07-31", [demo.DUPLICATE]),
-            ("radius", "2022-07-31", [demo.DUPLICATE]),
+            ("radius", "2022-07-31", [demo.DUPLICATE, demo.AMBIGUOUS]),
             ("lost", "2022-07-31", []),
+            ("carpal", "2022-07-31", [demo.PENDING_MOVE, demo.AMBIGUOUS]),
         ):
             found = properties(self.lookup(name, date=date)).get("inactivationIndicator", [])
             self.assertEqual(found, reasons, (name, date))
@@ -486,7 +484,7 @@ class Page(Whole):
 
     def test_definition(self) -> None:
         text = self.page("wrist")
-        shown = demo.DEFINITION.replace("<", "&lt;").replace(">", "&gt;")
+        shown = demo.DEFINITION
         self.assertEqual(self.row(text, "Text definition"), [[shown], [shown]])
         self.assertNotIn(shown, self.row(text, "Synonyms")[0])
         self.assertIn("Text definition added: <bdi>%s</bdi>" % shown, text)
@@ -508,7 +506,11 @@ class Page(Whole):
         )
         changed = " changed: <bdi>%s component</bdi> \u2192 <bdi>%s component</bdi>"
         self.assertIn(demo.INDICATORS_NAME + changed % ("Ambiguous", "Duplicate"), text)
-        self.assertEqual(self.row(self.page("limb"), "Why retired"), [])
+        for active in ("limb", "carpal"):
+            self.assertEqual(self.row(self.page(active), "Why retired"), [], active)
+        self.assertIn(demo.INDICATORS_NAME, self.page("carpal"))
+        two = ": <bdi>Duplicate component</bdi>, <bdi>Ambiguous component</bdi>)"
+        self.assertIn(two, self.page("radius"))
 
     def test_reference_sets(self) -> None:
         name = "Wrists of the house %s " % self.codes["set"]
@@ -620,10 +622,24 @@ class Rows(unittest.TestCase):
                 called_of(lines)
 
 
+class NothingRemembered:
+    """A session in which no set is remembered."""
+
+    pool = SimpleNamespace(refsets=None)
+
+    def remembered_set(self, *_: Any) -> None:
+        pass
+
+    def remember_set(self, *_: Any) -> None:
+        pass
+
+
 class ManyMembers(View):
-    """A store with a reference set of so many members, each of another concept or two of one."""
+    """A store with a reference set of so many members, each of another concept, or with so many
+    reference sets, each of which has members."""
 
     def __init__(self, count: int) -> None:
+        self.session = cast(Session, NothingRemembered())
         self.count, self.asked = count, list[str]()
 
     async def values(
@@ -633,6 +649,15 @@ class ManyMembers(View):
         first = 0 if after == "-" else int(after) // 1000
         last = min(first + limits.QUESTION_ROWS, self.count)
         return [member("%d000" % number) for number in range(first + 1, last + 1)]
+
+    async def members(self, codes: Sequence[str], day: str, keep: bool = True) -> list[Member]:
+        return [Member(code, code.endswith("2000")) for code in codes]
+
+    async def descendants(self, code: str, day: str) -> list[str]:
+        return [str(number) for number in range(self.count)]
+
+    async def have_values(self, found: Sequence[str], day: str) -> list[str]:
+        return [*found]
 
 
 def member(component: str, time: str = "20150131", active: str = "1") -> RefsetMember:
@@ -649,6 +674,22 @@ class LargeSets(unittest.TestCase):
         with self.assertRaises(TooCostly):
             view = ManyMembers(limits.REFSET_MEMBERS + 1)
             asyncio.run(refsets.components_of(view, "2", "20200101"))
+
+    def test_of_which_it_is_asked_whether_they_are_active(self) -> None:
+        view = ManyMembers(limits.WALK_CONCEPTS)
+        found = asyncio.run(refsets.active_codes_of(view, "2", "20200101"))
+        self.assertEqual(len(found), limits.WALK_CONCEPTS // 10)
+        with self.assertRaises(TooCostly):
+            view = ManyMembers(limits.WALK_CONCEPTS + 1)
+            asyncio.run(refsets.active_codes_of(view, "2", "20200101"))
+
+    def test_among_how_many_there_are(self) -> None:
+        view = ManyMembers(limits.REFSET_CHOICE)
+        found = asyncio.run(refsets.with_members(view, "20200101"))
+        self.assertEqual(len(found), limits.REFSET_CHOICE)
+        with self.assertRaises(TooCostly):
+            view = ManyMembers(limits.REFSET_CHOICE + 1)
+            asyncio.run(refsets.with_members(view, "20200101"))
 
 
 class Memberships(unittest.TestCase):

@@ -20,9 +20,10 @@ use Rattle.history_store.specs.StoreValue.{StoreValue}
 use Rattle.line_commands.specs.Commands.{Command, Merge, Step, Publish, Trim}
 use Rattle.line_commands.specs.Requests.{Asks}
 use Rattle.line_commands.proofs.Readings.{one_reading, asked_is_read}
+use Rattle.import_check.specs.declared.scope.Scope.{Scope}
 use Rattle.line_server.specs.declared.refusal.LineRefusal.{LineRefusal}
 use Rattle.line_server.specs.declared.refusal.LineRefusal.TheVariants as refusals
-use Rattle.line_server.specs.Sources.{Releases, no_releases}
+use Rattle.line_server.specs.Sources.{Releases, no_releases, scope_of}
 use Rattle.line_server.specs.ReplyValue.{Answer, ReplyValue, reply_value}
 use Rattle.line_server.specs.StateValue.{StateValue, fresh}
 use Rattle.line_server.specs.Replies.{Server, Replies, IsAnswer, IsRefusal, IsRefusedForDamage, IsPerformed, server}
@@ -297,14 +298,14 @@ module _ {D : Type 0} (view : DeviceView D) where
 
   -- ---- the history
 
-  none_imported : (line : List ℕ) (call : Call) → IsOfAsked (λ _. None) line call → taken call ≡ []
-  none_imported line (Imported r) asked = let no : None ≡ Some (files_of r) = asked.3 in cc
-  none_imported line (Failed r) asked = refl
-  none_imported line Other asked = refl
+  none_imported : (scope : Scope) (line : List ℕ) (call : Call) → IsOfAsked (λ _ _. None) scope line call → taken call ≡ []
+  none_imported scope line (Imported r) asked = let no : None ≡ Some (files_of r) = asked.3 in cc
+  none_imported scope line (Failed r) asked = refl
+  none_imported scope line Other asked = refl
 
   turn_keeps : (old new : Server D) (turn : Turn) → Goes old turn new → view.is_honest old.store.disk → new.store.history ≡ old.store.history
   turn_keeps old new turn t up =
-      subst (λ (rs : List Release). TakesAll old.store.history rs new.store.history) (none_imported turn.line turn.call (t.own tt).asked) (t.call.history up)
+      subst (λ (rs : List Release). TakesAll old.store.history rs new.store.history) (none_imported (scope_of old.store.catalog.layout) turn.line turn.call (t.own tt).asked) (t.call.history up)
 
   merges_keep : (old new : Server D) (turns : List Turn) → Merges view old turns new → view.is_honest old.store.disk
       → (view.is_honest new.store.disk) × (new.store.history ≡ old.store.history)

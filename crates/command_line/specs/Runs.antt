@@ -118,7 +118,7 @@ pub record IsDemonstrated (script : List ℕ) (report : Report) : Type 0 where
   pub empty : memory_moments disk ≡ made []
   pub left : MemDisk
   pub rest : Option (List ℕ)
-  pub serving : IsServingNew (source_view ⊤ sample_files)
+  pub serving : IsServingNew (source_view ⊤ (λ _. sample_files))
       (device_view (λ _. Unit {0}) memory_moments failure_count bytes_read_of)
       disk left report.ended (streams (Some script) rest report.old report.new)
 

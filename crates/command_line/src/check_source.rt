@@ -28,12 +28,7 @@ impl<F: Folders, E: Write> Source for CheckSource<'_, F, E> {
 
     ghost releases = { λ s. F.releases s.folder.folders.now s.folder.dir.now };
 
-    fn release(
-        &mut self,
-        alloc: Global,
-        name: &str,
-        scope: Scope,
-    ) -> Result<Release, SourceFault> {
+    fn release(&mut self, alloc: Global, name: &str, scope: Scope) -> Result<Release, SourceFault> {
         self.folder.release(alloc, name, scope)
     }
 
@@ -64,10 +59,10 @@ impl<F: Folders, E: Write> CheckSource<'_, F, E> {
         }
         // What there is to say of the folder was said when it was read first.
         let scope = scope_for(store);
-        let again =
-            self.folder
-                .folders
-                .release(alloc, self.folder.dir, name, scope, true, &mut io::sink());
+        let again = self
+            .folder
+            .folders
+            .release(alloc, self.folder.dir, name, scope, true, &mut io::sink());
         match again {
             Ok(release) => self.tell_of(alloc, name, release, store),
             Err(_) => {

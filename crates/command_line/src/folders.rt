@@ -50,8 +50,8 @@ pub trait Folders {
         ensures missing { result ≡ false → lacks self.now dir.now };
 
     /// The release in a folder below one, as far as the scope asks for its files. Where there is
-    /// none, `faults` is told why. It is also told which files are read and passed over; if `quiet`,
-    /// only of those that may be wrong.
+    /// none, `faults` is told why. It is also told which files are read and passed over; if
+    /// `quiet`, only of those that may be wrong.
     fn release<E: Write>(
         &self,
         alloc: Global,
@@ -182,12 +182,7 @@ impl<F: Folders, E: Write> Source for FolderSource<'_, F, E> {
 
     ghost releases = { λ s. F.releases s.folders.now s.dir.now };
 
-    fn release(
-        &mut self,
-        alloc: Global,
-        name: &str,
-        scope: Scope,
-    ) -> Result<Release, SourceFault> {
+    fn release(&mut self, alloc: Global, name: &str, scope: Scope) -> Result<Release, SourceFault> {
         let given = self
             .folders
             .release(alloc, self.dir, name, scope, self.quiet, self.faults);

@@ -315,7 +315,8 @@ fn digest<'a>(alloc: Global) -> Result<Command<'a>, AllocError>
 fn upgrade<'a>(alloc: Global) -> Result<Command<'a>, AllocError>
     ensures { IfOk result (IsCommand upgrade_command) }
 {
-    let about = "Brings a store to layout version 3: checksums, all reference sets, and no way back";
+    let about =
+        "Brings a store to layout version 3: checksums, all reference sets, and no way back";
     new_command(alloc, "upgrade", about, helps::UPGRADE).arg(store(alloc))
 }
 

@@ -261,7 +261,8 @@ IsReadingOf (Ok x) old new = IsStill old new
 IsReadingOf (Err e) old new = IsReadRefusal e old × IsRefused e old new
 
 -- Why an import is refused, on every disk: what the counts, the version, the files, the directory
--- and the keys of the rows say. Whether a row contradicts the known ones is said on an honest disk alone.
+-- and the keys of the rows say. Whether a row contradicts the known ones is said on an honest disk
+-- alone.
 abbrev pub IsRefusalOnAnyDisk : {D : Type 0} → Refusal → StoreValue D → Release → Type 0
 IsRefusalOnAnyDisk refusals.OutOfMemory s release =
     (s.needs_reopen ≡ false) × IsAdmitted s.history s.catalog release

@@ -49,9 +49,9 @@ IsCheckingOnAnyDisk (Err e) old new release =
 -- A release was checked. Whatever is answered, history and catalog stay, and a failed device alone
 -- closes the store. A store that has to be opened again leaves everything as it is, and so does one
 -- to which a release for a later version is given. Only reads are made: each row of the store whose
--- key the release has is read once at most, through the blocks in memory, and no other; where a file
--- is no release file, nothing is read. What a stop may leave stays, and as long as no call has failed
--- it represents what the store holds.
+-- key the release has is read once at most, through the blocks in memory, and no other; where a
+-- file is no release file, nothing is read. What a stop may leave stays, and as long as no call has
+-- failed it represents what the store holds.
 pub record IsChecking {D : Type 0} (result : Result Receipt Refusal) (release : Release)
     (is_honest : D → Type 0) (moments_of : D → Moments)
     (failures_of bytes_read_of other_calls_of : D → ℕ) (old new : StoreValue D) : Type 0 where

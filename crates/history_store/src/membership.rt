@@ -90,7 +90,8 @@ impl<D: Disk> Store<D> {
     }
 
     /// By what a concept is called in a language at a date: the active descriptions about it, by
-    /// id, that have active members of the language's reference set, each followed by these members.
+    /// id, that have active members of the language's reference set, each followed by these
+    /// members.
     pub fn called(
         &mut self,
         concept: Sctid,

@@ -365,7 +365,8 @@ impl<D: Disk> Store<D> {
             (D.moments self.old.disk).state c) }
         // A store that has to be opened again leaves everything as it is.
         ensures closed { self.old.needs_reopen ≡ true → self.new ≡ self.old }
-        // So does a store below version 3 to which a release with members of reference sets is given.
+        // So does a store below version 3 to which a release with members of reference sets is
+        // given.
         ensures later { IsForLater self.old.catalog.layout release → self.new ≡ self.old }
         // Eight calls that may change the disk where a row is new,
         // and else six; where it is refused, no more.

@@ -217,12 +217,7 @@ impl Source for Examples {
 
     ghost releases = { λ _ _ _. None };
 
-    fn release(
-        &mut self,
-        alloc: Global,
-        name: &str,
-        scope: Scope,
-    ) -> Result<Release, SourceFault> {
+    fn release(&mut self, alloc: Global, name: &str, scope: Scope) -> Result<Release, SourceFault> {
         match example(alloc, name, scope) {
             Ok(Some(release)) => Ok(release),
             Ok(None) => Err(SourceFault::NoFolder),

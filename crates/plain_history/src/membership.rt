@@ -1,6 +1,7 @@
 //! Members of reference sets, and what a concept is called, computed in the plainest way.
 
-ghost use Rattle.std.specs.Prelude.{◌≡◌, ◌&&◌, ◌++◌, map, IfOk, OnOk};
+ghost use Rattle.std.specs.Prelude.{◌≡◌, ◌&&◌, ◌++◌, nat_lt, length, map, IfOk, OnOk};
+ghost use Rattle.std.specs.List.{filter};
 ghost use Rattle.rf2_values.specs.declared.row.Kind.TheVariants.{Member};
 ghost use Rattle.history_model.specs.InOrder.{put};
 ghost use Rattle.history_model.specs.Private.{IsPlace};
@@ -8,7 +9,7 @@ ghost use Rattle.history_model.specs.Queries.{is_above, is_current, is_about};
 ghost use Rattle.history_model.specs.Queries.{is_member_of, is_member_above, members_above};
 ghost use Rattle.history_model.specs.Queries.{members, component_of, is_value_above, value_cmp};
 ghost use Rattle.history_model.specs.Queries.{values_above, is_among_first, values};
-ghost use Rattle.history_model.specs.Queries.{about, members_about, with_others, called};
+ghost use Rattle.history_model.specs.Queries.{members_about, with_others, called};
 
 use crate::edges::about;
 use crate::snapshots::{is_above, is_current};
@@ -33,6 +34,18 @@ fn is_member_above(row: &Row, refset: Sctid, after: Option<u128>) -> bool
     is_member_of(row, refset) && is_above(after, row.id)
 }
 
+fn is_member_above_at(
+    rows: &[Row],
+    date: EffectiveTime,
+    row: &Row,
+    refset: Sctid,
+    after: Option<u128>,
+) -> bool
+    ensures { result ≡ (is_current rows.now date row.now && is_member_above refset after row.now) }
+{
+    is_current(rows, date, row) && is_member_above(row, refset, after)
+}
+
 /// The members of the reference set at the date, with an id above `after` if that is given.
 #[tactic(auto, unfolding(history_model::specs::Queries::snapshot, history_model::specs::Queries::members_above))]
 fn members_above(
@@ -45,10 +58,13 @@ fn members_above(
     ensures { IfOk result (λ found. map (λ row. row.now) found.items
         ≡ members_above refset date after rows.now) }
 {
-    rows.iter()
-        .filter(|row| is_current(rows, date, row))
-        .filter(|row| is_member_above(row, refset, after))
-        .collect(alloc)
+    let mut found = Vec::new(alloc);
+    for row in rows {
+        if is_member_above_at(rows, date, row, refset, after) {
+            found.push(row)?;
+        }
+    }
+    Ok(found)
 }
 
 /// The first `limit` members of the reference set at the
@@ -162,20 +178,40 @@ fn values_above(
     Ok(found)
 }
 
+/// How many of the rows refer to a component below.
+fn count_below(rows: &[&Row], component: u64) -> usize
+    ensures { result ≡ length (filter (λ r. nat_lt (component_of r.now) component) rows.now) }
+{
+    rows.iter()
+        .copied()
+        .filter(|row| component_of(row) < component)
+        .count()
+}
+
 /// Whether fewer than `limit` of the rows refer to a component before the row's.
 fn is_among_first(rows: &[&Row], row: &Row, limit: u32) -> bool
     ensures { result ≡ is_among_first limit (map (λ r. r.now) rows.now) row.now }
 {
-    let before = rows
-        .iter()
-        .filter(|other| component_of(other) < component_of(row))
-        .count();
-    before < limit as usize
+    count_below(rows, component_of(row)) < limit as usize
+}
+
+/// The rows before whose components fewer than `limit` stand.
+fn first_with_ties<'a>(
+    alloc: Global,
+    rows: &[&'a Row],
+    limit: u32,
+) -> Result<Vec<&'a Row>, AllocError>
+    ensures { IfOk result (λ found. found.items
+        ≡ filter (λ r. is_among_first limit (map (λ row. row.now) rows.now) r.now) rows.now) }
+{
+    rows.iter()
+        .copied()
+        .filter(|row| is_among_first(rows, row, limit))
+        .collect(alloc)
 }
 
 /// The first `limit` active members of the reference set at the date that refer to a component
 /// above `after`, if that is given, and with them all that refer to the last one's component.
-#[tactic(auto, unfolding(history_model::specs::Queries::values))]
 pub fn values(
     alloc: Global,
     rows: &[Row],
@@ -188,41 +224,29 @@ pub fn values(
         ≡ values refset date after limit rows.now) }
 {
     let all = values_above(alloc, rows, refset, date, after)?;
-    all.iter()
-        .copied()
-        .filter(|row| is_among_first(&all, row, limit))
-        .collect(alloc)
+    first_with_ties(alloc, &all, limit)
 }
 
-/// Whether the row is active, and a member about the component.
-fn is_member_about(row: &Row, id: u128) -> bool
-    ensures { result ≡ is_about Member id row.now }
+/// Whether the row is an active member of the reference set that refers to the component.
+fn is_member_about(row: &Row, refset: Sctid, id: u128) -> bool
+    ensures { result ≡ (is_about Member id row.now && is_member_of refset row.now.body) }
 {
     match &row.body {
-        Body::Member(member) => row.active && u128::from(member.referenced.value()) == id,
+        Body::Member(member) => {
+            row.active && u128::from(member.referenced.value()) == id && member.refset == refset
+        }
         _ => false,
     }
 }
 
-/// The active members at the date that refer to the component.
-#[tactic(auto, unfolding(history_model::specs::Queries::snapshot, history_model::specs::Queries::about))]
-fn all_members_about(
-    alloc: Global,
-    rows: &[Row],
-    id: u128,
-    date: EffectiveTime,
-) -> Result<Vec<&Row>, AllocError>
-    ensures { IfOk result (λ found. map (λ row. row.now) found.items
-        ≡ about Member id date rows.now) }
+fn is_member_about_at(rows: &[Row], date: EffectiveTime, row: &Row, refset: Sctid, id: u128) -> bool
+    ensures { result ≡ (is_current rows.now date row.now
+        && (is_about Member id row.now && is_member_of refset row.now.body)) }
 {
-    rows.iter()
-        .filter(|row| is_current(rows, date, row))
-        .filter(|row| is_member_about(row, id))
-        .collect(alloc)
+    is_current(rows, date, row) && is_member_about(row, refset, id)
 }
 
-/// Those of them that are of the reference set.
-#[tactic(auto, unfolding(history_model::specs::Queries::members_about))]
+/// The active members of the reference set at the date that refer to the component.
 fn members_about(
     alloc: Global,
     rows: &[Row],
@@ -233,11 +257,13 @@ fn members_about(
     ensures { IfOk result (λ found. map (λ row. row.now) found.items
         ≡ members_about refset id date rows.now) }
 {
-    let all = all_members_about(alloc, rows, id, date)?;
-    all.iter()
-        .copied()
-        .filter(|row| is_member_of(row, refset))
-        .collect(alloc)
+    let mut found = Vec::new(alloc);
+    for row in rows {
+        if is_member_about_at(rows, date, row, refset, id) {
+            found.push(row)?;
+        }
+    }
+    Ok(found)
 }
 
 /// Adds a row and the others behind it, if there are any.

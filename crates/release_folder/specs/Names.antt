@@ -14,7 +14,8 @@ use Rattle.rf2_values.specs.declared.row.Kind.{Kind}
 use Rattle.rf2_values.specs.declared.row.Kind.TheVariants as kind
 use Rattle.release_folder.specs.declared.part.Part.{Part}
 
--- the letter of a column of a reference set: `c` for a component, `i` for an integer, `s` for a text
+-- the letter of a column of a reference set: `c` for a component,
+-- `i` for an integer, `s` for a text
 abbrev pub IsColumnLetter : ℕ → Type 0
 IsColumnLetter byte = (byte ≡ 99) ⊎ (byte ≡ 105) ⊎ (byte ≡ 115)
 

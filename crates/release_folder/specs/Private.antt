@@ -1,4 +1,5 @@
--- Which files are passed over, and how folders are put together. Only private functions cite these words.
+-- Which files are passed over, and how folders are put together.
+-- Only private functions cite these words.
 use Rattle.std.specs.Prelude.{◌≡◌, ◌≤◌, ◌-◌, ◌⊎◌, ◌++◌, ◌==◌, Bool, List, All, length, codes, ℕ}
 use Rattle.std.specs.List.{count_by}
 use Rattle.memchr.specs.Find.{OccursAt}

@@ -13,8 +13,8 @@ pub enum FolderFault {
     #[error("out of memory")]
     OutOfMemory,
     /// It isn't a folder, or something in it could not be listed or read, or is too large, or it
-    /// holds no release file; or a name in one of its two folders isn't UTF-8, be it a file to take
-    /// or not.
+    /// holds no release file; or a name in one of the folders that are read isn't UTF-8, be it a
+    /// file to take or not.
     #[error("there is no release in the folder")]
     NoFolder,
 }

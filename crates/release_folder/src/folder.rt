@@ -26,8 +26,8 @@ use std::io::{self, ErrorKind, Read};
 /// The release in the folder `name` below `dir`: the files of the folder Terminology and then those
 /// of Refset/Content, the names of each in byte order, as far as their names are those of concept,
 /// description, relationship, association or concrete value files of a Delta or a Full release. Of
-/// the whole of a package, the files of each folder of Refset, the folders' names in byte order, and
-/// those of text definitions and of the members of every other reference set too.
+/// the whole of a package, the files of each folder of Refset, in the byte order of the folders'
+/// names, and those of text definitions and of the members of every other reference set too.
 pub fn read_folder<R: Files<File = File> + AllocGlobal + Clone + Drop>(
     rt: &R,
     alloc: Global,

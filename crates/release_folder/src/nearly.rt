@@ -28,8 +28,9 @@ fn ends_with(name: &[u8], ending: &[u8]) -> bool {
     }
 }
 
-/// Whether the name at the end of a path isn't one to take in the scope, but would be if case didn't
-/// count, and if an `x`, as packages set before the names of files of a beta release, weren't there.
+/// Whether the name at the end of a path isn't one to take in the scope, but would be if case
+/// didn't count, and if an `x`, as packages set before the names of files of a beta release,
+/// weren't there.
 pub fn is_nearly_to_take(path: &[u8], scope: Scope) -> bool {
     let name = match path.iter().rposition(|byte| *byte == b'/') {
         Some(at) => path.get(at.saturating_add(1)..).unwrap_or(path),

@@ -8,7 +8,8 @@
 //!   one of the answers, with a comma between two. `damaged` is any damage. Where the byte stands
 //!   already, nothing is tried.
 //!
-//! A disk is opened as a number of imports, or refused, with the damaged part if it is damaged.
+//! A disk is opened as a number of imports, or refused, with the damaged part if it is damaged. One
+//! that is refused has to be left as it was.
 
 use crate::calls::spell_refusal;
 use case_files::{Answer, NoAnswer};
@@ -31,15 +32,24 @@ pub fn put_at(alloc: Global, disk: &mut Vec<u8>, words: &str) -> Result<(), NoAn
     Ok(())
 }
 
+/// Why a disk isn't opened as a store.
+fn spell_reason(alloc: Global, refusal: Refusal) -> Answer {
+    match refusal {
+        Refusal::Unreadable(part) => Ok(format!(in alloc; "{part:?}")?),
+        _ => spell_refusal(alloc, refusal),
+    }
+}
+
 /// What a disk of these bytes is opened as.
 fn opened(alloc: Global, bytes: Vec<u8>) -> Answer {
-    match Example::opened(alloc, MemDisk::from_bytes(alloc, bytes)) {
+    let before = bytes.to_vec(alloc)?;
+    match Example::open(alloc, MemDisk::from_bytes(alloc, bytes)) {
         Ok(store) => {
             let imports = store.imports();
             Ok(format!(in alloc; "{imports}")?)
         }
-        Err(Refusal::Unreadable(part)) => Ok(format!(in alloc; "{part:?}")?),
-        Err(refusal) => spell_refusal(alloc, refusal),
+        Err((refusal, disk)) if disk.bytes() == before.as_slice() => spell_reason(alloc, refusal),
+        Err(_) => Ok(String::from_str(alloc, "the disk is another one")?),
     }
 }
 

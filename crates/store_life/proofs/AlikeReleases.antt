@@ -123,18 +123,18 @@ module _ (release other : Release) (same : files_of release ≡ files_of other) 
         fault_is = subst (λ (b : FileBytes). IsFaultOfFile b.0 b.1 line fault) c.middle_is f.fault_is;
       }
 
-  later_alike : {layout : Layout} → IsForLater layout release → IsForLater layout other
-  later_alike {layouts.One} is = subst (λ (l : List Kind). Has l kinds.Member) (kinds_alike release.files.items other.files.items same) is
-  later_alike {layouts.Two} is = subst (λ (l : List Kind). Has l kinds.Member) (kinds_alike release.files.items other.files.items same) is
-  later_alike {layouts.Three} is = is
+  later_alike : (layout : Layout) → IsForLater layout release → IsForLater layout other
+  later_alike layouts.One is = subst (λ (l : List Kind). Has l kinds.Member) (kinds_alike release.files.items other.files.items same) is
+  later_alike layouts.Two is = subst (λ (l : List Kind). Has l kinds.Member) (kinds_alike release.files.items other.files.items same) is
+  later_alike layouts.Three is = is
 
-  earlier_alike : {layout : Layout} → IsForLater layout other → IsForLater layout release
-  earlier_alike {layouts.One} is = subst (λ (l : List Kind). Has l kinds.Member) (kinds_alike other.files.items release.files.items (sym same)) is
-  earlier_alike {layouts.Two} is = subst (λ (l : List Kind). Has l kinds.Member) (kinds_alike other.files.items release.files.items (sym same)) is
-  earlier_alike {layouts.Three} is = is
+  earlier_alike : (layout : Layout) → IsForLater layout other → IsForLater layout release
+  earlier_alike layouts.One is = subst (λ (l : List Kind). Has l kinds.Member) (kinds_alike other.files.items release.files.items (sym same)) is
+  earlier_alike layouts.Two is = subst (λ (l : List Kind). Has l kinds.Member) (kinds_alike other.files.items release.files.items (sym same)) is
+  earlier_alike layouts.Three is = is
 
   admitted_alike : {h : History} {catalog : Catalog} → IsAdmitted h catalog release → IsAdmitted h catalog other
-  admitted_alike {h} {catalog} a = record { room = a.room; version = λ is. a.version (earlier_alike {catalog.layout} is) }
+  admitted_alike {h} {catalog} a = record { room = a.room; version = λ is. a.version (earlier_alike catalog.layout is) }
 
   taken_alike : {h after : History} {catalog next : Catalog} {receipt : Receipt} → IsTaken h after catalog next release receipt → IsTaken h after catalog next other receipt
   taken_alike t = record { room = admitted_alike t.room; rows = t.rows; is_release = release_alike t.is_release; accepted = t.accepted; history = t.history; receipt_is = t.receipt_is; catalog_is = t.catalog_is }
@@ -146,7 +146,7 @@ module _ (release other : Release) (same : files_of release ≡ files_of other) 
   import_alike (Ok receipt) old new sure i = (taken_alike i.0, i.1, i.2)
   import_alike (Err store.ReopenNeeded) old new sure i = i
   import_alike (Err store.CountSpent) old new sure i = i
-  import_alike (Err store.LaterVersion) old new sure i = ((i.0.0, (i.0.1.0, later_alike {old.catalog.layout} i.0.1.1)), i.1)
+  import_alike (Err store.LaterVersion) old new sure i = ((i.0.0, (i.0.1.0, later_alike old.catalog.layout i.0.1.1)), i.1)
   import_alike (Err (store.Line file line fault)) old new sure i = ((i.0.0, (admitted_alike i.0.1.0, fault_alike i.0.1.1)), i.1)
   import_alike (Err (store.Contradiction file line)) old new sure i = ((i.0.0, (admitted_alike i.0.1.0, i.0.1.1, contradiction_alike i.0.1.2)), i.1)
   import_alike (Err store.TooManySegments) old new sure i = ((i.0.0, unplaced_alike i.0.1), i.1)

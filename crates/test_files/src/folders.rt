@@ -345,12 +345,7 @@ fn make_watched(rt: &HostRuntime) -> Result<(), Fail> {
 }
 
 /// Whether the watcher is told these lines while a release is read, and it is read.
-fn are_told(
-    rt: &HostRuntime,
-    name: &str,
-    scope: Scope,
-    wanted: &[&str],
-) -> bool {
+fn are_told(rt: &HostRuntime, name: &str, scope: Scope, wanted: &[&str]) -> bool {
     let mut notes = Notes {
         alloc: rt.alloc(),
         lines: Vec::new(rt.alloc()),
@@ -454,26 +449,98 @@ fn what_a_full_release_lacks(rt: HostRuntime) -> Result<(), Fail> {
 
 /// Names of files that stand in packages, and of which kind they are in each scope.
 const NAMES: [(&str, Option<Kind>, Option<Kind>); 26] = [
-    ("sct2_Concept_Full_INT_20260131.txt", Some(Kind::Concept), Some(Kind::Concept)),
-    ("sct2_Description_Delta-de_XX_20260131.txt", Some(Kind::Description), Some(Kind::Description)),
-    ("sct2_TextDefinition_Full-en_INT_20260131.txt", None, Some(Kind::Description)),
-    ("sct2_TextDefinition_Snapshot-en_INT_20260131.txt", None, None),
-    ("sct2_Relationship_Full_INT_20260131.txt", Some(Kind::Relationship), Some(Kind::Relationship)),
-    ("sct2_RelationshipConcreteValues_Full_INT_20260131.txt", Some(Kind::Concrete), Some(Kind::Concrete)),
+    (
+        "sct2_Concept_Full_INT_20260131.txt",
+        Some(Kind::Concept),
+        Some(Kind::Concept),
+    ),
+    (
+        "sct2_Description_Delta-de_XX_20260131.txt",
+        Some(Kind::Description),
+        Some(Kind::Description),
+    ),
+    (
+        "sct2_TextDefinition_Full-en_INT_20260131.txt",
+        None,
+        Some(Kind::Description),
+    ),
+    (
+        "sct2_TextDefinition_Snapshot-en_INT_20260131.txt",
+        None,
+        None,
+    ),
+    (
+        "sct2_Relationship_Full_INT_20260131.txt",
+        Some(Kind::Relationship),
+        Some(Kind::Relationship),
+    ),
+    (
+        "sct2_RelationshipConcreteValues_Full_INT_20260131.txt",
+        Some(Kind::Concrete),
+        Some(Kind::Concrete),
+    ),
     ("sct2_StatedRelationship_Full_INT_20260131.txt", None, None),
     ("sct2_Identifier_Full_INT_20260131.txt", None, None),
-    ("der2_cRefset_AssociationFull_INT_20260131.txt", Some(Kind::Association), Some(Kind::Association)),
-    ("der2_cRefset_AssociationReferenceFull_INT_20260131.txt", Some(Kind::Association), Some(Kind::Association)),
-    ("der2_cRefset_AttributeValueFull_INT_20260131.txt", None, Some(Kind::Member)),
-    ("der2_cRefset_LanguageFull-en_INT_20260131.txt", None, Some(Kind::Member)),
-    ("der2_cRefset_LanguageSnapshot-en_INT_20260131.txt", None, None),
-    ("der2_Refset_SimpleFull_INT_20260131.txt", None, Some(Kind::Member)),
-    ("der2_sRefset_SimpleMapDelta_INT_20260131.txt", None, Some(Kind::Member)),
-    ("der2_ssRefset_ModuleDependencyFull_INT_20260131.txt", None, Some(Kind::Member)),
-    ("der2_iisssccRefset_ExtendedMapFull_INT_20260131.txt", None, Some(Kind::Member)),
-    ("sct2_sRefset_OWLExpressionFull_INT_20260131.txt", None, Some(Kind::Member)),
-    ("sct2_sRefset_OWLExpressionFull_INT_20260131.csv", None, None),
-    ("der2_sRefset_AssociationFull_INT_20260131.txt", None, Some(Kind::Member)),
+    (
+        "der2_cRefset_AssociationFull_INT_20260131.txt",
+        Some(Kind::Association),
+        Some(Kind::Association),
+    ),
+    (
+        "der2_cRefset_AssociationReferenceFull_INT_20260131.txt",
+        Some(Kind::Association),
+        Some(Kind::Association),
+    ),
+    (
+        "der2_cRefset_AttributeValueFull_INT_20260131.txt",
+        None,
+        Some(Kind::Member),
+    ),
+    (
+        "der2_cRefset_LanguageFull-en_INT_20260131.txt",
+        None,
+        Some(Kind::Member),
+    ),
+    (
+        "der2_cRefset_LanguageSnapshot-en_INT_20260131.txt",
+        None,
+        None,
+    ),
+    (
+        "der2_Refset_SimpleFull_INT_20260131.txt",
+        None,
+        Some(Kind::Member),
+    ),
+    (
+        "der2_sRefset_SimpleMapDelta_INT_20260131.txt",
+        None,
+        Some(Kind::Member),
+    ),
+    (
+        "der2_ssRefset_ModuleDependencyFull_INT_20260131.txt",
+        None,
+        Some(Kind::Member),
+    ),
+    (
+        "der2_iisssccRefset_ExtendedMapFull_INT_20260131.txt",
+        None,
+        Some(Kind::Member),
+    ),
+    (
+        "sct2_sRefset_OWLExpressionFull_INT_20260131.txt",
+        None,
+        Some(Kind::Member),
+    ),
+    (
+        "sct2_sRefset_OWLExpressionFull_INT_20260131.csv",
+        None,
+        None,
+    ),
+    (
+        "der2_sRefset_AssociationFull_INT_20260131.txt",
+        None,
+        Some(Kind::Member),
+    ),
     ("der2_cdRefset_LanguageFull_INT_20260131.txt", None, None),
     ("der2_CRefset_LanguageFull_INT_20260131.txt", None, None),
     ("xder2_cRefset_LanguageFull-en_INT_20260131.txt", None, None),
@@ -507,27 +574,48 @@ fn kinds_of_files_in_each_scope(rt: HostRuntime) {
 /// The folders and the files of a package, as they are read.
 const PACKAGE: [(&str, &str); 8] = [
     ("Terminology", "sct2_Concept_Full_INT_20260131.txt"),
-    ("Terminology", "sct2_TextDefinition_Full-en_INT_20260131.txt"),
-    ("Terminology", "sct2_sRefset_OWLExpressionFull_INT_20260131.txt"),
+    (
+        "Terminology",
+        "sct2_TextDefinition_Full-en_INT_20260131.txt",
+    ),
+    (
+        "Terminology",
+        "sct2_sRefset_OWLExpressionFull_INT_20260131.txt",
+    ),
     ("Refset/Content", "der2_Refset_SimpleFull_INT_20260131.txt"),
-    ("Refset/Content", "der2_cRefset_AssociationFull_INT_20260131.txt"),
-    ("Refset/Language", "der2_cRefset_LanguageFull-en_INT_20260131.txt"),
+    (
+        "Refset/Content",
+        "der2_cRefset_AssociationFull_INT_20260131.txt",
+    ),
+    (
+        "Refset/Language",
+        "der2_cRefset_LanguageFull-en_INT_20260131.txt",
+    ),
     ("Refset/Map", "der2_sRefset_SimpleMapFull_INT_20260131.txt"),
-    ("Refset/map", "der2_iisssccRefset_ExtendedMapFull_INT_20260131.txt"),
+    (
+        "Refset/map",
+        "der2_iisssccRefset_ExtendedMapFull_INT_20260131.txt",
+    ),
 ];
 
 /// Writes a package, and files beside its own that aren't read.
 fn write_package(rt: &HostRuntime) -> Result<(), Fail> {
     for (folder, name) in PACKAGE {
-        let folder = format!(in rt.alloc(); "releases/package/{folder}")?;
+        let folder = format!(in rt.alloc(); "releases/made/{folder}")?;
         write_in(rt, &folder, name, b"id")?;
     }
     for (folder, name) in [
         ("Refset", "der2_Refset_SimpleFull_INT_20260131.txt"),
-        ("Refset/Map/old", "der2_sRefset_SimpleMapFull_INT_20250131.txt"),
-        ("Refset/Language", "der2_cRefset_LanguageSnapshot-en_INT_20260131.txt"),
+        (
+            "Refset/Map/old",
+            "der2_sRefset_SimpleMapFull_INT_20250131.txt",
+        ),
+        (
+            "Refset/Language",
+            "der2_cRefset_LanguageSnapshot-en_INT_20260131.txt",
+        ),
     ] {
-        let folder = format!(in rt.alloc(); "releases/package/{folder}")?;
+        let folder = format!(in rt.alloc(); "releases/made/{folder}")?;
         write_in(rt, &folder, name, b"id")?;
     }
     Ok(())
@@ -535,7 +623,7 @@ fn write_package(rt: &HostRuntime) -> Result<(), Fail> {
 
 /// Whether the files of the package that stand at these places are those that are read of it.
 fn are_read(rt: &HostRuntime, scope: Scope, places: &[usize]) -> bool {
-    let Ok(read) = read_folder(rt, rt.alloc(), "releases", "package", scope) else {
+    let Ok(read) = read_folder(rt, rt.alloc(), "releases", "made", scope) else {
         return false;
     };
     for (file, place) in read.files.iter().zip(places) {
@@ -553,7 +641,7 @@ fn a_package_is_read_whole_or_in_its_basic_files(rt: HostRuntime) -> Result<(), 
     assert!(rt; are_read(&rt, Scope::Basic, &[0, 4]));
     assert!(rt; are_read(&rt, Scope::Whole, &[0, 1, 2, 3, 4, 5, 6, 7]));
     // A link to a folder is read as one.
-    rt.symlink("Map", "releases/package/Refset/also")?;
+    rt.symlink("Map", "releases/made/Refset/also")?;
     assert!(rt; are_read(&rt, Scope::Basic, &[0, 4]));
     assert!(rt; are_read(&rt, Scope::Whole, &[0, 1, 2, 3, 4, 5, 6, 6, 7]));
     Ok(())
@@ -561,35 +649,36 @@ fn a_package_is_read_whole_or_in_its_basic_files(rt: HostRuntime) -> Result<(), 
 
 /// Folders of packages that can't be read whole.
 const WHOLE_FOLDERS: [&str; 5] = [
-    "releases/device/Refset/Language",
-    "releases/nowhere/Refset",
-    "releases/plain/Refset",
-    "releases/none/Refset/Language",
-    "releases/nested/Refset/Map/der2_sRefset_SimpleMapFull_INT_20260131.txt",
+    "releases/device3/Refset/Language",
+    "releases/nowhere3/Refset",
+    "releases/plain3/Refset",
+    "releases/none3/Refset/Language",
+    "releases/nested3/Refset/Map/der2_sRefset_SimpleMapFull_INT_20260131.txt",
 ];
 
 /// What stands in their way.
 const WHOLE_OBSTACLES: [(&str, &str); 5] = [
     (
-        "device",
-        "releases/device/Refset/Language/der2_cRefset_LanguageFull-en_INT_20260131.txt: not a \
+        "device3",
+        "releases/device3/Refset/Language/der2_cRefset_LanguageFull-en_INT_20260131.txt: not a \
          regular file",
     ),
     (
-        "nowhere",
-        "releases/nowhere/Refset/Language: a link that leads nowhere",
+        "nowhere3",
+        "releases/nowhere3/Refset/Language: a link that leads nowhere",
     ),
     (
-        "plain",
-        "releases/plain/Refset/Content: Not a directory (os error 20)",
+        "plain3",
+        "releases/plain3/Refset/Content: Not a directory (os error 20)",
     ),
     (
-        "none",
-        "releases/none: no file to take in Terminology or Refset",
+        "none3",
+        "releases/none3: no file to take in Terminology or Refset",
     ),
     (
-        "nested",
-        "releases/nested/Refset/Map/der2_sRefset_SimpleMapFull_INT_20260131.txt: not a regular file",
+        "nested3",
+        "releases/nested3/Refset/Map/der2_sRefset_SimpleMapFull_INT_20260131.txt: not a regular \
+         file",
     ),
 ];
 
@@ -598,12 +687,15 @@ fn what_stood_in_the_way_of_a_whole_package_is_told(rt: HostRuntime) -> Result<(
     for path in WHOLE_FOLDERS {
         fs::create_dir_all(&rt, path)?;
     }
-    let device = "releases/device/Refset/Language/der2_cRefset_LanguageFull-en_INT_20260131.txt";
+    let device = "releases/device3/Refset/Language/der2_cRefset_LanguageFull-en_INT_20260131.txt";
     rt.symlink("/dev/zero", device)?;
-    rt.symlink("there", "releases/nowhere/Refset/Language")?;
-    write_in(&rt, "releases/plain/Refset", "Content", b"")?;
+    rt.symlink("there", "releases/nowhere3/Refset/Language")?;
+    write_in(&rt, "releases/plain3/Refset", "Content", b"")?;
     for (name, text) in WHOLE_OBSTACLES {
-        assert!(rt; obstacle_of(&rt, name, Scope::Whole)?.as_str() == text, "{name}");
+        assert!(rt;
+            obstacle_of(&rt, name, Scope::Whole)?.as_str() == text,
+            "{name}"
+        );
     }
     Ok(())
 }

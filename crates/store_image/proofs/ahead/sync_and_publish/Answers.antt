@@ -5,7 +5,6 @@ use Rattle.disk_model.proofs.MomentSteps.{joined}
 use Rattle.blocks.specs.Calls.{call_count}
 use Rattle.blocks.proofs.Counted.{one_more, sync_counts, at_most, counts_on}
 use Rattle.blocks.specs.Slots.{other, slot_range}
-use Rattle.directory.specs.declared.layout.Layout.TheVariants as layouts
 use Rattle.store_image.specs.Images.{RepresentsAs}
 use Rattle.store_image.specs.Kept.{history_of, pieces_of}
 use Rattle.store_image.proofs.Unlisted.{synced_moments, synced_on_disk, synced_held, slot_synced, slot_published, slot_elsewhere}

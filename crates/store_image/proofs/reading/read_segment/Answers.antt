@@ -1,4 +1,4 @@
-use Rattle.std.proofs.Common.{List, ℕ, ap, subst, sym}
+use Rattle.std.proofs.Common.{subst}
 use Rattle.disk_model.specs.Disk.{Moments}
 use Rattle.store_image.specs.Private.Reading.{bytes_of}
 use Rattle.directory.specs.Places.{extent_of}

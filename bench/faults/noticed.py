@@ -1,0 +1,281 @@
+#!/usr/bin/env python3
+"""Tells which cases, tests and programs notice an edit: what fails with the wrong body built in.
+
+noticed.py [--by CRATE,..] [--keep FOLDER] [--alone] CRATE[/EDIT] ..
+
+An edit of must-fail/ or edits/ is refused by the prover. It may leave must-fail/ once something that
+CI runs is seen to fail with it too. So the functions that the edits change get a copy each with the
+edit, in a copy of this repository; a function calls its copy while the edit's number is in a byte of
+the built program. There each crate of `--by` (default: the programs of cases, and the tests of
+stores, images and the program) is built once by `rt try`, which proves nothing, and run once as it
+is and once with each edit's number in the byte. A line for each edit tells what failed. An edit of
+what is no function of its own (a constant, a function of a trait) can't be planted so, which is
+told: put it in by hand. The last line counts the edits, and those that nothing noticed; the status
+is 1 where there are any. A build takes about two minutes of one processor. Standard library alone.
+"""
+
+from __future__ import annotations
+
+import argparse
+import re
+import shutil
+import sys
+import tempfile
+from pathlib import Path
+from typing import Callable, NamedTuple
+
+TOP = Path(__file__).resolve().parents[2]
+sys.path[:0] = [str(TOP / "bench"), str(TOP / "bench" / "faults")]
+from always_refused import SWITCH, Tests, add_switch, body_of, build, is_program  # noqa: E402
+from unproved import Builder, kit_folder  # noqa: E402
+
+BY = "disk_cases,store_cases,line_cases,program_cases,history_cases,test_images,test_program"
+# The number of an edit is one byte, and 0 is none.
+MOST = 255
+HEAD = re.compile(r"( *)(?:pub(?:\(crate\))? )?(?:const )?fn (\w+)")
+OPENED, CLOSED = "([{<", ")]}>"
+
+
+class Change(NamedTuple):
+    """A line of a file, and what an edit puts in its place."""
+
+    file: str
+    old: str
+    new: str
+
+
+class Edit(NamedTuple):
+    """A wrong change of a crate."""
+
+    crate: str
+    name: str
+    changes: tuple[Change, ...]
+
+
+def read_edit(path: Path) -> Edit:
+    """The edit in a file of `must-fail/` or `edits/`."""
+    file, old = "", ""
+    changes: list[Change] = []
+    for line in path.read_text(encoding="utf-8").splitlines():
+        word, _, text = line.partition(": ")
+        if word == "file":
+            file = text
+        elif word == "old":
+            old = text
+        elif word == "new":
+            changes.append(Change(file, old, text))
+    return Edit(path.parents[1].name, path.stem, tuple(changes))
+
+
+def edits_named(name: str) -> list[Edit]:
+    """The edits of a crate, or the one of a name `CRATE/EDIT`."""
+    crate, _, edit = name.partition("/")
+    places = [TOP / "crates" / crate / folder for folder in ("must-fail", "edits")]
+    paths = [path for place in places for path in sorted(place.glob((edit or "*") + ".edit"))]
+    if not paths:
+        raise SystemExit("noticed.py: there is no edit %s" % name)
+    return [read_edit(path) for path in paths]
+
+
+def head_above(lines: list[str], place: int) -> int:
+    """The number of the line with the head of the function that a line stands in."""
+    depth = len(lines[place]) - len(lines[place].lstrip())
+    for at in range(place, -1, -1):
+        match = HEAD.match(lines[at])
+        if match and len(match[1]) < depth:
+            return at
+    raise ValueError("it changes no function")
+
+
+def end_of(lines: list[str], start: int) -> int:
+    """The number of the line that closes the function with this head."""
+    depth = len(lines[start]) - len(lines[start].lstrip())
+    return next(at for at in range(start, len(lines)) if lines[at] == " " * depth + "}")
+
+
+def is_of_trait(lines: list[str], start: int) -> bool:
+    """Whether the function is one of a trait, or of an `impl` of a trait."""
+    if not lines[start].startswith(" "):
+        return False
+    owner = next(line for line in reversed(lines[:start]) if re.match(r"(impl|(pub )?trait)\b", line))
+    return " for " in owner or "trait " in owner
+
+
+def skip(text: str, at: int) -> int:
+    """The place behind the bracket that closes the one at a place."""
+    depth = 0
+    while True:
+        if text[at] in OPENED:
+            depth += 1
+        elif text[at] in CLOSED and text[at - 1 : at + 1] not in ("->", "=>"):
+            depth -= 1
+        at += 1
+        if depth == 0:
+            return at
+
+
+def parameters(text: str, name: str) -> list[str]:
+    """The names of a function's parameters; the text begins at or before its head."""
+    at = text.index("fn " + name) + len("fn " + name)
+    if text[at] == "<":
+        at = skip(text, at)
+    inside, names, depth = text[at + 1 : skip(text, at) - 1], [""], 0
+    for number, sign in enumerate(inside):
+        is_arrow = inside[number - 1 : number + 1] in ("->", "=>")
+        depth += (sign in OPENED) - (sign in CLOSED and not is_arrow)
+        if sign == "," and depth == 0:
+            names.append("")
+        else:
+            names[-1] += sign
+    words = [name.split(":")[0].replace("mut ", "").strip(" &\n") for name in names]
+    return [re.sub(r"^'\w+ ", "", word) for word in words if word]
+
+
+def call_of(name: str, names: list[str], is_method: bool) -> str:
+    """A call of a function with its own parameters."""
+    if names and names[0] == "self":
+        return "self.%s(%s)" % (name, ", ".join(names[1:]))
+    return "%s%s(%s)" % ("Self::" if is_method else "", name, ", ".join(names))
+
+
+def plant_function(lines: list[str], start: int, changes: list[Change], number: int) -> None:
+    """Puts a changed copy of a function before it, which it calls while the number is on."""
+    end = end_of(lines, start)
+    match = HEAD.match(lines[start])
+    assert match
+    name, whole = match[2], "\n".join(lines[start : end + 1])
+    changed = whole
+    for change in changes:
+        changed = changed.replace(change.old, change.new, 1)
+    copied = "%s_edited_%d" % (name, number)
+    changed = re.sub(r"\bfn %s\b" % name, "fn " + copied, changed, count=1)
+    names = parameters(whole, name)
+    body = body_of(lines[start : end + 1], lines[start]) + start
+    line = "if %s::is_on(%d) { return %s; }" % (
+        SWITCH, number, call_of(copied, names, match[1] != ""))
+    lines.insert(body, line)
+    lines[start:start] = changed.split("\n")
+
+
+def plant(top: Path, edit: Edit, number: int) -> None:
+    """Plants an edit in a copy of the repository. A ValueError says why it can't be."""
+    for file in dict.fromkeys(change.file for change in edit.changes):
+        path = top / "crates" / edit.crate / file
+        lines = path.read_text(encoding="utf-8").split("\n")
+        of_function: dict[int, list[Change]] = {}
+        for change in (change for change in edit.changes if change.file == file):
+            # Changed copies stand before their functions.
+            place = max((at for at, line in enumerate(lines) if change.old in line), default=-1)
+            if place < 0:
+                raise ValueError("%r isn't there" % change.old)
+            of_function.setdefault(head_above(lines, place), []).append(change)
+        for start in sorted(of_function, reverse=True):
+            if is_of_trait(lines, start):
+                raise ValueError("it changes a function of a trait")
+            plant_function(lines, start, of_function[start], number)
+        path.write_text("\n".join(lines), encoding="utf-8")
+
+
+def name_of(edit: Edit) -> str:
+    return "%s/%s" % (edit.crate, edit.name)
+
+
+def plant_all(top: Path, edits: list[Edit]) -> dict[int, Edit]:
+    """Plants the edits that can be, each under its number; the others are told."""
+    planted = {}
+    for number, edit in enumerate(edits, 1):
+        try:
+            plant(top, edit, number)
+            planted[number] = edit
+        except (ValueError, StopIteration) as why:
+            print("%s: NOT PLANTED: %s" % (name_of(edit), why), flush=True)
+    add_switch(top, {edit.crate for edit in planted.values()})
+    return planted
+
+
+def told_by(crates: list[str], failed: Callable[[str], list[str]]) -> list[str]:
+    """What fails of some crates with an edit, each by the crate's name."""
+    return ["%s `%s`" % (name, what) for name in crates for what in failed(name)]
+
+
+def seen_in(top: Path, edits: list[Edit], crates: list[str]) -> dict[Edit, list[str]]:
+    """What fails with each edit that can be planted, of programs that are built once."""
+    copy_sources(top)
+    planted = plant_all(top, edits)
+    seen: dict[Edit, list[str]] = {edit: [] for edit in planted.values()}
+    for name in crates:
+        with tempfile.TemporaryDirectory() as place:
+            tests = build(kit_folder(), top, name, Path(place))
+            found = tests.failed(0) if tests else None
+            if tests is None or found != []:
+                print("%s: as it is, it fails: %s" % (name, found), flush=True)
+                continue
+            for number, edit in planted.items():
+                seen[edit] += told_by([name], lambda _, number=number: failed_in(tests, number))
+    return seen
+
+
+def failed_in(tests: Tests, number: int) -> list[str]:
+    """What fails of a built program while the edit with this number is on."""
+    failed = tests.failed(number)
+    return ["(too slow)"] if failed is None else failed
+
+
+def put_in(top: Path, edit: Edit) -> None:
+    """Puts an edit into a copy of the repository, as it is."""
+    for change in edit.changes:
+        path = top / "crates" / edit.crate / change.file
+        text = path.read_text(encoding="utf-8")
+        path.write_text(text.replace(change.old, change.new, 1), encoding="utf-8")
+
+
+def failed_with(edit: Edit, name: str) -> list[str]:
+    """What fails of a crate that is built with the edit."""
+    kit = kit_folder()
+    with tempfile.TemporaryDirectory() as folder, tempfile.TemporaryDirectory() as place:
+        top = Path(folder)
+        copy_sources(top)
+        put_in(top, edit)
+        crate, builder = top / "crates" / name, Builder(kit, Path(place), is_run=False)
+        builder.run(crate, [] if is_program(crate) else ["--test"])
+        if not builder.program.exists():
+            return ["(it can't be built)"]
+        tests = Tests(kit, crate, builder.program)
+        run = tests.failed_cases if is_program(crate) else tests.failed_tests
+        found = run(builder.program)
+        return ["(nothing was run)"] if found is None else found
+
+
+def copy_sources(top: Path) -> None:
+    shutil.copytree(TOP, top, ignore=shutil.ignore_patterns(".git", "out"), dirs_exist_ok=True)
+
+
+def main() -> int:
+    assert __doc__
+    parser = argparse.ArgumentParser(description=__doc__.strip().split("\n", maxsplit=1)[0])
+    parser.add_argument("edits", nargs="+", metavar="CRATE[/EDIT]")
+    parser.add_argument("--by", default=BY, help="the crates whose tests and cases are run")
+    parser.add_argument("--alone", action="store_true", help="build anew for each edit")
+    parser.add_argument("--keep", help="the folder of the copy, which stays")
+    asked = parser.parse_args()
+    edits = [edit for name in asked.edits for edit in edits_named(name)][:MOST]
+    by = asked.by.split(",")
+    if asked.alone:
+        seen = {edit: told_by(by, lambda name, edit=edit: failed_with(edit, name))
+                for edit in edits}
+    else:
+        top = Path(asked.keep or tempfile.mkdtemp(prefix="sctd-noticed-"))
+        try:
+            seen = seen_in(top, edits, by)
+        finally:
+            if not asked.keep:
+                shutil.rmtree(top)
+    for edit, told in seen.items():
+        print("| %s | %s |" % (name_of(edit), ", ".join(told[:3]) or "NOTICED BY NOTHING"))
+    unseen = len(edits) - sum(bool(told) for told in seen.values())
+    print("%d edits, %d not noticed" % (len(edits), unseen))
+    return 1 if unseen else 0
+
+
+if __name__ == "__main__":
+    sys.exit(main())
