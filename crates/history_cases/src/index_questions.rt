@@ -82,14 +82,10 @@ pub fn rows_found<R: RowReader>(
         Question::About(kind, id, time) => about(alloc, links, index, reader, kind, id, time, pin),
         Question::Timeline(kind, id) => timeline(alloc, links, index, reader, kind, id, pin),
         Question::Members(refset, time, after, limit) => {
-            members(
-                alloc, links, index, reader, refset, time, after, limit, pin,
-            )
+            members(alloc, links, index, reader, refset, time, after, limit, pin)
         }
         Question::Values(refset, time, after, limit) => {
-            values(
-                alloc, links, index, reader, refset, time, after, limit, pin,
-            )
+            values(alloc, links, index, reader, refset, time, after, limit, pin)
         }
         Question::Called(id, time, refset) => {
             called(alloc, links, index, reader, id, time, refset, pin)
