@@ -79,7 +79,7 @@ OLD_STOPS = ("awk '/^stops lost / {asked = 1; next}"
              " asked && /^= / {n = $2 ~ /:$/ ? $2 : $4; sub(\":\", \"\", n); last = n; next}"
              " asked {s += last + 1; asked = 0} END {print s}' crates/%s" % OLD)
 FIELDS = ("sed -n '/^case a field that is changed/,/^asked/p' crates/%s | grep -c '^with '" % DAMAGE)
-MEMORY, RUNS = "test_program/src/call_growths.rt", "test_program/src/run_growths.rt"
+MEMORY = "test_program/src/call_growths.rt"
 MEMORY_CALLS = number_in(MEMORY, "const CALLS: \\[\\(Call, Wanted, u32\\); ")
 # The last number of each call stands behind the other two, or in a line of its own.
 MEMORY_REFUSALS = ("sed -n '/^const CALLS/,/^];/p' crates/%s"
@@ -118,13 +118,6 @@ FIGURES = [
     Figure(RELIABILITY, "of `create`, and for {} of the calls", MEMORY_REFUSALS),
     Figure(RELIABILITY, "up to 135 KB; the test asks for {} |",
            asked_for(MEMORY, "refused", ", \"[{]refused")),
-    Figure(RELIABILITY, "asks for {} runs that aren't begun",
-           asked_for(RUNS, "runs.not_begun", "")),
-    Figure(RELIABILITY, "and for {} in which lines are refused",
-           asked_for(RUNS, "runs.refused", " &&")),
-    Figure(RELIABILITY, "refused: at least {} lines in", asked_for(RUNS, "runs.most", "")),
-    Figure(RELIABILITY, "runs of {} lines, each with 16 bytes more",
-           number_in("line_support/src/script.rt", "const SCRIPT: \\[Turn; ")),
     Figure(RELIABILITY, "| {} calls, one by one", CALLS),
     Figure(RELIABILITY, "makes each of {} public calls", CALLS),
     Figure(RELIABILITY, "| {} lengths",

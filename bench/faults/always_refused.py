@@ -36,7 +36,7 @@ sys.path.append(str(TOP / "bench"))
 from unproved import Builder, bytes_of, kit_folder, run_program, status_of  # noqa: E402
 
 # How long a test may take, and a program of cases, with the checks of `rt try` in it.
-SECONDS = 120
+SECONDS = 300
 
 # How a program of cases begins the line of one that passed.
 PASSED = "ok "
@@ -260,7 +260,7 @@ CALLS = [
          "store_cases", "five segments become one"),
     Call("segment_index", "StoreIndex::new", "store_index.rt", "pub fn new(", ALLOC,
          "store_cases", "nothing is found in an empty store"),
-    Call("segment_index", "StoreIndex::of_parts", "store_index.rt", "pub fn of_parts(", ALLOC,
+    Call("segment_index", "StoreIndex::of_segments", "store_index.rt", "pub fn of_segments(", ALLOC,
          "store_cases", "a merge ends with the store"),
     # The store.
     Call("history_store", "Store::create", "store.rt", "pub fn create(", BACK,

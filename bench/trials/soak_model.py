@@ -394,26 +394,37 @@ class Model:
                     raise Contradicts("ERR 32 Contradiction %d %d" % (number, line))
         return new
 
-    def do_import(self, _session: Optional[int], name: str) -> Reply:
+    def judged(self, name: str) -> tuple[Reply, dict[tuple[str, int, str], Columns]]:
+        """What the import of a release is answered, and its new rows."""
         if name not in self.releases:
-            return ["ERR 45 NoFolder"]
+            return ["ERR 45 NoFolder"], {}
         files = [file for file in self.releases[name] if file.is_basic or self.keeps_all]
         for place, file in enumerate(files, 1):
             if file.fault:
-                return ["ERR %s %d %d" % (file.fault.name, place, file.fault.line)]
+                return ["ERR %s %d %d" % (file.fault.name, place, file.fault.line)], {}
         try:
             new = self.new_rows(files)
         except Contradicts as reply:
-            return [str(reply)]
+            return [str(reply)], {}
+        if new and len(self.state.segments) == MOST_SEGMENTS:
+            return ["ERR 6 TooManySegments"], {}
+        lines = sum(len(file.rows) for file in files)
+        return ["OK %d %d %d" % (self.state.imports + 1, len(new), lines - len(new))], new
+
+    def do_check(self, _session: Optional[int], name: str) -> Reply:
+        return self.judged(name)[0]
+
+    def do_import(self, _session: Optional[int], name: str) -> Reply:
+        said, new = self.judged(name)
+        if said[0].startswith("ERR "):
+            return said
         old = self.state
-        if new and len(old.segments) == MOST_SEGMENTS:
-            return ["ERR 6 TooManySegments"]
-        number, lines = old.imports + 1, sum(len(file.rows) for file in files)
+        number = old.imports + 1
         for (kind, ident, date), columns in new.items():
             self.kinds[kind].add(ident, date, number, columns)
         segments = old.segments + ((len(new),) if new else ())
         self.state = State(number, old.rows + len(new), segments, old.merge)
-        return ["OK %d %d %d" % (number, len(new), lines - len(new))]
+        return said
 
     def do_merge(self, _session: Optional[int], _words: str) -> Reply:
         old = self.state
@@ -429,6 +440,8 @@ class Model:
 
     def do_step(self, _session: Optional[int], words: str) -> Reply:
         old = self.state
+        if int(words) == 0:
+            return NO_ARGUMENTS
         if old.merge is None:
             return ["ERR 11 NoMerge"]
         left = old.merge.left - min(old.merge.left, int(words))

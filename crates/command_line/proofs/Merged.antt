@@ -17,14 +17,14 @@ use Rattle.history_store.specs.Catalog.{Catalog, Merge as CatalogMerge, plain_co
 use Rattle.history_store.specs.Merging.{IsBegun, IsStepped, IsPublished, GoesOn, IsFinished}
 use Rattle.history_store.specs.MergeAnswers.{IsNotBegun, IsNotStepped, IsNotPublished, IsNotTrimmed}
 use Rattle.history_store.specs.StoreValue.{StoreValue}
-use Rattle.line_commands.specs.Commands.{Command, Merge, Step, Publish, Trim}
+use Rattle.line_commands.specs.Commands.{Command, Merge, Step, Publish, Trim, Status}
 use Rattle.line_commands.specs.Requests.{Asks}
 use Rattle.line_commands.proofs.Readings.{one_reading, asked_is_read}
 use Rattle.import_check.specs.declared.scope.Scope.{Scope}
 use Rattle.line_server.specs.declared.refusal.LineRefusal.{LineRefusal}
 use Rattle.line_server.specs.declared.refusal.LineRefusal.TheVariants as refusals
 use Rattle.line_server.specs.Sources.{Releases, no_releases, scope_of}
-use Rattle.line_server.specs.ReplyValue.{Answer, ReplyValue, reply_value}
+use Rattle.line_server.specs.ReplyValue.{Answer}
 use Rattle.line_server.specs.StateValue.{StateValue, fresh}
 use Rattle.line_server.specs.Replies.{Server, Replies, IsAnswer, IsRefusal, IsRefusedForDamage, IsPerformed, server}
 use Rattle.store_life.specs.Life.{Call, Imported, Failed, Other, taken, TakesAll}
@@ -37,21 +37,29 @@ use Rattle.command_line.specs.Tasks.{status_line}
 
 -- ---- which command a line asks
 
-merge_asks : Asks (codes "0 MERGE") 0 Merge
+pub merge_asks : Asks (codes "0 MERGE") 0 Merge
 unfolding digits
 merge_asks = record { short = omega arith; is_session = omega arith; arguments = []; spelled = refl; line_is = refl }
 
-step_asks : Asks (codes "0 STEP 100000") 0 (Step 100000)
+pub step_asks : Asks (codes "0 STEP 100000") 0 (Step 100000)
 unfolding digits
 step_asks = record { short = omega arith; is_session = omega arith; arguments = codes "100000" ∷ []; spelled = (omega arith, omega arith, refl); line_is = refl }
 
-publish_asks : Asks (codes "0 PUBLISH") 0 Publish
+pub publish_asks : Asks (codes "0 PUBLISH") 0 Publish
 unfolding digits
 publish_asks = record { short = omega arith; is_session = omega arith; arguments = []; spelled = refl; line_is = refl }
 
-trim_asks : Asks (codes "0 TRIM") 0 Trim
+pub trim_asks : Asks (codes "0 TRIM") 0 Trim
 unfolding digits
 trim_asks = record { short = omega arith; is_session = omega arith; arguments = []; spelled = refl; line_is = refl }
+
+pub status_asks : Asks status_line 0 Status
+unfolding digits
+status_asks = record { short = omega arith; is_session = omega arith; arguments = []; spelled = refl; line_is = refl }
+
+-- an outcome that is a refusal is none that is OK
+pub refused : (outcome : Result Answer LineRefusal) (refusal : LineRefusal) → outcome ≡ Err refusal → IsErr outcome
+refused outcome refusal is = subst (λ (o : Result Answer LineRefusal). IsErr o) (sym is) refl
 
 -- a line that was answered OK was answered as its command is
 module _ {D : Type 0} (honest : Type 0) (releases : Releases) (old new : Server D) (line : List ℕ) (session : ℕ) (command : Command) (asks : Asks line session command) where
@@ -261,13 +269,13 @@ module _ {D : Type 0} (view : DeviceView D) where
   }
 
   -- a line was refused, after lines of merges
-  pub stopped_first : (most : ℕ) (old new : Server D) (reply : ReplyValue) (turn : Turn) → IsMergeLine turn.line old → most < segments_of old → IsErr turn.outcome → reply ≡ reply_value turn.outcome → Goes old turn new → (1 ≤ most → IsHalt turn.outcome)
-      → IsStopped view most reply old new
-  stopped_first most old new reply turn is more err says t cause = (turn, says, record { before = old; have = have_none old; is_merge = is; more = more; goes = t; refused = err; cause = cause })
+  pub stopped_first : (most : ℕ) (old new : Server D) (refusal : LineRefusal) (turn : Turn) → IsMergeLine turn.line old → most < segments_of old → turn.outcome ≡ Err refusal → Goes old turn new → (1 ≤ most → IsHalt turn.outcome)
+      → IsStopped view most refusal old new
+  stopped_first most old new refusal turn is more says t cause = (turn, says, record { before = old; have = have_none old; is_merge = is; more = more; goes = t; refused = refused turn.outcome refusal says; cause = cause })
 
-  pub stopped_after : (most : ℕ) (old mid new : Server D) (reply : ReplyValue) → HaveMerged view old mid → IsStopped view most reply mid new
-      → IsStopped view most reply old new
-  stopped_after most old mid new reply a h = (
+  pub stopped_after : (most : ℕ) (old mid new : Server D) (refusal : LineRefusal) → HaveMerged view old mid → IsStopped view most refusal mid new
+      → IsStopped view most refusal old new
+  stopped_after most old mid new refusal a h = (
     h.0,
     h.1,
     record {
@@ -281,8 +289,8 @@ module _ {D : Type 0} (view : DeviceView D) where
     },
   )
 
-  pub halted_so : (most : ℕ) (old new : Server D) (reply : ReplyValue) → IsStopped view most reply old new → IsHalted view most reply old new
-  halted_so most old new reply h = (
+  pub halted_so : (most : ℕ) (old new : Server D) (refusal : LineRefusal) → IsStopped view most refusal old new → IsHalted view most refusal old new
+  halted_so most old new refusal h = (
     h.0,
     h.1,
     record {
@@ -340,7 +348,7 @@ module _ {D : Type 0} (view : DeviceView D) where
       → HaveMerged view old a × (segments_of a ≡ segments_of old) × IsMerging a
   begun_one old a begin is ok t = (have_one old a begin (inl is) ok t, merge_keeps old a begin is ok t, begun_goes old a begin is ok t)
 
-  pub one_less : (old a b new : Server D) (result : Result (Unit {0}) ReplyValue) → HaveMerged view old a → segments_of a ≡ segments_of old
+  pub one_less : (old a b new : Server D) (result : Result (Unit {0}) LineRefusal) → HaveMerged view old a → segments_of a ≡ segments_of old
       → HaveMerged view a b → segments_of b ≡ segments_of a → HasMerged b → IsAsked view (codes "0 PUBLISH") result b new
       → IsOneLess view result old new
   one_less old a b new (Ok done) have as_old rows same all last = (
@@ -348,9 +356,9 @@ module _ {D : Type 0} (view : DeviceView D) where
     publish_lowers b new last.0 last.1 last.3 last.2 ∙ same ∙ as_old,
     published_rests b new last.0 last.1 last.3 last.2,
   )
-  one_less old a b new (Err reply) have as_old rows same all last = λ most more.
-      stopped_after most old b new reply (have_both old a b have rows)
-      (stopped_first most b new reply last.0 (inr (inr last.1)) (omega (arith, more, same, as_old)) last.3.0 last.3.1 last.2 (λ one. publish_stops b new last.0 last.1 last.3.0 all last.2))
+  one_less old a b new (Err refusal) have as_old rows same all last = λ most more.
+      stopped_after most old b new refusal (have_both old a b have rows)
+      (stopped_first most b new refusal last.0 (inr (inr last.1)) (omega (arith, more, same, as_old)) last.3 last.2 (λ one. publish_stops b new last.0 last.1 (refused last.0.outcome refusal last.3) all last.2))
 
   -- ---- which segments have checksums then
 
@@ -385,7 +393,7 @@ module _ {D : Type 0} (view : DeviceView D) where
       let last = merges_checked old mid have.turns have.merges first in
       ap (λ (c : Catalog). plain_count c.entries) same ∙ elim last.some [ inl two ↦ absurd (omega (arith, two, number, one)) | inr all ↦ all ]
 
-  pub trimmed_to : (most : ℕ) (old mid new : Server D) (result : Result (Unit {0}) ReplyValue) → HaveMerged view old mid
+  pub trimmed_to : (most : ℕ) (old mid new : Server D) (result : Result (Unit {0}) LineRefusal) → HaveMerged view old mid
       → segments_of mid ≡ min (segments_of old) most → IsAtRest mid → IsAsked view trim_line result mid new
       → IsTrimmedTo view most result old new
   trimmed_to most old mid new (Ok done) have few rest last = record {
@@ -400,17 +408,17 @@ module _ {D : Type 0} (view : DeviceView D) where
     none_left = trimmed_rests mid new last.0 last.1 last.3 last.2 rest;
     checksums = all_checked most old mid new have (trim_catalog mid new last.0 last.1 last.3 last.2) few;
   }
-  trimmed_to most old mid new (Err reply) have few rest last = (
+  trimmed_to most old mid new (Err refusal) have few rest last = (
     last.0,
-    last.3.1,
+    last.3,
     record {
       turns = have.turns;
       before = mid;
       merges = have.merges;
       due = inr (last.1, few, rest.1);
       goes = last.2;
-      refused = last.3.0;
-      cause = λ one. trim_stops mid new last.0 last.1 last.3.0 rest last.2;
+      refused = refused last.0.outcome refusal last.3;
+      cause = λ one. trim_stops mid new last.0 last.1 (refused last.0.outcome refusal last.3) rest last.2;
     },
   )
 

@@ -1,14 +1,11 @@
 -- What the check of a release does: it asks the line that a session would ask, and then reads.
-use Rattle.std.specs.Prelude.{◌≡◌, ◌≤◌, ◌↔◌, ℕ, List, ◌++◌, codes}
+use Rattle.std.specs.Prelude.{◌≡◌, ◌≤◌, ◌↔◌, ℕ, List}
 use Rattle.store_life.specs.DeviceView.{DeviceView}
 use Rattle.history_store.specs.StoreValue.{StoreValue}
+use Rattle.line_commands.specs.Requests.{check_line}
 use Rattle.line_server.specs.Sources.{SourceView}
 use Rattle.command_line.specs.Endings.{Report}
-use Rattle.command_line.specs.Tasks.{AnswersLine, IsOnOpened}
-
--- the line of a session that checks the release under a name
-abbrev pub check_line : List ℕ → List ℕ
-check_line name = codes "0 CHECK " ++ name
+use Rattle.command_line.specs.Tasks.{IsLineTold, IsOnOpened}
 
 -- The device was left as calls leave it that only read: what stops may leave of an honest one
 -- stays, and so does whether it is honest, and no failure is forgotten.
@@ -17,12 +14,11 @@ pub record IsOnlyRead {D : Type 0} (view : DeviceView D) (old new : D) : Type 0 
   pub honesty : view.is_honest old ↔ view.is_honest new
   pub failures : view.failures old ≤ view.failures new
 
--- the line that checks the release was answered, or memory ran out for the line; and from then on
--- the device was only read
+-- the line that checks the release was answered, and from then on the device was only read
 abbrev pub Checks : {D : Type 0} → SourceView → DeviceView D → List ℕ → D → Report → StoreValue D
     → Type 0
 Checks {D} source view name left report store =
-    (mid : D) × AnswersLine source view (check_line name) mid report store
+    (mid : D) × IsLineTold source view (check_line name) store mid report
     × IsOnlyRead view mid left
 
 -- the store was opened from this device, and the release was checked against it

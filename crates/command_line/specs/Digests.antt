@@ -1,23 +1,17 @@
 -- What telling the digest of a store does: it asks the line that a session would ask.
 use Rattle.std.specs.Prelude.{ℕ, List, ◌++◌, codes, decimal, Option, Some, None}
 use Rattle.store_life.specs.DeviceView.{DeviceView}
-use Rattle.history_store.specs.StoreValue.{StoreValue}
 use Rattle.line_server.specs.Sources.{no_releases}
 use Rattle.command_line.specs.Endings.{Report}
-use Rattle.command_line.specs.Tasks.{AnswersLine, IsOnOpened}
+use Rattle.command_line.specs.Tasks.{IsLineTold, IsOnOpened}
 
 -- the line of a session that asks for the digest of all imports, or of the first ones
 abbrev pub digest_line : Option ℕ → List ℕ
 digest_line None = codes "0 DIGEST"
 digest_line (Some imports) = codes "0 AT " ++ decimal imports ++ codes " DIGEST"
 
--- the line that asks for the digest was answered, or memory ran out for the line
-abbrev pub TellsDigest : {D : Type 0} → DeviceView D → Option ℕ → D → Report → StoreValue D
-    → Type 0
-TellsDigest view imports left report store =
-    AnswersLine no_releases view (digest_line imports) left report store
-
--- the store was opened from this device, and its digest was told
+-- the store was opened from this device, and the line that asks for its digest was answered
 abbrev pub IsDigest : {D : Type 0} → DeviceView D → Option ℕ → D → D → Report → Type 0
-IsDigest view imports device left report =
-    IsOnOpened view (TellsDigest view imports left report) device left report
+IsDigest view imports device left report = IsOnOpened view
+    (λ store. IsLineTold no_releases view (digest_line imports) store left report) device left
+    report

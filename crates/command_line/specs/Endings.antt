@@ -1,5 +1,5 @@
 -- How the program ends, and what it says of it.
-use Rattle.std.specs.Prelude.{◌≡◌, ℕ, List, Option, Result, Ok, Err, IsOk, IsErr}
+use Rattle.std.specs.Prelude.{◌≡◌, ℕ, List, Option, Result, Ok, Err, IsOk}
 use Rattle.std.specs.Io.KnownBytes.{Appends}
 use Rattle.line_server.specs.declared.refusal.LineRefusal.{LineRefusal}
 use Rattle.line_server.specs.declared.serving.ServeFault.{ServeFault}
@@ -18,14 +18,14 @@ pub record Report : Type 0 where
 abbrev pub report : Result Ending ServeFault → Option (List ℕ) → Option (List ℕ) → Report
 report ended old new = record { ended = ended; old = old; new = new }
 
--- What was to be told was told: an answer where the task is done, and a refusal where it
--- was refused. Where the output failed, a front part of it stands there, and not all.
+-- What was to be told was told: an answer where the task is done, and where it was refused the
+-- refusal that its ending has. Where the output failed, a front part of it stands there, and not all.
 abbrev pub IsTold : Result Ending ServeFault → Result Answer LineRefusal → Option (List ℕ)
     → Option (List ℕ) → Type 0
 IsTold (Ok endings.Done) outcome old new = IsOk outcome
     × Appends old new (bytes_of (reply_value outcome))
-IsTold (Ok endings.Refused) outcome old new =
-    IsErr outcome × Appends old new (bytes_of (reply_value outcome))
+IsTold (Ok (endings.Refused refusal)) outcome old new =
+    (outcome ≡ Err refusal) × Appends old new (bytes_of (reply_value outcome))
 IsTold (Err fault) outcome old new =
     (fault ≡ faults.Write) × AppendsSome old new (bytes_of (reply_value outcome))
 

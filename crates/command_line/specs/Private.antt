@@ -10,21 +10,22 @@ use Rattle.clap.specs.Simple.{App, app_of}
 use Rattle.clap.specs.declared.builder.command.Command.TheViews.{out-Command}
 use Rattle.clap.specs.declared.builder.arg.Arg.{Arg}
 use Rattle.clap.specs.declared.builder.command.Command.{Command}
+use Rattle.line_server.specs.declared.refusal.LineRefusal.{LineRefusal}
 use Rattle.line_server.specs.declared.serving.ServeFault.{ServeFault}
 use Rattle.line_server.specs.declared.serving.ServeFault.TheVariants as faults
-use Rattle.line_server.specs.ReplyValue.{ReplyValue, reply_value, line}
+use Rattle.line_server.specs.ReplyValue.{line}
 use Rattle.line_server.specs.Replies.{Server}
 use Rattle.line_server.specs.Turns.{Turn, HasTurn, IsTurn}
 use Rattle.command_line.specs.Merging.{IsMergeLine, Merges, IsHalt, IsHaltedBy, IsMergedTo}
 use Rattle.command_line.specs.Merging.{HasNoMerge, segments_of}
 
--- the line was answered OK, or its reply, which is a refusal, comes back
-abbrev pub IsAsked : {D : Type 0} → DeviceView D → List ℕ → Result (Unit {0}) ReplyValue
+-- the line was answered OK, or its refusal comes back
+abbrev pub IsAsked : {D : Type 0} → DeviceView D → List ℕ → Result (Unit {0}) LineRefusal
     → Server D → Server D → Type 0
 IsAsked view line (Ok done) old new =
     HasTurn no_releases view line old new (λ turn. IsOk turn.outcome)
-IsAsked view line (Err reply) old new = HasTurn no_releases view line old new
-    (λ turn. IsErr turn.outcome × (reply ≡ reply_value turn.outcome))
+IsAsked view line (Err refusal) old new =
+    HasTurn no_releases view line old new (λ turn. turn.outcome ≡ Err refusal)
 
 -- no call has failed, and no merge goes on
 abbrev pub IsAtRest : {D : Type 0} → Server D → Type 0
@@ -54,40 +55,40 @@ pub record IsStoppedBy {D : Type 0} (view : DeviceView D) (most : ℕ) (last : T
   pub refused : IsErr last.outcome
   pub cause : 1 ≤ most → IsHalt last.outcome
 
--- a line of a merge was refused, whose reply this is
-abbrev pub IsStopped : {D : Type 0} → DeviceView D → ℕ → ReplyValue → Server D → Server D → Type 0
-IsStopped view most reply old new =
-    (last : Turn) × (reply ≡ reply_value last.outcome) × IsStoppedBy view most last old new
+-- a line of a merge was refused, by this
+abbrev pub IsStopped : {D : Type 0} → DeviceView D → ℕ → LineRefusal → Server D → Server D → Type 0
+IsStopped view most refusal old new =
+    (last : Turn) × (last.outcome ≡ Err refusal) × IsStoppedBy view most last old new
 
--- a line was refused, whose reply this is
-abbrev pub IsHalted : {D : Type 0} → DeviceView D → ℕ → ReplyValue → Server D → Server D → Type 0
-IsHalted view most reply old new =
-    (last : Turn) × (reply ≡ reply_value last.outcome)
+-- a line was refused, by this
+abbrev pub IsHalted : {D : Type 0} → DeviceView D → ℕ → LineRefusal → Server D → Server D → Type 0
+IsHalted view most refusal old new =
+    (last : Turn) × (last.outcome ≡ Err refusal)
     × IsHaltedBy view most last old new
 
 -- all rows of the merge were taken, and there are as many segments as before
-abbrev pub MergesRows : {D : Type 0} → DeviceView D → Result (Unit {0}) ReplyValue
+abbrev pub MergesRows : {D : Type 0} → DeviceView D → Result (Unit {0}) LineRefusal
     → Server D → Server D → Type 0
 MergesRows view (Ok done) old new =
     HaveMerged view old new × (segments_of new ≡ segments_of old) × HasMerged new
-MergesRows view (Err reply) old new =
-    (most : ℕ) → most < segments_of old → IsStopped view most reply old new
+MergesRows view (Err refusal) old new =
+    (most : ℕ) → most < segments_of old → IsStopped view most refusal old new
 
 -- two segments were merged into one
-abbrev pub IsOneLess : {D : Type 0} → DeviceView D → Result (Unit {0}) ReplyValue
+abbrev pub IsOneLess : {D : Type 0} → DeviceView D → Result (Unit {0}) LineRefusal
     → Server D → Server D → Type 0
 IsOneLess view (Ok done) old new =
     HaveMerged view old new × (segments_of new + 1 ≡ segments_of old) × IsAtRest new
-IsOneLess view (Err reply) old new =
-    (most : ℕ) → most < segments_of old → IsStopped view most reply old new
+IsOneLess view (Err refusal) old new =
+    (most : ℕ) → most < segments_of old → IsStopped view most refusal old new
 
 -- segments were merged until so many were left, and the disk was trimmed
-abbrev pub IsTrimmedTo : {D : Type 0} → DeviceView D → ℕ → Result (Unit {0}) ReplyValue
+abbrev pub IsTrimmedTo : {D : Type 0} → DeviceView D → ℕ → Result (Unit {0}) LineRefusal
     → Server D → Server D → Type 0
 IsTrimmedTo view most (Ok done) old new =
     IsMergedTo view most old new
-IsTrimmedTo view most (Err reply) old new =
-    IsHalted view most reply old new
+IsTrimmedTo view most (Err refusal) old new =
+    IsHalted view most refusal old new
 
 -- the number and the name of a fault of serving, by which the program ends
 abbrev pub fault_number : ServeFault → ℕ

@@ -1,15 +1,15 @@
 -- What each task does.
-use Rattle.std.specs.Prelude.{◌≡◌, ◌⊎◌, ℕ, List, [], ◌++◌, codes, Result, Ok, Err}
+use Rattle.std.specs.Prelude.{◌≡◌, ℕ, List, [], codes, Result, Ok, Err}
 use Rattle.directory.specs.declared.layout.Layout.{Layout}
 use Rattle.directory.specs.declared.layout.Layout.TheVariants as layouts
 use Rattle.store_life.specs.DeviceView.{DeviceView}
 use Rattle.store_life.specs.Life.{IsCall, Other}
 use Rattle.history_store.specs.declared.refusal.Refusal.{Refusal}
-use Rattle.history_store.specs.declared.refusal.Refusal.TheVariants.{OutOfMemory}
 use Rattle.history_store.specs.StoreValue.{StoreValue}
 use Rattle.history_store.specs.Answers.{StoreOr, device_of}
 use Rattle.history_store.specs.Openings.{IsMaking, IsOpening}
 use Rattle.history_store.specs.Upgrading.{IsUpgradingOf}
+use Rattle.line_commands.specs.Requests.{import_line}
 use Rattle.line_server.specs.declared.refusal.LineRefusal.{LineRefusal}
 use Rattle.line_server.specs.declared.refusal.LineRefusal.TheVariants.{Store}
 use Rattle.line_server.specs.declared.serving.ServeFault.{ServeFault}
@@ -51,12 +51,6 @@ pub record IsLineTold {D : Type 0} (source : SourceView) (view : DeviceView D) (
       (λ turn. Tells report turn.outcome)
   pub left_so : left ≡ after.disk
 
--- the line was answered so, or memory ran out for the line itself
-abbrev pub AnswersLine : {D : Type 0} → SourceView → DeviceView D → List ℕ → D → Report
-    → StoreValue D → Type 0
-AnswersLine source view line left report store = IsLineTold source view line store left report
-    ⊎ (Tells report (Err (Store OutOfMemory)) × (left ≡ store.disk))
-
 -- the task was done on the store; or it was told why there is none, and the device was left as the
 -- opening left it
 abbrev pub OnStore : {D : Type 0} → (StoreValue D → Type 0) → StoreOr D → D → Report → Type 0
@@ -72,20 +66,10 @@ pub record IsOnOpened {D : Type 0} (view : DeviceView D) (done : StoreValue D �
 
 -- ---- import
 
--- the line of a session that imports the release under a name
-abbrev pub import_line : List ℕ → List ℕ
-import_line name = codes "0 IMPORT " ++ name
-
--- the line that imports the release was answered, or memory ran out for the line
-abbrev pub Imports : {D : Type 0} → SourceView → DeviceView D → List ℕ → D → Report → StoreValue D
-    → Type 0
-Imports source view name left report store =
-    AnswersLine source view (import_line name) left report store
-
--- the store was opened from this device, and the release was imported into it
+-- the store was opened from this device, and the line that imports the release was answered
 abbrev pub IsImport : {D : Type 0} → SourceView → DeviceView D → List ℕ → D → D → Report → Type 0
-IsImport source view name device left report =
-    IsOnOpened view (Imports source view name left report) device left report
+IsImport source view name device left report = IsOnOpened view
+    (λ store. IsLineTold source view (import_line name) store left report) device left report
 
 -- ---- status
 
@@ -93,14 +77,10 @@ IsImport source view name device left report =
 abbrev pub status_line : List ℕ
 status_line = codes "0 STATUS"
 
--- the line that asks for the status was answered, from a source without releases
-abbrev pub TellsStatus : {D : Type 0} → DeviceView D → D → Report → StoreValue D → Type 0
-TellsStatus view left report store = IsLineTold no_releases view status_line store left report
-
--- the store was opened from this device, and its status was told
+-- the store was opened from this device, and the line that asks for the status was answered
 abbrev pub IsStatus : {D : Type 0} → DeviceView D → D → D → Report → Type 0
-IsStatus view device left report =
-    IsOnOpened view (TellsStatus view left report) device left report
+IsStatus view device left report = IsOnOpened view
+    (λ store. IsLineTold no_releases view status_line store left report) device left report
 
 -- ---- upgrade
 

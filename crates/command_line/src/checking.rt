@@ -1,48 +1,35 @@
 //! A release is checked before it counts.
 
-ghost use Rattle.std.specs.Prelude.{◌≡◌, IfOk, string_bytes};
 ghost use Rattle.command_line.specs.Endings.{report};
 ghost use Rattle.line_server.specs.Sources.{source_view};
 ghost use Rattle.store_life.specs.DeviceView.{device_view};
-ghost use Rattle.command_line.specs.Checking.{Checks, IsCheck, check_line};
+ghost use Rattle.command_line.specs.Checking.{Checks, IsCheck};
 
-use crate::answering::answer_line;
+use crate::answering::answer_read;
 use crate::check_source::CheckSource;
 use crate::endings::{Ending, refuse};
 use crate::folders::Folders;
-use crate::telling::Told;
 use disk_model::Disk;
-use history_store::{Refusal, Store};
+use history_store::Store;
+use line_commands::check_request;
 use line_server::ServeFault;
-use std::alloc::{AllocError, Global};
+use std::alloc::Global;
 use std::io::Write;
 
-/// The line that checks the release under a name.
-fn line_of_check(alloc: Global, name: &str) -> Result<String, AllocError>
-    ensures { IfOk result (λ line. string_bytes line ≡ check_line name.now) }
-{
-    format!(in alloc; "0 CHECK {name}")
-}
-
-/// Answers the line that checks a release, as a session of its own, and tells the reply. Then people
-/// are told more.
+/// Checks a release against a store that was opened, and tells the reply. Then people are told more.
 fn check_in<D: Disk + Drop, F: Folders, E: Write, O: Write>(
     alloc: Global,
     name: &str,
     source: &mut CheckSource<'_, F, E>,
     store: &mut Store<D>,
     output: &mut O,
-    told: &mut Told,
 ) -> Result<Ending, ServeFault>
     ensures { Checks (source_view (F.is_honest source.old.folder.folders.now)
         (F.releases source.old.folder.folders.now source.old.folder.dir.now))
         (device_view D.is_honest D.moments D.failures D.bytes_read) name.now store.new.disk
         (report result (O.contents output.old) (O.contents output.new)) store.old }
 {
-    let Ok(line) = line_of_check(alloc, name) else {
-        return refuse(alloc, output, Refusal::OutOfMemory, told);
-    };
-    let ended = answer_line(alloc, line.as_bytes(), source, store, output, told);
+    let ended = answer_read(alloc, &check_request(name), source, store, output);
     source.tell_more(alloc, name, ended, store);
     ended
 }
@@ -54,7 +41,6 @@ pub(crate) fn check<D: Disk + Drop, F: Folders, E: Write, O: Write>(
     name: &str,
     source: &mut CheckSource<'_, F, E>,
     output: &mut O,
-    told: &mut Told,
 ) -> (Result<Ending, ServeFault>, D)
     ensures { IsCheck (source_view (F.is_honest source.old.folder.folders.now)
         (F.releases source.old.folder.folders.now source.old.folder.dir.now))
@@ -64,9 +50,9 @@ pub(crate) fn check<D: Disk + Drop, F: Folders, E: Write, O: Write>(
     match Store::open(alloc, device) {
         Ok(store) => {
             let mut store = store;
-            let ended = check_in(alloc, name, source, &mut store, output, told);
+            let ended = check_in(alloc, name, source, &mut store, output);
             (ended, store.close())
         }
-        Err((refusal, device)) => (refuse(alloc, output, refusal, told), device),
+        Err((refusal, device)) => (refuse(alloc, output, refusal), device),
     }
 }

@@ -7,12 +7,12 @@ ghost use Rattle.command_line.specs.Endings.{IsTold, report};
 ghost use Rattle.command_line.specs.Runs.{AsksForPair, IsCopiedAt};
 
 use crate::devices::Devices;
-use crate::endings::{Ending, Performed, refuse, tell, tell_done};
+use crate::endings::{Ending, Performed, refuse, tell_done, tell_refusal};
 use crate::folders::Folders;
-use crate::telling::{Context, Told, tell_why};
+use crate::telling::{Context, tell_why};
 use directory::Directory;
 use history_store::Refusal;
-use line_server::{LineRefusal, ServeFault, reply_refusal};
+use line_server::{LineRefusal, ServeFault};
 use std::alloc::Global;
 use std::io::Write;
 use store_copy::{CopyFault, copy};
@@ -34,36 +34,18 @@ fn refusal_of(fault: CopyFault) -> LineRefusal
     }
 }
 
-/// Writes the line of a fault.
-fn tell_fault<O: Write>(
-    alloc: Global,
-    fault: CopyFault,
-    output: &mut O,
-    told: &mut Told,
-) -> Result<Ending, ServeFault>
-    ensures { IsTold result (Err (copy_refusal fault)) (O.contents output.old)
-        (O.contents output.new) }
-{
-    let ended = tell(output, &reply_refusal(alloc, refusal_of(fault)), told);
-    if let CopyFault::Damaged(damage) = fault {
-        told.note_refusal(Refusal::Unreadable(damage));
-    }
-    ended
-}
-
 /// Tells that a store was copied, or why not.
 fn tell_copy<O: Write>(
     alloc: Global,
     copied: &Result<Directory, CopyFault>,
     output: &mut O,
-    told: &mut Told,
 ) -> Result<Ending, ServeFault>
     ensures { IsTold result (copy_told copied.now) (O.contents output.old)
         (O.contents output.new) }
 {
     match copied {
-        Ok(_) => tell_done(alloc, output, told),
-        Err(fault) => tell_fault(alloc, *fault, output, told),
+        Ok(_) => tell_done(alloc, output),
+        Err(fault) => tell_refusal(alloc, output, refusal_of(*fault)),
     }
 }
 
@@ -141,10 +123,9 @@ fn copy_onto<V: Devices, F: Folders, O: Write, E: Write>(
 {
     let (mut source, mut target) = (source, target);
     let copied = copy(alloc, &mut source, &mut target, imports);
-    let mut told = Told::new();
-    let ended = tell_copy(alloc, &copied, output, &mut told);
+    let ended = tell_copy(alloc, &copied, output);
     let context = context_of(devices, path, to, &source, &target, &copied);
-    tell_why(told, &context, faults);
+    tell_why(ended, &context, faults);
     (
         ended,
         Some(source),
@@ -185,20 +166,15 @@ pub(crate) fn copy_at<V: Devices, F: Folders, O: Write, E: Write>(
         (report result.0 (O.contents output.old) (O.contents output.new)) }
     ensures asked { AsksForPair result.1 (V.asked devices.old) (V.asked devices.new) }
 {
-    let mut told = Told::new();
     let Ok(source) = devices.device(path, faults) else {
-        return (
-            refuse(alloc, output, Refusal::DiskFault, &mut told),
-            None,
-            None,
-        );
+        return (refuse(alloc, output, Refusal::DiskFault), None, None);
     };
     let Ok(target) = devices.new_device(to, faults) else {
-        let ended = refuse(alloc, output, Refusal::DiskFault, &mut told);
+        let ended = refuse(alloc, output, Refusal::DiskFault);
         return (ended, Some(source), None);
     };
     if folders.settle(alloc, to, faults).is_err() {
-        let ended = refuse(alloc, output, Refusal::DiskFault, &mut told);
+        let ended = refuse(alloc, output, Refusal::DiskFault);
         return (ended, Some(source), discard(folders, to, target, faults));
     }
     copy_onto(

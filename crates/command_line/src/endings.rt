@@ -1,15 +1,15 @@
 //! How a task ends, and the status that the program has then.
 
-ghost use Rattle.std.specs.Prelude.{◌≡◌, ◌≤◌, true, false, Result, Ok, Err, IsOk, IsErr, OnOk, []};
+ghost use Rattle.std.specs.Prelude.{◌≡◌, ◌≤◌, Result, Ok, Err, OnOk, []};
 ghost use Rattle.std.specs.Io.KnownBytes.{Appends, Keeps};
 ghost use Rattle.line_server.specs.declared.refusal.LineRefusal.{LineRefusal};
-ghost use Rattle.line_server.specs.declared.refusal.LineRefusal.TheVariants.{Store, NoFolder};
+ghost use Rattle.line_server.specs.declared.refusal.LineRefusal.TheVariants.{Store};
 ghost use Rattle.line_server.specs.ReplyValue.{Answer, Done as AllDone, reply_value};
-ghost use Rattle.command_line.specs.declared.endings.Ending.TheVariants.{Done, Refused};
+ghost use Rattle.line_server.specs.Turns.{IsToldBy};
+ghost use Rattle.command_line.specs.declared.endings.Ending.TheVariants.{Done};
 ghost use Rattle.command_line.specs.Endings.{IsTold};
 ghost use Rattle.command_line.specs.Private.{fault_number, fault_name, fault_line};
 
-use crate::telling::Told;
 use history_store::Refusal;
 use line_server::{LineRefusal, Reply, ServeFault, reply_done, reply_refusal};
 use std::alloc::Global;
@@ -19,8 +19,8 @@ use std::io::Write;
 #[derive(Clone, Copy, Debug, PartialEq, Eq)]
 pub enum Ending {
     Done,
-    /// The last line that was written says why.
-    Refused,
+    /// It was refused, which the last line that was written says.
+    Refused(LineRefusal),
 }
 
 /// How a task ended, and the device that it was done on, if there is one.
@@ -43,7 +43,7 @@ pub(crate) fn finish<O: Write, E: Write>(
     match ended {
         Err(fault) => fail(fault, faults),
         Ok(_) if flushed.is_err() => fail(ServeFault::Write, faults),
-        Ok(Ending::Refused) => 1,
+        Ok(Ending::Refused(_)) => 1,
         Ok(Ending::Done) => 0,
     }
 }
@@ -92,72 +92,60 @@ fn name_of(fault: ServeFault) -> &'static str
     }
 }
 
+/// Writes an answer.
+fn tell_answer<O: Write>(output: &mut O, reply: &Reply) -> Result<Ending, ServeFault>
+    ensures { (answer : Answer) → reply.now ≡ reply_value (Ok answer)
+        → IsTold result (Ok answer) (O.contents output.old) (O.contents output.new) }
+{
+    match reply.write_to(output) {
+        Ok(()) => Ok(Ending::Done),
+        Err(_) => Err(ServeFault::Write),
+    }
+}
+
 /// Writes that all is done.
-pub(crate) fn tell_done<O: Write>(
-    alloc: Global,
-    output: &mut O,
-    told: &mut Told,
-) -> Result<Ending, ServeFault>
+pub(crate) fn tell_done<O: Write>(alloc: Global, output: &mut O) -> Result<Ending, ServeFault>
     ensures { IsTold result (Ok (AllDone [])) (O.contents output.old) (O.contents output.new) }
 {
-    tell(output, &reply_done(alloc), told)
+    tell_answer(output, &reply_done(alloc))
 }
 
 /// Writes the line of a refusal.
+pub(crate) fn tell_refusal<O: Write>(
+    alloc: Global,
+    output: &mut O,
+    refusal: LineRefusal,
+) -> Result<Ending, ServeFault>
+    ensures { IsTold result (Err refusal) (O.contents output.old) (O.contents output.new) }
+{
+    match reply_refusal(alloc, refusal).write_to(output) {
+        Ok(()) => Ok(Ending::Refused(refusal)),
+        Err(_) => Err(ServeFault::Write),
+    }
+}
+
+/// Writes the line by which the store refuses.
 pub(crate) fn refuse<O: Write>(
     alloc: Global,
     output: &mut O,
     refusal: Refusal,
-    told: &mut Told,
 ) -> Result<Ending, ServeFault>
     ensures { IsTold result (Err (Store refusal)) (O.contents output.old) (O.contents output.new) }
 {
-    let ended = tell(
-        output,
-        &reply_refusal(alloc, LineRefusal::Store(refusal)),
-        told,
-    );
-    told.note_refusal(refusal);
-    ended
+    tell_refusal(alloc, output, LineRefusal::Store(refusal))
 }
 
-/// Writes the line that there is no folder.
-pub(crate) fn refuse_folder<O: Write>(
+/// Writes what came out: an answer, or the line of a refusal.
+pub(crate) fn tell<O: Write>(
     alloc: Global,
     output: &mut O,
-    told: &mut Told,
+    came_out: Result<Reply, LineRefusal>,
 ) -> Result<Ending, ServeFault>
-    ensures { IsTold result (Err NoFolder) (O.contents output.old) (O.contents output.new) }
-{
-    tell(output, &reply_refusal(alloc, LineRefusal::NoFolder), told)
-}
-
-/// Whether a reply is a refusal.
-pub(crate) fn is_refusal(reply: &Reply) -> bool
-    ensures refused { result ≡ true → (outcome : Result Answer LineRefusal)
-        → reply.now ≡ reply_value outcome → IsErr outcome }
-    ensures answered { result ≡ false → (outcome : Result Answer LineRefusal)
-        → reply.now ≡ reply_value outcome → IsOk outcome }
-{
-    reply.last().starts_with(b"ERR")
-}
-
-/// Writes a reply, and notes what it says.
-pub(crate) fn tell<O: Write>(
-    output: &mut O,
-    reply: &Reply,
-    told: &mut Told,
-) -> Result<Ending, ServeFault>
-    ensures { (outcome : Result Answer LineRefusal) → reply.now ≡ reply_value outcome
+    ensures { (outcome : Result Answer LineRefusal) → IsToldBy came_out outcome
         → IsTold result outcome (O.contents output.old) (O.contents output.new) }
 {
-    if reply.write_to(output).is_err() {
-        return Err(ServeFault::Write);
-    }
-    told.note(reply);
-    if is_refusal(reply) {
-        Ok(Ending::Refused)
-    } else {
-        Ok(Ending::Done)
+    match came_out {
+        Ok(reply) => tell_answer(output, &reply),
+        Err(refusal) => tell_refusal(alloc, output, refusal),
     }
 }

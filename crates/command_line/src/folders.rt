@@ -3,12 +3,13 @@
 ghost use Rattle.std.specs.Prelude.{◌≡◌, ℕ, List, IfOk, IfErr, true, false};
 ghost use Rattle.line_server.specs.Sources.{Releases, IsGiven};
 
+use crate::endings::Ending;
 use crate::progress::{Progress, tell_later, tell_taken};
-use crate::telling::{Context, Told, is_about_row, tell_row, tell_why};
+use crate::telling::{Context, is_about_row, tell_row, tell_why};
 use disk_model::{DiskFault, sync_folder_of};
 use history_store::Refusal;
 use import_check::{Release, Scope};
-use line_server::{Source, SourceFault};
+use line_server::{ServeFault, Source, SourceFault};
 use release_folder::{FolderFault, read_release};
 use shown_names::Shown;
 use std::alloc::Global;
@@ -171,9 +172,14 @@ pub struct FolderSource<'a, F: Folders, E: Write> {
 
 impl<F: Folders, E: Write> FolderSource<'_, F, E> {
     /// Tells of a task on the store under a name what the function `tell_why` does.
-    pub(crate) fn tell_why(&mut self, told: Told, store: &str, last_error: Option<io::Error>) {
+    pub(crate) fn tell_why(
+        &mut self,
+        ended: Result<Ending, ServeFault>,
+        store: &str,
+        last_error: Option<io::Error>,
+    ) {
         let context = Context { store, last_error };
-        tell_why(told, &context, self.faults);
+        tell_why(ended, &context, self.faults);
     }
 }
 

@@ -1,45 +1,18 @@
 //! A release is imported.
 
-ghost use Rattle.std.specs.Prelude.{◌≡◌, IfOk, string_bytes};
 ghost use Rattle.command_line.specs.Endings.{report};
 ghost use Rattle.line_server.specs.Sources.{source_view};
 ghost use Rattle.store_life.specs.DeviceView.{device_view};
-ghost use Rattle.command_line.specs.Tasks.{Imports, IsImport, import_line};
+ghost use Rattle.command_line.specs.Tasks.{IsImport};
 
-use crate::answering::answer_line;
+use crate::answering::answer_read;
 use crate::endings::{Ending, refuse};
-use crate::telling::Told;
 use disk_model::Disk;
-use history_store::{Refusal, Store};
+use history_store::Store;
+use line_commands::import_request;
 use line_server::{ServeFault, Source};
-use std::alloc::{AllocError, Global};
+use std::alloc::Global;
 use std::io::Write;
-
-/// The line that imports the release under a name.
-fn line_of_import(alloc: Global, name: &str) -> Result<String, AllocError>
-    ensures { IfOk result (λ line. string_bytes line ≡ import_line name.now) }
-{
-    format!(in alloc; "0 IMPORT {name}")
-}
-
-/// Answers the line that imports a release, as a session of its own, and tells the reply.
-fn import_into<D: Disk + Drop, S: Source, O: Write>(
-    alloc: Global,
-    name: &str,
-    source: &mut S,
-    store: &mut Store<D>,
-    output: &mut O,
-    told: &mut Told,
-) -> Result<Ending, ServeFault>
-    ensures { Imports (source_view (S.is_honest source.old) (S.releases source.old))
-        (device_view D.is_honest D.moments D.failures D.bytes_read) name.now store.new.disk
-        (report result (O.contents output.old) (O.contents output.new)) store.old }
-{
-    let Ok(line) = line_of_import(alloc, name) else {
-        return refuse(alloc, output, Refusal::OutOfMemory, told);
-    };
-    answer_line(alloc, line.as_bytes(), source, store, output, told)
-}
 
 /// Imports a release into the store of a device, and tells the reply. The device comes back.
 pub(crate) fn import<D: Disk + Drop, S: Source, O: Write>(
@@ -48,7 +21,6 @@ pub(crate) fn import<D: Disk + Drop, S: Source, O: Write>(
     name: &str,
     source: &mut S,
     output: &mut O,
-    told: &mut Told,
 ) -> (Result<Ending, ServeFault>, D)
     ensures { IsImport (source_view (S.is_honest source.old) (S.releases source.old))
         (device_view D.is_honest D.moments D.failures D.bytes_read) name.now device result.1
@@ -57,9 +29,9 @@ pub(crate) fn import<D: Disk + Drop, S: Source, O: Write>(
     match Store::open(alloc, device) {
         Ok(store) => {
             let mut store = store;
-            let ended = import_into(alloc, name, source, &mut store, output, told);
+            let ended = answer_read(alloc, &import_request(name), source, &mut store, output);
             (ended, store.close())
         }
-        Err((refusal, device)) => (refuse(alloc, output, refusal, told), device),
+        Err((refusal, device)) => (refuse(alloc, output, refusal), device),
     }
 }

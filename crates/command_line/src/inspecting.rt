@@ -1,22 +1,30 @@
 //! The status of a store is told.
 
-ghost use Rattle.std.specs.Prelude.{◌≡◌, ⊤, None};
 ghost use Rattle.command_line.specs.Endings.{report};
 ghost use Rattle.store_life.specs.DeviceView.{device_view};
-ghost use Rattle.command_line.specs.Tasks.{IsStatus};
+ghost use Rattle.line_commands.specs.Requests.{Asks, command_of};
+ghost use Rattle.command_line.specs.Tasks.{IsStatus, status_line};
 
-use crate::answering::answer_line;
+use crate::answering::answer_read;
 use crate::endings::{Ending, refuse};
-use crate::telling::{Figures, Told};
+use crate::telling::Figures;
 use disk_model::Disk;
 use history_store::{Refusal, Store};
 use import_check::{Release, Scope};
+use line_commands::{Command, Request};
 use line_server::{ServeFault, Source, SourceFault};
 use std::alloc::Global;
 use std::io::Write;
 
-/// The line that asks for the status.
-pub(crate) const STATUS: &[u8] = b"0 STATUS";
+/// What session 0 asks by the line for the status.
+pub(crate) fn status_request() -> Request<'static>
+    ensures { Asks status_line result.session (command_of result.command) }
+{
+    Request {
+        session: 0,
+        command: Command::Status,
+    }
+}
 
 /// A source without releases.
 #[derive(Clone, Copy)]
@@ -47,7 +55,6 @@ pub(crate) fn status<D: Disk + Drop, O: Write>(
     alloc: Global,
     device: D,
     output: &mut O,
-    told: &mut Told,
 ) -> (Result<Ending, ServeFault>, D, Option<Figures>)
     ensures { IsStatus (device_view D.is_honest D.moments D.failures D.bytes_read) device result.1
         (report result.0 (O.contents output.old) (O.contents output.new)) }
@@ -61,9 +68,15 @@ pub(crate) fn status<D: Disk + Drop, O: Write>(
                 blocks: store.blocks_in_use(),
                 latest: store.latest_time(),
             };
-            let ended = answer_line(alloc, STATUS, &mut NoReleases, &mut store, output, told);
+            let ended = answer_read(
+                alloc,
+                &Ok(status_request()),
+                &mut NoReleases,
+                &mut store,
+                output,
+            );
             (ended, store.close(), Some(figures))
         }
-        Err((refusal, device)) => (refuse(alloc, output, refusal, told), device, None),
+        Err((refusal, device)) => (refuse(alloc, output, refusal), device, None),
     }
 }

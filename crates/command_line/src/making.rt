@@ -5,7 +5,6 @@ ghost use Rattle.command_line.specs.Endings.{report};
 ghost use Rattle.store_life.specs.DeviceView.{device_view};
 
 use crate::endings::{Ending, refuse, tell_done};
-use crate::telling::Told;
 use directory::Layout;
 use disk_model::Disk;
 use history_store::Store;
@@ -19,14 +18,13 @@ pub(crate) fn init<D: Disk + Drop, O: Write>(
     device: D,
     layout: Layout,
     output: &mut O,
-    told: &mut Told,
 ) -> (Result<Ending, ServeFault>, D)
     ensures { IsMade layout
         (device_view D.is_honest D.moments D.failures D.bytes_read) device result.1
         (report result.0 (O.contents output.old) (O.contents output.new)) }
 {
     match Store::create_in(alloc, device, layout) {
-        Ok(store) => (tell_done(alloc, output, told), store.close()),
-        Err((refusal, device)) => (refuse(alloc, output, refusal, told), device),
+        Ok(store) => (tell_done(alloc, output), store.close()),
+        Err((refusal, device)) => (refuse(alloc, output, refusal), device),
     }
 }

@@ -1,5 +1,7 @@
 //! The segments of a store are merged.
 
+ghost use Rattle.std.specs.Prelude.{ℕ, List};
+ghost use Rattle.line_commands.specs.Requests.{IsReading};
 ghost use Rattle.line_server.specs.Pins.{AreWithin};
 ghost use Rattle.line_server.specs.StateValue.{fresh};
 ghost use Rattle.command_line.specs.Endings.{report};
@@ -9,44 +11,35 @@ ghost use Rattle.command_line.specs.Merging.{IsMergedOnDisk, TellsLines, TellsMe
 ghost use Rattle.command_line.specs.Private.{IsAsked, IsAtRest, IsMerging, IsOneLess, IsTrimmedTo};
 ghost use Rattle.command_line.specs.Private.{MergesRows};
 
-use crate::endings::{Ending, is_refusal, refuse, tell};
-use crate::inspecting::{NoReleases, STATUS};
-use crate::telling::{Told, tell_rewritten, tell_segments};
+use crate::endings::{Ending, refuse, tell};
+use crate::inspecting::{NoReleases, status_request};
+use crate::telling::{tell_rewritten, tell_segments};
 use disk_model::Disk;
 use history_store::Store;
-use line_server::{Reply, ServeFault, ServerState, answer};
+use line_commands::{Command, Request, Unread};
+use line_server::{LineRefusal, ServeFault, ServerState, carry_out};
 use std::alloc::Global;
 use std::io::Write;
 
-const MERGE: &[u8] = b"0 MERGE";
-/// The most rows that one line may ask for.
-const STEP: &[u8] = b"0 STEP 100000";
-/// How many rows that are.
-const STEP_ROWS: u64 = 100_000;
+/// The most rows that one request may ask for.
+const STEP_ROWS: u32 = 100_000;
 
-const PUBLISH: &[u8] = b"0 PUBLISH";
-
-const TRIM: &[u8] = b"0 TRIM";
-
-/// Answers a line, and gives the reply back where it is refused.
+/// Carries a request out, and gives the refusal back where it is refused.
 fn ask<D: Disk>(
     alloc: Global,
-    line: &[u8],
+    read: &Result<Request<'_>, Unread>,
     state: &mut ServerState,
     store: &mut Store<D>,
-) -> Result<(), Reply>
+) -> Result<(), LineRefusal>
+    requires asked { (line : List ℕ) × IsReading line read.now }
     requires within { AreWithin store.old.history.imports state.old.pins }
     ensures within { AreWithin store.new.history.imports state.new.pins }
-    ensures asked { IsAsked
-        (device_view D.is_honest D.moments D.failures D.bytes_read) line.now result
+    ensures asked { (line : List ℕ) → IsReading line read.now → IsAsked
+        (device_view D.is_honest D.moments D.failures D.bytes_read) line result
         (server state.old store.old) (server state.new store.new) }
 {
-    let reply = answer(alloc, line, state, &mut NoReleases, store);
-    if is_refusal(&reply) {
-        Err(reply)
-    } else {
-        Ok(())
-    }
+    let _reply = carry_out(alloc, read, state, &mut NoReleases, store)?;
+    Ok(())
 }
 
 /// Takes all rows of the merge that goes on.
@@ -54,16 +47,20 @@ fn take_rows<D: Disk>(
     alloc: Global,
     state: &mut ServerState,
     store: &mut Store<D>,
-) -> Result<(), Reply>
+) -> Result<(), LineRefusal>
     requires within { AreWithin store.old.history.imports state.old.pins }
     requires merging { IsMerging (server state.old store.old) }
     ensures within { AreWithin store.new.history.imports state.new.pins }
     ensures taken { MergesRows (device_view D.is_honest D.moments D.failures D.bytes_read) result
         (server state.old store.old) (server state.new store.new) }
 {
+    let step = Ok(Request {
+        session: 0,
+        command: Command::Step { rows: STEP_ROWS },
+    });
     let left = store.merge_left().unwrap_or(0);
-    for _ in 0..left.div_ceil(STEP_ROWS) {
-        ask(alloc, STEP, state, store)?;
+    for _ in 0..left.div_ceil(STEP_ROWS as u64) {
+        ask(alloc, &step, state, store)?;
     }
     Ok(())
 }
@@ -73,16 +70,24 @@ fn merge_two<D: Disk>(
     alloc: Global,
     state: &mut ServerState,
     store: &mut Store<D>,
-) -> Result<(), Reply>
+) -> Result<(), LineRefusal>
     requires within { AreWithin store.old.history.imports state.old.pins }
     requires at_rest { IsAtRest (server state.old store.old) }
     ensures within { AreWithin store.new.history.imports state.new.pins }
     ensures merged { IsOneLess (device_view D.is_honest D.moments D.failures D.bytes_read) result
         (server state.old store.old) (server state.new store.new) }
 {
-    ask(alloc, MERGE, state, store)?;
+    let merge = Ok(Request {
+        session: 0,
+        command: Command::Merge,
+    });
+    ask(alloc, &merge, state, store)?;
     take_rows(alloc, state, store)?;
-    ask(alloc, PUBLISH, state, store)
+    let publish = Ok(Request {
+        session: 0,
+        command: Command::Publish,
+    });
+    ask(alloc, &publish, state, store)
 }
 
 /// Merges until at most so many segments stand, and trims. `faults` is told of each merge.
@@ -93,7 +98,7 @@ fn merge_to<D: Disk, E: Write>(
     state: &mut ServerState,
     store: &mut Store<D>,
     faults: &mut E,
-) -> Result<(), Reply>
+) -> Result<(), LineRefusal>
     requires within { AreWithin store.old.history.imports state.old.pins }
     requires at_rest { IsAtRest (server state.old store.old) }
     ensures within { AreWithin store.new.history.imports state.new.pins }
@@ -105,17 +110,20 @@ fn merge_to<D: Disk, E: Write>(
         merge_two(alloc, state, store)?;
         tell_segments(path, store.segments(), faults);
     }
-    ask(alloc, TRIM, state, store)
+    let trim = Ok(Request {
+        session: 0,
+        command: Command::Trim,
+    });
+    ask(alloc, &trim, state, store)
 }
 
-/// Asks the lines that merge the segments of a store, and tells the last reply.
+/// Merges the segments of a store and asks for its status, and tells the last reply.
 fn merge_lines<D: Disk, O: Write, E: Write>(
     alloc: Global,
     path: &str,
     most: u32,
     store: &mut Store<D>,
     output: &mut O,
-    told: &mut Told,
     faults: &mut E,
 ) -> Result<Ending, ServeFault>
     requires at_rest { IsAtRest (server fresh store.old) }
@@ -124,11 +132,17 @@ fn merge_lines<D: Disk, O: Write, E: Write>(
         (report result (O.contents output.old) (O.contents output.new)) store.old }
 {
     let mut state = ServerState::new();
-    let reply = match merge_to(alloc, path, most, &mut state, store, faults) {
-        Ok(()) => answer(alloc, STATUS, &mut state, &mut NoReleases, store),
-        Err(reply) => reply,
+    let outcome = match merge_to(alloc, path, most, &mut state, store, faults) {
+        Ok(()) => carry_out(
+            alloc,
+            &Ok(status_request()),
+            &mut state,
+            &mut NoReleases,
+            store,
+        ),
+        Err(halt) => Err(halt),
     };
-    tell(output, &reply, told)
+    tell(alloc, output, outcome)
 }
 
 /// Merges the segments of a store that was opened, and tells the last reply. Where a store of
@@ -139,7 +153,6 @@ fn merge_all<D: Disk, O: Write, E: Write>(
     most: u32,
     store: &mut Store<D>,
     output: &mut O,
-    told: &mut Told,
     faults: &mut E,
 ) -> Result<Ending, ServeFault>
     requires at_rest { IsAtRest (server fresh store.old) }
@@ -152,9 +165,9 @@ fn merge_all<D: Disk, O: Write, E: Write>(
             if anew {
                 tell_rewritten(path, faults);
             }
-            merge_lines(alloc, path, most, store, output, told, faults)
+            merge_lines(alloc, path, most, store, output, faults)
         }
-        Err(refusal) => refuse(alloc, output, refusal, told),
+        Err(refusal) => refuse(alloc, output, refusal),
     }
 }
 
@@ -165,7 +178,6 @@ pub(crate) fn merge<D: Disk + Drop, O: Write, E: Write>(
     path: &str,
     most: u32,
     output: &mut O,
-    told: &mut Told,
     faults: &mut E,
 ) -> (Result<Ending, ServeFault>, D)
     ensures { IsMergedOnDisk
@@ -175,9 +187,9 @@ pub(crate) fn merge<D: Disk + Drop, O: Write, E: Write>(
     match Store::open(alloc, device) {
         Ok(store) => {
             let mut store = store;
-            let ended = merge_all(alloc, path, most, &mut store, output, told, faults);
+            let ended = merge_all(alloc, path, most, &mut store, output, faults);
             (ended, store.close())
         }
-        Err((refusal, device)) => (refuse(alloc, output, refusal, told), device),
+        Err((refusal, device)) => (refuse(alloc, output, refusal), device),
     }
 }

@@ -20,21 +20,21 @@ use crate::copying::copy_at;
 use crate::demonstration::{SCRIPT, Samples};
 use crate::devices::Devices;
 use crate::digesting::digest;
-use crate::endings::{Ended, Ending, Performed, fail, finish, refuse, refuse_folder};
+use crate::endings::{Ended, Ending, Performed, fail, finish, refuse, tell_refusal};
 use crate::folders::{FolderSource, Folders};
 use crate::importing::import;
 use crate::inspecting::status;
 use crate::making::init;
 use crate::merging::merge;
 use crate::serving::{serve_device, serve_new};
-use crate::telling::{Context, Told, tell_figures, tell_why};
+use crate::telling::{Context, tell_figures, tell_why};
 use crate::told_lines::ToldLines;
 use crate::upgrading::upgrade;
 use crate::words::{Refused, Task, task_of};
 use directory::Layout;
 use disk_model::MemDisk;
 use history_store::Refusal;
-use line_server::ServeFault;
+use line_server::{LineRefusal, ServeFault};
 use std::alloc::Global;
 use std::io::{Read, Write};
 
@@ -199,20 +199,19 @@ fn init_at<V: Devices, F: Folders, O: Write, E: Write>(
     }) path.now result.1 (report result.0 (O.contents output.old) (O.contents output.new)) }
     ensures asked { V.asked devices.new ≡ raised_by (V.asked devices.old) 1 }
 {
-    let mut told = Told::new();
     let Ok(device) = devices.device_or_new(path, faults) else {
-        return (refuse(alloc, output, Refusal::DiskFault, &mut told), None);
+        return (refuse(alloc, output, Refusal::DiskFault), None);
     };
     if folders.settle(alloc, path, faults).is_err() {
-        let ended = refuse(alloc, output, Refusal::DiskFault, &mut told);
+        let ended = refuse(alloc, output, Refusal::DiskFault);
         return (ended, Some(device));
     }
-    let (ended, left) = init(alloc, device, layout, output, &mut told);
+    let (ended, left) = init(alloc, device, layout, output);
     let context = Context {
         store: path,
         last_error: devices.last_error(&left),
     };
-    tell_why(told, &context, faults);
+    tell_why(ended, &context, faults);
     (ended, Some(left))
 }
 
@@ -237,7 +236,6 @@ fn import_at<V: Devices, F: Folders, O: Write, E: Write>(
         × V.withholds devices.old path.now) result.1 }
     ensures asked { V.asked devices.new ≡ raised_by (V.asked devices.old) 1 }
 {
-    let mut told = Told::new();
     let had = devices.device(path, faults);
     match had {
         Ok(device) => {
@@ -248,11 +246,11 @@ fn import_at<V: Devices, F: Folders, O: Write, E: Write>(
                 doing: "importing",
                 quiet,
             };
-            let (ended, left) = import(alloc, device, name, &mut source, output, &mut told);
-            source.tell_why(told, path, devices.last_error(&left));
+            let (ended, left) = import(alloc, device, name, &mut source, output);
+            source.tell_why(ended, path, devices.last_error(&left));
             (ended, Some(left))
         }
-        Err(_) => (refuse(alloc, output, Refusal::DiskFault, &mut told), None),
+        Err(_) => (refuse(alloc, output, Refusal::DiskFault), None),
     }
 }
 
@@ -277,7 +275,6 @@ fn check_at<V: Devices, F: Folders, O: Write, E: Write>(
         × V.withholds devices.old path.now) result.1 }
     ensures asked { V.asked devices.new ≡ raised_by (V.asked devices.old) 1 }
 {
-    let mut told = Told::new();
     match devices.device(path, faults) {
         Ok(device) => {
             let folder = FolderSource {
@@ -291,13 +288,13 @@ fn check_at<V: Devices, F: Folders, O: Write, E: Write>(
                 folder,
                 refused: None,
             };
-            let (ended, left) = check(alloc, device, name, &mut source, output, &mut told);
+            let (ended, left) = check(alloc, device, name, &mut source, output);
             source
                 .folder
-                .tell_why(told, path, devices.last_error(&left));
+                .tell_why(ended, path, devices.last_error(&left));
             (ended, Some(left))
         }
-        Err(_) => (refuse(alloc, output, Refusal::DiskFault, &mut told), None),
+        Err(_) => (refuse(alloc, output, Refusal::DiskFault), None),
     }
 }
 
@@ -334,11 +331,13 @@ fn serve_at<V: Devices, F: Folders, I: Read, O: Write, E: Write>(
         (O.contents output.old) (O.contents output.new)) }
     ensures asked { V.asked devices.new ≡ raised_by (V.asked devices.old) 1 }
 {
-    let mut told = Told::new();
     match devices.device(path, faults) {
         Ok(device) => {
             if !folders.has_folder(dir, faults) {
-                return (refuse_folder(alloc, output, &mut told), Some(device));
+                return (
+                    tell_refusal(alloc, output, LineRefusal::NoFolder),
+                    Some(device),
+                );
             }
             let mut source = FolderSource {
                 folders,
@@ -347,11 +346,11 @@ fn serve_at<V: Devices, F: Folders, I: Read, O: Write, E: Write>(
                 doing: "importing",
                 quiet: true,
             };
-            let (ended, left) = serve_device(alloc, device, &mut source, input, output, &mut told);
-            source.tell_why(told, path, devices.last_error(&left));
+            let (ended, left) = serve_device(alloc, device, &mut source, input, output);
+            source.tell_why(ended, path, devices.last_error(&left));
             (ended, Some(left))
         }
-        Err(_) => (refuse(alloc, output, Refusal::DiskFault, &mut told), None),
+        Err(_) => (refuse(alloc, output, Refusal::DiskFault), None),
     }
 }
 
@@ -372,21 +371,20 @@ fn status_at<V: Devices, O: Write, E: Write>(
         × V.withholds devices.old path.now) result.1 }
     ensures asked { V.asked devices.new ≡ raised_by (V.asked devices.old) 1 }
 {
-    let mut told = Told::new();
     let found = devices.device(path, faults);
     match found {
         Ok(device) => {
             let size = devices.size(path);
-            let (ended, left, figures) = status(alloc, device, output, &mut told);
+            let (ended, left, figures) = status(alloc, device, output);
             let context = Context {
                 store: path,
                 last_error: devices.last_error(&left),
             };
-            tell_why(told, &context, faults);
+            tell_why(ended, &context, faults);
             tell_figures(path, figures, size, faults);
             (ended, Some(left))
         }
-        Err(_) => (refuse(alloc, output, Refusal::DiskFault, &mut told), None),
+        Err(_) => (refuse(alloc, output, Refusal::DiskFault), None),
     }
 }
 
@@ -408,19 +406,18 @@ fn merge_at<V: Devices, O: Write, E: Write>(
         × V.withholds devices.old path.now) result.1 }
     ensures asked { V.asked devices.new ≡ raised_by (V.asked devices.old) 1 }
 {
-    let mut told = Told::new();
     let stands = devices.device(path, faults);
     match stands {
         Ok(device) => {
-            let (ended, left) = merge(alloc, device, path, most, output, &mut told, faults);
+            let (ended, left) = merge(alloc, device, path, most, output, faults);
             let context = Context {
                 store: path,
                 last_error: devices.last_error(&left),
             };
-            tell_why(told, &context, faults);
+            tell_why(ended, &context, faults);
             (ended, Some(left))
         }
-        Err(_) => (refuse(alloc, output, Refusal::DiskFault, &mut told), None),
+        Err(_) => (refuse(alloc, output, Refusal::DiskFault), None),
     }
 }
 
@@ -442,18 +439,17 @@ fn digest_at<V: Devices, O: Write, E: Write>(
         × V.withholds devices.old path.now) result.1 }
     ensures asked { V.asked devices.new ≡ raised_by (V.asked devices.old) 1 }
 {
-    let mut told = Told::new();
     match devices.device(path, faults) {
         Ok(device) => {
-            let (ended, left) = digest(alloc, device, imports, output, &mut told);
+            let (ended, left) = digest(alloc, device, imports, output);
             let context = Context {
                 store: path,
                 last_error: devices.last_error(&left),
             };
-            tell_why(told, &context, faults);
+            tell_why(ended, &context, faults);
             (ended, Some(left))
         }
-        Err(_) => (refuse(alloc, output, Refusal::DiskFault, &mut told), None),
+        Err(_) => (refuse(alloc, output, Refusal::DiskFault), None),
     }
 }
 
@@ -474,19 +470,18 @@ fn upgrade_at<V: Devices, O: Write, E: Write>(
         × V.withholds devices.old path.now) result.1 }
     ensures asked { V.asked devices.new ≡ raised_by (V.asked devices.old) 1 }
 {
-    let mut told = Told::new();
     let before = devices.device(path, faults);
     match before {
         Ok(device) => {
-            let (ended, left) = upgrade(alloc, device, output, &mut told);
+            let (ended, left) = upgrade(alloc, device, output);
             let context = Context {
                 store: path,
                 last_error: devices.last_error(&left),
             };
-            tell_why(told, &context, faults);
+            tell_why(ended, &context, faults);
             (ended, Some(left))
         }
-        Err(_) => (refuse(alloc, output, Refusal::DiskFault, &mut told), None),
+        Err(_) => (refuse(alloc, output, Refusal::DiskFault), None),
     }
 }
 
@@ -496,14 +491,12 @@ fn demo<O: Write>(alloc: Global, output: &mut O) -> Result<Ending, ServeFault>
         (report result (O.contents output.old) (O.contents output.new)) }
 {
     let mut script = SCRIPT;
-    let mut told = Told::new();
     let (ended, _) = serve_new(
         alloc,
         MemDisk::new(alloc),
         &mut Samples,
         &mut script,
         output,
-        &mut told,
     );
     ended
 }
@@ -515,7 +508,6 @@ pub fn demonstrate<O: Write, E: Write>(alloc: Global, output: &mut O, faults: &m
     ensures done { IsDemonstration SCRIPT.now result
         (O.contents output.old) (O.contents output.new) }
 {
-    let mut told = Told::new();
     let mut script = ToldLines {
         rest: SCRIPT,
         told: faults,
@@ -526,7 +518,6 @@ pub fn demonstrate<O: Write, E: Write>(alloc: Global, output: &mut O, faults: &m
         &mut Samples,
         &mut script,
         output,
-        &mut told,
     );
     finish(ended, output, script.told)
 }

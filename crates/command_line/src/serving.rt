@@ -7,7 +7,6 @@ ghost use Rattle.store_life.specs.DeviceView.{device_view};
 ghost use Rattle.command_line.specs.Tasks.{Serves, IsServing, IsServingNew};
 
 use crate::endings::{Ending, refuse};
-use crate::telling::Told;
 use disk_model::Disk;
 use history_store::Store;
 use line_server::{ServeFault, Source, serve};
@@ -44,7 +43,6 @@ pub(crate) fn serve_device<D: Disk + Drop, S: Source, I: Read, O: Write>(
     source: &mut S,
     input: &mut I,
     output: &mut O,
-    told: &mut Told,
 ) -> (Result<Ending, ServeFault>, D)
     ensures { IsServing (source_view (S.is_honest source.old) (S.releases source.old))
         (device_view D.is_honest D.moments D.failures D.bytes_read) device result.1 result.0
@@ -57,7 +55,7 @@ pub(crate) fn serve_device<D: Disk + Drop, S: Source, I: Read, O: Write>(
             let ended = serve_all(alloc, source, &mut store, input, output);
             (ended, store.close())
         }
-        Err((refusal, device)) => (refuse(alloc, output, refusal, told), device),
+        Err((refusal, device)) => (refuse(alloc, output, refusal), device),
     }
 }
 
@@ -68,7 +66,6 @@ pub(crate) fn serve_new<D: Disk + Drop, S: Source, I: Read, O: Write>(
     source: &mut S,
     input: &mut I,
     output: &mut O,
-    told: &mut Told,
 ) -> (Result<Ending, ServeFault>, D)
     ensures { IsServingNew (source_view (S.is_honest source.old) (S.releases source.old))
         (device_view D.is_honest D.moments D.failures D.bytes_read) device result.1 result.0
@@ -81,6 +78,6 @@ pub(crate) fn serve_new<D: Disk + Drop, S: Source, I: Read, O: Write>(
             let ended = serve_all(alloc, source, &mut store, input, output);
             (ended, store.close())
         }
-        Err((refusal, device)) => (refuse(alloc, output, refusal, told), device),
+        Err((refusal, device)) => (refuse(alloc, output, refusal), device),
     }
 }

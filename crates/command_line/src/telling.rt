@@ -2,59 +2,13 @@
 
 use crate::contradicting::CONTRADICTION;
 use crate::differing::find_other;
-use history_store::{Damage, Refusal};
+use crate::endings::Ending;
+use history_store::Refusal;
 use import_check::ReleaseFile;
-use line_server::Reply;
+use line_server::{LineRefusal, ServeFault};
 use rf2_values::EffectiveTime;
 use shown_names::Shown;
 use std::io::{self, Write};
-
-/// The refusal that was told last.
-#[derive(Clone, Copy, Debug, PartialEq, Eq)]
-pub(crate) struct Told {
-    /// Its number; 0 where there is none.
-    pub code: usize,
-    /// The part of the store that can't be read.
-    pub damage: Option<Damage>,
-}
-
-impl Told {
-    /// Nothing was told yet.
-    pub(crate) fn new() -> Told {
-        Told {
-            code: 0,
-            damage: None,
-        }
-    }
-
-    /// Reads the last line of a reply.
-    pub(crate) fn note(&mut self, reply: &Reply) {
-        *self = Told::new();
-        let Some(rest) = reply.last().strip_prefix(b"ERR ".as_slice()) else {
-            return;
-        };
-        let mut words = rest.split(|byte| *byte == b' ' || *byte == b'\n');
-        self.code = number_of(words.next());
-    }
-
-    /// Notes what a refusal says and its reply doesn't.
-    pub(crate) fn note_refusal(&mut self, refusal: Refusal) {
-        if let Refusal::Unreadable(damage) = refusal {
-            self.damage = Some(damage);
-        }
-    }
-}
-
-/// The number that a word of digits writes; 0 where it writes none.
-fn number_of(word: Option<&[u8]>) -> usize {
-    let Some(digits) = word else {
-        return 0;
-    };
-    match str::from_utf8(digits) {
-        Ok(digits) => digits.parse().unwrap_or(0),
-        Err(_) => 0,
-    }
-}
 
 /// What the number of a refusal means.
 pub(crate) fn meaning(code: usize) -> &'static str {
@@ -104,10 +58,20 @@ pub(crate) struct Context<'a> {
     pub last_error: Option<io::Error>,
 }
 
-/// Tells what the system said of the call on the file that failed last, if one did; else why the
-/// task was refused, if it was and that wasn't told before.
-pub(crate) fn tell_why<E: Write>(told: Told, context: &Context<'_>, faults: &mut E) {
-    let _ = write_why(told, context, faults);
+/// Tells what the system said of the call on the file that failed last, if one did, also where no
+/// task was refused: `serve` goes on after an `ERR 2`. Else it tells why the task was refused, if it
+/// was and that wasn't told before.
+pub(crate) fn tell_why<E: Write>(
+    ended: Result<Ending, ServeFault>,
+    context: &Context<'_>,
+    faults: &mut E,
+) {
+    let store = Shown(context.store.as_bytes());
+    let _ = match (context.last_error, ended) {
+        (Some(error), _) => writeln!(faults, "sctd: {store}: {error}"),
+        (None, Ok(Ending::Refused(refusal))) => write_refusal(refusal, store, faults),
+        (None, _) => Ok(()),
+    };
 }
 
 /// What is told of a store that was opened: the version of its layout, how many of its segments
@@ -174,24 +138,23 @@ pub(crate) fn tell_rewritten<E: Write>(store: &str, faults: &mut E) {
     );
 }
 
-/// Writes that as a line. What the system said of a failed call is written also where no task was
-/// refused: `serve` goes on after an `ERR 2`.
-fn write_why<E: Write>(told: Told, context: &Context<'_>, faults: &mut E) -> io::Result<()> {
-    let store = Shown(context.store.as_bytes());
-    if let Some(error) = context.last_error {
-        return writeln!(faults, "sctd: {store}: {error}");
-    }
-    if let Some(damage) = told.damage {
+/// Writes why a task on a store was refused, where that wasn't told before.
+fn write_refusal<E: Write>(
+    refusal: LineRefusal,
+    store: Shown<'_>,
+    faults: &mut E,
+) -> io::Result<()> {
+    if let LineRefusal::Store(Refusal::Unreadable(damage)) = refusal {
         return writeln!(
             faults,
             "sctd: {store}: the store is damaged: {damage}; restore your copy"
         );
     }
-    let why = meaning(told.code);
-    match told.code {
-        // Nothing was refused; or it was told where the file or the folder was looked
-        // for, or where the release was at hand.
-        0 | 2 | 20..=32 | 45 => Ok(()),
+    let code = usize::from(refusal.code());
+    let why = meaning(code);
+    match code {
+        // It was told where the file or the folder was looked for, or where the release was at hand.
+        2 | 20..=32 | 45 => Ok(()),
         40 | 43 => writeln!(faults, "sctd: {why}"),
         _ => writeln!(faults, "sctd: {store}: {why}"),
     }

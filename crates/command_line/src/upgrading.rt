@@ -5,7 +5,6 @@ ghost use Rattle.command_line.specs.Endings.{report};
 ghost use Rattle.store_life.specs.DeviceView.{device_view};
 
 use crate::endings::{Ending, refuse, tell_done};
-use crate::telling::Told;
 use disk_model::Disk;
 use history_store::Store;
 use line_server::ServeFault;
@@ -17,14 +16,13 @@ fn upgrade_store<D: Disk, O: Write>(
     alloc: Global,
     store: &mut Store<D>,
     output: &mut O,
-    told: &mut Told,
 ) -> Result<Ending, ServeFault>
     ensures { Upgrades (device_view D.is_honest D.moments D.failures D.bytes_read) store.new.disk
         (report result (O.contents output.old) (O.contents output.new)) store.old }
 {
     match store.upgrade() {
-        Ok(()) => tell_done(alloc, output, told),
-        Err(refusal) => refuse(alloc, output, refusal, told),
+        Ok(()) => tell_done(alloc, output),
+        Err(refusal) => refuse(alloc, output, refusal),
     }
 }
 
@@ -33,7 +31,6 @@ pub(crate) fn upgrade<D: Disk + Drop, O: Write>(
     alloc: Global,
     device: D,
     output: &mut O,
-    told: &mut Told,
 ) -> (Result<Ending, ServeFault>, D)
     ensures { IsUpgrade (device_view D.is_honest D.moments D.failures D.bytes_read) device result.1
         (report result.0 (O.contents output.old) (O.contents output.new)) }
@@ -41,9 +38,9 @@ pub(crate) fn upgrade<D: Disk + Drop, O: Write>(
     match Store::open(alloc, device) {
         Ok(store) => {
             let mut store = store;
-            let ended = upgrade_store(alloc, &mut store, output, told);
+            let ended = upgrade_store(alloc, &mut store, output);
             (ended, store.close())
         }
-        Err((refusal, device)) => (refuse(alloc, output, refusal, told), device),
+        Err((refusal, device)) => (refuse(alloc, output, refusal), device),
     }
 }

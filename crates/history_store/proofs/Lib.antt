@@ -5,7 +5,6 @@ pub mod Counted
 pub mod Held
 pub mod WrittenWhere
 pub mod Places
-pub mod Taken
 pub mod NewSegment
 pub mod Refusing
 pub mod Lent

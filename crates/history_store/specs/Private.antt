@@ -6,7 +6,6 @@ pub mod StoreValue
 pub mod Prepared
 pub mod Ready
 pub mod Answers
-pub mod Taken
 pub mod Stepping
 pub mod Rewriting
 use Rattle.std.specs.Prelude.{◌==◌, ◌≡◌, ℕ, ◌≤◌, max, List, [], length, Option, Some, None}

@@ -1,6 +1,6 @@
 //! An empty store, and what a store keeps in memory beside its directory.
 
-ghost use Rattle.std.specs.Prelude.{◌≡◌, ◌≢◌, ◌↔◌, ◌+◌, ◌≤◌, [], length, map, vec_items, IfOk};
+ghost use Rattle.std.specs.Prelude.{◌≡◌, ◌≢◌, ◌↔◌, ◌+◌, ◌≤◌, [], length, IfOk};
 ghost use Rattle.std.specs.Prelude.{IfErr, OnOk};
 ghost use Rattle.disk_model.specs.Disk.{LeavesOnly};
 ghost use Rattle.blocks.specs.Calls.{MakesCalls};
@@ -8,33 +8,22 @@ ghost use Rattle.blocks.specs.Outside.{StemsWithin};
 ghost use Rattle.blocks.specs.Slots.{slots_range};
 ghost use Rattle.history_model.specs.Lists.{AreLists};
 ghost use Rattle.as_of_index.specs.Places.{max_lists};
-ghost use Rattle.segment_index.specs.Indexed.{AreIndexed};
 ghost use Rattle.store_image.specs.OnDisk.{IsOnDisk};
 ghost use Rattle.store_image.specs.Answers.{empty_listing, IsNewStore};
 ghost use Rattle.history_store.specs.Answers.{Counts, IsMakingCause, IsNotMade};
 ghost use Rattle.history_store.specs.StoreValue.{no_blocks};
 ghost use Rattle.history_store.specs.declared.refusal.Refusal.TheVariants as refusals;
 
-use crate::posting::Posting;
 use crate::refusal::Refusal;
-use as_of_index::RowPlace;
 use blocks::{BlockCache, Slot};
 use directory::{Directory, Layout};
 use disk_model::Disk;
-use history_model::GhostRows;
-use segment_index::StoreIndex;
+use segment_index::{SegmentIndex, StoreIndex};
 use std::alloc::{AllocError, Global};
 use store_image::{Made, check_empty, make};
 
 /// How many blocks of the disk are kept in memory: 4 MiB.
 const KEPT_BLOCKS: usize = 1024;
-
-/// What a store keeps in memory beside its directory.
-#[derive(Drop)]
-pub(crate) struct Room {
-    pub(crate) index: StoreIndex,
-    pub(crate) cache: BlockCache,
-}
 
 /// An empty store.
 #[derive(Drop)]
@@ -45,28 +34,19 @@ pub(crate) struct Started {
     pub(crate) cache: BlockCache,
 }
 
-/// An index of rows that were read, and a cache that keeps no block.
-pub(crate) fn room_for(
+/// An index of segments that were read, and a cache that keeps no block.
+pub(crate) fn index_segments(
     alloc: Global,
-    places: Vec<Vec<RowPlace>>,
-    posting: Posting,
-    rows: Vec<GhostRows>,
-) -> Result<Room, AllocError>
-    requires few { length rows.items ≤ max_lists }
-    requires lists { AreLists rows.items }
-    requires indexed { AreIndexed rows.items (map vec_items places.items)
-        posting.sealed_terms.items posting.sealed_links.items }
-    ensures index { IfOk result (λ room. room.index ≡ rows.items) }
-    ensures cache { IfOk result (λ room. room.cache ≡ no_blocks) }
+    segments: Vec<SegmentIndex>,
+) -> Result<(StoreIndex, BlockCache), AllocError>
+    requires few { length segments.items ≤ max_lists }
+    requires lists { AreLists segments.items }
+    ensures index { IfOk result (λ kept. kept.0 ≡ segments.items) }
+    ensures cache { IfOk result (λ kept. kept.1 ≡ no_blocks) }
 {
-    let Posting {
-        sealed_terms,
-        sealed_links,
-        ..
-    } = posting;
-    let index = StoreIndex::of_parts(alloc, places, sealed_terms, sealed_links, rows)?;
+    let index = StoreIndex::of_segments(alloc, segments)?;
     let cache = BlockCache::new(alloc, KEPT_BLOCKS)?;
-    Ok(Room { index, cache })
+    Ok((index, cache))
 }
 
 /// Makes a store in this version on an empty disk.

@@ -10,11 +10,11 @@ use crate::counting::{blocks_in_use, plain_count, row_count};
 use crate::known::find_new_rows;
 use crate::latest::latest_time;
 use crate::merge_in_progress::MergeInProgress;
-use crate::posting::Posting;
 use crate::preparing::Prepared;
+use crate::read_index::ReadIndex;
 use crate::reading::DiskRows;
 use crate::refusal::Refusal;
-use crate::starting::{Room, Started, room_for, start};
+use crate::starting::{Started, index_segments, start};
 use as_of_index::ReadFault;
 use blocks::{BlockCache, Slot};
 use directory::{Directory, Layout};
@@ -165,18 +165,16 @@ impl<D: Disk> Store<D> {
             (D.other_calls disk) (D.other_calls e.1)) }
     {
         let mut disk = disk;
-        let mut posting = Posting::new(alloc);
         let Loaded {
             slot,
             directory,
-            places,
-            shown,
-        } = match load(alloc, &mut disk, &mut posting) {
+            segments,
+        } = match load::<D, ReadIndex>(alloc, &mut disk) {
             Ok(loaded) => loaded,
             Err(fault) => return Err((Refusal::from(fault), disk)),
         };
-        match room_for(alloc, places, posting, shown) {
-            Ok(Room { index, cache }) => Ok(Store {
+        match index_segments(alloc, segments) {
+            Ok((index, cache)) => Ok(Store {
                 alloc,
                 disk,
                 cache,

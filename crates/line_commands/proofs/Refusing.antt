@@ -12,7 +12,7 @@ use Rattle.line_commands.specs.Private.{IsWord, text_of_word, behind, IsSpelled}
 use Rattle.line_commands.proofs.FirstWords.{command_is_word, one_head, some_question}
 use Rattle.line_commands.proofs.Readings.{session_word, begun, line_begins}
 
-some_command : (w : Word) → (c : Command) × (word_of c ≡ text_of_word w)
+pub some_command : (w : Word) → (c : Command) × (word_of c ≡ text_of_word w)
 some_command (words.Question w) = let q = some_question w in (Ask q.0, q.1)
 some_command words.At = (At 0 Dates, refl)
 some_command words.Import = (Import [], refl)

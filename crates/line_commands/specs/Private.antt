@@ -1,5 +1,5 @@
 -- Words that only this crate's private functions need of one another. No public clause cites them.
-use Rattle.std.specs.Prelude.{◌≡◌, ◌≢◌, ℕ, List, [], ◌∷◌, codes, Option, Some, None, All}
+use Rattle.std.specs.Prelude.{◌≡◌, ◌≢◌, ℕ, List, [], ◌∷◌, ◌++◌, codes, Option, Some, None, All}
 use Rattle.line_commands.specs.declared.command.Command.{Command as RustCommand}
 use Rattle.line_commands.specs.declared.question.Question.{Question as RustQuestion}
 use Rattle.line_commands.specs.declared.words.Word.{Word}
@@ -83,3 +83,7 @@ pub record IsSpelled (word : List ℕ) (rest : Option (List ℕ)) (command : Com
 abbrev pub IsReadAs : List ℕ → Option (List ℕ) → Option RustCommand → Type 0
 IsReadAs word rest (Some command) = IsSpelled word rest (command_of command)
 IsReadAs word rest None = (command : Command) → IsSpelled word rest command → ⊥
+
+-- the line of session 0 that has a command's word and the name of a release
+abbrev pub named_line : List ℕ → List ℕ → List ℕ
+named_line word name = codes "0 " ++ (word ++ 32 ∷ name)

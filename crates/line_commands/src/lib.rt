@@ -14,6 +14,6 @@ mod unread;
 mod words;
 
 pub use command::{Command, REQUEST_LIMIT, Request, SESSIONS};
-pub use parsing::parse;
+pub use parsing::{check_request, import_request, parse};
 pub use question::Question;
 pub use unread::Unread;

@@ -1,18 +1,18 @@
 //! Lines: what they ask, or why they ask nothing.
 
-ghost use Rattle.std.specs.Prelude.{IfOk, IfErr};
-ghost use Rattle.line_commands.specs.Requests.{Asks, IsUnread, command_of};
+ghost use Rattle.std.specs.Prelude.{◌≡◌, ◌+◌, ◌≤◌, length};
+ghost use Rattle.line_commands.specs.Requests.{IsReading, request_limit, import_line, check_line};
+ghost use Rattle.line_commands.specs.Private.{named_line, text_of_word};
 
 use crate::command::{REQUEST_LIMIT, Request};
 use crate::unread::Unread;
-use crate::words::{command_word, first_word};
+use crate::words::{Word, command_word, first_word};
 use crate::{arguments, columns};
 
 /// What the line asks, or the first reason why it asks nothing. The line is given without its end;
 /// nothing more is taken off.
 pub fn parse(line: &[u8]) -> Result<Request<'_>, Unread>
-    ensures found { IfOk result (λ r. Asks line.now r.session (command_of r.command)) }
-    ensures refused { IfErr result (IsUnread line.now) }
+    ensures { IsReading line.now result }
 {
     if line.len() > REQUEST_LIMIT {
         return Err(Unread::Long);
@@ -32,4 +32,37 @@ pub fn parse(line: &[u8]) -> Result<Request<'_>, Unread>
         Some(command) => Ok(Request { session, command }),
         None => Err(Unread::Arguments),
     }
+}
+
+/// What session 0 asks by the line that has a command's word and the name of a release. So many
+/// bytes stand before the name.
+fn named_request<'a>(word: Word, before: usize, name: &'a str) -> Result<Request<'a>, Unread>
+    requires before { before ≡ 3 + length (text_of_word word) }
+    requires short { before ≤ request_limit }
+    ensures { IsReading (named_line (text_of_word word) name.now) result }
+{
+    if name.len() > REQUEST_LIMIT - before {
+        return Err(Unread::Long);
+    }
+    match arguments::command(word, Some(name.as_bytes())) {
+        Some(command) => Ok(Request {
+            session: 0,
+            command,
+        }),
+        None => Err(Unread::Arguments),
+    }
+}
+
+/// What session 0 asks by the line that imports the release under a name.
+pub fn import_request(name: &str) -> Result<Request<'_>, Unread>
+    ensures { IsReading (import_line name.now) result }
+{
+    named_request(Word::Import, "0 IMPORT ".len(), name)
+}
+
+/// What session 0 asks by the line that checks the release under a name.
+pub fn check_request(name: &str) -> Result<Request<'_>, Unread>
+    ensures { IsReading (check_line name.now) result }
+{
+    named_request(Word::Check, "0 CHECK ".len(), name)
 }

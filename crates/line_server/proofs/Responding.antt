@@ -24,7 +24,7 @@ use Rattle.line_server.specs.Sources.{Releases, SourceView, source_view}
 use Rattle.line_server.specs.ReplyValue.{Answer, Done, ReplyValue, reply_value}
 use Rattle.line_server.specs.Replies.{Server, imports_seen, IsFound, IsAnswer, IsAnswerAt, IsRefusalAt, IsClosed, IsLacking, IsOutOfRange, receipt_of, status_of, server}
 use Rattle.store_life.specs.Life.{Other}
-use Rattle.line_server.specs.Turns.{GoesBy, IsAnswered, LeavesAsked, LeavesDisk}
+use Rattle.line_server.specs.Turns.{GoesBy, HasTurn, IsToldBy, LeavesAsked, LeavesDisk}
 use Rattle.line_server.specs.StateValue.{StateValue, IsHeldBack, HoldsBack}
 use Rattle.line_server.specs.Private.{IsResponse, IsQueried, IsCarriedOut}
 use Rattle.line_server.proofs.Alike.{turn_of}
@@ -200,21 +200,21 @@ pin_within imports pins session lt within = below (get_or pins session None) (wi
   below None h = omega arith
   below (Some number) h = h
 
--- ---- a line as its command
+-- ---- a line as what was read of it
+
+-- the reply that is written says what came out
+pub answered_so : (reply : ReplyValue) (outcome : Result Answer LineRefusal) → IsToldBy (Ok reply) outcome → reply ≡ reply_value outcome
+answered_so reply (Ok answer) told = told
+answered_so reply (Err reason) told = absurd told
+
+pub refused_so : (refusal : LineRefusal) (reply : ReplyValue) (outcome : Result Answer LineRefusal) → reply ≡ reply_value (Err refusal) → IsToldBy (Err refusal) outcome → reply ≡ reply_value outcome
+refused_so refusal reply (Ok answer) says told = absurd told
+refused_so refusal reply (Err reason) says told = says ∙ sym (ap (λ (r : LineRefusal). reply_value (Err r)) told)
 
 module _ {D : Type 0} (source : SourceView) (view : DeviceView D) (line : List ℕ) where
-  -- a command that the line asks was carried out, and the reply says what came out
-  pub answered_ok : (reply : ReplyValue) (session : ℕ) (command : Command) (old new : Server D) → Asks line session command → IsResponse (Ok reply) source view session command old new → IsAnswered source view line reply old new
-  answered_ok reply session command old new asks r = r.turned line asks
-
-  -- it was refused, and the reply says why
-  pub answered_err : (refusal : LineRefusal) (reply : ReplyValue) (session : ℕ) (command : Command) (old new : Server D) → Asks line session command → IsResponse (Err refusal) source view session command old new
-      → reply ≡ reply_value (Err refusal) → IsAnswered source view line reply old new
-  answered_err refusal reply session command old new asks r told = let t = r.turned line asks in (t.0, t.1, t.2, told ∙ sym (ap reply_value t.3))
-
   -- the line asks nothing
-  pub nothing_asked : (reply : ReplyValue) (reason : Unread) (s : Server D) → IsUnread line reason → reply ≡ reply_value (Err (refusals.Unread reason)) → IsAnswered source view line reply s s
-  nothing_asked reply reason s is told = (
+  pub nothing_asked : (reason : Unread) (s : Server D) → IsUnread line reason → HasTurn source view line s s (λ turn. IsToldBy (Err (refusals.Unread reason)) turn.outcome)
+  nothing_asked reason s is = (
     turn_of (Err (refusals.Unread reason)) Other s s line,
     refl,
     record {
@@ -225,7 +225,7 @@ module _ {D : Type 0} (source : SourceView) (view : DeviceView D) (line : List �
       counts = refl;
       disk = λ session command asks. absurd (asked_is_read line session command reason asks is);
     },
-    told,
+    refl,
   )
 
   -- the line asks a command that is held back
@@ -242,8 +242,8 @@ module _ {D : Type 0} (source : SourceView) (view : DeviceView D) (line : List �
     goes_held : (releases : Releases) → GoesBy (view.is_honest s.store.disk) releases s (turn_of (Err (refusals.Store store.Damaged)) Other s s line) s
     goes_held releases = record { replies = inl (session, command, asks, inl (record { held_back = held; refused = refl; unchanged = refl })); asked = tt }
 
-    pub held_back : (reply : ReplyValue) → reply ≡ reply_value (Err (refusals.Store store.Damaged)) → IsAnswered source view line reply s s
-    held_back reply told = (
+    pub held_back : HasTurn source view line s s (λ turn. IsToldBy (Err (refusals.Store store.Damaged)) turn.outcome)
+    held_back = (
       turn_of (Err (refusals.Store store.Damaged)) Other s s line,
       refl,
       record {
@@ -256,5 +256,5 @@ module _ {D : Type 0} (source : SourceView) (view : DeviceView D) (line : List �
             let one = one_reading line session other command also asks asked in
             subst (λ (c : Command). LeavesDisk view (imports_seen s other) c (Err (refusals.Store store.Damaged)) s.store s.store) one.1 (held_left (imports_seen s other) command held.1);
       },
-      told,
+      refl,
     )

@@ -1,6 +1,6 @@
 -- Words that private functions and proofs need, of this crate or of one above it.
 -- No public clause cites them.
-use Rattle.std.specs.Prelude.{ℕ, List, Result, ◌≡◌, ◌≤◌, Ok, Err}
+use Rattle.std.specs.Prelude.{ℕ, List, Result, ◌≤◌}
 use Rattle.store_life.specs.DeviceView.{DeviceView}
 use Rattle.history_store.specs.StoreValue.{StoreValue}
 use Rattle.line_commands.specs.Questions.{Question, SpellsQuestion}
@@ -8,10 +8,10 @@ use Rattle.line_commands.specs.Commands.{Command, SpellsArguments}
 use Rattle.line_commands.specs.Requests.{Asks}
 use Rattle.line_server.specs.declared.refusal.LineRefusal.{LineRefusal}
 use Rattle.line_server.specs.Sources.{Releases, SourceView, source_view}
-use Rattle.line_server.specs.ReplyValue.{Answer, reply_value, ReplyValue}
+use Rattle.line_server.specs.ReplyValue.{ReplyValue}
 use Rattle.line_server.specs.Replies.{server, Server, IsAskedOf}
 use Rattle.line_server.specs.StateValue.{StateValue, HoldsBack, met_after}
-use Rattle.line_server.specs.Turns.{HasTurn}
+use Rattle.line_server.specs.Turns.{HasTurn, IsToldBy}
 
 -- what is kept once a line came out so
 abbrev pub noted : {T : Type 0} → Result T LineRefusal → StateValue → StateValue
@@ -20,11 +20,6 @@ noted result state = record state { met_damage = met_after result state.met_dama
 -- some line asks the command
 abbrev pub CanBeAsked : Command → Type 0
 CanBeAsked command = (arguments : List (List ℕ)) × SpellsArguments command arguments
-
--- the reply, or the refusal, says what came out
-abbrev pub IsToldBy : Result ReplyValue LineRefusal → Result Answer LineRefusal → Type 0
-IsToldBy (Ok reply) outcome = reply ≡ reply_value outcome
-IsToldBy (Err refusal) outcome = outcome ≡ Err refusal
 
 -- a command was carried out: each line by which the session asks it is answered so
 pub record IsResponse {D : Type 0} (result : Result ReplyValue LineRefusal) (source : SourceView)

@@ -147,6 +147,12 @@ abbrev pub HasTurn : {D : Type 0} → SourceView → DeviceView D → List ℕ �
 HasTurn source view line old new holds =
     (turn : Turn) × (turn.line ≡ line) × IsTurn source view old turn new × holds turn
 
+-- the reply says what came out; or it was refused, and the refusal comes back
+abbrev pub IsToldBy : Result ReplyValue LineRefusal → Result Answer LineRefusal → Type 0
+IsToldBy (Ok reply) (Ok answer) = reply ≡ reply_value (Ok answer)
+IsToldBy (Err refusal) (Err reason) = reason ≡ refusal
+IsToldBy result outcome = ⊥
+
 -- a line was answered with this reply
 abbrev pub IsAnswered : {D : Type 0} → SourceView → DeviceView D → List ℕ → ReplyValue → Server D
     → Server D → Type 0

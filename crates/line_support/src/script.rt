@@ -138,15 +138,6 @@ pub fn demonstration() -> &'static [Turn] {
     &SCRIPT[..20]
 }
 
-/// Whether a line of the script is never refused because memory ran out.
-pub fn takes_no_memory(line: &str) -> bool {
-    let commands = [
-        " PIN", " UNPIN", " STATUS", " RECEIPT", " MERGE", " PUBLISH", " ABANDON", " TRIM",
-    ];
-    let refused = ["1024 STATUS", "0 STATU", "0 STEP 0"];
-    commands.iter().any(|command| line.contains(*command)) || refused.contains(&line)
-}
-
 /// The lines, each with an LF.
 pub fn input_of(alloc: Global, turns: &[Turn]) -> Result<Vec<u8>, AllocError> {
     let mut input = Vec::new(alloc);

@@ -11,13 +11,6 @@ use std::io::{Read, Write};
 /// The most reads that a run may make, where no other number is given.
 const READS: u32 = 1_000_000;
 
-/// An empty disk in memory that needs no more memory for what lines do.
-pub fn roomy_disk(alloc: Global) -> Result<MemDisk, AllocError> {
-    let mut disk = MemDisk::new(alloc);
-    disk.reserve(1_048_576, 1_000)?;
-    Ok(disk)
-}
-
 /// A store on a disk in memory that serves streams of lines. It is boxed, so
 /// that a test which lets it go is proved without what a store is made of.
 #[derive(Drop)]
@@ -38,17 +31,12 @@ impl Server {
         }
     }
 
-    /// A new store on this disk.
-    pub fn create(alloc: Global, disk: MemDisk) -> Result<Server, Refusal> {
-        match Store::create(alloc, disk) {
+    /// A new store on an empty disk.
+    pub fn new(alloc: Global) -> Result<Server, Refusal> {
+        match Store::create(alloc, MemDisk::new(alloc)) {
             Ok(store) => Server::put_in_box(alloc, store),
             Err((refusal, _)) => Err(refusal),
         }
-    }
-
-    /// A new store on an empty disk.
-    pub fn new(alloc: Global) -> Result<Server, Refusal> {
-        Server::create(alloc, MemDisk::new(alloc))
     }
 
     /// The store that a disk represents.

@@ -5,11 +5,12 @@ use Rattle.std.specs.List.{AllByRecursion}
 use Rattle.std.proofs.lemmas.List.{length-map}
 use Rattle.history_model.specs.declared.stamped.StampedRow.{StampedRow}
 use Rattle.history_model.specs.InOrder.{IsAscending}
-use Rattle.history_model.specs.Lists.{AreLists}
+use Rattle.history_model.specs.History.{stamped_cmp}
+use Rattle.history_model.specs.Lists.{AreLists, EachApart}
+use Rattle.history_model.specs.Private.{ShareNoKey}
 use Rattle.segment.specs.declared.place.RowPlace.{RowPlace}
 use Rattle.segment.specs.Standing.{places_of}
-use Rattle.as_of_index.specs.Places.{place_cmp, EachApart, ArePlaces, Lists}
-use Rattle.as_of_index.specs.Private.Search.{ShareNoKey}
+use Rattle.as_of_index.specs.Places.{ArePlaces, Lists}
 use Rattle.as_of_index.proofs.Storing.{places_of_lists, lists_more, lists_merged}
 use Rattle.term_prefix.specs.Terms.{TermAt}
 use Rattle.term_prefix.specs.Pushed.{ArePosted}
@@ -19,27 +20,18 @@ use Rattle.links.specs.Laws.{EachPosted}
 use Rattle.links.proofs.Posted.{edges_more, edges_merged}
 use Rattle.segment_index.specs.Indexed.{IsIndexed, AreIndexed}
 
--- ---- lists of places, of which some are listed
+-- ---- the first of some lists
 
 all_before : {X : Type 0} (P : X → Type 0) (xs ys : List X) → AllByRecursion P (xs ++ ys) → AllByRecursion P xs
 all_before P [] ys all = tt
 all_before P (x ∷ xs) ys all = (all.0, all_before P xs ys all.1)
 
-apart_before : (xs ys : List (List RowPlace)) → EachApart (xs ++ ys) → EachApart xs
+apart_before : (xs ys : List (List StampedRow)) → EachApart (xs ++ ys) → EachApart xs
 apart_before [] ys apart = tt
 apart_before (x ∷ xs) ys apart = (all_before (λ others. ShareNoKey x others) xs ys apart.0, apart_before xs ys apart.1)
 
--- of lists of places the first are such
-pub places_before : (xs ys : List (List RowPlace)) → ArePlaces (xs ++ ys) → ArePlaces xs
-places_before xs ys are = record { ascending = all_before (λ places. IsAscending place_cmp places) xs ys are.ascending; apart = apart_before xs ys are.apart }
-
-last_all : {X : Type 0} (P : X → Type 0) (xs : List X) (x : X) → AllByRecursion P (xs ++ x ∷ []) → P x
-last_all P [] x all = all.0
-last_all P (y ∷ xs) x all = last_all P xs x all.1
-
--- and each of them is in order
-pub last_ascends : (xs : List (List RowPlace)) (x : List RowPlace) → ArePlaces (xs ++ x ∷ []) → IsAscending place_cmp x
-last_ascends xs x are = last_all (λ places. IsAscending place_cmp places) xs x are.ascending
+pub lists_before : (xs ys : List (List StampedRow)) → AreLists (xs ++ ys) → AreLists xs
+lists_before xs ys are = record { ascending = all_before (λ rows. IsAscending stamped_cmp rows) xs ys are.ascending; apart = apart_before xs ys are.apart }
 
 -- ---- there are as many lists of each
 

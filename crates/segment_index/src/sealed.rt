@@ -1,7 +1,11 @@
 //! The index of one segment.
 
+ghost use Rattle.std.specs.Prelude.{◌≡◌};
+ghost use Rattle.segment.specs.Standing.{places_of};
+
 use as_of_index::PlaceList;
 use history_model::GhostRows;
+use segment::RowPlace;
 use std::marker::Model;
 
 /// What is kept of the rows of one segment, of which no more come: clauses see these rows.
@@ -27,4 +31,13 @@ impl Model for SegmentIndex {
     ghost view = { λ a. a.rows };
 
     ghost invariant = { λ a. IsIndexed a.rows a.places a.terms a.links };
+}
+
+impl SegmentIndex {
+    /// The place of each row, in key order.
+    pub fn places(&self) -> &[RowPlace]
+        ensures { result.now ≡ places_of self.now }
+    {
+        self.places.places()
+    }
 }

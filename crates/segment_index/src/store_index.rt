@@ -1,21 +1,19 @@
 //! The index of all segments of a store.
 
 ghost use Rattle.std.specs.Prelude.{◌≡◌, ◌<◌, ◌≤◌, ◌+◌, ◌^◌, ◌++◌};
-ghost use Rattle.std.specs.Prelude.{◌∷◌, [], length, map, vec_items, remove};
+ghost use Rattle.std.specs.Prelude.{◌∷◌, [], length, remove};
 ghost use Rattle.std.specs.Prelude.{slice_set, IfOk, List, Some, slice_get, IsSome, IfSome, true};
 ghost use Rattle.history_model.specs.Lists.{AreLists};
-ghost use Rattle.as_of_index.specs.Places.{ArePlaces, Lists, max_lists};
+ghost use Rattle.as_of_index.specs.Places.{Lists, max_lists};
 ghost use Rattle.term_prefix.specs.Pushed.{ArePosted};
 ghost use Rattle.links.specs.Laws.{EachPosted};
-ghost use Rattle.segment_index.specs.Indexed.{AreIndexed};
 
 use crate::output_postings::OutputPostings;
 use crate::postings_merge::PostingsMerge;
 use crate::sealed::SegmentIndex;
-use as_of_index::{Index, PerList, PlaceList};
+use as_of_index::{Index, PerList};
 use history_model::GhostRows;
 use links::Links;
-use segment::RowPlace;
 use std::alloc::{AllocError, Global};
 use std::marker::Model;
 use term_prefix::Terms;
@@ -46,32 +44,6 @@ impl Model for StoreIndex {
         × IsUnderWay a.places a.terms a.links a.merging };
 }
 
-/// An index of these places.
-fn index_of(alloc: Global, places: Vec<Vec<RowPlace>>) -> Result<Index, AllocError>
-    requires few { length places.items ≤ max_lists }
-    requires places { ArePlaces (map vec_items places.items) }
-    ensures { IfOk result (λ index. index ≡ map vec_items places.items) }
-{
-    let mut index = Index::new(alloc)?;
-    for list in places {
-        let list = PlaceList::new(alloc, list)?;
-        index.add(list);
-    }
-    Ok(index)
-}
-
-/// One item for each list, with room for all lists that there may be.
-fn per_list<T: Drop>(alloc: Global, items: Vec<T>) -> Result<PerList<T>, AllocError>
-    requires { length items.items ≤ max_lists }
-    ensures { IfOk result (λ lists. lists ≡ items.items) }
-{
-    let mut lists = PerList::new(alloc)?;
-    for item in items {
-        lists.add(item);
-    }
-    Ok(lists)
-}
-
 impl StoreIndex {
     ghost use Rattle.history_model.specs.declared.stamped.StampedRow.{StampedRow};
     ghost use Rattle.history_model.specs.Lists.{union};
@@ -90,28 +62,17 @@ impl StoreIndex {
         })
     }
 
-    /// The segments of which these are the places, what is posted, and the rows, each in the order
-    /// of the segments. The lists themselves aren't copied.
-    pub fn of_parts(
-        alloc: Global,
-        places: Vec<Vec<RowPlace>>,
-        terms: Vec<term_prefix::Sealed>,
-        links: Vec<links::Sealed>,
-        rows: Vec<GhostRows>,
-    ) -> Result<StoreIndex, AllocError>
-        requires few { length rows.items ≤ max_lists }
-        requires lists { AreLists rows.items }
-        requires indexed { AreIndexed rows.items (map vec_items places.items)
-            terms.items links.items }
-        ensures { IfOk result (λ index. index ≡ rows.items) }
+    /// These segments, in this order.
+    pub fn of_segments(alloc: Global, segments: Vec<SegmentIndex>) -> Result<StoreIndex, AllocError>
+        requires few { length segments.items ≤ max_lists }
+        requires lists { AreLists segments.items }
+        ensures { IfOk result (λ index. index ≡ segments.items) }
     {
-        Ok(StoreIndex {
-            places: index_of(alloc, places)?,
-            terms: per_list(alloc, terms)?,
-            links: per_list(alloc, links)?,
-            rows: per_list(alloc, rows)?,
-            merging: None,
-        })
+        let mut index = StoreIndex::new(alloc)?;
+        for segment in segments {
+            index.add(segment);
+        }
+        Ok(index)
     }
 
     /// Adds a segment as the last. It takes no memory.

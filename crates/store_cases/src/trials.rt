@@ -5,8 +5,8 @@
 //! - `keep` closes the store and keeps its disk, `disk PART` keeps one of the bytes of a part, with
 //!   zeros between them, and `put PLACE BYTES` puts bytes on it; each answers its length. `store`
 //!   opens what is kept, and `same` answers whether the disk of the store, which is closed and
-//!   opened again, is the kept one, byte for byte. `create` makes a store on the disk of the
-//!   present one.
+//!   opened again, is the kept one, byte for byte. `create` makes a store on what is kept, which
+//!   has to stay as it is where that is refused.
 //! - `remember PIN PART` and `known PIN PART` ask the store what `scripts.rt` says.
 //! - `stops CHOICE SCRIPT LOOK` answers what a look shows of the store that each stop leaves, where
 //!   the choice says what of that which wasn't synced: `kept`, `lost` or a byte in its place. The
@@ -149,20 +149,23 @@ impl Trials {
         Ok(String::from_str(self.alloc, if is_same { "yes" } else { "no" })?)
     }
 
-    /// Makes a store on the disk of the present one, and opens it again where that is refused and
-    /// leaves it as it was.
+    /// Makes a store on the kept disk, in the place of the present one, or says why it is refused.
     fn create(&mut self) -> Answer {
-        let disk = self.examples.close()?;
+        let disk = self.disk()?;
         let before = disk.changes();
-        self.kept = disk.bytes().to_vec(self.alloc)?;
-        let Err((refusal, disk)) = Example::create(self.alloc, disk) else {
-            return self.done();
-        };
-        if disk.changes() != before || disk.bytes() != self.kept.as_slice() {
-            return Ok(String::from_str(self.alloc, "the disk is another one")?);
+        match Example::create(self.alloc, disk) {
+            Ok(store) => {
+                self.examples.put(store);
+                self.done()
+            }
+            Err((refusal, disk)) => {
+                if disk.changes() == before && disk.bytes() == self.kept.as_slice() {
+                    spell_refusal(self.alloc, refusal)
+                } else {
+                    Ok(String::from_str(self.alloc, "the disk is another one")?)
+                }
+            }
         }
-        self.open(disk)?;
-        spell_refusal(self.alloc, refusal)
     }
 
     /// Makes or opens the store that a trial begins with.

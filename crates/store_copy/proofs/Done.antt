@@ -1,8 +1,8 @@
 -- The segments of a copy that are written, one after the other.
-use Rattle.std.proofs.Common.{◌≡◌, inl, inr, ℕ, zero, suc, ◌+◌, ◌*◌, ◌<◌, ◌≤◌, List, [], ◌∷◌, ◌++◌, length, get_or, map, take, drop, refl, sym, ap, subst, ◌∙◌, arith}
+use Rattle.std.proofs.Common.{◌≡◌, inl, inr, ℕ, zero, suc, ◌+◌, ◌*◌, ◌<◌, ◌≤◌, List, [], ◌∷◌, ◌++◌, length, get_or, take, drop, refl, sym, ap, subst, ◌∙◌, arith}
 use Rattle.std.specs.Int.{div_ceil}
 use Rattle.std.specs.List.{AllByRecursion}
-use Rattle.std.proofs.lemmas.List.{append-nil, length-map, take_all, take_more}
+use Rattle.std.proofs.lemmas.List.{append-nil, take_all, take_more}
 use Rattle.std.proofs.lemmas.List.Elements.{All-nil, All-cons, All-head, All-tail}
 use Rattle.disk_model.specs.Disk.{DiskState, IsOutside, Moments, LeavesOnly, EachImage}
 use Rattle.disk_model.proofs.MomentSteps.{joined, weaker, at_end}
@@ -175,17 +175,6 @@ pub none_held : (form : Form) (n : ℕ) (lists : List (List StampedRow)) (file :
 none_held form n lists file = All-nil (λ p. Holds p file)
 
 -- ---- an item of lists that go together
-
-mapped_at : {X Y : Type 0} (f : X → Y) (xs : List X) (i : ℕ) (x : X) (d : Y) → i < length xs → x ≡ get_or xs i x → get_or (map f xs) i d ≡ f x
-mapped_at f [] i x d lt e = absurd (omega (arith, lt))
-mapped_at f (y ∷ ys) zero x d lt e = ap f (sym e)
-mapped_at f (y ∷ ys) (suc i) x d lt e = mapped_at f ys i x d (omega (arith, lt)) e
-
-pub both_mapped : {X Y Z : Type 0} (f : X → Z) (h : Y → Z) (xs : List X) (ys : List Y) (i : ℕ) (x : X) (y : Y) → map f xs ≡ map h ys → i < length xs → i < length ys → x ≡ get_or xs i x → y ≡ get_or ys i y → f x ≡ h y
-both_mapped f h xs ys i x y same in_xs in_ys is_x is_y = sym (mapped_at f xs i x (f x) in_xs is_x) ∙ ap (λ l. get_or l i (f x)) same ∙ mapped_at h ys i y (f x) in_ys is_y
-
-pub both_long : {X Y Z : Type 0} (f : X → Z) (h : Y → Z) (xs : List X) (ys : List Y) → map f xs ≡ map h ys → length xs ≡ length ys
-both_long f h xs ys same = sym (length-map xs f) ∙ ap length same ∙ length-map ys h
 
 pub all_at : {X : Type 0} (P : X → Type 0) (xs : List X) (i : ℕ) (x : X) → AllByRecursion P xs → i < length xs → x ≡ get_or xs i x → P x
 all_at P [] i x all lt is = absurd (omega (arith, lt))

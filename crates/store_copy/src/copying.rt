@@ -1,10 +1,9 @@
 //! Copying a store.
 
-ghost use Rattle.std.specs.Prelude.{◌≡◌, ◌⊎◌, ◌↔◌, ℕ, List, length, map, vec_items};
+ghost use Rattle.std.specs.Prelude.{◌≡◌, ◌⊎◌, ◌↔◌, ℕ, List, length};
 ghost use Rattle.std.specs.Prelude.{IfOk, IfErr, OnOk};
 ghost use Rattle.disk_model.specs.Disk.{IsImage, LeavesOnly};
 ghost use Rattle.fault_counts.specs.Counting.{Counts};
-ghost use Rattle.segment.specs.Standing.{places_of};
 ghost use Rattle.store_image.specs.Answers.{synced};
 ghost use Rattle.store_image.specs.Images.{IsStore};
 ghost use Rattle.store_image.specs.OnDisk.{HasStore};
@@ -14,15 +13,12 @@ ghost use Rattle.store_copy.specs.Private.Writing.{IsChosen, IsPlanned};
 
 use crate::fault::CopyFault;
 use crate::planning::plan;
-use crate::sink::KeepsNothing;
 use crate::writing::write_copy;
 use blocks::Slot;
 use directory::Directory;
 use disk_model::Disk;
-use history_model::GhostRows;
-use segment::RowPlace;
 use std::alloc::Global;
-use store_image::{Loaded, check_empty, load};
+use store_image::{Loaded, SegmentPlaces, check_empty, load};
 
 /// How many imports are copied of so many: as many as asked for, or all.
 fn chosen(asked: Option<u32>, all: u32) -> Result<u32, CopyFault>
@@ -44,8 +40,7 @@ fn chosen(asked: Option<u32>, all: u32) -> Result<u32, CopyFault>
 struct Planned {
     slot: Slot,
     of: Directory,
-    places: Vec<Vec<RowPlace>>,
-    shown: Vec<GhostRows>,
+    segments: Vec<SegmentPlaces>,
     copy: Directory,
 }
 
@@ -56,10 +51,9 @@ fn read_and_plan<S: Disk>(
     imports: Option<u32>,
 ) -> Result<Planned, CopyFault>
     ensures read { S.is_honest source.old → IfOk result
-        (λ p. HasStore p.slot p.of p.shown.items (S.moments source.old).state.now) }
+        (λ p. HasStore p.slot p.of p.segments.items (S.moments source.old).state.now) }
     // On every disk what was read fits together, and the plan to it.
-    ensures planned { IfOk result (λ p. IsPlanned imports p.of p.shown.items p.copy) }
-    ensures places { IfOk result (λ p. map vec_items p.places.items ≡ map places_of p.shown.items) }
+    ensures planned { IfOk result (λ p. IsPlanned imports p.of p.segments.items p.copy) }
     ensures refused { S.is_honest source.old → IfErr result (λ e. (target : List ℕ)
         → IsNotCopied e imports (S.moments source.old).state.now target) }
     ensures source { S.is_honest source.old → (S.moments source.new ≡ S.moments source.old)
@@ -78,22 +72,14 @@ fn read_and_plan<S: Disk>(
     let Loaded {
         slot,
         directory: of,
-        places,
-        shown,
-    } = load(alloc, source, &mut KeepsNothing)?;
+        segments,
+    } = load::<S, SegmentPlaces>(alloc, source)?;
     let imports = chosen(imports, of.imports())?;
-    let copy = plan(
-        alloc,
-        of.layout(),
-        imports,
-        places.as_slice(),
-        shown.as_slice(),
-    )?;
+    let copy = plan(alloc, of.layout(), imports, segments.as_slice())?;
     Ok(Planned {
         slot,
         of,
-        places,
-        shown,
+        segments,
         copy,
     })
 }
@@ -144,12 +130,11 @@ pub fn copy<S: Disk, T: Disk>(
     check_empty(target)?;
     let Planned {
         of,
-        places,
-        shown,
+        segments,
         copy,
         ..
     } = read_and_plan(alloc, source, imports)?;
-    let (from, listed) = (of.entries(), places.as_slice());
-    write_copy(alloc, source, from, listed, shown.as_slice(), target, &copy)?;
+    let from = of.entries();
+    write_copy(alloc, source, from, segments.as_slice(), target, &copy)?;
     Ok(copy)
 }

@@ -8,7 +8,6 @@ mod fault;
 pub mod laws;
 mod planning;
 mod reading;
-mod sink;
 mod slots;
 mod writing;
 

@@ -1,13 +1,12 @@
 //! What a copy lists.
 
-ghost use Rattle.std.specs.Prelude.{◌≡◌, ◌⊎◌, ◌+◌, ◌<◌, ◌≤◌, List, length, map, vec_items};
+ghost use Rattle.std.specs.Prelude.{◌≡◌, ◌⊎◌, ◌+◌, ◌<◌, ◌≤◌, List, length};
 ghost use Rattle.std.specs.Prelude.{IfOk, IfErr};
 ghost use Rattle.std.specs.Int.{div_ceil};
 ghost use Rattle.std.specs.List.{AllByRecursion};
 ghost use Rattle.blocks.specs.Extents.{block_limit};
 ghost use Rattle.directory.specs.Listings.{IsListing, with_entry, most_entries};
 ghost use Rattle.segment.specs.Records.{segment_of};
-ghost use Rattle.segment.specs.Standing.{places_of};
 ghost use Rattle.store_copy.specs.declared.fault.CopyFault.TheVariants as faults;
 ghost use Rattle.store_copy.specs.Copying.{copied_listing, end_from, lists_up_to, up_to};
 ghost use Rattle.store_copy.specs.Private.Writing.{MayBeSegment, next_entry};
@@ -15,9 +14,8 @@ ghost use Rattle.store_copy.specs.Private.Writing.{MayBeSegment, next_entry};
 use crate::fault::CopyFault;
 use blocks::BLOCK_LIMIT;
 use directory::{Directory, Entry, Layout};
-use history_model::GhostRows;
-use segment::RowPlace;
 use std::alloc::Global;
+use store_image::SegmentPlaces;
 
 /// How many bytes and rows are copied of a segment.
 #[derive(Clone, Copy)]
@@ -27,14 +25,13 @@ pub(crate) struct Size {
 }
 
 /// How much the first imports brought of a segment's rows.
-pub(crate) fn size_up_to(imports: u32, places: &[RowPlace], shown: &GhostRows) -> Size
-    requires places { places.now ≡ places_of shown.now }
-    requires small { MayBeSegment shown.now }
-    ensures bytes { result.bytes ≡ length (segment_of (up_to imports shown.now)) }
-    ensures rows { result.rows ≡ length (up_to imports shown.now) }
+pub(crate) fn size_up_to(imports: u32, segment: &SegmentPlaces) -> Size
+    requires { MayBeSegment segment.now }
+    ensures bytes { result.bytes ≡ length (segment_of (up_to imports segment.now)) }
+    ensures rows { result.rows ≡ length (up_to imports segment.now) }
 {
     let mut size = Size { bytes: 0, rows: 0 };
-    for place in places {
+    for place in segment.places() {
         if place.import <= imports {
             size.bytes += place.bytes;
             size.rows += 1;
@@ -72,23 +69,20 @@ pub(crate) fn plan(
     alloc: Global,
     layout: Layout,
     imports: u32,
-    places: &[Vec<RowPlace>],
-    shown: &[GhostRows],
+    segments: &[SegmentPlaces],
 ) -> Result<Directory, CopyFault>
-    requires places { map vec_items places.now ≡ map places_of shown.now }
-    requires small { AllByRecursion MayBeSegment shown.now }
-    requires few { length shown.now ≤ most_entries layout }
-    ensures planned { IfOk result (λ d. d ≡ copied_listing layout imports shown.now) }
+    requires small { AllByRecursion MayBeSegment segments.now }
+    requires few { length segments.now ≤ most_entries layout }
+    ensures planned { IfOk result (λ d. d ≡ copied_listing layout imports segments.now) }
     ensures listing { IfOk result IsListing }
     ensures refused { IfErr result (λ e. (e ≡ faults.OutOfMemory)
-        ⊎ ((e ≡ faults.NoRoom) × (block_limit < end_from 4 (lists_up_to imports shown.now)))) }
+        ⊎ ((e ≡ faults.NoRoom) × (block_limit < end_from 4 (lists_up_to imports segments.now)))) }
 {
     let mut copied = Directory::new(alloc, layout)?;
     copied.advance(imports);
     let mut first = 4;
-    for i in 0..shown.len() {
-        let rows = &shown[i];
-        let size = size_up_to(imports, places[i].as_slice(), rows);
+    for i in 0..segments.len() {
+        let size = size_up_to(imports, &segments[i]);
         if size.rows > 0 {
             first = list_next(&mut copied, first, size)?;
         }

@@ -1,7 +1,7 @@
 //! The segments of a copy.
 
 ghost use Rattle.std.specs.Prelude.{◌≡◌, ◌≢◌, ◌⊎◌, ◌↔◌, ◌+◌, ◌*◌, ◌≤◌, ◌++◌, ◌∷◌, [], List, length};
-ghost use Rattle.std.specs.Prelude.{map, vec_items, IfErr, OnOk};
+ghost use Rattle.std.specs.Prelude.{IfErr, OnOk};
 ghost use Rattle.std.specs.List.{AllByRecursion};
 ghost use Rattle.fault_counts.specs.Counting.{Counts, CountsEach, CountsDiskFault};
 ghost use Rattle.fault_counts.specs.declared.fault.ReadFault.TheVariants as readfault;
@@ -14,7 +14,6 @@ ghost use Rattle.history_model.specs.declared.stamped.StampedRow.{StampedRow};
 ghost use Rattle.directory.specs.Listings.{IsEntry};
 ghost use Rattle.directory.specs.Places.{end_block, extent_of};
 ghost use Rattle.segment.specs.Records.{record_in, segment_in, segment_of};
-ghost use Rattle.segment.specs.Standing.{places_of};
 ghost use Rattle.store_image.specs.Ahead.{BeginsWith};
 ghost use Rattle.store_image.specs.Pieces.{HoldsAll};
 ghost use Rattle.store_image.specs.Images.{IsStore};
@@ -34,9 +33,9 @@ use blocks::{Extent, write_part};
 use directory::{Directory, Entry};
 use disk_model::{Disk, DiskFault};
 use fault_counts::ReadFault;
-use history_model::GhostRows;
 use segment::{Form, RowPlace, put_record};
 use std::alloc::Global;
+use store_image::SegmentPlaces;
 
 /// So many bytes are written at once, and those of one record more.
 const PIECE: usize = 65_536;
@@ -181,21 +180,19 @@ fn copy_segment<S: Disk, T: Disk>(
     alloc: Global,
     source: &mut S,
     from: Entry,
-    places: &[RowPlace],
-    shown: &GhostRows,
+    segment: &SegmentPlaces,
     imports: u32,
     target: &mut T,
     to: Entry,
 ) -> Result<(), SegmentCopyFault>
-    requires places { places.now ≡ places_of shown.now }
     requires entry { IsEntry to }
-    requires size { to.bytes ≡ length (segment_of (up_to imports shown.now)) }
+    requires size { to.bytes ≡ length (segment_of (up_to imports segment.now)) }
     // After Ok a read of the extent gives the segment of these rows.
     ensures written { S.is_honest source.old → T.is_honest target.old
-        → IsAt (S.moments source.old).state.now from shown.now
-        → OnOk result (BeginsWith (extent_of to) (segment_in to.form (up_to imports shown.now))
+        → IsAt (S.moments source.old).state.now from segment.now
+        → OnOk result (BeginsWith (extent_of to) (segment_in to.form (up_to imports segment.now))
         (T.moments target.new).state.now) }
-    ensures found { S.is_honest source.old → IsAt (S.moments source.old).state.now from shown.now
+    ensures found { S.is_honest source.old → IsAt (S.moments source.old).state.now from segment.now
         → IfErr result (λ e. IsNoDamage e) }
     ensures any_moment { T.is_honest target.old
         → LeavesOnly (T.moments target.old) (T.moments target.new)
@@ -214,7 +211,7 @@ fn copy_segment<S: Disk, T: Disk>(
     ensures bytes_read { T.bytes_read target.new ≡ T.bytes_read target.old }
 {
     let mut pending = Pending::new(alloc);
-    for place in places {
+    for place in segment.places() {
         if place.import <= imports {
             match copy_row(alloc, source, from, *place, target, to, &mut pending) {
                 Ok(()) => {}
@@ -234,24 +231,22 @@ fn copy_segments<S: Disk, T: Disk>(
     alloc: Global,
     source: &mut S,
     from: &[Entry],
-    places: &[Vec<RowPlace>],
-    shown: &[GhostRows],
+    segments: &[SegmentPlaces],
     target: &mut T,
     copy: &Directory,
 ) -> Result<(), CopyFault>
-    requires places { map vec_items places.now ≡ map places_of shown.now }
-    requires from { length from.now ≡ length shown.now }
-    requires small { AllByRecursion MayBeSegment shown.now }
-    requires copy { IsPlan copy.now shown.now }
+    requires from { length from.now ≡ length segments.now }
+    requires small { AllByRecursion MayBeSegment segments.now }
+    requires copy { IsPlan copy.now segments.now }
     // After Ok a read gives all segments of the copy.
     ensures held { S.is_honest source.old → T.is_honest target.old
-        → AreSegments from.now shown.now
-        → HoldsAll (pieces_of from.now shown.now) (S.moments source.old).state.now
+        → AreSegments from.now segments.now
+        → HoldsAll (pieces_of from.now segments.now) (S.moments source.old).state.now
         → OnOk result (HoldsAll
-        (pieces_of copy.now.entries (lists_up_to copy.now.imports shown.now))
+        (pieces_of copy.now.entries (lists_up_to copy.now.imports segments.now))
         (T.moments target.new).state.now) }
-    ensures found { S.is_honest source.old → AreSegments from.now shown.now
-        → HoldsAll (pieces_of from.now shown.now) (S.moments source.old).state.now
+    ensures found { S.is_honest source.old → AreSegments from.now segments.now
+        → HoldsAll (pieces_of from.now segments.now) (S.moments source.old).state.now
         → IfErr result (λ e. IsFailure e) }
     ensures long { T.is_honest target.old → OnOk result
         (length (T.moments target.old).state.now ≤ length (T.moments target.new).state.now) }
@@ -270,14 +265,13 @@ fn copy_segments<S: Disk, T: Disk>(
 {
     let imports = copy.imports();
     let mut left = copy.entries();
-    for i in 0..shown.len() {
-        let rows = &shown[i];
-        let listed = places[i].as_slice();
-        if size_up_to(imports, listed, rows).rows > 0 {
+    for i in 0..segments.len() {
+        let segment = &segments[i];
+        if size_up_to(imports, segment).rows > 0 {
             let Some((to, behind)) = left.split_first() else {
                 unreachable!()
             };
-            match copy_segment(alloc, source, from[i], listed, rows, imports, target, *to) {
+            match copy_segment(alloc, source, from[i], segment, imports, target, *to) {
                 Ok(()) => {}
                 Err(fault) => return Err(fault.in_segment(i + 1)),
             }
@@ -293,32 +287,30 @@ pub(crate) fn write_copy<S: Disk, T: Disk>(
     alloc: Global,
     source: &mut S,
     from: &[Entry],
-    places: &[Vec<RowPlace>],
-    shown: &[GhostRows],
+    segments: &[SegmentPlaces],
     target: &mut T,
     copy: &Directory,
 ) -> Result<(), CopyFault>
-    requires places { map vec_items places.now ≡ map places_of shown.now }
-    requires from { AreSegments from.now shown.now }
-    requires small { AllByRecursion MayBeSegment shown.now }
-    requires copy { IsPlan copy.now shown.now }
-    requires kept { IsKept copy.now (lists_up_to copy.now.imports shown.now) }
+    requires from { AreSegments from.now segments.now }
+    requires small { AllByRecursion MayBeSegment segments.now }
+    requires copy { IsPlan copy.now segments.now }
+    requires kept { IsKept copy.now (lists_up_to copy.now.imports segments.now) }
     // After Ok each stop leaves the copy.
     ensures on_disk { S.is_honest source.old → T.is_honest target.old
-        → HoldsAll (pieces_of from.now shown.now) (S.moments source.old).state.now
+        → HoldsAll (pieces_of from.now segments.now) (S.moments source.old).state.now
         → length (T.moments target.old).state.now ≡ 0
         → OnOk result (IsOnDisk (T.moments target.new).state A copy.now
-        (lists_up_to copy.now.imports shown.now)) }
+        (lists_up_to copy.now.imports segments.now)) }
     ensures found { S.is_honest source.old
-        → HoldsAll (pieces_of from.now shown.now) (S.moments source.old).state.now
+        → HoldsAll (pieces_of from.now segments.now) (S.moments source.old).state.now
         → IfErr result (λ e. IsFailure e) }
     // A stop at any moment leaves what it might have left before, no store, or the whole copy.
     ensures any_moment { S.is_honest source.old → T.is_honest target.old
-        → HoldsAll (pieces_of from.now shown.now) (S.moments source.old).state.now
+        → HoldsAll (pieces_of from.now segments.now) (S.moments source.old).state.now
         → length (T.moments target.old).state.now ≡ 0
         → LeavesOnly (T.moments target.old) (T.moments target.new)
         (λ c. IsImage (T.moments target.old).state c ⊎ (IsStore c → ⊥)
-        ⊎ HasStore A copy.now (lists_up_to copy.now.imports shown.now) c) }
+        ⊎ HasStore A copy.now (lists_up_to copy.now.imports segments.now) c) }
     ensures moments { S.is_honest source.old → S.moments source.new ≡ S.moments source.old }
     ensures source_honesty { S.is_honest source.old ↔ S.is_honest source.new }
     ensures target_honesty { T.is_honest target.old ↔ T.is_honest target.new }
@@ -329,7 +321,7 @@ pub(crate) fn write_copy<S: Disk, T: Disk>(
     ensures bytes_read { T.bytes_read target.new ≡ T.bytes_read target.old }
 {
     close_slots(target)?;
-    copy_segments(alloc, source, from, places, shown, target, copy)?;
+    copy_segments(alloc, source, from, segments, target, copy)?;
     open_slot(target, copy)?;
     Ok(())
 }

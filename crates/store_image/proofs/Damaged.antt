@@ -1,7 +1,6 @@
 -- Which part of a store is damaged, and why nothing is opened.
 use Rattle.std.proofs.Common.{◌≡◌, ◌⊎◌, inl, inr, ℕ, zero, suc, ◌+◌, ◌<◌, ◌++◌, List, [], ◌∷◌, length, get_or, take, drop, refl, sym, ◌∙◌, ap, subst, arith, length-take, length-append}
-use Rattle.std.specs.Prelude.{Result, Err, All, map}
-use Rattle.std.proofs.lemmas.List.{length-map}
+use Rattle.std.specs.Prelude.{Result, Err, All}
 use Rattle.fault_counts.specs.Counting.{HasRisen}
 use Rattle.blocks.specs.declared.slots.Slot.{Slot}
 use Rattle.blocks.specs.declared.slots.Current.{Current}
@@ -17,8 +16,6 @@ use Rattle.directory.specs.Content.{Lists}
 use Rattle.directory.proofs.Spelled.{one_listing}
 use Rattle.history_model.specs.declared.stamped.StampedRow.{StampedRow}
 use Rattle.history_model.specs.Lists.{AreLists}
-use Rattle.segment.specs.declared.place.RowPlace.{RowPlace}
-use Rattle.segment.specs.Standing.{places_of}
 use Rattle.segment.proofs.SegmentLaws.{one_segment}
 use Rattle.checksum.specs.declared.form.Form.TheVariants as forms
 use Rattle.store_image.specs.declared.fault.Damage.TheVariants as damages
@@ -60,15 +57,12 @@ not_read_at faults.Damaged number imports file entries lists i d lt is there why
   broken = why;
 }
 
--- as many lists of places as entries were gone over
-segments_count : (entries : List Entry) (lists : List (List StampedRow)) → AreSegments entries lists → length lists ≡ length entries
+-- as many lists as entries were gone over
+pub segments_count : (entries : List Entry) (lists : List (List StampedRow)) → AreSegments entries lists → length lists ≡ length entries
 segments_count [] [] are = refl
 segments_count [] (rows ∷ lists) are = absurd are
 segments_count (entry ∷ entries) [] are = absurd are
 segments_count (entry ∷ entries) (rows ∷ lists) are = ap suc (segments_count entries lists are.1)
-
-pub number_of : (places : List (List RowPlace)) (lists : List (List StampedRow)) (entries : List Entry) → places ≡ map places_of lists → AreSegments entries lists → length places ≡ length entries
-number_of places lists entries same are = ap length same ∙ length-map lists places_of ∙ segments_count entries lists are
 
 -- ---- the first segment that is broken
 

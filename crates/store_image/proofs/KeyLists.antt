@@ -11,7 +11,6 @@ use Rattle.history_model.specs.Lists.{AreLists, EachApart}
 use Rattle.history_model.specs.Private.{ShareNoKey}
 use Rattle.history_model.proofs.Filtered.{Has-map, Has-map_from}
 use Rattle.directory.specs.declared.entry.Entry.{Entry}
-use Rattle.segment.specs.declared.place.RowPlace.{RowPlace}
 use Rattle.segment.specs.Standing.{places_of}
 use Rattle.store_image.specs.Kept.{AreSegments}
 use Rattle.store_image.specs.Private.Keys.{keys_of, AreDisjoint, EachKeyOnce}
@@ -68,17 +67,13 @@ once_from : (lists : List (List StampedRow)) → EachApart lists → EachKeyOnce
 once_from [] apart = tt
 once_from (rows ∷ lists) apart = (all_disjoint rows lists apart.0, once_from lists apart.1)
 
-module _ (places : List (List RowPlace)) (lists : List (List StampedRow)) (places_are : places ≡ map places_of lists) where
-  keys_are : map keys_of places ≡ map row_keys lists
-  keys_are = ap (map keys_of) places_are ∙ key_lists lists
+-- segments ascend by the keys of their places
+pub ascending_keys : (lists : List (List StampedRow)) (entries : List Entry) → AreSegments entries lists → AllByRecursion (IsAscending key_cmp) (map keys_of (map places_of lists))
+ascending_keys lists entries are = subst (λ l. AllByRecursion (IsAscending key_cmp) l) (sym (key_lists lists)) (each_ascends entries lists are)
 
-  -- segments ascend by the keys of their places
-  pub ascending_keys : (entries : List Entry) → AreSegments entries lists → AllByRecursion (IsAscending key_cmp) (map keys_of places)
-  ascending_keys entries are = subst (λ l. AllByRecursion (IsAscending key_cmp) l) (sym keys_are) (each_ascends entries lists are)
+-- and are lists of rows where each key stands once
+pub lists_from_once : (lists : List (List StampedRow)) (entries : List Entry) → AreSegments entries lists → EachKeyOnce (map keys_of (map places_of lists)) → AreLists lists
+lists_from_once lists entries are once = record { ascending = each_up entries lists are; apart = apart_from lists (subst EachKeyOnce (key_lists lists) once) }
 
-  -- and are lists of rows where each key stands once
-  pub lists_from_once : (entries : List Entry) → AreSegments entries lists → EachKeyOnce (map keys_of places) → AreLists lists
-  lists_from_once entries are once = record { ascending = each_up entries lists are; apart = apart_from lists (subst EachKeyOnce keys_are once) }
-
-  pub once_from_lists : AreLists lists → EachKeyOnce (map keys_of places)
-  once_from_lists are = subst EachKeyOnce (sym keys_are) (once_from lists are.apart)
+pub once_from_lists : (lists : List (List StampedRow)) → AreLists lists → EachKeyOnce (map keys_of (map places_of lists))
+once_from_lists lists are = subst EachKeyOnce (sym (key_lists lists)) (once_from lists are.apart)

@@ -1,6 +1,6 @@
 -- Lists in which each key stands once.
-use Rattle.std.specs.Prelude.{vec_items, All}
-use Rattle.std.proofs.Common.{◌≡◌, ◌↔◌, inl, inr, false, ℕ, ◌+◌, ◌<◌, List, [], ◌∷◌, ◌++◌, length, get_or, map, drop, refl, sym, ap, subst, ◌∙◌, arith, append_assoc, length-append, Vec, Global}
+use Rattle.std.specs.Prelude.{All}
+use Rattle.std.proofs.Common.{◌≡◌, ◌↔◌, inl, inr, false, ℕ, ◌+◌, ◌<◌, List, [], ◌∷◌, ◌++◌, length, get_or, map, drop, refl, sym, ap, subst, ◌∙◌, arith, append_assoc, length-append}
 use Rattle.std.specs.BinaryHeap.{IsHeap, IsUpperBound, KeepsHeap}
 use Rattle.std.specs.List.{AllByRecursion}
 use Rattle.std.specs.List.Sorted.{IsPermutation}
@@ -16,7 +16,9 @@ use Rattle.rf2_values.specs.Private.{keys_total}
 use Rattle.history_model.specs.InOrder.{Has, IsAscending}
 use Rattle.history_model.proofs.InOrder.{Has-all, all_from_has, Has-append_cases, Has-append_right, above}
 use Rattle.history_model.proofs.Keys.{same_key}
+use Rattle.history_model.specs.declared.stamped.StampedRow.{StampedRow}
 use Rattle.segment.specs.declared.place.RowPlace.{RowPlace}
+use Rattle.segment.specs.Standing.{places_of}
 use Rattle.store_image.specs.declared.apart.Rest.{Rest}
 use Rattle.store_image.specs.Private.Keys.{keys_of, AreDisjoint, EachKeyOnce, keys_in, keys_left, first_cmp, AreOpen, Opens, IsBehind}
 use Rattle.store_image.proofs.AnyOrder.{once_permuted}
@@ -215,11 +217,12 @@ module _ (lists : List (List Key)) (i : ℕ) (d : List Key) (rests new : List Re
       )
 
 -- the keys of one of the lists
-module _ (lists : List (Vec RowPlace Global)) (i : ℕ) (v : Vec RowPlace Global) (places : List RowPlace) (lt : i < length lists) (is : v ≡ get_or lists i v) (places_are : places ≡ v.items) where
-  pub as_many_lists : i < length (map keys_of (map vec_items lists))
-  as_many_lists = omega (arith, lt, length-map (map vec_items lists) keys_of, length-map lists (vec_items {X = RowPlace} {Z = Global}))
+module _ {X : Type 0} (rows_in : X → List StampedRow) (xs : List X) (i : ℕ) (x : X) (places : List RowPlace) (lt : i < length xs) (is : x ≡ get_or xs i x) (places_are : places ≡ places_of (rows_in x)) where
+  pub as_many_lists : i < length (map keys_of (map places_of (map rows_in xs)))
+  as_many_lists = omega (arith, lt, length-map (map places_of (map rows_in xs)) keys_of, length-map (map rows_in xs) places_of, length-map xs rows_in)
 
-  pub list_keys : get_or (map keys_of (map vec_items lists)) i [] ≡ keys_of places
+  pub list_keys : get_or (map keys_of (map places_of (map rows_in xs))) i [] ≡ keys_of places
   list_keys =
-      get_or-map keys_of (map vec_items lists) i v.items [] (omega (arith, lt, length-map lists (vec_items {X = RowPlace} {Z = Global})))
-      ∙ ap keys_of (get_or-map vec_items lists i v v.items lt ∙ ap (λ (w : Vec RowPlace Global). w.items) (sym is) ∙ sym places_are)
+      get_or-map keys_of (map places_of (map rows_in xs)) i places [] (omega (arith, lt, length-map (map rows_in xs) places_of, length-map xs rows_in))
+      ∙ ap keys_of (get_or-map places_of (map rows_in xs) i (rows_in x) places (omega (arith, lt, length-map xs rows_in))
+      ∙ ap places_of (get_or-map rows_in xs i x (rows_in x) lt ∙ ap rows_in (sym is)) ∙ sym places_are)

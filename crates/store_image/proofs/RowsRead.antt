@@ -1,9 +1,11 @@
 -- The rows of a segment, read one after the other.
-use Rattle.std.proofs.Common.{◌≡◌, ℕ, ◌+◌, ◌-◌, ◌<◌, ◌≤◌, ◌++◌, List, [], ◌∷◌, length, get_or, map, take, drop, refl, sym, ap, ◌∙◌, subst, arith, length-append}
+use Rattle.std.proofs.Common.{◌≡◌, ℕ, ◌+◌, ◌<◌, ◌≤◌, ◌++◌, List, [], ◌∷◌, length, map, take, drop, refl, sym, ap, ◌∙◌, subst, arith, length-append}
+use Rattle.std.specs.Prelude.{Option, Some, None}
 use Rattle.std.specs.List.{AllByRecursion}
 use Rattle.std.specs.declared.cmp.Ordering.TheVariants.{Less}
-use Rattle.std.proofs.lemmas.List.{take_at, drop_at, take-append-drop, get_or-map, get_or_default, length-map}
+use Rattle.std.proofs.lemmas.List.{take_at, drop_at, take-append-drop}
 use Rattle.std.proofs.lemmas.List.Elements.{All-push, recursion_from_All}
+use Rattle.rf2_values.specs.declared.key.Key.{Key}
 use Rattle.rf2_values.specs.Key.{key_of, key_cmp}
 use Rattle.history_model.specs.declared.stamped.StampedRow.{StampedRow}
 use Rattle.history_model.specs.InOrder.{IsAscending}
@@ -13,13 +15,14 @@ use Rattle.checksum.specs.declared.form.Form.{Form}
 use Rattle.segment.specs.declared.place.RowPlace.{RowPlace}
 use Rattle.segment.specs.Records.{record_in, record_of, segment_in, segment_of, IsStamped, IsSegmentIn}
 use Rattle.segment.specs.Standing.{record_len, row_place, with_places, places_of}
-use Rattle.segment.proofs.Ascending.{ascends_push, ascends_front, last_below, last_split}
+use Rattle.segment.proofs.Ascending.{ascends_push, ascends_front, last_below}
 use Rattle.segment.proofs.Decoded.{reads_on}
 use Rattle.segment.proofs.RecordLaws.{same_records, length-record_in}
 use Rattle.segment.proofs.SegmentLaws.{push_plain, all_push, no_rows_plain, goes_on, length-segment_in}
 use Rattle.store_image.specs.declared.fault.RowsFault.{RowsFault}
 use Rattle.store_image.specs.declared.fault.RowsFault.TheVariants as faults
-use Rattle.store_image.specs.Private.Reading.{HasRecord, IsNoRecord, AreReadTo, BeginsWith, IsNotNext}
+use Rattle.store_image.specs.declared.reading.ReadTo.{ReadTo}
+use Rattle.store_image.specs.Private.Reading.{HasRecord, IsNoRecord, IsLastKey, IsAbove, AreReadTo, BeginsWith, IsNotNext}
 
 -- ---- places
 
@@ -47,7 +50,7 @@ with_more_from at (r ∷ rows) s =
     ap (λ l. (r, row_place r at) ∷ l) (with_more_from (at + record_len r) rows s ∙ ap (λ n. with_places (at + record_len r) rows ++ (s, row_place s n) ∷ []) same)
 
 -- one row more has the place where those before it end
-pub with_more : (at : ℕ) (rows : List StampedRow) (s : StampedRow) → at ≡ length (segment_of rows) → with_places 0 (rows ++ s ∷ []) ≡ with_places 0 rows ++ (s, row_place s at) ∷ []
+with_more : (at : ℕ) (rows : List StampedRow) (s : StampedRow) → at ≡ length (segment_of rows) → with_places 0 (rows ++ s ∷ []) ≡ with_places 0 rows ++ (s, row_place s at) ∷ []
 with_more at rows s is =
     let same : 0 + length (segment_of rows) ≡ at = omega (arith, is) in
     with_more_from 0 rows s ∙ ap (λ n. with_places 0 rows ++ (s, row_place s n) ∷ []) same
@@ -59,65 +62,57 @@ map-more f (y ∷ xs) x = ap (λ l. f y ∷ l) (map-more f xs x)
 pub places_more : (at : ℕ) (rows : List StampedRow) (s : StampedRow) → at ≡ length (segment_of rows) → places_of (rows ++ s ∷ []) ≡ places_of rows ++ row_place s at ∷ []
 places_more at rows s is = ap (map (λ (x : StampedRow × RowPlace). x.1)) (with_more at rows s is) ∙ map-more (λ (x : StampedRow × RowPlace). x.1) (with_places 0 rows) (s, row_place s at)
 
+-- the places of rows, and where their records end
+abbrev pub ArePlaced : List RowPlace → ℕ → List StampedRow → Type 0
+ArePlaced places bytes rows = (places ≡ places_of rows) × (bytes ≡ length (segment_of rows))
+
+pub none_placed : (places : List RowPlace) (rows : List StampedRow) → places ≡ [] → rows ≡ [] → ArePlaced places 0 rows
+none_placed places rows no_places none = (no_places ∙ sym (ap places_of none), sym (ap (λ (l : List StampedRow). length (segment_of l)) none ∙ ap length no_rows_plain))
+
+pub placed_end : (rows : List StampedRow) (s : StampedRow) (bytes : ℕ) (place : RowPlace) → bytes ≡ length (segment_of rows) → place ≡ row_place s bytes → bytes + place.bytes ≡ length (segment_of (rows ++ s ∷ []))
+unfolding row_place
+placed_end rows s bytes place is place_is =
+    let long = ap length (push_plain rows s) ∙ length-append (segment_of rows) (record_of s) in
+    omega (arith, is, long, ap (λ (p : RowPlace). p.bytes) place_is)
+
+pub placed_more : (places more : List RowPlace) (bytes : ℕ) (rows next : List StampedRow) (s : StampedRow) (place : RowPlace) → ArePlaced places bytes rows → place ≡ row_place s bytes → more ≡ places ++ place ∷ [] → next ≡ rows ++ s ∷ [] → ArePlaced more (bytes + place.bytes) next
+placed_more places more bytes rows next s place are place_is more_is next_is =
+    subst (λ (l : List StampedRow). ArePlaced more (bytes + place.bytes) l) (sym next_is) (
+      more_is ∙ (λ i. are.0 i ++ place_is i ∷ []) ∙ sym (places_more bytes rows s are.1),
+      placed_end rows s bytes place are.1 place_is,
+    )
+
 -- ---- the order
 
-module _ (places : List RowPlace) (rows : List StampedRow) (s : StampedRow) (are : places ≡ places_of rows) (up : IsAscending stamped_cmp rows) where
-  -- behind no rows each comes
-  pub none_before : length places ≡ 0 → IsAscending stamped_cmp (rows ++ s ∷ [])
-  none_before none = first rows (omega (arith, none, ap length (ap (map (λ (p : RowPlace). p.key)) are ∙ keys_from 0 rows), length-map places (λ (p : RowPlace). p.key), length-map rows (λ (t : StampedRow). key_of t.row))) where
-    first : (rows : List StampedRow) → length rows ≡ 0 → IsAscending stamped_cmp (rows ++ s ∷ [])
-    first [] none = (tt, tt)
-    first (r ∷ rows) none = absurd (omega (arith, none))
+-- behind rows in order those come whose keys are above that of the last one
+pub comes : (last : Option Key) (rows : List StampedRow) (s : StampedRow) → IsLastKey last rows → IsAscending stamped_cmp rows → IsAbove (key_of s.row) last → IsAscending stamped_cmp (rows ++ s ∷ [])
+comes None rows s none up above = subst (λ (r : List StampedRow). IsAscending stamped_cmp (r ++ s ∷ [])) (sym none) (tt, tt)
+comes (Some key) rows s (front, l, split, key_is) up above =
+    subst (λ (r : List StampedRow). IsAscending stamped_cmp (r ++ s ∷ [])) (sym split)
+    (ascends_push stamped_total front l s (subst (λ (r : List StampedRow). IsAscending stamped_cmp r) split up) (subst (λ k. key_cmp k (key_of s.row) ≡ Less) key_is above))
 
-  module _ (last d : RowPlace) (some : 1 ≤ length places) (last_is : last ≡ get_or places (length places - 1) d) where
-    keys_are : map (λ (p : RowPlace). p.key) places ≡ map (λ (t : StampedRow). key_of t.row) rows
-    keys_are = ap (map (λ (p : RowPlace). p.key)) are ∙ keys_from 0 rows
-
-    as_many : length places ≡ length rows
-    as_many = sym (length-map places (λ (p : RowPlace). p.key)) ∙ ap length keys_are ∙ length-map rows (λ (t : StampedRow). key_of t.row)
-
-    l : StampedRow
-    l = get_or rows (length rows - 1) s
-
-    last_key : last.key ≡ key_of l.row
-    unfolding l
-    last_key =
-        ap (λ (p : RowPlace). p.key) last_is
-        ∙ sym (get_or-map (λ (p : RowPlace). p.key) places (length places - 1) d d.key (omega (arith, some)))
-        ∙ ap (λ ks. get_or ks (length places - 1) d.key) keys_are
-        ∙ get_or-map (λ (t : StampedRow). key_of t.row) rows (length places - 1) s d.key (omega (arith, some, as_many))
-        ∙ ap (λ n. key_of (get_or rows (n - 1) s).row) as_many
-
-    split : rows ≡ take (length rows - 1) rows ++ l ∷ []
-    unfolding l
-    split = last_split rows l (omega (arith, some, as_many)) (get_or_default rows (length rows - 1) s l (omega (arith, some, as_many)))
-
-    pub comes : key_cmp last.key (key_of s.row) ≡ Less → IsAscending stamped_cmp (rows ++ s ∷ [])
-    comes below =
-        subst (λ (r : List StampedRow). IsAscending stamped_cmp (r ++ s ∷ [])) (sym split)
-        (ascends_push stamped_total (take (length rows - 1) rows) l s (subst (λ (r : List StampedRow). IsAscending stamped_cmp r) split up) (subst (λ k. key_cmp k (key_of s.row) ≡ Less) last_key below))
-
-    pub came : IsAscending stamped_cmp (rows ++ s ∷ []) → key_cmp last.key (key_of s.row) ≡ Less
-    came all =
-        subst (λ k. key_cmp k (key_of s.row) ≡ Less) (sym last_key) (last_below stamped_cmp (take (length rows - 1) rows) l s (subst (λ (r : List StampedRow). IsAscending stamped_cmp (r ++ s ∷ [])) split all))
+pub came : (last : Option Key) (rows : List StampedRow) (s : StampedRow) → IsLastKey last rows → IsAscending stamped_cmp (rows ++ s ∷ []) → IsAbove (key_of s.row) last
+came None rows s none all = tt
+came (Some key) rows s (front, l, split, key_is) all =
+    subst (λ k. key_cmp k (key_of s.row) ≡ Less) (sym key_is) (last_below stamped_cmp front l s (subst (λ (r : List StampedRow). IsAscending stamped_cmp (r ++ s ∷ [])) split all))
 
 -- ---- one row more
 
-pub more_are_read : (at next imports : ℕ) (places after : List RowPlace) (rows more : List StampedRow) (s : StampedRow) (place : RowPlace) → AreReadTo at imports places rows → IsStamped s → next ≡ at + length (record_of s) → s.import ≤ imports
-    → IsAscending stamped_cmp (rows ++ s ∷ []) → place ≡ row_place s at → after ≡ places ++ place ∷ [] → more ≡ rows ++ s ∷ [] → AreReadTo next imports after more
-more_are_read at next imports places after rows more s place read is next_is low up place_is after_is more_is =
+pub more_bytes : (to : ReadTo) (imports next : ℕ) (rows : List StampedRow) (s : StampedRow) → AreReadTo to imports rows → next ≡ to.at + length (record_of s) → next ≡ length (segment_of (rows ++ s ∷ []))
+more_bytes to imports next rows s read next_is =
     let long = ap length (push_plain rows s) ∙ length-append (segment_of rows) (record_of s) in
-    subst (λ (r : List StampedRow). AreReadTo next imports after r) (sym more_is) (record {
-      places_are = after_is ∙ ap (λ p. places ++ p ∷ []) place_is ∙ ap (λ (l : List RowPlace). l ++ row_place s at ∷ []) read.places_are ∙ sym (places_more at rows s read.at_is);
-      at_is = omega (arith, next_is, read.at_is, long);
+    omega (arith, next_is, read.at_is, long)
+
+pub more_are_read : (to : ReadTo) (imports next : ℕ) (key : Key) (rows more : List StampedRow) (s : StampedRow) → AreReadTo to imports rows → IsStamped s → next ≡ to.at + length (record_of s) → s.import ≤ imports
+    → key ≡ key_of s.row → IsAbove key to.last → more ≡ rows ++ s ∷ [] → AreReadTo (record { at = next; last = Some key }) imports more
+more_are_read to imports next key rows more s read is next_is low key_is above more_is =
+    subst (λ (r : List StampedRow). AreReadTo (record { at = next; last = Some key }) imports r) (sym more_is) (record {
+      last_is = (rows, s, refl, key_is);
+      at_is = more_bytes to imports next rows s read next_is;
       each = all_push IsStamped rows s read.each is;
-      ascending = up;
+      ascending = comes to.last rows s read.last_is read.ascending (subst (λ k. IsAbove k to.last) key_is above);
       numbered = All-push (λ (t : StampedRow). t.import ≤ imports) rows s read.numbered low;
     })
-
-pub more_taken : (at : ℕ) (rows more : List StampedRow) (s : StampedRow) (place : RowPlace) → at ≡ length (segment_of rows) → place ≡ row_place s at → more ≡ rows ++ s ∷ [] → with_places 0 more ≡ with_places 0 rows ++ (s, place) ∷ []
-more_taken at rows more s place is place_is more_is =
-    ap (with_places 0) more_is ∙ with_more at rows s is ∙ ap (λ p. with_places 0 rows ++ (s, p) ∷ []) (sym place_is)
 
 pub one_more : (rows more : List StampedRow) (s : StampedRow) → more ≡ rows ++ s ∷ [] → length more ≡ length rows + 1
 one_more rows more s is = let long = ap length is in omega (arith, long, length-append rows (s ∷ []))
@@ -156,24 +151,24 @@ next_of form at rows others (m ∷ more) bytes rest here more_rows whole rest_is
   has = (each.0, ap (take (length (record_of m))) (here ∙ rest_is) ∙ take_at (record_in form m) (segment_in form more) (length (record_of m)) (length-record_in form m));
 }
 
-module _ (form : Form) (at imports : ℕ) (places : List RowPlace) (rows : List StampedRow) (bytes : List ℕ) (read : AreReadTo at imports places rows) where
-  next_there : BeginsWith form rows bytes → (others : List StampedRow) → IsSegmentIn form others bytes → length rows < length others → IsNext form at rows others bytes
+module _ (form : Form) (to : ReadTo) (imports : ℕ) (rows : List StampedRow) (bytes : List ℕ) (read : AreReadTo to imports rows) where
+  next_there : BeginsWith form rows bytes → (others : List StampedRow) → IsSegmentIn form others bytes → length rows < length others → IsNext form to.at rows others bytes
   next_there begins others is more_rows =
       let on = goes_on form rows others begins.0 read.each is.each (sym begins.1 ∙ is.bytes_are) in
-      next_of form at rows others on.0 bytes begins.0 (behind form at rows bytes begins.0 read.at_is begins.1) more_rows on.1 on.2 on.3
+      next_of form to.at rows others on.0 bytes begins.0 (behind form to.at rows bytes begins.0 read.at_is begins.1) more_rows on.1 on.2 on.3
 
-  pub no_record : (e : RowsFault) → IsNoRecord form e bytes at → IsNotNext form e imports rows bytes
+  pub no_record : (e : RowsFault) → IsNoRecord form e bytes to.at → IsNotNext form e imports rows bytes
   no_record faults.OutOfMemory none = tt
   no_record faults.DiskFault none = tt
   no_record faults.Damaged none = λ begins others is numbered more_rows.
       let next = next_there begins others is more_rows in none next.row next.has
 
   -- the row that was read is the next one of any segment that is there
-  same_next : (s : StampedRow) → HasRecord form bytes at s → (others : List StampedRow) (next : IsNext form at rows others bytes) → next.row ≡ s
+  same_next : (s : StampedRow) → HasRecord form bytes to.at s → (others : List StampedRow) (next : IsNext form to.at rows others bytes) → next.row ≡ s
   same_next s has others next =
-      (same_records form next.row s _ _ next.has.0 has.0 (sym (record_and_rest form at bytes next.row next.has) ∙ record_and_rest form at bytes s has)).0
+      (same_records form next.row s _ _ next.has.0 has.0 (sym (record_and_rest form to.at bytes next.row next.has) ∙ record_and_rest form to.at bytes s has)).0
 
-  pub above_number : (s : StampedRow) → HasRecord form bytes at s → imports < s.import → IsNotNext form faults.Damaged imports rows bytes
+  pub above_number : (s : StampedRow) → HasRecord form bytes to.at s → imports < s.import → IsNotNext form faults.Damaged imports rows bytes
   above_number s has above begins others is numbered more_rows =
       let next = next_there begins others is more_rows in
       let each = recursion_from_All (λ (t : StampedRow). t.import ≤ imports) others numbered in
@@ -185,8 +180,8 @@ module _ (form : Form) (at imports : ℕ) (places : List RowPlace) (rows : List 
       middle [] x later all = all.0
       middle (r ∷ rows) x later all = middle rows x later all.1
 
-  pub out_of_order : (s : StampedRow) → HasRecord form bytes at s → (IsAscending stamped_cmp (rows ++ s ∷ []) → ⊥) → IsNotNext form faults.Damaged imports rows bytes
+  pub out_of_order : (s : StampedRow) → HasRecord form bytes to.at s → (IsAbove (key_of s.row) to.last → ⊥) → IsNotNext form faults.Damaged imports rows bytes
   out_of_order s has not begins others is numbered more_rows =
       let next = next_there begins others is more_rows in
       let up = ascends_front stamped_cmp rows next.row next.later (subst (λ (l : List StampedRow). IsAscending stamped_cmp l) next.whole is.ascending) in
-      not (subst (λ (t : StampedRow). IsAscending stamped_cmp (rows ++ t ∷ [])) (same_next s has others next) up)
+      not (came to.last rows s read.last_is (subst (λ (t : StampedRow). IsAscending stamped_cmp (rows ++ t ∷ [])) (same_next s has others next) up))

@@ -1,5 +1,6 @@
 -- Segments, as their entries say.
-use Rattle.std.proofs.Common.{◌≡◌, ℕ, zero, suc, ◌+◌, ◌*◌, ◌<◌, ◌≤◌, ◌++◌, List, [], ◌∷◌, length, get_or, map, take, drop, refl, sym, ap, ◌∙◌, subst, arith, length-take, length-drop, length-append, append_assoc}
+use Rattle.std.proofs.Common.{◌≡◌, ℕ, zero, suc, ◌+◌, ◌*◌, ◌<◌, ◌≤◌, ◌++◌, List, [], ◌∷◌, length, get_or, map, take, drop, refl, sym, ap, ◌∙◌, subst, arith, length-take, length-drop, length-append}
+use Rattle.std.specs.Prelude.{None}
 use Rattle.std.specs.List.{AllByRecursion}
 use Rattle.std.proofs.lemmas.List.Sums.{sum_by_push, sum_by-take-le}
 use Rattle.std.proofs.lemmas.List.{append-nil, take_more}
@@ -11,12 +12,11 @@ use Rattle.directory.specs.Listings.{IsEntry}
 use Rattle.directory.specs.Places.{extent_of}
 use Rattle.history_model.specs.declared.stamped.StampedRow.{StampedRow}
 use Rattle.checksum.specs.declared.form.Form.{Form}
-use Rattle.segment.specs.declared.place.RowPlace.{RowPlace}
 use Rattle.segment.specs.Records.{record_of, segment_in, segment_of, IsSegmentIn}
-use Rattle.segment.specs.Standing.{with_places}
 use Rattle.segment.proofs.SegmentLaws.{no_rows, no_rows_plain, goes_on, length-segment_in}
 use Rattle.store_image.specs.declared.fault.RowsFault.{RowsFault}
 use Rattle.store_image.specs.declared.fault.RowsFault.TheVariants as faults
+use Rattle.store_image.specs.declared.reading.ReadTo.{ReadTo}
 use Rattle.store_image.specs.Pieces.{Holds, HoldsAll}
 use Rattle.store_image.specs.Kept.{IsSegmentOf, AreSegments, bytes_listed, pieces_of}
 use Rattle.store_image.specs.Reading.{AreNumbered, IsAt}
@@ -52,10 +52,10 @@ at_segment file entry rows is = record {
   bytes_are = ap (λ n. take n (drop (start_of (extent_of entry)) file)) (sym (length-segment_in entry.form rows ∙ is.0.bytes)) ∙ is.1.bytes;
 }
 
-pub none_read : (imports : ℕ) (places : List RowPlace) (rows : List StampedRow) → places ≡ [] → rows ≡ [] → AreReadTo 0 imports places rows
-none_read imports places rows places_are none =
-    subst (λ (r : List StampedRow). AreReadTo 0 imports places r) (sym none) (record {
-      places_are = places_are;
+pub none_read : (imports : ℕ) (rows : List StampedRow) → rows ≡ [] → AreReadTo (record { at = 0; last = None }) imports rows
+none_read imports rows none =
+    subst (λ (r : List StampedRow). AreReadTo (record { at = 0; last = None }) imports r) (sym none) (record {
+      last_is = refl;
       at_is = sym (ap length no_rows_plain);
       each = tt;
       ascending = tt;
@@ -76,9 +76,9 @@ nothing : {X : Type 0} (xs : List X) → length xs ≡ 0 → xs ≡ []
 nothing [] none = refl
 nothing (x ∷ xs) none = absurd (omega (arith, none))
 
-pub wrong_end : (at imports : ℕ) (entry : Entry) (places : List RowPlace) (rows : List StampedRow) (file : List ℕ) → AreReadTo at imports places rows → length rows ≡ entry.rows → (at ≡ entry.bytes → ⊥) → BeginsWith entry.form rows (bytes_of (extent_of entry) file)
+pub wrong_end : (to : ReadTo) (imports : ℕ) (entry : Entry) (rows : List StampedRow) (file : List ℕ) → AreReadTo to imports rows → length rows ≡ entry.rows → (to.at ≡ entry.bytes → ⊥) → BeginsWith entry.form rows (bytes_of (extent_of entry) file)
     → IsNotReadAt faults.Damaged imports entry file
-wrong_end at imports entry places rows file read count wrong begins others is numbered =
+wrong_end to imports entry rows file read count wrong begins others is numbered =
     let segment = at_segment file entry others is in
     let on = goes_on entry.form rows others begins.0 read.each segment.each (sym begins.1 ∙ segment.bytes_are) in
     let others_count = is.0.count in
@@ -87,10 +87,10 @@ wrong_end at imports entry places rows file read count wrong begins others is nu
     let same : others ≡ rows = on.1 ∙ ap (λ (l : List StampedRow). rows ++ l) none ∙ append-nil rows in
     wrong (read.at_is ∙ sym (ap (λ (l : List StampedRow). length (segment_of l)) same) ∙ is.0.bytes)
 
-pub segment_found : (imports : ℕ) (entry : Entry) (places : List RowPlace) (rows : List StampedRow) → AreReadTo entry.bytes imports places rows → length rows ≡ entry.rows → IsSegmentOf entry rows
-segment_found imports entry places rows read count = record {
+pub segment_found : (to : ReadTo) (imports : ℕ) (entry : Entry) (rows : List StampedRow) → AreReadTo to imports rows → to.at ≡ entry.bytes → length rows ≡ entry.rows → IsSegmentOf entry rows
+segment_found to imports entry rows read whole count = record {
   is = record { each = read.each; ascending = read.ascending; bytes_are = refl };
-  bytes = sym read.at_is;
+  bytes = sym read.at_is ∙ whole;
   count = count;
 }
 
@@ -165,6 +165,3 @@ module _ (entries : List Entry) (i : ℕ) (d : Entry) (lists more : List (List S
       let P : List (ℕ × List ℕ) → Type 0 = λ l. HoldsAll l file in
       let pieces = ap (λ l. pieces_of (take (i + 1) entries) l) more_is ∙ ap (λ (l : List Entry). pieces_of l (lists ++ rows ∷ [])) front ∙ pieces_of-push (take i entries) lists (get_or entries i d) rows are in
       subst P (sym pieces) (All-push (λ piece. Holds piece file) (pieces_of (take i entries) lists) (start_of (extent_of (get_or entries i d)), segment_in (get_or entries i d).form rows) held is.1)
-
-  pub more_segments_taken : (segments : List (List (StampedRow × RowPlace))) → (segments ++ map (with_places 0) lists) ++ with_places 0 rows ∷ [] ≡ segments ++ map (with_places 0) more
-  more_segments_taken segments = append_assoc segments (map (with_places 0) lists) (with_places 0 rows ∷ []) ∙ ap (λ l. segments ++ l) (sym (map-push (with_places 0) lists rows) ∙ sym (ap (map (with_places 0)) more_is))

@@ -1,7 +1,6 @@
 //! Keys that two lists share, found in one pass over all lists together.
 
 ghost use Rattle.std.specs.Prelude.{◌≡◌, ◌↔◌, ◌+◌, refl, IsTrue, IfOk, OnOk, List, length, map};
-ghost use Rattle.std.specs.Prelude.{vec_items};
 ghost use Rattle.std.specs.List.{AllByRecursion};
 ghost use Rattle.std.specs.BinaryHeap.{heap_items};
 ghost use Rattle.std.specs.Cmp.{eq_by_cmp_equiv, partial_equiv_from_equiv};
@@ -10,10 +9,12 @@ ghost use Rattle.std.specs.Ordering.{as_partial_cmp, eq_by_cmp};
 ghost use Rattle.std.specs.declared.cmp.Ordering.TheVariants.{Less};
 ghost use Rattle.history_model.specs.InOrder.{IsAscending};
 ghost use Rattle.rf2_values.specs.Key.{key_cmp};
+ghost use Rattle.segment.specs.Standing.{places_of};
 ghost use Rattle.store_image.specs.Private.Keys.{keys_of, keys_in, keys_left, first_cmp};
 ghost use Rattle.store_image.specs.Private.Keys.{firsts_total, EachKeyOnce, AreOpen, Opens};
 ghost use Rattle.store_image.specs.Private.Keys.{IsBehind, StartsFrom};
 
+use crate::builder::SegmentBuilder;
 use rf2_values::Key;
 use segment::RowPlace;
 use std::alloc::{AllocError, Global};
@@ -67,15 +68,19 @@ impl Eq for Rest<'_> {
     ghost laws = { eq_by_cmp_equiv firsts_total };
 }
 
-/// Whether no key is in two of the lists. Each is in ascending order of keys.
-pub(crate) fn are_apart(alloc: Global, lists: &[Vec<RowPlace>]) -> Result<bool, AllocError>
-    requires { AllByRecursion (IsAscending key_cmp) (map keys_of (map vec_items lists.now)) }
-    ensures { IfOk result
-        (λ apart. IsTrue apart ↔ EachKeyOnce (map keys_of (map vec_items lists.now))) }
+/// Whether no key is in two of the segments. Each is in ascending order of keys.
+pub(crate) fn are_apart<B: SegmentBuilder>(
+    alloc: Global,
+    segments: &[B::Segment],
+) -> Result<bool, AllocError>
+    requires { AllByRecursion (IsAscending key_cmp)
+        (map keys_of (map places_of (map B.sealed segments.now))) }
+    ensures { IfOk result (λ apart. IsTrue apart
+        ↔ EachKeyOnce (map keys_of (map places_of (map B.sealed segments.now)))) }
 {
-    let mut rests = BinaryHeap::with_capacity(alloc, lists.len())?;
-    for list in lists {
-        put_in(&mut rests, list.as_slice())?;
+    let mut rests = BinaryHeap::with_capacity(alloc, segments.len())?;
+    for segment in segments {
+        put_in(&mut rests, B::places(segment))?;
     }
     run_out(&mut rests)
 }

@@ -1,10 +1,11 @@
 //! Which kinds of rows a version of the layout has.
 
-ghost use Rattle.std.specs.Prelude.{◌↔◌, List, map, vec_items, IsTrue, All};
-ghost use Rattle.segment.specs.declared.place.RowPlace.{RowPlace};
+ghost use Rattle.std.specs.Prelude.{◌↔◌, map, IsTrue, All};
+ghost use Rattle.segment.specs.Standing.{places_of};
 ghost use Rattle.store_image.specs.Kept.{HasKind};
 ghost use Rattle.store_image.specs.Private.Reading.{AreOfKinds};
 
+use crate::builder::SegmentBuilder;
 use directory::Layout;
 use rf2_values::Kind;
 use segment::RowPlace;
@@ -32,12 +33,13 @@ fn have_kinds(layout: Layout, places: &[RowPlace]) -> bool
     true
 }
 
-/// Whether the version has rows of the kinds of all places of all lists.
-pub(crate) fn all_have_kinds(layout: Layout, lists: &[Vec<RowPlace>]) -> bool
-    ensures { IsTrue result ↔ All (AreOfKinds layout) (map vec_items lists.now) }
+/// Whether the version has rows of the kinds of all rows of all segments.
+pub(crate) fn all_have_kinds<B: SegmentBuilder>(layout: Layout, segments: &[B::Segment]) -> bool
+    ensures { IsTrue result
+        ↔ All (AreOfKinds layout) (map places_of (map B.sealed segments.now)) }
 {
-    for list in lists {
-        if !have_kinds(layout, list.as_slice()) {
+    for segment in segments {
+        if !have_kinds(layout, B::places(segment)) {
             return false;
         }
     }

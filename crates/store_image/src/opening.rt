@@ -1,12 +1,9 @@
 //! Reading what a disk represents.
 
-ghost use Rattle.std.specs.Prelude.{◌≡◌, ◌⊎◌, ◌↔◌, ◌+◌, ◌≤◌, ◌++◌, [], List, length, map};
-ghost use Rattle.std.specs.Prelude.{vec_items, IfOk, IfErr, MatchResult};
+ghost use Rattle.std.specs.Prelude.{◌≡◌, ◌⊎◌, ◌↔◌, ◌+◌, ◌≤◌, length, map};
+ghost use Rattle.std.specs.Prelude.{IfOk, IfErr, MatchResult};
 ghost use Rattle.disk_model.specs.Disk.{IsImage, LeavesOnly, raised_by};
 ghost use Rattle.blocks.specs.Slots.{other_read, slots_read};
-ghost use Rattle.history_model.specs.declared.stamped.StampedRow.{StampedRow};
-ghost use Rattle.segment.specs.declared.place.RowPlace.{RowPlace};
-ghost use Rattle.segment.specs.Standing.{places_of, with_places};
 ghost use Rattle.store_image.specs.declared.fault.Damage.TheVariants as damages;
 ghost use Rattle.store_image.specs.declared.fault.LoadFault.TheVariants as faults;
 ghost use Rattle.store_image.specs.Kept.{bytes_listed, IsKept};
@@ -15,50 +12,40 @@ ghost use Rattle.store_image.specs.OnDisk.{HasStore, IsOnDisk};
 ghost use Rattle.store_image.specs.Answers.{IsNotOpened, IsSynced, CountsLoading};
 ghost use Rattle.store_image.specs.Asked.{StopsAt, AsksWithin};
 
+use crate::builder::SegmentBuilder;
 use crate::fault::{Damage, LoadFault};
 use crate::kinds::all_have_kinds;
-use crate::reading::{Segments, read_segments};
-use crate::sink::RowSink;
+use crate::reading::read_segments;
 use blocks::{Slot, read_current, read_other};
 use directory::{Directory, Layout, may_precede};
 use disk_model::Disk;
-use history_model::GhostRows;
-use segment::RowPlace;
 use std::alloc::Global;
 
 /// What was read.
 #[derive(Drop)]
-pub struct Loaded {
+pub struct Loaded<T> {
     /// The current slot.
     pub slot: Slot,
     /// What its content lists.
     pub directory: Directory,
-    /// The places of each segment's rows, in the directory's order.
-    pub places: Vec<Vec<RowPlace>>,
-    /// The rows of each segment, which clauses alone see.
-    pub shown: Vec<GhostRows>,
+    /// What is kept of each segment, in the directory's order.
+    pub segments: Vec<T>,
 }
 
 /// Reads what a disk represents, after a sync. Each record is read once,
-/// through a buffer of fixed size, and its row is handed to the sink.
+/// through a buffer of fixed size, and its row is pushed to the builder of its segment.
 /// Where the bytes represent nothing, the damaged part is answered.
-pub fn load<D: Disk, S: RowSink>(
+pub fn load<D: Disk, B: SegmentBuilder>(
     alloc: Global,
     disk: &mut D,
-    sink: &mut S,
-) -> Result<Loaded, LoadFault>
+) -> Result<Loaded<B::Segment>, LoadFault>
     ensures exact { D.is_honest disk.old
         → MatchResult result
-        (λ l. HasStore l.slot l.directory l.shown.items (D.moments disk.old).state.now)
+        (λ l. HasStore l.slot l.directory (map B.sealed l.segments.items)
+        (D.moments disk.old).state.now)
         (λ e. IsNotOpened e (D.moments disk.old).state.now) }
     // What was read fits together, on every disk.
-    ensures kept { IfOk result (λ l. IsKept l.directory l.shown.items) }
-    ensures places { IfOk result
-        (λ l. map vec_items l.places.items ≡ map places_of l.shown.items) }
-    // The sink took each segment's rows, in order, with their places.
-    ensures taken { (segments : List (List (StampedRow × RowPlace)))
-        → S.has_taken sink.old segments [] → IfOk result
-        (λ l. S.has_taken sink.new (segments ++ map (with_places 0) l.shown.items) []) }
+    ensures kept { IfOk result (λ l. IsKept l.directory (map B.sealed l.segments.items)) }
     // A stop at any moment leaves what it might have left before.
     ensures any_moment { D.is_honest disk.old
         → LeavesOnly (D.moments disk.old) (D.moments disk.new)
@@ -71,7 +58,8 @@ pub fn load<D: Disk, S: RowSink>(
         → (D.moments disk.new).state.now ≡ (D.moments disk.old).state.now }
     // After Ok each stop leaves what was read.
     ensures on_disk { D.is_honest disk.old
-        → IfOk result (λ l. IsOnDisk (D.moments disk.new).state l.slot l.directory l.shown.items) }
+        → IfOk result (λ l. IsOnDisk (D.moments disk.new).state l.slot l.directory
+        (map B.sealed l.segments.items)) }
     ensures honesty { D.is_honest disk.old ↔ D.is_honest disk.new }
     ensures failures { CountsLoading result (D.failures disk.old) (D.failures disk.new) }
     // On every disk it reads the slots, and each byte of the listed segments once.
@@ -100,21 +88,14 @@ pub fn load<D: Disk, S: RowSink>(
     let current = read_current(disk, &mut content)?;
     let directory = Directory::decode(alloc, &content)?;
     check_other(disk, current.slot, directory.layout())?;
-    let Segments { places, shown } = read_segments(
-        alloc,
-        disk,
-        directory.entries(),
-        directory.imports(),
-        sink,
-    )?;
-    if !all_have_kinds(directory.layout(), places.as_slice()) {
+    let segments = read_segments::<D, B>(alloc, disk, directory.entries(), directory.imports())?;
+    if !all_have_kinds::<B>(directory.layout(), segments.as_slice()) {
         return Err(LoadFault::Damaged(Damage::Kind));
     }
     Ok(Loaded {
         slot: current.slot,
         directory,
-        places,
-        shown,
+        segments,
     })
 }
 

@@ -1,89 +1,57 @@
 //! Reading the segments that a directory lists, record by record.
 
 ghost use Rattle.std.specs.Prelude.{◌≡◌, ◌↔◌, ℕ, ◌+◌, ◌≤◌, [], ◌∷◌, ◌++◌, List, length, map};
-ghost use Rattle.std.specs.Prelude.{vec_items, IsTrue, IfOk, IfErr, OnOk, MatchResult};
+ghost use Rattle.std.specs.Prelude.{IsTrue, IfOk, IfErr, OnOk, MatchResult};
 ghost use Rattle.std.specs.List.{AllByRecursion};
 ghost use Rattle.disk_model.specs.Disk.{raised_by};
 ghost use Rattle.store_image.specs.Private.Reading.{bytes_of};
 ghost use Rattle.directory.specs.Listings.{IsEntry};
 ghost use Rattle.directory.specs.Places.{extent_of};
-ghost use Rattle.history_model.specs.declared.stamped.StampedRow.{StampedRow};
-ghost use Rattle.history_model.specs.InOrder.{IsAscending};
-ghost use Rattle.history_model.specs.History.{stamped_cmp};
-ghost use Rattle.rf2_values.specs.Key.{key_cmp};
-ghost use Rattle.std.specs.declared.cmp.Ordering.TheVariants.{Less};
-ghost use Rattle.segment.specs.declared.place.RowPlace.{RowPlace};
-ghost use Rattle.segment.specs.Standing.{row_place, places_of, with_places};
 ghost use Rattle.store_image.specs.Pieces.{HoldsAll};
 ghost use Rattle.store_image.specs.Kept.{IsSegmentOf, bytes_listed, pieces_of};
 ghost use Rattle.store_image.specs.Reading.{AreNumbered, IsAt};
-ghost use Rattle.store_image.specs.Private.Reading.{CountsFault, Sees, AreReadTo, BeginsWith};
+ghost use Rattle.store_image.specs.Private.Reading.{CountsFault, Sees, BeginsWith};
+ghost use Rattle.store_image.specs.Private.Reading.{AreReadTo, IsAbove};
 ghost use Rattle.store_image.specs.Private.Reading.{IsNotNext, IsNotReadAt, AreRead};
 ghost use Rattle.store_image.specs.Private.Damage.{AreNotRead, StopsIn};
 ghost use Rattle.store_image.specs.Answers.{CountsLoading};
 
 use crate::apart::{are_apart, is_below};
+use crate::builder::SegmentBuilder;
 use crate::fault::{Damage, LoadFault, RowsFault};
-use crate::sink::RowSink;
 use crate::window::Window;
 use blocks::BLOCK;
 use directory::Entry;
 use disk_model::Disk;
-use history_model::{GhostRows, StampedRow};
-use segment::RowPlace;
-use std::alloc::{AllocError, Global};
+use rf2_values::Key;
+use std::alloc::Global;
 
-/// Rows that were read: their places, and the rows, which clauses alone see.
-#[derive(Drop)]
-pub(crate) struct Rows {
-    pub(crate) places: Vec<RowPlace>,
-    pub(crate) shown: GhostRows,
-}
-
-impl Rows {
-    /// A row, the record of which begins at this place.
-    fn push(&mut self, row: &StampedRow, at: u32) -> Result<(), AllocError>
-        ensures shown { OnOk result (self.new.shown ≡ self.old.shown ++ row.now ∷ []) }
-        ensures places { OnOk result
-            (self.new.places.items ≡ self.old.places.items ++ row_place row.now at ∷ []) }
-    {
-        self.shown.push(row)?;
-        match self.places.push(RowPlace::new(row, at)) {
-            Ok(()) => Ok(()),
-            Err(_) => Err(AllocError),
-        }
-    }
-}
-
-/// The rows of several segments that were read: their places, and the rows, which clauses alone
-/// see.
-#[derive(Drop)]
-pub(crate) struct Segments {
-    pub(crate) places: Vec<Vec<RowPlace>>,
-    pub(crate) shown: Vec<GhostRows>,
+/// How far the rows of a segment are read.
+#[derive(Clone, Copy)]
+pub(crate) struct ReadTo {
+    /// The byte of the segment behind the last record.
+    at: u32,
+    /// The key of the last row.
+    last: Option<Key>,
 }
 
 /// The fewest bytes that a record has.
 const RECORD_MIN: u64 = 46;
 
 /// The rows of each segment. A directory may list these entries.
-pub(crate) fn read_segments<D: Disk, S: RowSink>(
+pub(crate) fn read_segments<D: Disk, B: SegmentBuilder>(
     alloc: Global,
     disk: &mut D,
     entries: &[Entry],
     imports: u32,
-    sink: &mut S,
-) -> Result<Segments, LoadFault>
+) -> Result<Vec<B::Segment>, LoadFault>
     requires { AllByRecursion IsEntry entries.now }
-    ensures read { IfOk result (λ read. AreRead imports entries.now read.shown.items) }
-    ensures places { IfOk result
-        (λ read. map vec_items read.places.items ≡ map places_of read.shown.items) }
+    ensures read { IfOk result
+        (λ segments. AreRead imports entries.now (map B.sealed segments.items)) }
     ensures exact { D.is_honest disk.old → MatchResult result
-        (λ read. HoldsAll (pieces_of entries.now read.shown.items) (D.moments disk.old).state.now)
+        (λ segments. HoldsAll (pieces_of entries.now (map B.sealed segments.items))
+        (D.moments disk.old).state.now)
         (λ e. AreNotRead e imports entries.now (D.moments disk.old).state.now) }
-    ensures taken { (segments : List (List (StampedRow × RowPlace)))
-        → S.has_taken sink.old segments [] → IfOk result
-        (λ read. S.has_taken sink.new (segments ++ map (with_places 0) read.shown.items) []) }
     ensures moments { D.is_honest disk.old → D.moments disk.new ≡ D.moments disk.old }
     ensures honesty { D.is_honest disk.old ↔ D.is_honest disk.new }
     ensures failures { CountsLoading result (D.failures disk.old) (D.failures disk.new) }
@@ -98,42 +66,35 @@ pub(crate) fn read_segments<D: Disk, S: RowSink>(
         (D.other_calls disk.old) (D.other_calls disk.new)) }
 {
     let mut window = Window::new(alloc)?;
-    let mut places = Vec::with_capacity(alloc, entries.len())?;
-    let mut shown = Vec::with_capacity(alloc, entries.len())?;
+    let mut segments = Vec::with_capacity(alloc, entries.len())?;
     for entry in entries {
-        let number = places.len() + 1;
-        let rows = match read_segment(alloc, disk, &mut window, *entry, imports, sink) {
-            Ok(rows) => rows,
+        let number = segments.len() + 1;
+        let segment = match read_segment::<D, B>(alloc, disk, &mut window, *entry, imports) {
+            Ok(segment) => segment,
             Err(fault) => return Err(fault.in_segment(number)),
         };
-        places.push(rows.places)?;
-        shown.push(rows.shown)?;
+        segments.push(segment)?;
     }
-    if !are_apart(alloc, places.as_slice())? {
+    if !are_apart::<B>(alloc, segments.as_slice())? {
         return Err(LoadFault::Damaged(Damage::SharedKey));
     }
-    Ok(Segments { places, shown })
+    Ok(segments)
 }
 
 /// The rows of an entry's segment.
-fn read_segment<D: Disk, S: RowSink>(
+fn read_segment<D: Disk, B: SegmentBuilder>(
     alloc: Global,
     disk: &mut D,
     window: &mut Window,
     entry: Entry,
     imports: u32,
-    sink: &mut S,
-) -> Result<Rows, RowsFault>
+) -> Result<B::Segment, RowsFault>
     requires { IsEntry entry }
-    ensures found { IfOk result (λ rows. IsSegmentOf entry rows.shown) }
-    ensures numbered { IfOk result (λ rows. AreNumbered imports rows.shown) }
-    ensures places { IfOk result (λ rows. rows.places.items ≡ places_of rows.shown) }
+    ensures found { IfOk result (λ segment. IsSegmentOf entry (B.sealed segment)) }
+    ensures numbered { IfOk result (λ segment. AreNumbered imports (B.sealed segment)) }
     ensures exact { D.is_honest disk.old → MatchResult result
-        (λ rows. IsAt (D.moments disk.old).state.now entry rows.shown)
+        (λ segment. IsAt (D.moments disk.old).state.now entry (B.sealed segment))
         (λ e. IsNotReadAt e imports entry (D.moments disk.old).state.now) }
-    ensures taken { (segments : List (List (StampedRow × RowPlace)))
-        → S.has_taken sink.old segments [] → IfOk result
-        (λ rows. S.has_taken sink.new (segments ++ with_places 0 rows.shown ∷ []) []) }
     ensures moments { D.is_honest disk.old → D.moments disk.new ≡ D.moments disk.old }
     ensures honesty { D.is_honest disk.old ↔ D.is_honest disk.new }
     ensures failures { CountsFault result (D.failures disk.old) (D.failures disk.new) }
@@ -143,9 +104,8 @@ fn read_segment<D: Disk, S: RowSink>(
 {
     check_room(disk, entry)?;
     window.begin(entry.extent(), entry.form);
-    let rows = read_rows(alloc, disk, window, entry, imports, sink)?;
-    sink.end_segment()?;
-    Ok(rows)
+    let builder = read_rows::<D, B>(alloc, disk, window, entry, imports)?;
+    Ok(builder.seal())
 }
 
 /// Whether the disk reaches as far as an entry says, and as many rows may have as many bytes.
@@ -170,28 +130,24 @@ fn check_room<D: Disk>(disk: &mut D, entry: Entry) -> Result<(), RowsFault>
 }
 
 /// As many rows as the entry says, whose records are all the bytes of its extent.
-fn read_rows<D: Disk, S: RowSink>(
+fn read_rows<D: Disk, B: SegmentBuilder>(
     alloc: Global,
     disk: &mut D,
     window: &mut Window,
     entry: Entry,
     imports: u32,
-    sink: &mut S,
-) -> Result<Rows, RowsFault>
+) -> Result<B, RowsFault>
     requires extent { window.old.extent ≡ extent_of entry }
     requires form { window.old.form ≡ entry.form }
     requires from { window.old.from ≡ 0 }
     requires sees { (file : List ℕ) → Sees window.old file }
     requires entry { IsEntry entry }
-    ensures read { IfOk result
-        (λ rows. AreReadTo entry.bytes imports rows.places.items rows.shown) }
-    ensures count { IfOk result (λ rows. length rows.shown ≡ entry.rows) }
+    ensures found { IfOk result (λ builder. IsSegmentOf entry (B.rows builder)) }
+    ensures numbered { IfOk result (λ builder. AreNumbered imports (B.rows builder)) }
     ensures exact { D.is_honest disk.old → MatchResult result
-        (λ rows. BeginsWith entry.form rows.shown (bytes_of (extent_of entry) (D.moments disk.old).state.now))
+        (λ builder. BeginsWith entry.form (B.rows builder)
+        (bytes_of (extent_of entry) (D.moments disk.old).state.now))
         (λ e. IsNotReadAt e imports entry (D.moments disk.old).state.now) }
-    ensures taken { (segments : List (List (StampedRow × RowPlace)))
-        → S.has_taken sink.old segments [] → IfOk result
-        (λ rows. S.has_taken sink.new segments (with_places 0 rows.shown)) }
     ensures moments { D.is_honest disk.old → D.moments disk.new ≡ D.moments disk.old }
     ensures honesty { D.is_honest disk.old ↔ D.is_honest disk.new }
     ensures failures { CountsFault result (D.failures disk.old) (D.failures disk.new) }
@@ -199,54 +155,46 @@ fn read_rows<D: Disk, S: RowSink>(
     ensures goes_on { raised_by (D.bytes_read disk.old) 0 ≤ D.bytes_read disk.new }
     ensures other_calls { D.other_calls disk.new ≡ D.other_calls disk.old }
 {
-    let mut rows = Rows {
-        places: Vec::with_capacity(alloc, entry.rows as usize)?,
-        shown: GhostRows::new(alloc),
-    };
-    let mut at = 0;
+    let mut builder = B::with_capacity(alloc, entry.rows as usize)?;
+    let mut to = ReadTo { at: 0, last: None };
     'rows: for _count in 0..entry.rows {
-        at = read_row(alloc, disk, window, at, imports, &mut rows, sink)?;
+        to = read_row(alloc, disk, window, to, imports, &mut builder)?;
     }
-    if at != entry.bytes {
+    if to.at != entry.bytes {
         return Err(RowsFault::Damaged);
     }
-    Ok(rows)
+    Ok(builder)
 }
 
-/// The row whose record begins at a place of the segment,
-/// behind those that were read, and the place after the record.
-fn read_row<D: Disk, S: RowSink>(
+/// The row whose record begins where the rows that were read end, behind these.
+fn read_row<D: Disk, B: SegmentBuilder>(
     alloc: Global,
     disk: &mut D,
     window: &mut Window,
-    at: u32,
+    to: ReadTo,
     imports: u32,
-    rows: &mut Rows,
-    sink: &mut S,
-) -> Result<u32, RowsFault>
-    requires from { window.old.from ≤ at }
-    requires reached { at ≤ window.old.from + window.old.len }
-    requires rows { AreReadTo at imports rows.old.places.items rows.old.shown }
-    ensures read { IfOk result
-        (λ next. AreReadTo next imports rows.new.places.items rows.new.shown) }
-    ensures one { IfOk result (λ next. length rows.new.shown ≡ length rows.old.shown + 1) }
+    builder: &mut B,
+) -> Result<ReadTo, RowsFault>
+    requires from { window.old.from ≤ to.at }
+    requires reached { to.at ≤ window.old.from + window.old.len }
+    requires rows { AreReadTo to imports (B.rows builder.old) }
+    ensures read { IfOk result (λ next. AreReadTo next imports (B.rows builder.new)) }
+    ensures one { OnOk result (length (B.rows builder.new) ≡ length (B.rows builder.old) + 1) }
     ensures extent { window.new.extent ≡ window.old.extent }
     ensures form { window.new.form ≡ window.old.form }
-    ensures from { IfOk result (λ next. window.new.from ≤ next) }
-    ensures reached { IfOk result (λ next. next ≤ window.new.from + window.new.len) }
-    ensures within { IfOk result (λ next. next ≤ window.old.extent.bytes) }
+    ensures from { IfOk result (λ next. window.new.from ≤ next.at) }
+    ensures reached { IfOk result (λ next. next.at ≤ window.new.from + window.new.len) }
+    ensures within { IfOk result (λ next. next.at ≤ window.old.extent.bytes) }
     ensures exact { D.is_honest disk.old → Sees window.old (D.moments disk.old).state.now
         → MatchResult result
-        (λ next. BeginsWith window.old.form rows.old.shown
+        (λ next. BeginsWith window.old.form (B.rows builder.old)
         (bytes_of window.old.extent (D.moments disk.old).state.now)
-        → BeginsWith window.old.form rows.new.shown (bytes_of window.old.extent (D.moments disk.old).state.now))
-        (λ e. IsNotNext window.old.form e imports rows.old.shown
+        → BeginsWith window.old.form (B.rows builder.new)
+        (bytes_of window.old.extent (D.moments disk.old).state.now))
+        (λ e. IsNotNext window.old.form e imports (B.rows builder.old)
         (bytes_of window.old.extent (D.moments disk.old).state.now)) }
     ensures sees { D.is_honest disk.old → Sees window.old (D.moments disk.old).state.now
-        → IfOk result (λ next. Sees window.new (D.moments disk.old).state.now) }
-    ensures taken { (segments : List (List (StampedRow × RowPlace)))
-        → S.has_taken sink.old segments (with_places 0 rows.old.shown) → IfOk result
-        (λ next. S.has_taken sink.new segments (with_places 0 rows.new.shown)) }
+        → OnOk result (Sees window.new (D.moments disk.old).state.now) }
     ensures moments { D.is_honest disk.old → D.moments disk.new ≡ D.moments disk.old }
     ensures honesty { D.is_honest disk.old ↔ D.is_honest disk.new }
     ensures failures { CountsFault result (D.failures disk.old) (D.failures disk.new) }
@@ -255,26 +203,27 @@ fn read_row<D: Disk, S: RowSink>(
     ensures goes_on { raised_by (D.bytes_read disk.old) 0 ≤ D.bytes_read disk.new }
     ensures other_calls { D.other_calls disk.new ≡ D.other_calls disk.old }
 {
-    let (row, next) = window.row_at(alloc, disk, at)?;
+    let (row, at) = window.row_at(alloc, disk, to.at)?;
     if row.import > imports {
         return Err(RowsFault::Damaged);
     }
-    if !comes_after(rows.places.as_slice(), &row) {
+    let key = row.row.key();
+    if !comes_after(to.last, &key) {
         return Err(RowsFault::Damaged);
     }
-    rows.push(&row, at)?;
-    sink.take(&row, RowPlace::new(&row, at))?;
-    Ok(next)
+    builder.push(&row)?;
+    Ok(ReadTo {
+        at,
+        last: Some(key),
+    })
 }
 
-/// Whether the row's key is above those of rows in key order, which stand at these places.
-fn comes_after(places: &[RowPlace], row: &StampedRow) -> bool
-    ensures { (rows : List StampedRow) → places.now ≡ places_of rows
-        → IsAscending stamped_cmp rows
-        → (IsTrue result ↔ IsAscending stamped_cmp (rows ++ row.now ∷ [])) }
+/// Whether a key is above that of the last row, if there is one.
+fn comes_after(last: Option<Key>, key: &Key) -> bool
+    ensures { IsTrue result ↔ IsAbove key.now last }
 {
-    match places {
-        [] => true,
-        [.., last] => is_below(&last.key, &row.row.key()),
+    match last {
+        None => true,
+        Some(last) => is_below(&last, key),
     }
 }

@@ -3,55 +3,18 @@
 use blocks::Slot;
 use directory::{Directory, Entry, Layout};
 use disk_model::{Choice, Disk, DiskFault, MemDisk};
-use history_model::StampedRow;
-use segment::{Form, RowPlace};
+use segment::Form;
 use std::alloc::{AllocError, Global};
 use std::process::Abort;
 use std::test::Fail;
 use store_image::{
-    Damage, LoadFault, Loaded, Made, MakeFault, RowSink, add_segment, check_empty, load, make,
-    publish_directory, sync_and_publish, trim, write_ahead,
+    Damage, LoadFault, Loaded, Made, MakeFault, SegmentPlaces, add_segment, check_empty, load,
+    make, publish_directory, sync_and_publish, trim, write_ahead,
 };
 
-/// What it was handed: of each row its id, the number of its
-/// import and its place, and how many segments ended before it.
-#[derive(Drop)]
-struct Seen {
-    rows: Vec<(u128, u32, u32, u32)>,
-    segments: u32,
-}
-
-impl Seen {
-    fn new(alloc: Global) -> Seen {
-        Seen {
-            rows: Vec::new(alloc),
-            segments: 0,
-        }
-    }
-}
-
-impl RowSink for Seen {
-    ghost has_taken = { λ _ _ _. Unit {0} };
-
-    fn take(&mut self, row: &StampedRow, at: RowPlace) -> Result<(), AllocError> {
-        match self
-            .rows
-            .push((row.row.id, row.import, at.at, self.segments))
-        {
-            Ok(()) => Ok(()),
-            Err(_) => Err(AllocError),
-        }
-    }
-
-    fn end_segment(&mut self) -> Result<(), AllocError> {
-        self.segments = self.segments.saturating_add(1);
-        Ok(())
-    }
-}
-
-/// What a disk is loaded as, by a sink that is then left out.
-fn load_disk(alloc: Global, disk: &mut MemDisk) -> Result<Loaded, LoadFault> {
-    load(alloc, disk, &mut Seen::new(alloc))
+/// What a disk is loaded as.
+fn load_disk(alloc: Global, disk: &mut MemDisk) -> Result<Loaded<SegmentPlaces>, LoadFault> {
+    load::<MemDisk, SegmentPlaces>(alloc, disk)
 }
 
 /// The current slot of what was loaded, its epoch, and how many imports and segments there are.
@@ -61,13 +24,13 @@ type Shown = (Slot, u64, u32, usize);
 fn shown(alloc: Global, disk: &mut MemDisk) -> Result<Shown, LoadFault> {
     let store = load_disk(alloc, disk)?;
     let directory = &store.directory;
-    let segments = store.places.len();
+    let segments = store.segments.len();
     Ok((store.slot, directory.epoch(), directory.imports(), segments))
 }
 
 /// How many segments are read of a disk.
 fn segments_of(alloc: Global, disk: &mut MemDisk) -> Result<usize, LoadFault> {
-    Ok(load_disk(alloc, disk)?.places.len())
+    Ok(load_disk(alloc, disk)?.segments.len())
 }
 
 /// Why a disk isn't loaded.
@@ -223,8 +186,8 @@ fn only_place(
     disk: &mut MemDisk,
 ) -> Result<Option<(u128, u32, u32, u32)>, LoadFault> {
     let store = load_disk(alloc, disk)?;
-    match store.places.as_slice() {
-        [places] => match places.as_slice() {
+    match store.segments.as_slice() {
+        [segment] => match segment.places() {
             [place] => Ok(Some((place.key.id, place.import, place.at, place.bytes))),
             _ => Ok(None),
         },
@@ -268,12 +231,21 @@ fn an_import_byte_for_byte(rt: HostRuntime) -> Result<(), Fail> {
     Ok(())
 }
 
-/// The two rows that are handed on of a disk, and how many segments end.
-fn two_rows(alloc: Global, disk: &mut MemDisk) -> Result<([(u128, u32, u32, u32); 2], u32), Fail> {
-    let mut seen = Seen::new(alloc);
-    load(alloc, disk, &mut seen)?;
-    match seen.rows.as_slice() {
-        [first, second] => Ok(([*first, *second], seen.segments)),
+/// The two rows that are handed on of a disk, and how many segments there are: of each row its id,
+/// the number of its import, its first byte, and how many segments there are before it.
+fn two_rows(
+    alloc: Global,
+    disk: &mut MemDisk,
+) -> Result<([(u128, u32, u32, usize); 2], usize), Fail> {
+    let store = load_disk(alloc, disk)?;
+    let mut rows = Vec::new(alloc);
+    for (before, segment) in store.segments.iter().enumerate() {
+        for place in segment.places() {
+            rows.push((place.key.id, place.import, place.at, before))?;
+        }
+    }
+    match rows.as_slice() {
+        [first, second] => Ok(([*first, *second], store.segments.len())),
         _ => Err(Fail::from("not two rows")),
     }
 }

@@ -7,7 +7,7 @@ use std::test::Fail;
 /// Runs the program on the words of a line and an input, and answers what it writes. A refusal is
 /// a mistake.
 fn run_whole(rt: &HostRuntime, line: &str, input: &[u8]) -> Result<String, Fail> {
-    let Shown { status, output, .. } = run_line(rt, line, input)?;
+    let Shown { status, output } = run_line(rt, line, input)?;
     if status != 0 {
         return Err(Fail::from("it was refused"));
     }

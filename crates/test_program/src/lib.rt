@@ -1,7 +1,7 @@
-//! What has a structure of its own: calls of the store, lines, words and tasks of the program, with
-//! ever more memory until there is enough; how often a server reads, and when; what it answers once
-//! its disk is damaged; the examples in the program's helps, and its demonstration; and a disk
-//! whose name leads elsewhere. It has no code of its own.
+//! What has a structure of its own: calls of the store with ever more memory until there is enough;
+//! how often a server reads, and when; what it answers once its disk is damaged; the examples in the
+//! program's helps, and its demonstration; and a disk whose name leads elsewhere. It has no code of
+//! its own.
 #![tactic(auto)]
 
 #[cfg(test)]
@@ -15,20 +15,10 @@ mod demonstration;
 #[cfg(test)]
 mod examples;
 #[cfg(test)]
-mod growths;
-#[cfg(test)]
-mod line_growths;
-#[cfg(test)]
-mod means;
-#[cfg(test)]
 mod named_disks;
 #[cfg(test)]
 mod reads;
 #[cfg(test)]
 mod recovering;
 #[cfg(test)]
-mod run_growths;
-#[cfg(test)]
 mod shown;
-#[cfg(test)]
-mod without;

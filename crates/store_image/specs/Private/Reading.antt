@@ -1,8 +1,11 @@
 -- What the reading of segments gives: words of the functions that `load` is made of.
-use Rattle.std.specs.Prelude.{◌≡◌, ◌⊎◌, ℕ, ◌+◌, ◌<◌, ◌≤◌, List, ◌++◌, length, take, drop, All}
-use Rattle.std.specs.Prelude.{Result, Ok, Err}
+use Rattle.std.specs.Prelude.{◌≡◌, ◌⊎◌, ℕ, ◌+◌, ◌<◌, ◌≤◌, List, [], ◌∷◌, ◌++◌, length, take, drop, All}
+use Rattle.std.specs.Prelude.{Result, Ok, Err, Option, Some, None}
 use Rattle.std.specs.List.{AllByRecursion}
+use Rattle.std.specs.declared.cmp.Ordering.TheVariants.{Less}
 use Rattle.fault_counts.specs.Counting.{HasRisen}
+use Rattle.rf2_values.specs.declared.key.Key.{Key}
+use Rattle.rf2_values.specs.Key.{key_of, key_cmp}
 use Rattle.history_model.specs.declared.stamped.StampedRow.{StampedRow}
 use Rattle.history_model.specs.InOrder.{IsAscending}
 use Rattle.history_model.specs.History.{stamped_cmp}
@@ -17,9 +20,9 @@ use Rattle.checksum.specs.declared.form.Form.{Form}
 use Rattle.segment.specs.declared.fault.SegmentFault.TheVariants as segments
 use Rattle.segment.specs.declared.place.RowPlace.{RowPlace}
 use Rattle.segment.specs.Records.{record_in, record_of, segment_in, segment_of, IsStamped, IsSegmentIn}
-use Rattle.segment.specs.Standing.{places_of}
 use Rattle.store_image.specs.declared.fault.RowsFault.{RowsFault}
 use Rattle.store_image.specs.declared.fault.RowsFault.TheVariants as faults
+use Rattle.store_image.specs.declared.reading.ReadTo.{ReadTo}
 use Rattle.store_image.specs.declared.window.Window.{Window}
 use Rattle.store_image.specs.Kept.{HasKind, AreSegments}
 use Rattle.store_image.specs.Reading.{AreNumbered, IsAt}
@@ -74,11 +77,21 @@ IsFull w file = (length (drop w.from (bytes_of w.extent file)) ≤ w.len) ⊎ (1
 
 -- ---- the rows of one segment
 
--- these rows have these places, in key order, and their records end at this byte
-pub record AreReadTo (at imports : ℕ) (places : List RowPlace) (rows : List StampedRow)
-    : Type 0 where
-  pub places_are : places ≡ places_of rows
-  pub at_is : at ≡ length (segment_of rows)
+-- the key is that of the last row, if there is one
+abbrev pub IsLastKey : Option Key → List StampedRow → Type 0
+IsLastKey None rows = rows ≡ []
+IsLastKey (Some key) rows = (front : List StampedRow) × (last : StampedRow)
+    × (rows ≡ front ++ last ∷ []) × (key ≡ key_of last.row)
+
+-- the key is above the other one, if there is another one
+abbrev pub IsAbove : Key → Option Key → Type 0
+IsAbove key None = Unit {0}
+IsAbove key (Some last) = key_cmp last key ≡ Less
+
+-- these rows are in key order, and their records end there
+pub record AreReadTo (to : ReadTo) (imports : ℕ) (rows : List StampedRow) : Type 0 where
+  pub last_is : IsLastKey to.last rows
+  pub at_is : to.at ≡ length (segment_of rows)
   pub each : AllByRecursion IsStamped rows
   pub ascending : IsAscending stamped_cmp rows
   pub numbered : AreNumbered imports rows

@@ -1,12 +1,16 @@
 use Rattle.std.proofs.Common.{refl}
+use Rattle.command_line.specs.Digests.{digest_line}
 use Rattle.command_line.proofs.digesting.digest.Goals as goal
+
+pub answer_read-ended-requires : goal.answer_read-ended-requires
+answer_read-ended-requires g c = (digest_line c.args.imports, c.digest_command.ensures)
 
 pub returns-in-Ok : goal.returns-in-Ok
 returns-in-Ok g c =
     record {
       had = c.open.result;
       opening = c.open.ensures.opened;
-      does = rw (c.in-Ok.is, c.close.ensures.disk) c.tell_digest-ended.ensures;
+      does = rw (c.in-Ok.is, c.close.ensures.disk) (c.answer_read-ended.ensures (digest_line c.args.imports) c.digest_command.ensures);
     }
 
 pub returns-in-Err : goal.returns-in-Err

@@ -1,12 +1,16 @@
 use Rattle.std.proofs.Common.{refl}
+use Rattle.line_commands.specs.Requests.{import_line}
 use Rattle.command_line.proofs.importing.import.Goals as goal
+
+pub answer_read-ended-requires : goal.answer_read-ended-requires
+answer_read-ended-requires g c = (import_line c.args.name.now, c.import_request.ensures)
 
 pub returns-in-Ok : goal.returns-in-Ok
 returns-in-Ok g c =
     record {
       had = c.open.result;
       opening = c.open.ensures.opened;
-      does = rw (c.in-Ok.is, c.close.ensures.disk) c.import_into-ended.ensures;
+      does = rw (c.in-Ok.is, c.close.ensures.disk) (c.answer_read-ended.ensures (import_line c.args.name.now) c.import_request.ensures);
     }
 
 pub returns-in-Err : goal.returns-in-Err

@@ -1,11 +1,15 @@
 use Rattle.std.proofs.Common.{arith}
 use Rattle.store_life.specs.DeviceView.{device_view}
 use Rattle.std.proofs.lemmas.Result.{err_from_is_err_and}
-use Rattle.command_line.proofs.Merged.{have_none, have_both, stopped_after, halted_so, trimmed_to}
+use Rattle.command_line.specs.Merging.{trim_line}
+use Rattle.command_line.proofs.Merged.{have_none, have_both, stopped_after, halted_so, trim_asks, trimmed_to}
 use Rattle.command_line.proofs.merging.merge_to.Goals as goal
 
 pub loop-init : goal.loop-init
 loop-init g c = (have_none (device_view g.D.Disk.is_honest g.D.Disk.moments g.D.Disk.failures g.D.Disk.bytes_read) _, omega arith, c.requires.within, c.requires.at_rest)
+
+pub ask-requires-clause-asked : goal.ask-requires-clause-asked
+ask-requires-clause-asked g c = (trim_line, trim_asks)
 
 pub returns-in_err-merge_two-clause-merged : goal.returns-in_err-merge_two-clause-merged
 returns-in_err-merge_two-clause-merged g c =
@@ -24,4 +28,4 @@ loop-preserved g c =
 pub returns-clause-merged : goal.returns-clause-merged
 returns-clause-merged g c =
     let i = c.loop.invariant in
-    trimmed_to (device_view g.D.Disk.is_honest g.D.Disk.moments g.D.Disk.failures g.D.Disk.bytes_read) c.args.most _ _ _ c.ask.result i.0 (omega (arith, i.1, c.loop-test.false, c.loop.auto.counter-end, c.saturating_sub-end.ensures, c.segments.ensures)) i.3 c.ask.ensures.asked
+    trimmed_to (device_view g.D.Disk.is_honest g.D.Disk.moments g.D.Disk.failures g.D.Disk.bytes_read) c.args.most _ _ _ c.ask.result i.0 (omega (arith, i.1, c.loop-test.false, c.loop.auto.counter-end, c.saturating_sub-end.ensures, c.segments.ensures)) i.3 (c.ask.ensures.asked trim_line trim_asks)

@@ -1,11 +1,11 @@
-use Rattle.std.proofs.Common.{◌≡◌, ℕ, ◌<◌, ◌≤◌, ◌+◌, ◌-◌, ◌*◌, arith, refl, inl, inr}
+use Rattle.std.proofs.Common.{◌≡◌, ℕ, ◌<◌, ◌≤◌, ◌+◌, ◌-◌, ◌*◌, arith, refl, inl, inr, codes}
 use Rattle.std.specs.Int.{div_ceil}
 use Rattle.std.proofs.lemmas.Grind.{div_ceil_times}
 use Rattle.store_life.specs.DeviceView.{device_view}
 use Rattle.std.proofs.lemmas.Result.{err_from_is_err_and}
 use Rattle.line_server.specs.Replies.{server}
 use Rattle.command_line.specs.Merging.{rows_left}
-use Rattle.command_line.proofs.Merged.{have_none, stopped_first, stopped_after, step_stops, rows_more, all_taken}
+use Rattle.command_line.proofs.Merged.{have_none, refused, step_asks, stopped_first, stopped_after, step_stops, rows_more, all_taken}
 use Rattle.command_line.proofs.merging.take_rows.Goals as goal
 
 pub loop-init : goal.loop-init
@@ -17,11 +17,14 @@ some_left left end counter is more =
     let near : div_ceil left 100000 * 100000 < left + 100000 = (div_ceil_times left 100000 (omega arith)).1 in
     omega (arith, near, is, more)
 
+pub ask-requires-clause-asked : goal.ask-requires-clause-asked
+ask-requires-clause-asked g c = (codes "0 STEP 100000", step_asks)
+
 pub returns-in_err-ask-clause-taken : goal.returns-in_err-ask-clause-taken
 returns-in_err-ask-clause-taken g c =
     let i = c.loop.invariant in
     let same = i.1 in
-    let a = c.in_err-ask.ensures.asked in
+    let a = c.in_err-ask.ensures.asked (codes "0 STEP 100000") step_asks in
     let p = err_from_is_err_and c.from_residual.result c.from_residual.ensures.1 in
     let first = server c.args.state.now c.args.store.now in
     let left : c.unwrap_or-left.result ≡ rows_left first = rw (← c.merge_left.ensures) c.unwrap_or-left.ensures in
@@ -29,12 +32,12 @@ returns-in_err-ask-clause-taken g c =
     let taken = i.4 in
     let more_left : 1 ≤ rows_left (server c.loop.state c.loop.store) = omega (arith, left, some, taken) in
     rw (p.1, p.2) (λ most more. stopped_after (device_view g.D.Disk.is_honest g.D.Disk.moments g.D.Disk.failures g.D.Disk.bytes_read) most _ _ _ _ i.0
-    (stopped_first (device_view g.D.Disk.is_honest g.D.Disk.moments g.D.Disk.failures g.D.Disk.bytes_read) most _ _ _ a.0 (inr (inl (a.1, more_left))) (omega (arith, more, same)) a.3.0 a.3.1 a.2 (λ one. step_stops (device_view g.D.Disk.is_honest g.D.Disk.moments g.D.Disk.failures g.D.Disk.bytes_read) _ _ a.0 a.1 a.3.0 i.3 a.2)))
+    (stopped_first (device_view g.D.Disk.is_honest g.D.Disk.moments g.D.Disk.failures g.D.Disk.bytes_read) most _ _ _ a.0 (inr (inl (a.1, more_left))) (omega (arith, more, same)) a.3 a.2 (λ one. step_stops (device_view g.D.Disk.is_honest g.D.Disk.moments g.D.Disk.failures g.D.Disk.bytes_read) _ _ a.0 a.1 (refused _ _ a.3) i.3 a.2)))
 
 pub loop-preserved : goal.loop-preserved
 loop-preserved g c =
     let i = c.loop.invariant in
-    let a = c.in_ok-ask.ensures.asked in
+    let a = c.in_ok-ask.ensures.asked (codes "0 STEP 100000") step_asks in
     let first = server c.args.state.now c.args.store.now in
     let left : c.unwrap_or-left.result ≡ rows_left first = rw (← c.merge_left.ensures) c.unwrap_or-left.ensures in
     let some : 1 ≤ c.unwrap_or-left.result - c.loop.counter * 100000 = some_left c.unwrap_or-left.result c.div_ceil-end.result c.loop.counter c.div_ceil-end.ensures c.loop-test.true in

@@ -1,8 +1,12 @@
-use Rattle.std.proofs.Common.{◌≤◌, length, sym, ap, subst, ◌∙◌, arith}
+use Rattle.std.proofs.Common.{◌≤◌, List, length, sym, ap, subst, ◌∙◌, arith}
 use Rattle.std.specs.List.{AllByRecursion}
+use Rattle.std.proofs.lemmas.List.{map-id}
 use Rattle.std.proofs.lemmas.Result.{err_from_is_err_and}
 use Rattle.directory.specs.declared.layout.Layout.{Layout}
 use Rattle.directory.specs.Listings.{most_entries}
+use Rattle.history_model.specs.declared.stamped.StampedRow.{StampedRow}
+use Rattle.store_image.specs.Kept.{IsKept}
+use Rattle.store_image.specs.OnDisk.{HasStore}
 use Rattle.store_copy.specs.Answers.{Shown}
 use Rattle.store_copy.specs.Copying.{chosen}
 use Rattle.store_copy.specs.Private.Writing.{MayBeSegment}
@@ -14,30 +18,30 @@ pub returns-in_err-imports-clause-refused : goal.returns-in_err-imports-clause-r
 returns-in_err-imports-clause-refused g c = λ honest.
     let file = (g.S.Disk.moments c.args.source.now).state.now in
     let l = c.in_ok-slot.field-0 in
-    let of : Shown file = record { slot = l.slot; directory = l.directory; lists = l.shown.items; is = c.in_ok-slot.ensures.exact honest } in
+    let of : Shown file = record { slot = l.slot; directory = l.directory; lists = l.segments.items; is = subst (λ (r : List (List StampedRow)). HasStore l.slot l.directory r file) (map-id l.segments.items) (c.in_ok-slot.ensures.exact honest) } in
     let p = err_from_is_err_and c.from_residual-in_err-imports.result c.from_residual-in_err-imports.ensures.1 in
     rw (p.1, p.2) (λ target. not_chosen c.in_err-imports.field-0.0 c.args.imports c.imports.result file target of c.imports.ensures c.in_err-imports.ensures)
 
 pub plan-requires-clause-small : goal.plan-requires-clause-small
 plan-requires-clause-small g c =
     let l = c.in_ok-slot.field-0 in
-    let kept = c.in_ok-slot.ensures.kept in
-    subst (AllByRecursion MayBeSegment) (sym c.as_slice-2.ensures.value) (segments_small l.directory.entries l.shown.items kept.listing.entries kept.segments)
+    let kept = subst (λ (r : List (List StampedRow)). IsKept l.directory r) (map-id l.segments.items) c.in_ok-slot.ensures.kept in
+    subst (AllByRecursion MayBeSegment) (sym c.as_slice.ensures.value) (segments_small l.directory.entries l.segments.items kept.listing.entries kept.segments)
 
 pub plan-requires-clause-few : goal.plan-requires-clause-few
 plan-requires-clause-few g c =
     let l = c.in_ok-slot.field-0 in
-    let kept = c.in_ok-slot.ensures.kept in
-    let long = ap length c.as_slice-2.ensures.value in
+    let kept = subst (λ (r : List (List StampedRow)). IsKept l.directory r) (map-id l.segments.items) c.in_ok-slot.ensures.kept in
+    let long = ap length c.as_slice.ensures.value in
     let count = kept.listing.count in
-    let few : length c.as_slice-2.result.now ≤ most_entries l.directory.layout = omega (arith, long, segments_count l.directory.entries l.shown.items kept.segments, count) in
-    subst (λ (layout : Layout). length c.as_slice-2.result.now ≤ most_entries layout) (sym c.layout.ensures) few
+    let few : length c.as_slice.result.now ≤ most_entries l.directory.layout = omega (arith, long, segments_count l.directory.entries l.segments.items kept.segments, count) in
+    subst (λ (layout : Layout). length c.as_slice.result.now ≤ most_entries layout) (sym c.layout.ensures) few
 
 pub returns-in_err-copy-clause-refused : goal.returns-in_err-copy-clause-refused
 returns-in_err-copy-clause-refused g c = λ honest.
     let file = (g.S.Disk.moments c.args.source.now).state.now in
     let l = c.in_ok-slot.field-0 in
-    let of : Shown file = record { slot = l.slot; directory = l.directory; lists = l.shown.items; is = c.in_ok-slot.ensures.exact honest } in
+    let of : Shown file = record { slot = l.slot; directory = l.directory; lists = l.segments.items; is = subst (λ (r : List (List StampedRow)). HasStore l.slot l.directory r file) (map-id l.segments.items) (c.in_ok-slot.ensures.exact honest) } in
     let p = err_from_is_err_and c.from_residual-in_err-copy.result c.from_residual-in_err-copy.ensures.1 in
     let same = c.in_ok-imports.ensures.0 ∙ ap (chosen c.args.imports) c.imports.ensures in
-    rw (p.1, p.2) (λ target. not_planned c.in_err-copy.field-0.0 c.args.imports c.in_ok-imports.imports c.as_slice-2.result.now file target of same c.as_slice-2.ensures.value c.in_err-copy.ensures.refused)
+    rw (p.1, p.2) (λ target. not_planned c.in_err-copy.field-0.0 c.args.imports c.in_ok-imports.imports c.as_slice.result.now file target of same c.as_slice.ensures.value c.in_err-copy.ensures.refused)

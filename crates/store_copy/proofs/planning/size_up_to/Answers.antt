@@ -16,27 +16,27 @@ loop-place-init c = record { bytes = none_bytes c.args.imports; rows = none_rows
 pub overflow_add-size : goal.overflow_add-size
 overflow_add-size c =
     let n = c.args.imports in
-    let rows = c.args.shown.now in
+    let rows = c.args.segment.now in
     let i = c.loop-place.place-index in
-    let step = step_at rows c.args.places.now i c.place-item.result c.requires.places c.loop-place-test.true c.place-item.is in
+    let step = step_at rows c.places-place-items.result.now i c.place-item.result c.places-place-items.ensures c.loop-place-test.true c.place-item.is in
     let more = kept_bytes n rows i c.place-item.result step c.if-place-imports.true in
-    omega (arith, more, c.loop-place.invariant.bytes, (taken_fewer n rows (i + 1)).0, (fewer n rows).0, c.requires.small.0)
+    omega (arith, more, c.loop-place.invariant.bytes, (taken_fewer n rows (i + 1)).0, (fewer n rows).0, c.requires.0)
 
 pub overflow_add-size-then-place-imports : goal.overflow_add-size-then-place-imports
 overflow_add-size-then-place-imports c =
     let n = c.args.imports in
-    let rows = c.args.shown.now in
+    let rows = c.args.segment.now in
     let i = c.loop-place.place-index in
-    let step = step_at rows c.args.places.now i c.place-item.result c.requires.places c.loop-place-test.true c.place-item.is in
+    let step = step_at rows c.places-place-items.result.now i c.place-item.result c.places-place-items.ensures c.loop-place-test.true c.place-item.is in
     let more = kept_rows n rows i c.place-item.result step c.if-place-imports.true in
-    omega (arith, more, c.loop-place.invariant.rows, (taken_fewer n rows (i + 1)).1, (fewer n rows).1, c.requires.small.1)
+    omega (arith, more, c.loop-place.invariant.rows, (taken_fewer n rows (i + 1)).1, (fewer n rows).1, c.requires.1)
 
 pub loop-place-preserved : goal.loop-place-preserved
 loop-place-preserved c =
     let n = c.args.imports in
-    let rows = c.args.shown.now in
+    let rows = c.args.segment.now in
     let i = c.loop-place.place-index in
-    let step = step_at rows c.args.places.now i c.place-item.result c.requires.places c.loop-place-test.true c.place-item.is in
+    let step = step_at rows c.places-place-items.result.now i c.place-item.result c.places-place-items.ensures c.loop-place-test.true c.place-item.is in
     let inv = c.loop-place.invariant in
     elim c.if-place-imports.branch [
       | then-place-imports w ↦ record {
@@ -51,12 +51,12 @@ loop-place-preserved c =
 
 pub returns-clause-bytes : goal.returns-clause-bytes
 returns-clause-bytes c =
-    let rows = c.args.shown.now in
-    let long = ap length c.requires.places ∙ places_long 0 rows in
+    let rows = c.args.segment.now in
+    let long = ap length c.places-place-items.ensures ∙ places_long 0 rows in
     c.loop-place.invariant.bytes ∙ ap (λ (l : List StampedRow). length (segment_of (up_to c.args.imports l))) (take_all c.loop-place.place-index rows (omega (arith, c.loop-place-test.false, long)))
 
 pub returns-clause-rows : goal.returns-clause-rows
 returns-clause-rows c =
-    let rows = c.args.shown.now in
-    let long = ap length c.requires.places ∙ places_long 0 rows in
+    let rows = c.args.segment.now in
+    let long = ap length c.places-place-items.ensures ∙ places_long 0 rows in
     c.loop-place.invariant.rows ∙ ap (λ (l : List StampedRow). length (up_to c.args.imports l)) (take_all c.loop-place.place-index rows (omega (arith, c.loop-place-test.false, long)))

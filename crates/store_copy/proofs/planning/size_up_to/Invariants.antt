@@ -6,6 +6,6 @@ use Rattle.store_copy.proofs.planning.size_up_to.Given as goal
 -- those of the rows so far
 abbrev pub invariant-loop-place : goal.invariant-loop-place
 invariant-loop-place l = record {
-  bytes : l.size.bytes ≡ length (segment_of (up_to l.imports (take l.place-index l.shown)));
-  rows : l.size.rows ≡ length (up_to l.imports (take l.place-index l.shown));
+  bytes : l.size.bytes ≡ length (segment_of (up_to l.imports (take l.place-index l.segment)));
+  rows : l.size.rows ≡ length (up_to l.imports (take l.place-index l.segment));
 }

@@ -38,19 +38,19 @@ loop-place-init g c =
 pub copy_row-requires-clause-inside : goal.copy_row-requires-clause-inside
 copy_row-requires-clause-inside g c =
     let n = c.args.imports in
-    let rows = c.args.shown.now in
+    let rows = c.args.segment.now in
     let i = c.loop-place.place-index in
     let p = c.place-item.result in
-    let step = step_at rows c.args.places.now i p c.requires.places c.loop-place-test.true c.place-item.is in
+    let step = step_at rows c.places-place-items.result.now i p c.places-place-items.ensures c.loop-place-test.true c.place-item.is in
     let more = kept_bytes n rows i p step c.if-place-imports.true in
     omega (arith, more, c.loop-place.invariant.len, (taken_fewer n rows (i + 1)).0, c.requires.size)
 
 pub returns-in-Err-clause-found : goal.returns-in-Err-clause-found
 returns-in-Err-clause-found g c = λ s at.
-    let rows = c.args.shown.now in
+    let rows = c.args.segment.now in
     let p = c.place-item.result in
     let inv = c.loop-place.invariant in
-    let step = step_at rows c.args.places.now c.loop-place.place-index p c.requires.places c.loop-place-test.true c.place-item.is in
+    let step = step_at rows c.places-place-items.result.now c.loop-place.place-index p c.places-place-items.ensures c.loop-place-test.true c.place-item.is in
     let there = subst (λ (m : Moments). IsThere c.args.from.form (4096 * c.args.from.first + p.at) step.row p m.state.now) (sym (inv.moments s)) (there_at (g.S.Disk.moments c.args.source.now).state.now c.args.from rows step.row p at step.there) in
     c.in-Err.ensures.found (inv.source.0 s) step.row there
 
@@ -63,7 +63,7 @@ returns-in-Err-clause-any_moment g c = λ h.
 pub loop-place-preserved : goal.loop-place-preserved
 loop-place-preserved g c =
     let n = c.args.imports in
-    let rows = c.args.shown.now in
+    let rows = c.args.segment.now in
     let i = c.loop-place.place-index in
     let p = c.place-item.result in
     let inv = c.loop-place.invariant in
@@ -72,7 +72,7 @@ loop-place-preserved g c =
     let range = byte_range extent in
     let old = g.T.Disk.moments c.args.target.now in
     let mid = g.T.Disk.moments c.loop-place.target in
-    let step = step_at rows c.args.places.now i p c.requires.places c.loop-place-test.true c.place-item.is in
+    let step = step_at rows c.places-place-items.result.now i p c.places-place-items.ensures c.loop-place-test.true c.place-item.is in
     elim c.if-place-imports.branch [
       | then-place-imports+in-Ok w ↦
           let done = w.in-Ok.ensures in
@@ -112,17 +112,17 @@ loop-place-preserved g c =
 
 pub flush-requires-clause-inside : goal.flush-requires-clause-inside
 flush-requires-clause-inside g c =
-    omega (arith, c.loop-place.invariant.len, (taken_fewer c.args.imports c.args.shown.now c.loop-place.place-index).0, c.requires.size, ap (λ (e : Extent). e.bytes) c.extent.ensures)
+    omega (arith, c.loop-place.invariant.len, (taken_fewer c.args.imports c.args.segment.now c.loop-place.place-index).0, c.requires.size, ap (λ (e : Extent). e.bytes) c.extent.ensures)
 
 pub returns-in-Ok-flush-clause-written : goal.returns-in-Ok-flush-clause-written
 returns-in-Ok-flush-clause-written g c = λ s t at.
     let n = c.args.imports in
-    let rows = c.args.shown.now in
+    let rows = c.args.segment.now in
     let i = c.loop-place.place-index in
     let inv = c.loop-place.invariant in
     let form = c.args.to.form in
     let file = (g.T.Disk.moments c.flush.new.target).state.now in
-    let long = ap length c.requires.places ∙ places_long 0 rows in
+    let long = ap length c.places-place-items.ensures ∙ places_long 0 rows in
     let so_far = subst (λ (e : Extent). ArePending form e (up_to n (take i rows)) c.loop-place.pending.written c.loop-place.pending.bytes.items (g.T.Disk.moments c.loop-place.target).state.now) (sym c.extent.ensures) (inv.pending s t at) in
     let all = c.in-Ok-flush.ensures.pending (inv.target.0 t) form (up_to n (take i rows)) so_far in
     let there = all_written form c.extent.result (up_to n (take i rows)) c.flush.new.self.written c.flush.new.self.bytes.items file c.in-Ok-flush.ensures.none all in

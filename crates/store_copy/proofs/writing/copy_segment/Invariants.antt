@@ -19,9 +19,9 @@ invariant-loop-place g l = record {
   target_failures : g.T.Disk.failures l.target ≡ g.T.Disk.failures l.initial.target;
   other_calls : g.S.Disk.other_calls l.source ≡ g.S.Disk.other_calls l.initial.source;
   bytes_read : g.T.Disk.bytes_read l.target ≡ g.T.Disk.bytes_read l.initial.target;
-  len : l.pending.written + length l.pending.bytes.items ≡ length (segment_of (up_to l.imports (take l.place-index l.shown)));
+  len : l.pending.written + length l.pending.bytes.items ≡ length (segment_of (up_to l.imports (take l.place-index l.segment)));
   run : g.T.Disk.is_honest l.initial.target → LeavesOnly (g.T.Disk.moments l.initial.target) (g.T.Disk.moments l.target) (StemsWithin (g.T.Disk.moments l.initial.target).state (byte_range (extent_of l.to)));
   elsewhere : g.T.Disk.is_honest l.initial.target → SameOutside (byte_range (extent_of l.to) ∷ []) (g.T.Disk.moments l.initial.target).state.now (g.T.Disk.moments l.target).state.now;
-  pending : g.S.Disk.is_honest l.initial.source → g.T.Disk.is_honest l.initial.target → IsAt (g.S.Disk.moments l.initial.source).state.now l.from l.shown
-      → ArePending l.to.form (extent_of l.to) (up_to l.imports (take l.place-index l.shown)) l.pending.written l.pending.bytes.items (g.T.Disk.moments l.target).state.now;
+  pending : g.S.Disk.is_honest l.initial.source → g.T.Disk.is_honest l.initial.target → IsAt (g.S.Disk.moments l.initial.source).state.now l.from l.segment
+      → ArePending l.to.form (extent_of l.to) (up_to l.imports (take l.place-index l.segment)) l.pending.written l.pending.bytes.items (g.T.Disk.moments l.target).state.now;
 }

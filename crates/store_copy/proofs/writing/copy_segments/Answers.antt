@@ -1,35 +1,22 @@
-use Rattle.std.proofs.Common.{◌≡◌, ◌<◌, ◌≤◌, length, vec_items, sym, ap, subst, ◌∙◌, arith}
+use Rattle.std.proofs.Common.{◌≡◌, ◌<◌, ◌≤◌, length, sym, ap, subst, ◌∙◌, arith}
 use Rattle.blocks.specs.Extents.{byte_range}
 use Rattle.directory.specs.Listings.{form_of}
 use Rattle.directory.specs.Places.{extent_of}
 use Rattle.segment.specs.Records.{segment_in}
-use Rattle.segment.specs.Standing.{places_of}
 use Rattle.store_image.specs.Ahead.{BeginsWith}
 use Rattle.store_copy.specs.Copying.{up_to}
 use Rattle.store_copy.specs.Answers.{IsFailure}
-use Rattle.store_copy.proofs.Done.{both_long, both_mapped, entry_is, fails_in, first_entry, held_none, held_some, left_none, left_some, run_shut, segment_still}
+use Rattle.store_copy.proofs.Done.{entry_is, fails_in, first_entry, held_none, held_some, left_none, left_some, run_shut, segment_still}
 use Rattle.store_copy.proofs.writing.copy_segments.Goals as goal
 use Rattle.store_copy.proofs.writing.copy_segments.Goals.{then-size_up_to-gt0+in-Some+in-Ok, else-size_up_to-gt0}
 
-pub size_up_to-requires-clause-places : goal.size_up_to-requires-clause-places
-size_up_to-requires-clause-places g c =
-    let lt : c.loop-i.i < length c.args.shown.now = omega (arith, c.loop-i-test.true) in
-    c.as_slice-listed.ensures.value
-    ∙ both_mapped vec_items places_of c.args.places.now c.args.shown.now c.loop-i.i c.index-places-i.result c.index-shown-i.result c.requires.places (omega (arith, lt, both_long vec_items places_of c.args.places.now c.args.shown.now c.requires.places)) lt c.index-places-i.is c.index-shown-i.is
-
-pub copy_segment-requires-clause-places : goal.copy_segment-requires-clause-places
-copy_segment-requires-clause-places g c =
-    let lt : c.loop-i.i < length c.args.shown.now = omega (arith, c.loop-i-test.true) in
-    c.as_slice-listed.ensures.value
-    ∙ both_mapped vec_items places_of c.args.places.now c.args.shown.now c.loop-i.i c.index-places-i.result c.index-shown-i.result c.requires.places (omega (arith, lt, both_long vec_items places_of c.args.places.now c.args.shown.now c.requires.places)) lt c.index-places-i.is c.index-shown-i.is
-
 pub returns-in-Err-clause-found : goal.returns-in-Err-clause-found
 returns-in-Err-clause-found g c = λ s are held.
-    let rows = c.index-shown-i.result in
+    let rows = c.index-segments-i.result in
     let inv = c.loop-i.invariant in
-    let lt : c.loop-i.i < length c.args.shown.now = omega (arith, c.loop-i-test.true) in
+    let lt : c.loop-i.i < length c.args.segments.now = omega (arith, c.loop-i-test.true) in
     subst IsFailure (sym c.in_segment.ensures)
-    (fails_in _ c.in-Err.fault (c.in-Err.ensures.found (inv.source.0 s) (segment_still (g.S.Disk.moments c.args.source.now) (g.S.Disk.moments c.loop-i.source) c.args.from.now c.args.shown.now c.loop-i.i _ rows (inv.moments s) are held lt c.index-shown-i.is)))
+    (fails_in _ c.in-Err.fault (c.in-Err.ensures.found (inv.source.0 s) (segment_still (g.S.Disk.moments c.args.source.now) (g.S.Disk.moments c.loop-i.source) c.args.from.now c.args.segments.now c.loop-i.i _ rows (inv.moments s) are held lt c.index-segments-i.is)))
 
 pub returns-in-Err-clause-any_moment : goal.returns-in-Err-clause-any_moment
 returns-in-Err-clause-any_moment g c = λ t shut.
@@ -42,11 +29,11 @@ pub loop-i-preserved : goal.loop-i-preserved
 loop-i-preserved g c =
     let n = c.args.copy.now.imports in
     let form = form_of c.args.copy.now.layout in
-    let lists = c.args.shown.now in
+    let lists = c.args.segments.now in
     let i = c.loop-i.i in
-    let rows = c.index-shown-i.result in
+    let rows = c.index-segments-i.result in
     let lt : i < length lists = omega (arith, c.loop-i-test.true) in
-    let is = c.index-shown-i.is in
+    let is = c.index-segments-i.is in
     let inv = c.loop-i.invariant in
     let same = c.imports-imports.ensures in
     let count = ap (λ k. length (up_to k rows)) same in

@@ -19,10 +19,10 @@ invariant-loop-i g l = record {
   target_failures : g.T.Disk.failures l.target ≡ g.T.Disk.failures l.initial.target;
   other_calls : g.S.Disk.other_calls l.source ≡ g.S.Disk.other_calls l.initial.source;
   bytes_read : g.T.Disk.bytes_read l.target ≡ g.T.Disk.bytes_read l.initial.target;
-  left : Done (form_of l.copy.layout) l.copy.imports l.shown l.i l.left;
+  left : Done (form_of l.copy.layout) l.copy.imports l.segments l.i l.left;
   entries : AllByRecursion IsEntry l.left;
   long : g.T.Disk.is_honest l.initial.target → length (g.T.Disk.moments l.initial.target).state.now ≤ length (g.T.Disk.moments l.target).state.now;
   run : g.T.Disk.is_honest l.initial.target → EachImage (g.T.Disk.moments l.initial.target).state IsShut → LeavesOnly (g.T.Disk.moments l.initial.target) (g.T.Disk.moments l.target) IsShut;
-  held : g.S.Disk.is_honest l.initial.source → g.T.Disk.is_honest l.initial.target → AreSegments l.from l.shown → HoldsAll (pieces_of l.from l.shown) (g.S.Disk.moments l.initial.source).state.now
-      → HoldsAll (pieces_of (entries_from (form_of l.copy.layout) 4 (lists_up_to l.copy.imports (take l.i l.shown))) (lists_up_to l.copy.imports (take l.i l.shown))) (g.T.Disk.moments l.target).state.now;
+  held : g.S.Disk.is_honest l.initial.source → g.T.Disk.is_honest l.initial.target → AreSegments l.from l.segments → HoldsAll (pieces_of l.from l.segments) (g.S.Disk.moments l.initial.source).state.now
+      → HoldsAll (pieces_of (entries_from (form_of l.copy.layout) 4 (lists_up_to l.copy.imports (take l.i l.segments))) (lists_up_to l.copy.imports (take l.i l.segments))) (g.T.Disk.moments l.target).state.now;
 }

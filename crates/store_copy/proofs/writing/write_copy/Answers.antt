@@ -7,12 +7,12 @@ use Rattle.store_copy.proofs.Listing.{segments_count}
 use Rattle.store_copy.proofs.writing.write_copy.Goals as goal
 
 pub copy_segments-requires-clause-from : goal.copy_segments-requires-clause-from
-copy_segments-requires-clause-from g c = segments_count c.args.from.now c.args.shown.now c.requires.from
+copy_segments-requires-clause-from g c = segments_count c.args.from.now c.args.segments.now c.requires.from
 
 pub returns-in_err-copy_segments-clause-any_moment : goal.returns-in_err-copy_segments-clause-any_moment
 returns-in_err-copy_segments-clause-any_moment g c = λ s t held none.
     let copy = c.args.copy.now in
-    let lists = lists_up_to copy.imports c.args.shown.now in
+    let lists = lists_up_to copy.imports c.args.segments.now in
     let m0 = g.T.Disk.moments c.args.target.now in
     let m1 = g.T.Disk.moments c.close_slots.new.target in
     let m2 = g.T.Disk.moments c.copy_segments.new.target in
@@ -22,7 +22,7 @@ returns-in_err-copy_segments-clause-any_moment g c = λ s t held none.
 pub returns-in_err-open_slot-clause-any_moment : goal.returns-in_err-open_slot-clause-any_moment
 returns-in_err-open_slot-clause-any_moment g c = λ s t held none.
     let copy = c.args.copy.now in
-    let lists = lists_up_to copy.imports c.args.shown.now in
+    let lists = lists_up_to copy.imports c.args.segments.now in
     let m0 = g.T.Disk.moments c.args.target.now in
     let m1 = g.T.Disk.moments c.close_slots.new.target in
     let m2 = g.T.Disk.moments c.copy_segments.new.target in
@@ -37,7 +37,7 @@ returns-in_err-open_slot-clause-any_moment g c = λ s t held none.
 pub returns-clause-any_moment : goal.returns-clause-any_moment
 returns-clause-any_moment g c = λ s t held none.
     let copy = c.args.copy.now in
-    let lists = lists_up_to copy.imports c.args.shown.now in
+    let lists = lists_up_to copy.imports c.args.segments.now in
     let m0 = g.T.Disk.moments c.args.target.now in
     let m1 = g.T.Disk.moments c.close_slots.new.target in
     let m2 = g.T.Disk.moments c.copy_segments.new.target in
@@ -52,7 +52,7 @@ returns-clause-any_moment g c = λ s t held none.
 pub returns-clause-on_disk : goal.returns-clause-on_disk
 returns-clause-on_disk g c = λ s t held none.
     let copy = c.args.copy.now in
-    let lists = lists_up_to copy.imports c.args.shown.now in
+    let lists = lists_up_to copy.imports c.args.segments.now in
     let m1 = g.T.Disk.moments c.close_slots.new.target in
     let m2 = g.T.Disk.moments c.copy_segments.new.target in
     let on = c.close_slots.ensures.honesty.0 t in

@@ -5,10 +5,9 @@ use Rattle.blocks.specs.declared.extent.Extent.{Extent}
 use Rattle.store_image.specs.Private.Reading.{bytes_of}
 use Rattle.directory.specs.Places.{extent_of}
 use Rattle.history_model.specs.declared.stamped.StampedRow.{StampedRow}
-use Rattle.segment.specs.Standing.{with_places}
 use Rattle.checksum.specs.declared.form.Form.{Form}
 use Rattle.store_image.specs.Private.Reading.{Sees, BeginsWith, IsNotNext}
-use Rattle.store_image.proofs.Segments.{none_read, none_begins, not_next, wrong_end}
+use Rattle.store_image.proofs.Segments.{none_read, none_begins, not_next, wrong_end, segment_found}
 use Rattle.store_image.proofs.reading.read_rows.Goals as goal
 
 -- the bytes are those from before
@@ -16,34 +15,35 @@ same_now : (old new : Moments) → new ≡ old → new.state.now ≡ old.state.n
 same_now old new same = ap (λ (m : Moments). m.state.now) same
 
 pub rows-init : goal.rows-init
-rows-init g c = record {
-  read = none_read c.args.imports _ _ c.in_ok-with_capacity.ensures.items c.new.ensures;
-  count = subst (λ (rows : List StampedRow). ◌≡◌ {A = ℕ} (length rows) 0) (sym c.new.ensures) refl;
-  extent = c.requires.extent;
-  form = c.requires.form;
-  from = omega (arith, c.requires.from);
-  reached = omega arith;
-  within = omega arith;
-  sees = λ honest. c.requires.sees _;
-  begins = λ honest. none_begins _ _ _ c.new.ensures;
-  taken = λ segments taken. subst (λ (rows : List StampedRow). g.S.RowSink.has_taken c.args.sink.now segments (with_places 0 rows)) (sym c.new.ensures) taken;
-  moments = λ honest. refl;
-  honesty = (λ h. h, λ h. h);
-  failures = refl;
-  bytes_read = omega arith;
-  goes_on = omega arith;
-  other_calls = refl;
-}
+rows-init g c =
+    let none = c.in_ok-builder.ensures in
+    record {
+      read = none_read c.args.imports _ none;
+      count = subst (λ (rows : List StampedRow). ◌≡◌ {A = ℕ} (length rows) 0) (sym none) refl;
+      extent = c.requires.extent;
+      form = c.requires.form;
+      from = omega (arith, c.requires.from);
+      reached = omega arith;
+      within = omega arith;
+      sees = λ honest. c.requires.sees _;
+      begins = λ honest. none_begins _ _ _ none;
+      moments = λ honest. refl;
+      honesty = (λ h. h, λ h. h);
+      failures = refl;
+      bytes_read = omega arith;
+      goes_on = omega arith;
+      other_calls = refl;
+    }
 
-pub returns-in_err-at-clause-exact : goal.returns-in_err-at-clause-exact
-returns-in_err-at-clause-exact g c honest =
-    let p = err_from_is_err_and c.from_residual-in_err-at.result c.from_residual-in_err-at.ensures.1 in
+pub returns-in_err-to-clause-exact : goal.returns-in_err-to-clause-exact
+returns-in_err-to-clause-exact g c honest =
+    let p = err_from_is_err_and c.from_residual-in_err-to.result c.from_residual-in_err-to.ensures.1 in
     let inv = c.rows.invariant in
-    let rows = c.rows.rows.shown in
-    let e = c.in_err-at.field-0.0 in
+    let rows = (g.B.SegmentBuilder.rows c.rows.builder) in
+    let e = c.in_err-to.field-0.0 in
     let same = same_now _ _ (inv.moments honest) in
     let sees = subst (Sees c.rows.window) (sym same) (inv.sees honest) in
-    let why = subst (λ (x : Extent). IsNotNext c.args.entry.form e c.args.imports rows (bytes_of x (g.D.Disk.moments c.rows.disk).state.now)) inv.extent (subst (λ (f : Form). IsNotNext f e c.args.imports rows (bytes_of c.rows.window.extent (g.D.Disk.moments c.rows.disk).state.now)) inv.form (c.in_err-at.ensures.exact (inv.honesty.0 honest) sees)) in
+    let why = subst (λ (x : Extent). IsNotNext c.args.entry.form e c.args.imports rows (bytes_of x (g.D.Disk.moments c.rows.disk).state.now)) inv.extent (subst (λ (f : Form). IsNotNext f e c.args.imports rows (bytes_of c.rows.window.extent (g.D.Disk.moments c.rows.disk).state.now)) inv.form (c.in_err-to.ensures.exact (inv.honesty.0 honest) sees)) in
     let left = c.rows-test.true in
     let count = inv.count in
     rw (p.1, p.2) (not_next e c.args.imports c.args.entry rows _ (subst (λ (f : List ℕ). IsNotNext c.args.entry.form e c.args.imports rows (bytes_of (extent_of c.args.entry) f)) same why) (inv.begins honest) (omega (arith, left, count)))
@@ -51,7 +51,7 @@ returns-in_err-at-clause-exact g c honest =
 pub rows-preserved : goal.rows-preserved
 rows-preserved g c =
     let inv = c.rows.invariant in
-    let read = c.in_ok-at.ensures in
+    let read = c.in_ok-to.ensures in
     let entry = c.args.entry in
     let one = read.one in
     let count = inv.count in
@@ -62,7 +62,7 @@ rows-preserved g c =
       form = read.form ∙ inv.form;
       from = read.from;
       reached = read.reached;
-      within = subst (λ (x : Extent). c.in_ok-at.at ≤ x.bytes) inv.extent read.within;
+      within = subst (λ (x : Extent). c.in_ok-to.to.at ≤ x.bytes) inv.extent read.within;
       sees = λ honest.
           let same = same_now _ _ (inv.moments honest) in
           subst (Sees c.read_row.new.window) same (read.sees (inv.honesty.0 honest) (subst (Sees c.rows.window) (sym same) (inv.sees honest)));
@@ -70,10 +70,9 @@ rows-preserved g c =
           let same = same_now _ _ (inv.moments honest) in
           let later : List ℕ = (g.D.Disk.moments c.rows.disk).state.now in
           let P : List StampedRow → Extent → List ℕ → Type 0 = λ rows x f. BeginsWith entry.form rows (bytes_of x f) in
-          let before = subst (λ (x : Extent). P c.rows.rows.shown x later) (sym inv.extent) (subst (λ (f : List ℕ). P c.rows.rows.shown (extent_of entry) f) (sym same) (inv.begins honest)) in
-          let after = subst (λ (f : Form). BeginsWith f c.rows.rows.shown (bytes_of c.rows.window.extent later) → BeginsWith f c.read_row.new.rows.shown (bytes_of c.rows.window.extent later)) inv.form (read.exact (inv.honesty.0 honest) (subst (Sees c.rows.window) (sym same) (inv.sees honest))) before in
-          subst (λ (f : List ℕ). P c.read_row.new.rows.shown (extent_of entry) f) same (subst (λ (x : Extent). P c.read_row.new.rows.shown x later) inv.extent after);
-      taken = λ segments taken. read.taken segments (inv.taken segments taken);
+          let before = subst (λ (x : Extent). P (g.B.SegmentBuilder.rows c.rows.builder) x later) (sym inv.extent) (subst (λ (f : List ℕ). P (g.B.SegmentBuilder.rows c.rows.builder) (extent_of entry) f) (sym same) (inv.begins honest)) in
+          let after = subst (λ (f : Form). BeginsWith f (g.B.SegmentBuilder.rows c.rows.builder) (bytes_of c.rows.window.extent later) → BeginsWith f (g.B.SegmentBuilder.rows c.read_row.new.builder) (bytes_of c.rows.window.extent later)) inv.form (read.exact (inv.honesty.0 honest) (subst (Sees c.rows.window) (sym same) (inv.sees honest))) before in
+          subst (λ (f : List ℕ). P (g.B.SegmentBuilder.rows c.read_row.new.builder) (extent_of entry) f) same (subst (λ (x : Extent). P (g.B.SegmentBuilder.rows c.read_row.new.builder) x later) inv.extent after);
       moments = λ honest. read.moments (inv.honesty.0 honest) ∙ inv.moments honest;
       honesty = (λ h. read.honesty.0 (inv.honesty.0 h), λ h. inv.honesty.1 (read.honesty.1 h));
       failures = read.failures ∙ inv.failures;
@@ -82,22 +81,22 @@ rows-preserved g c =
       other_calls = read.other_calls ∙ inv.other_calls;
     }
 
-pub returns-then-at-entry-clause-exact : goal.returns-then-at-entry-clause-exact
-returns-then-at-entry-clause-exact g c honest =
+pub returns-then-to-entry-clause-exact : goal.returns-then-to-entry-clause-exact
+returns-then-to-entry-clause-exact g c honest =
     let inv = c.rows.invariant in
     let ended = c.rows-test.false in
     let most = c.rows.auto._count-end in
     let count = inv.count in
-    wrong_end c.rows.at c.args.imports c.args.entry c.rows.rows.places.items c.rows.rows.shown _ inv.read (omega (arith, ended, most, count)) c.if-at-entry.true (inv.begins honest)
+    wrong_end c.rows.to c.args.imports c.args.entry (g.B.SegmentBuilder.rows c.rows.builder) _ inv.read (omega (arith, ended, most, count)) c.if-to-entry.true (inv.begins honest)
 
-pub returns-in_err-at-clause-bytes_read : goal.returns-in_err-at-clause-bytes_read
-returns-in_err-at-clause-bytes_read g c =
+pub returns-in_err-to-clause-bytes_read : goal.returns-in_err-to-clause-bytes_read
+returns-in_err-to-clause-bytes_read g c =
     let inv = c.rows.invariant in
-    let extent = ap (λ (x : Extent). x.bytes) (c.in_err-at.ensures.extent ∙ inv.extent) in
-    omega (arith, inv.bytes_read, c.in_err-at.ensures.bytes_read, c.read_row.new.window.within, extent)
+    let extent = ap (λ (x : Extent). x.bytes) (c.in_err-to.ensures.extent ∙ inv.extent) in
+    omega (arith, inv.bytes_read, c.in_err-to.ensures.bytes_read, c.read_row.new.window.within, extent)
 
-pub returns-then-at-entry-clause-bytes_read : goal.returns-then-at-entry-clause-bytes_read
-returns-then-at-entry-clause-bytes_read g c =
+pub returns-then-to-entry-clause-bytes_read : goal.returns-then-to-entry-clause-bytes_read
+returns-then-to-entry-clause-bytes_read g c =
     let inv = c.rows.invariant in
     let extent = ap (λ (x : Extent). x.bytes) inv.extent in
     omega (arith, inv.bytes_read, c.rows.window.within, extent)
@@ -107,3 +106,11 @@ returns-clause-bytes_read g c =
     let inv = c.rows.invariant in
     let extent = ap (λ (x : Extent). x.bytes) inv.extent in
     omega (arith, inv.bytes_read, c.rows.window.within, extent)
+
+pub returns-clause-found : goal.returns-clause-found
+returns-clause-found g c =
+    let inv = c.rows.invariant in
+    let ended = c.rows-test.false in
+    let most = c.rows.auto._count-end in
+    let count = inv.count in
+    segment_found c.rows.to c.args.imports c.args.entry (g.B.SegmentBuilder.rows c.rows.builder) inv.read (omega (arith, c.if-to-entry.false)) (omega (arith, ended, most, count))

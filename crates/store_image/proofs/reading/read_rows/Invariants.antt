@@ -1,10 +1,7 @@
-use Rattle.std.proofs.Common.{◌≡◌, ◌↔◌, ◌+◌, ◌≤◌, List, [], length}
+use Rattle.std.proofs.Common.{◌≡◌, ◌↔◌, ◌+◌, ◌≤◌, length}
 use Rattle.store_image.specs.Private.Reading.{bytes_of}
 use Rattle.directory.specs.Places.{extent_of}
-use Rattle.history_model.specs.declared.stamped.StampedRow.{StampedRow}
 use Rattle.disk_model.specs.Disk.{raised_by}
-use Rattle.segment.specs.declared.place.RowPlace.{RowPlace}
-use Rattle.segment.specs.Standing.{with_places}
 use Rattle.store_image.specs.Private.Reading.{Sees, AreReadTo, BeginsWith}
 use Rattle.store_image.proofs.reading.read_rows.Given as goal
 
@@ -12,17 +9,17 @@ use Rattle.store_image.proofs.reading.read_rows.Given as goal
 abbrev pub invariant-rows : goal.invariant-rows
 invariant-rows g l =
     let old = g.D.Disk.moments l.fn.disk in
+    let rows = g.B.SegmentBuilder.rows l.builder in
     record {
-      read : AreReadTo l.at l.fn.imports l.rows.places.items l.rows.shown;
-      count : length l.rows.shown ≡ l._count;
+      read : AreReadTo l.to l.fn.imports rows;
+      count : length rows ≡ l._count;
       extent : l.window.extent ≡ extent_of l.fn.entry;
       form : l.window.form ≡ l.fn.entry.form;
-      from : l.window.from ≤ l.at;
-      reached : l.at ≤ l.window.from + l.window.len;
-      within : l.at ≤ l.fn.entry.bytes;
+      from : l.window.from ≤ l.to.at;
+      reached : l.to.at ≤ l.window.from + l.window.len;
+      within : l.to.at ≤ l.fn.entry.bytes;
       sees : g.D.Disk.is_honest l.fn.disk → Sees l.window old.state.now;
-      begins : g.D.Disk.is_honest l.fn.disk → BeginsWith l.fn.entry.form l.rows.shown (bytes_of (extent_of l.fn.entry) old.state.now);
-      taken : (segments : List (List (StampedRow × RowPlace))) → g.S.RowSink.has_taken l.fn.sink segments [] → g.S.RowSink.has_taken l.sink segments (with_places 0 l.rows.shown);
+      begins : g.D.Disk.is_honest l.fn.disk → BeginsWith l.fn.entry.form rows (bytes_of (extent_of l.fn.entry) old.state.now);
       moments : g.D.Disk.is_honest l.fn.disk → g.D.Disk.moments l.disk ≡ old;
       honesty : g.D.Disk.is_honest l.fn.disk ↔ g.D.Disk.is_honest l.disk;
       failures : g.D.Disk.failures l.disk ≡ g.D.Disk.failures l.fn.disk;

@@ -1,14 +1,13 @@
-use Rattle.std.specs.Prelude.{vec_items, map}
+use Rattle.std.specs.Prelude.{map}
 use Rattle.std.specs.List.{AllByRecursion}
-use Rattle.std.proofs.Common.{◌≡◌, ◌++◌, ℕ, List, [], ◌∷◌, get_or, take, sym, ap, subst, ◌∙◌, arith, take_all, length-take, Vec, Global}
+use Rattle.std.proofs.Common.{◌≡◌, ◌++◌, ℕ, List, [], ◌∷◌, get_or, take, sym, ap, subst, ◌∙◌, arith, take_all, length-take}
 use Rattle.std.proofs.lemmas.List.{length-map}
 use Rattle.disk_model.specs.Disk.{Moments}
 use Rattle.directory.specs.declared.entry.Entry.{Entry}
 use Rattle.history_model.specs.declared.stamped.StampedRow.{StampedRow}
 use Rattle.history_model.specs.InOrder.{IsAscending}
 use Rattle.rf2_values.specs.Key.{key_cmp}
-use Rattle.segment.specs.declared.place.RowPlace.{RowPlace}
-use Rattle.segment.specs.Standing.{places_of, with_places}
+use Rattle.segment.specs.Standing.{places_of}
 use Rattle.checksum.specs.declared.form.Form.TheVariants as forms
 use Rattle.store_image.specs.Pieces.{HoldsAll}
 use Rattle.store_image.specs.Kept.{AreSegments, pieces_of}
@@ -16,8 +15,8 @@ use Rattle.store_image.specs.Reading.{IsAt}
 use Rattle.store_image.specs.Private.Reading.{IsNotReadAt}
 use Rattle.store_image.specs.Damage.{AreThere}
 use Rattle.store_image.specs.Private.Keys.{keys_of, EachKeyOnce}
-use Rattle.store_image.proofs.Segments.{bytes_more, bytes_up_to, bytes_within, map-push, more_segments, more_numbered, more_held, more_segments_taken}
-use Rattle.store_image.proofs.Damaged.{not_read_at, number_of}
+use Rattle.store_image.proofs.Segments.{bytes_more, bytes_up_to, bytes_within, map-push, more_segments, more_numbered, more_held}
+use Rattle.store_image.proofs.Damaged.{not_read_at, segments_count}
 use Rattle.store_image.proofs.Asked.{stops_in}
 use Rattle.store_image.proofs.KeyLists.{ascending_keys, lists_from_once, once_from_lists}
 use Rattle.store_image.proofs.reading.read_segments.Goals as goal
@@ -37,17 +36,17 @@ returns-in-Err-clause-exact g c honest =
     let inv = c.loop-entry.invariant in
     let entries = c.args.entries.now in
     let i = c.loop-entry.entry-index in
-    let lists = c.loop-entry.shown.items in
+    let lists = map g.B.SegmentBuilder.sealed c.loop-entry.segments.items in
     let e = c.in-Err.fault in
     let lt = c.loop-entry-test.true in
     let now : List ℕ = (g.D.Disk.moments c.args.disk.now).state.now in
     let why = subst (IsNotReadAt e c.args.imports (get_or entries i none)) (same_now _ _ (inv.moments honest)) (c.in-Err.ensures.exact (inv.honesty.0 honest)) in
     let there : AreThere c.args.imports (take i entries) lists now = record { segments = inv.segments; numbered = inv.numbered; held = inv.held honest } in
-    let count = number_of (map vec_items c.loop-entry.places.items) lists (take i entries) inv.places inv.segments in
-    let long = length-map c.loop-entry.places.items (vec_items {X = RowPlace} {Z = Global}) in
+    let count = segments_count (take i entries) lists inv.segments in
+    let long = length-map c.loop-entry.segments.items g.B.SegmentBuilder.sealed in
     let front = length-take i entries in
-    let places = c.len-number.ensures in
-    rw (c.in_segment.ensures) (not_read_at e _ c.args.imports now entries lists i none lt (omega (arith, count, long, front, lt, places)) there why)
+    let number = c.len-number.ensures in
+    rw (c.in_segment.ensures) (not_read_at e _ c.args.imports now entries lists i none lt (omega (arith, count, long, front, lt, number)) there why)
 
 pub loop-entry-preserved : goal.loop-entry-preserved
 unfolding none
@@ -56,26 +55,17 @@ loop-entry-preserved g c =
     let read = c.in-Ok.ensures in
     let entries = c.args.entries.now in
     let i = c.loop-entry.entry-index in
-    let lists = c.loop-entry.shown.items in
-    let rows = c.in-Ok.rows.shown in
-    let more : List (List StampedRow) = c.push-in-loop-entry.new.self.items in
-    let more_is : more ≡ lists ++ rows ∷ [] = c.in_ok-push-2.ensures.items in
+    let lists = map g.B.SegmentBuilder.sealed c.loop-entry.segments.items in
+    let rows = g.B.SegmentBuilder.sealed c.in-Ok.segment in
+    let more : List (List StampedRow) = map g.B.SegmentBuilder.sealed c.push.new.self.items in
+    let more_is : more ≡ lists ++ rows ∷ [] = ap (map g.B.SegmentBuilder.sealed) c.in_ok-push.ensures.items ∙ map-push g.B.SegmentBuilder.sealed c.loop-entry.segments.items c.in-Ok.segment in
     let lt = c.loop-entry-test.true in
     record {
       segments = more_segments entries i none lists more rows lt more_is inv.segments read.found;
       numbered = more_numbered entries i none lists more rows lt more_is c.args.imports inv.numbered read.numbered;
-      places = ap (map vec_items) c.in_ok-push.ensures.items
-          ∙ map-push vec_items c.loop-entry.places.items c.in-Ok.rows.places
-          ∙ ap (λ (l : List (List RowPlace)). l ++ c.in-Ok.rows.places.items ∷ []) inv.places
-          ∙ ap (λ (p : List RowPlace). map places_of lists ++ p ∷ []) read.places
-          ∙ sym (map-push places_of lists rows)
-          ∙ sym (ap (map places_of) more_is);
       held = λ honest.
           let there = subst (λ (f : List ℕ). IsAt f (get_or entries i none) rows) (same_now _ _ (inv.moments honest)) (read.exact (inv.honesty.0 honest)) in
           more_held entries i none lists more rows lt more_is _ inv.segments (inv.held honest) there;
-      taken = λ segments taken.
-          let before = segments ++ map (with_places 0) lists in
-          subst (λ (l : List (List (StampedRow × RowPlace))). g.S.RowSink.has_taken c.read_segment.new.sink l []) (more_segments_taken entries i none lists more rows lt more_is segments) (read.taken before (inv.taken segments taken));
       moments = λ honest. read.moments (inv.honesty.0 honest) ∙ inv.moments honest;
       honesty = (λ h. read.honesty.0 (inv.honesty.0 h), λ h. inv.honesty.1 (read.honesty.1 h));
       failures = read.failures ∙ inv.failures;
@@ -86,9 +76,8 @@ loop-entry-preserved g c =
 
 pub are_apart-requires : goal.are_apart-requires
 are_apart-requires g c =
-    let inv = c.loop-entry.invariant in
-    let lists = c.loop-entry.shown.items in
-    subst (λ (l : List (Vec RowPlace Global)). AllByRecursion (IsAscending key_cmp) (map keys_of (map vec_items l))) (sym c.as_slice.ensures.value) (ascending_keys (map vec_items c.loop-entry.places.items) lists inv.places (take c.loop-entry.entry-index c.args.entries.now) inv.segments)
+    let sealed = g.B.SegmentBuilder.sealed in
+    subst (λ l. AllByRecursion (IsAscending key_cmp) (map keys_of (map places_of (map sealed l)))) (sym c.as_slice.ensures.value) (ascending_keys (map sealed c.loop-entry.segments.items) (take c.loop-entry.entry-index c.args.entries.now) c.loop-entry.invariant.segments)
 
 pub returns-then-not-branch-clause-exact : goal.returns-then-not-branch-clause-exact
 unfolding none
@@ -96,7 +85,7 @@ returns-then-not-branch-clause-exact g c honest =
     let inv = c.loop-entry.invariant in
     let entries = c.args.entries.now in
     let i = c.loop-entry.entry-index in
-    let lists = c.loop-entry.shown.items in
+    let lists = map g.B.SegmentBuilder.sealed c.loop-entry.segments.items in
     let ended = c.loop-entry-test.false in
     let whole : take i entries ≡ entries = take_all i entries (omega (arith, ended)) in
     let are = subst (λ (l : List Entry). AreSegments l lists) whole inv.segments in
@@ -107,8 +96,8 @@ returns-then-not-branch-clause-exact g c honest =
       lists = lists;
       there = there;
       shared = λ apart.
-          let once = once_from_lists (map vec_items c.loop-entry.places.items) lists inv.places apart in
-          let yes = c.in_ok-are_apart.ensures.1 (subst (λ (l : List (Vec RowPlace Global)). EachKeyOnce (map keys_of (map vec_items l))) (sym c.as_slice.ensures.value) once) in
+          let once = once_from_lists lists apart in
+          let yes = c.in_ok-are_apart.ensures.1 (subst (λ l. EachKeyOnce (map keys_of (map places_of (map g.B.SegmentBuilder.sealed l)))) (sym c.as_slice.ensures.value) once) in
           let no = c.if-not-branch.true in
           absurd cc;
     }
@@ -118,14 +107,14 @@ returns-clause-read g c =
     let inv = c.loop-entry.invariant in
     let entries = c.args.entries.now in
     let i = c.loop-entry.entry-index in
-    let lists = c.loop-entry.shown.items in
+    let lists = map g.B.SegmentBuilder.sealed c.loop-entry.segments.items in
     let ended = c.loop-entry-test.false in
     let whole : take i entries ≡ entries = take_all i entries (omega (arith, ended)) in
     let are = subst (λ (l : List Entry). AreSegments l lists) whole inv.segments in
-    let once = subst (λ (l : List (Vec RowPlace Global)). EachKeyOnce (map keys_of (map vec_items l))) c.as_slice.ensures.value (c.in_ok-are_apart.ensures.0 c.if-not-branch.false) in
+    let once = subst (λ l. EachKeyOnce (map keys_of (map places_of (map g.B.SegmentBuilder.sealed l)))) c.as_slice.ensures.value (c.in_ok-are_apart.ensures.0 c.if-not-branch.false) in
     record {
       segments = are;
-      apart = lists_from_once (map vec_items c.loop-entry.places.items) lists inv.places entries are once;
+      apart = lists_from_once lists entries are once;
       numbered = inv.numbered;
     }
 
@@ -141,13 +130,6 @@ returns-in-Err-clause-bytes_read g c =
 pub returns-in_err-push-clause-bytes_read : goal.returns-in_err-push-clause-bytes_read
 unfolding none
 returns-in_err-push-clause-bytes_read g c =
-    let entries = c.args.entries.now in
-    let i = c.loop-entry.entry-index in
-    omega (arith, c.loop-entry.invariant.bytes_read, c.in-Ok.ensures.bytes_read, bytes_up_to entries i none c.loop-entry-test.true)
-
-pub returns-in_err-push-2-clause-bytes_read : goal.returns-in_err-push-2-clause-bytes_read
-unfolding none
-returns-in_err-push-2-clause-bytes_read g c =
     let entries = c.args.entries.now in
     let i = c.loop-entry.entry-index in
     omega (arith, c.loop-entry.invariant.bytes_read, c.in-Ok.ensures.bytes_read, bytes_up_to entries i none c.loop-entry-test.true)
@@ -173,8 +155,8 @@ returns-in-Err-clause-stops g c =
     let entries = c.args.entries.now in
     let i = c.loop-entry.entry-index in
     let lt = c.loop-entry-test.true in
-    let count = number_of (map vec_items c.loop-entry.places.items) c.loop-entry.shown.items (take i entries) inv.places inv.segments in
-    let long = length-map c.loop-entry.places.items (vec_items {X = RowPlace} {Z = Global}) in
+    let count = segments_count (take i entries) (map g.B.SegmentBuilder.sealed c.loop-entry.segments.items) inv.segments in
+    let long = length-map c.loop-entry.segments.items g.B.SegmentBuilder.sealed in
     let front = length-take i entries in
-    let places = c.len-number.ensures in
-    rw (c.in_segment.ensures) (stops_in c.in-Err.fault _ entries i none _ (g.D.Disk.bytes_read c.loop-entry.disk) _ _ _ lt (omega (arith, count, long, front, lt, places)) inv.bytes_read c.in-Err.ensures.bytes_read (omega (arith, inv.other_calls, c.in-Err.ensures.other_calls)))
+    let number = c.len-number.ensures in
+    rw (c.in_segment.ensures) (stops_in c.in-Err.fault _ entries i none _ (g.D.Disk.bytes_read c.loop-entry.disk) _ _ _ lt (omega (arith, count, long, front, lt, number)) inv.bytes_read c.in-Err.ensures.bytes_read (omega (arith, inv.other_calls, c.in-Err.ensures.other_calls)))

@@ -1,10 +1,7 @@
-use Rattle.std.specs.Prelude.{vec_items, map}
+use Rattle.std.specs.Prelude.{map}
 use Rattle.std.specs.List.{AllByRecursion}
-use Rattle.std.proofs.Common.{◌≡◌, ◌↔◌, ◌+◌, ◌≤◌, ◌++◌, List, [], take}
-use Rattle.history_model.specs.declared.stamped.StampedRow.{StampedRow}
+use Rattle.std.proofs.Common.{◌≡◌, ◌↔◌, ◌+◌, ◌≤◌, take}
 use Rattle.disk_model.specs.Disk.{raised_by}
-use Rattle.segment.specs.declared.place.RowPlace.{RowPlace}
-use Rattle.segment.specs.Standing.{places_of, with_places}
 use Rattle.store_image.specs.Pieces.{HoldsAll}
 use Rattle.store_image.specs.Kept.{AreSegments, bytes_listed, pieces_of}
 use Rattle.store_image.specs.Reading.{AreNumbered}
@@ -14,13 +11,12 @@ use Rattle.store_image.proofs.reading.read_segments.Given as goal
 abbrev pub invariant-loop-entry : goal.invariant-loop-entry
 invariant-loop-entry g l =
     let old = g.D.Disk.moments l.fn.disk in
+    let lists = map g.B.SegmentBuilder.sealed l.segments.items in
     let done = take l.entry-index l.entries in
     record {
-      segments : AreSegments done l.shown.items;
-      numbered : AllByRecursion (AreNumbered l.fn.imports) l.shown.items;
-      places : map vec_items l.places.items ≡ map places_of l.shown.items;
-      held : g.D.Disk.is_honest l.fn.disk → HoldsAll (pieces_of done l.shown.items) old.state.now;
-      taken : (segments : List (List (StampedRow × RowPlace))) → g.S.RowSink.has_taken l.fn.sink segments [] → g.S.RowSink.has_taken l.sink (segments ++ map (with_places 0) l.shown.items) [];
+      segments : AreSegments done lists;
+      numbered : AllByRecursion (AreNumbered l.fn.imports) lists;
+      held : g.D.Disk.is_honest l.fn.disk → HoldsAll (pieces_of done lists) old.state.now;
       moments : g.D.Disk.is_honest l.fn.disk → g.D.Disk.moments l.disk ≡ old;
       honesty : g.D.Disk.is_honest l.fn.disk ↔ g.D.Disk.is_honest l.disk;
       failures : g.D.Disk.failures l.disk ≡ g.D.Disk.failures l.fn.disk;

@@ -1,0 +1,342 @@
+"""Part of refuse_growths.py: lines that are served with little memory, and the model's replies."""
+
+from __future__ import annotations
+
+import hashlib
+import os
+import re
+import shutil
+from pathlib import Path
+from typing import NamedTuple, Optional, Sequence
+
+import soak
+from growths_harness import (ALL_BEHIND, ALONE, OUT_OF_MEMORY, Program, Ran, Refusals, Wrong,
+                             replies_in, try_each, ways_to_be_refused)
+
+SEED = 2
+REFUSED = [OUT_OF_MEMORY.decode().strip()]
+# The lines that take no memory, and those that are refused for what they say: no such line is
+# refused because memory ran out.
+NEVER = re.compile(
+    "[0-9]+ ((AT [0-9]+ )?RECEIPT|PIN|UNPIN|STATUS|MERGE|PUBLISH|ABANDON|TRIM)( |$)")
+NONE_READ = ("ERR 41 ", "ERR 42 ", "ERR 43 ")
+# How many requests in a row are refused, of how many numbers each first one, so that lines come
+# again after some were refused; of how many the runs are in which all behind one are; and of how
+# many those in which the line that was refused comes again at once.
+IN_A_ROW, ROW_STEP, ALL_STEP, AGAIN_STEP = 40, 7, 10, 10
+# How many lines have to be refused in one of the runs.
+MANY = 5
+
+
+class Session:
+    """Random lines, the store that they are served on, and their releases."""
+
+    def __init__(self, program: Program, folder: Path, count: int, seed: int) -> None:
+        self.made = soak.Soak(str(program.program), seed, str(folder))
+        self.keeps_all: bool = self.made.is_of_version_three()
+        self.store = Path(self.made.store)
+        layout = "3" if self.keeps_all else "2"
+        program.done(["init", "--store", str(self.store), "--layout", layout], folder)
+        self.lines: list[str] = []
+        for _ in range(count):
+            self.lines.append(self.made.line())
+            self.made.model.reply(self.lines[-1])
+        self.lines += self.questions()
+
+    def questions(self) -> list[str]:
+        """What is asked behind the random lines, by a session that they don't pin."""
+        model, day = self.made.model, soak.LAST_DATE
+        shown = {kind: self.versions(kind) for kind in soak.KINDS}
+        letters = sorted({columns[7][0].casefold() for columns in shown["D"]})
+        parents = sorted({columns[5] for columns in shown["R"]})
+        children = sorted({columns[4] for columns in shown["R"]})
+        replaced = sorted({columns[5] for columns in shown["A"]})
+        replacing = sorted({columns[6] for columns in shown["A"]})
+        lines = ["10 TERMS %s 1000 %s" % (day, letter) for letter in letters]
+        lines += ["10 CHILDREN %s %s" % (parent, day) for parent in parents]
+        lines += ["10 DESCENDANTS %s %s" % (parent, day) for parent in parents[:5]]
+        lines += ["10 ANCESTORS %s %s" % (child, day) for child in children[:5]]
+        lines += ["10 REPLACED %s %s" % (component, day) for component in replaced]
+        lines += ["10 REPLACES %s %s" % (component, day) for component in replacing[:5]]
+        for kind, place in soak.SUBJECTS.items():
+            subjects = sorted({columns[place] for columns in shown[kind]})
+            lines += ["10 ABOUT %s %s %s" % (kind, subject, day) for subject in subjects[:20]]
+            lines += ["10 TIMELINE %s %s" % (kind, subject) for subject in subjects[:5]]
+        lines += self.of_reference_sets(shown)
+        for kind in soak.KINDS:
+            lines += ["10 HISTORY %s %s" % (kind, name) for name in self.made.names(kind)[:20]]
+            lines.append("10 DELTA %s 20191231 %s - 10" % (kind, day))
+        lines += ["10 RECEIPT %d" % number for number in range(1, model.state.imports + 1)]
+        lines += ["10 AT %d DATES" % number for number in (0, model.state.imports)]
+        for line in lines:
+            model.reply(line)
+        return lines
+
+    def of_reference_sets(self, shown: dict[str, list[soak.Columns]]) -> list[str]:
+        """The members of each reference set and its values, and what some concepts were called."""
+        day, refsets = soak.LAST_DATE, sorted({columns[4] for columns in shown["M"]})
+        concepts = sorted({columns[4] for columns in shown["D"]})
+        lines = ["10 MEMBERS %s %s - 10" % (refset, day) for refset in refsets]
+        lines += ["10 VALUES %s %s - 3" % (refset, day) for refset in refsets]
+        return lines + ["10 CALLED %s %s %d" % (concept, day, language)
+                        for concept in concepts[:20] for language in soak.rf2.LANGUAGES]
+
+    def versions(self, kind: str) -> list[soak.Columns]:
+        """The columns of each version of each component."""
+        of = self.made.model.kinds[kind].of
+        return [columns for dates in of.values() for _, columns in dates.values()]
+
+
+class Served(NamedTuple):
+    """What runs are made of: lines, the releases that they import, the store that each run begins
+    with, the lines that made it, and whether it keeps all files of a release."""
+
+    lines: Sequence[str]
+    releases: Path
+    files: dict[str, list[soak.File]]
+    store: Path
+    before: Sequence[str] = ()
+    keeps_all: bool = False
+
+
+class Outcome(NamedTuple):
+    """What came of a run: whether it was refused at its start, the places of the lines that were
+    refused, and how many imports there are then."""
+
+    is_start: bool
+    refused: Sequence[int]
+    imports: int
+
+
+class Runs:
+    """All runs on the same lines."""
+
+    def __init__(self, program: Program, folder: Path, served: Served) -> None:
+        self.program, self.folder, self.served = program, folder, served
+        self.never = {line for line in served.lines if self.is_never_refused(line)}
+        self.untouched = served.store.read_bytes()
+        # The stores that were looked at, with what they have to hold.
+        self.looked_at: set[tuple[bytes, str, str]] = set()
+        self.outcomes: dict[int, list[Outcome]] = {ALONE: [], IN_A_ROW: [], ALL_BEHIND: []}
+
+    def is_never_refused(self, line: str) -> bool:
+        said = soak.Model({}).reply(line)[-1]
+        return bool(NEVER.match(line)) or said.startswith(NONE_READ)
+
+    def model(self) -> soak.Model:
+        """The model of the store that a run begins with."""
+        model = soak.Model(self.served.files, self.served.keeps_all)
+        for line in self.served.before:
+            model.reply(line)
+        model.state, model.pins = model.state.reopened(), {}
+        return model
+
+    def serve(self, folder: Path, lines: Sequence[str],
+              refusals: Optional[Refusals] = None) -> tuple[Ran, bool]:
+        """Serves lines from the store in a folder."""
+        words = ["serve", "--store", "store", "--releases", str(self.served.releases)]
+        given = "".join(line + "\n" for line in lines).encode()
+        return self.program.run(words, folder, given, refusals)
+
+    def check(self, model: soak.Model, lines: Sequence[str],
+              replies: Sequence[soak.Reply]) -> list[int]:
+        """Compares the replies of a run, and gives the places of the lines that were refused: these
+        aren't told to the model."""
+        refused = []
+        for place, (line, said) in enumerate(zip(lines, replies)):
+            if said == REFUSED:
+                refused.append(place)
+                if line in self.never:
+                    raise Wrong("%r: refused, as if memory had run out" % line)
+            elif said != model.reply(line):
+                raise Wrong("%r: %r" % (line, said[:3]))
+        return refused
+
+    def outcome(self, place: int, lines: Sequence[str], refusals: Refusals) -> Optional[Outcome]:
+        """What comes of a run; none where no request was refused in it."""
+        folder = self.folder / ("place%d" % place)
+        folder.mkdir(exist_ok=True)
+        shutil.copyfile(self.served.store, folder / "store")
+        ran, was_refused = self.serve(folder, lines, refusals)
+        replies = list(replies_in(ran.output))
+        model = self.model()
+        if was_refused and ran.status == 1 and ran[1:] in ways_to_be_refused("store"):
+            if (folder / "store").read_bytes() != self.untouched:
+                raise Wrong("refused at its start, and another store afterwards")
+            return Outcome(True, (), model.state.imports)
+        if ran.status or len(replies) != len(lines):
+            raise Wrong("%d replies, %s" % (len(replies), ran.told()))
+        refused = self.check(model, lines, replies)
+        if len(refused) > (refusals.count if was_refused else 0) >= 0:
+            raise Wrong("%d lines refused" % len(refused))
+        self.look(folder, model)
+        return Outcome(False, refused, model.state.imports) if was_refused else None
+
+    def look(self, folder: Path, model: soak.Model) -> None:
+        """Opens the store once more, and compares what it holds."""
+        model.state, model.pins = model.state.reopened(), {}
+        data = hashlib.sha256((folder / "store").read_bytes()).digest()
+        seen = (data, model.state.status(), model.reply("0 DIGEST")[0])
+        if seen in self.looked_at:
+            return
+        lines = ["0 STATUS"] + ["0 PAGE %s 99991231 - 1000" % kind for kind in soak.KINDS]
+        ran, _ = self.serve(folder, lines)
+        if list(replies_in(ran.output)) != [model.reply(line) for line in lines]:
+            raise Wrong("another store afterwards")
+        self.looked_at.add(seen)
+
+    def run(self, place: int, refusals: Refusals) -> bool:
+        """Makes a run; whether a request was refused in it."""
+        outcome = self.outcome(place, self.served.lines, refusals)
+        if outcome is None:
+            return False
+        self.outcomes[refusals.count].append(outcome)
+        if refusals.count == ALONE and outcome.refused and refusals.first % AGAIN_STEP == 0:
+            self.run_again(place, refusals, outcome.refused[0])
+        return True
+
+    def run_again(self, place: int, refusals: Refusals, at: int) -> None:
+        """The same, but that the line which is refused comes twice: so it is answered then."""
+        lines = [*self.served.lines[:at + 1], *self.served.lines[at:]]
+        outcome = self.outcome(place, lines, refusals)
+        if outcome is None or list(outcome.refused) != [at]:
+            raise Wrong("%r comes twice: %s" % (lines[at], outcome))
+
+    def are_right(self) -> bool:
+        """Makes them, and prints what came; whether each was as it has to be."""
+        for count, step in ((ALONE, 1), (IN_A_ROW, ROW_STEP), (ALL_BEHIND, ALL_STEP)):
+            try:
+                try_each(lambda place, first: self.run(place, Refusals(first, count)), step)
+            except Wrong as wrong:
+                print("WRONG with %d refused: %s" % (count, wrong))
+                return False
+        print("lines %d" % len(self.served.lines))
+        alone, several = self.outcomes[ALONE], self.outcomes[IN_A_ROW] + self.outcomes[ALL_BEHIND]
+        starts = sum(outcome.is_start for outcome in alone)
+        refused = sum(len(outcome.refused) for outcome in alone)
+        most = max((len(outcome.refused) for outcome in several), default=0)
+        print("calls refused in turn %d" % len(alone))
+        print("runs refused at their start %d" % starts)
+        print("lines refused %d" % refused)
+        print("refusals that show in no reply %d" % (len(alone) - starts - refused))
+        print("runs with several calls refused %d, lines refused in one %d" % (len(several), most))
+        if not starts or not refused or most < MANY or not self.have_imports(several):
+            print("NOTHING TRIED: no run was refused at its start, or none in a line, or too few "
+                  "lines in one, or each import or none")
+            return False
+        return True
+
+    def have_imports(self, several: Sequence[Outcome]) -> bool:
+        """Whether all imports were refused in one of these runs and one came in another, if the
+        lines have any."""
+        before = self.model().state.imports
+        came = {outcome.imports > before for outcome in several if outcome.refused}
+        are_there = any(outcome.imports > before for outcome in self.outcomes[ALONE])
+        return came == {False, True} or not are_there
+
+
+# The rows of the releases that the demonstration imports: their columns, without those that are the
+# same in each row of a kind.
+CORE = "900000000000207008"
+CONCEPT = CORE + " 900000000000074008"
+LINK = CORE + " 1000004 138875005 0 116680003 900000000000011006 900000000000451002"
+TERM = CORE + " 1000004 de 900000000000013009 %s 900000000000448009"
+SAMPLES = {
+    "r1": [
+        ("C", "138875005 20200131 1 " + CONCEPT),
+        ("C", "1000004 20200131 1 " + CONCEPT),
+        ("C", "2000001 20200131 1 " + CONCEPT),
+        ("D", "1000015 20200131 1 " + TERM % "Straße"),
+        ("R", "1000027 20200131 1 " + LINK),
+        ("R", "2000029 20200131 1 " + LINK),
+    ],
+    "r2": [
+        ("C", "1000004 20210131 0 " + CONCEPT),
+        ("D", "1000015 20210131 1 " + TERM % "Weg"),
+        ("R", "2000029 20210131 0 " + LINK),
+        (
+            "A",
+            "0b6a0c2e-5d0f-4c53-9f6e-8d9d2a7b1c01 20210131 1 "
+            + CORE
+            + " 900000000000527005 1000004 2000001",
+        ),
+    ],
+    "r3": [
+        ("C", "138875005 20200131 1 " + CONCEPT),
+        ("C", "1000004 20200731 0 " + CONCEPT),
+        ("C", "3000005 20200131 1 " + CONCEPT),
+    ],
+}
+# The lines of the demonstration that change the store.
+CHANGES = """0 STATUS
+0 GET C 138875005 20230131
+0 IMPORT r1
+1 PIN
+0 IMPORT r2
+0 MERGE
+0 STEP 1
+1 IMPORT r3
+0 STEP 100
+0 PUBLISH""".split("\n")
+# What it asks the store then, lines that are refused, and further questions.
+QUESTIONS = """0 STATUS
+0 GET C 1000004 20200831
+1 GET C 1000004 20200831
+0 HISTORY C 1000004
+0 CHILDREN 138875005 20210131
+0 TERMS 20200131 10 STRASS
+0 TERMS 20210131 10 STRASS
+0 REPLACED 1000004 20210131
+1 PIN 9
+0 IMPORT r9
+1 UNPIN
+1024 STATUS
+0 STATU
+0 STEP 0
+0 ABANDON
+0 TRIM
+0 ABOUT D 1000004 20210131
+0 ABOUT R 1000004 20200131
+0 ABOUT A 1000004 20210131
+0 SEARCH 20200131 - 10 STRASS
+0 RECEIPT 2
+0 DELTA D 20200131 20210131 - 10
+0 TIMELINE D 1000004
+0 ANCESTORS 1000004 20200131
+0 DESCENDANTS 138875005 20210131
+0 REPLACES 2000001 20210131
+0 DATES
+0 AT 1 DATES
+0 CHECK r2
+0 DIGEST""".split("\n")
+
+
+def samples_in(releases: Path) -> dict[str, list[soak.File]]:
+    """Writes the samples as folders; the files of each, as the model takes them."""
+    files = {}
+    for name, rows in SAMPLES.items():
+        of = {kind: [row.split() for k, row in rows if k == kind] for kind in soak.rf2.KINDS}
+        texts = {kind: ["\t".join(columns) for columns in of[kind]] for kind in of}
+        soak.rf2.write(os.path.join(releases, name), "Delta", "20200131", texts)
+        files[name] = [soak.File(kind, True, of[kind]) for kind in sorted(of, key=soak.place_of)]
+    return files
+
+
+def runs_of_script(program: Program, folder: Path, releases: Path,
+                   files: dict[str, list[soak.File]]) -> list[Runs]:
+    """The runs of the demonstration's lines, and of its questions on the store that it leaves."""
+    empty, full = folder / "empty", folder / "full"
+    program.done(["init", "--store", str(empty)], folder)
+    script = Runs(program, folder, Served(CHANGES + QUESTIONS, releases, files, empty))
+    shutil.copyfile(empty, folder / "store")
+    script.serve(folder, CHANGES)
+    (folder / "store").rename(full)
+    return [script, Runs(program, folder, Served(QUESTIONS, releases, files, full, CHANGES))]
+
+
+def runs_of_session(program: Program, folder: Path, count: int, seed: int) -> list[Runs]:
+    """The runs of random lines."""
+    session = Session(program, folder, count, seed)
+    made = session.made.releases
+    return [Runs(program, folder, Served(session.lines, Path(made.folder), made.files,
+                                         session.store, keeps_all=session.keeps_all))]

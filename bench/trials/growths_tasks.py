@@ -1,0 +1,232 @@
+"""Part of refuse_growths.py: each task of the command line with little memory."""
+
+from __future__ import annotations
+
+from collections import Counter
+from pathlib import Path
+from typing import Mapping, NamedTuple, Optional
+
+from growths_harness import (ALL_BEHIND, DISK_FAULT, OUT_OF_MEMORY, Program, Ran, Refusals,
+                             Wrong, replies_in, try_each, ways_to_be_refused)
+
+# The files in a folder, by their names.
+Files = Mapping[str, bytes]
+
+STORE, COPY = "store", "copy"
+# The stores that are made before: the first two releases in version 2 of the layout and in version
+# 3, and all three in version 2.
+TWO, TWO_OF_THREE, THREE = "two", "two, in version 3", "three"
+NONE: Files = {}
+# Of the runs in which all requests are refused from one on, each one with so many in between.
+STEP = 10
+# What is told in place of what can't be found out, beside what is told with all memory.
+PASSED_OVER = b"sctd: passed over "
+UNCOMPARED = b"sctd: warning: not all dates and modules could be compared with the store's"
+
+
+class Task(NamedTuple):
+    """The words of a run, the store that it begins with, if any, what it is given, and its status
+    with all memory."""
+
+    words: str
+    store: Optional[str] = None
+    given: bytes = b""
+    status: int = 0
+
+    def command(self) -> str:
+        return self.words.partition(" ")[0]
+
+
+TASKS = (
+    Task("init --store store"),
+    Task("import --store store --releases ../releases r3", TWO),
+    Task("import --quiet --store store ../releases/r3", TWO_OF_THREE),
+    Task("import --check --store store ../releases/r3", TWO_OF_THREE),
+    Task("status --store store", THREE),
+    Task("merge --store store --segments 1", THREE),
+    Task("copy --store store --to copy", THREE),
+    Task("copy --store store --to copy --imports 1", THREE),
+    Task("digest --store store", THREE),
+    Task("upgrade --store store", THREE),
+    Task("serve --store store --releases ../releases", THREE,
+         b"0 STATUS\n0 PIN\n0 RECEIPT 1\n0 UNPIN\n0 TRIM\n"),
+    # Words that are no task.
+    Task("", status=2),
+    Task("shelve", status=2),
+    Task("init", status=2),
+    Task("init --store a --store b", status=2),
+    Task("import --store a --releases b", status=2),
+    Task("--help"),
+    Task("import --help"),
+)
+DEMO = Task("demo")
+
+
+def files_in(folder: Path) -> Files:
+    return {path.name: path.read_bytes() for path in folder.iterdir()}
+
+
+def put(folder: Path, files: Files) -> None:
+    """Makes these the files in a folder."""
+    for path in folder.iterdir():
+        path.unlink()
+    for name, data in files.items():
+        (folder / name).write_bytes(data)
+
+
+def stores_in(program: Program, folder: Path) -> dict[Optional[str], Files]:
+    """The files that tasks begin with."""
+    made: dict[Optional[str], Files] = {None: NONE}
+    for name, layout, releases in ((TWO, "2", 2), (TWO_OF_THREE, "3", 2), (THREE, "2", 3)):
+        put(folder, NONE)
+        program.done(["init", "--layout", layout, "--store", STORE], folder)
+        for number in range(1, releases + 1):
+            program.done(["import", "--store", STORE, "../releases/r%d" % number], folder)
+        made[name] = files_in(folder)
+    return made
+
+
+def is_extra(line: bytes) -> bool:
+    """Whether a line of faults says that there was no memory to find out more: of a folder that
+    couldn't be listed, or of dates that couldn't be compared."""
+    return line == UNCOMPARED or line.startswith(PASSED_OVER) and line[-1:] in (b" ", b"/")
+
+
+def told_of(faults: bytes) -> list[bytes]:
+    return [line for line in faults.split(b"\n")[:-1] if not is_extra(line)]
+
+
+class Trial:
+    """One task, with each request for memory refused in turn."""
+
+    def __init__(self, program: Program, folder: Path, task: Task, before: Files) -> None:
+        self.program, self.folder, self.task, self.before = program, folder, task, before
+        self.words = task.words.split()
+        place = self.place(0)
+        put(place, before)
+        self.whole, _ = program.run(self.words, place, task.given)
+        self.after = files_in(place)
+        if self.whole.status != task.status:
+            raise Wrong(self.whole.told())
+        # How runs ended, in words.
+        self.ends: Counter[str] = Counter()
+
+    def place(self, number: int) -> Path:
+        place = self.folder / ("place%d" % number)
+        place.mkdir(exist_ok=True)
+        return place
+
+    def run(self, place: int, refusals: Refusals) -> bool:
+        """Does the task once; whether any request was refused."""
+        folder = self.place(place)
+        put(folder, self.before)
+        ran, was_refused = self.program.run(self.words, folder, self.task.given, refusals)
+        left = files_in(folder)
+        if ran.status == self.whole.status and ran.output == self.whole.output:
+            self.ends["done" if was_refused else "whole"] += 1
+            self.check_done(ran, left)
+        elif was_refused:
+            self.ends["refused"] += 1
+            self.check_refused(ran, left, folder)
+        else:
+            raise Wrong(ran.told())
+        return was_refused
+
+    def check_done(self, ran: Ran, left: Files) -> None:
+        if told_of(ran.faults) != told_of(self.whole.faults):
+            raise Wrong("done, but %s" % ran.told())
+        if left != self.after:
+            raise Wrong("done, and other files afterwards")
+
+    def check_refused(self, ran: Ran, left: Files, folder: Path) -> None:
+        """Looks if it is refused as it has to be, and what it leaves."""
+        first, last = ran.faults[:-1].rpartition(b"\n")[::2]
+        begun = told_of(first + b"\n") if first else []
+        way = (ran.output, last + b"\n")
+        if ran.status != 1 or way not in self.ways() or begun != self.begun(len(begun)):
+            raise Wrong(ran.told())
+        if left != self.before and not self.may_leave(way, begun, left, folder):
+            raise Wrong("refused, and other files afterwards: %s" % ran.told())
+
+    def ways(self) -> list[tuple[bytes, bytes]]:
+        is_task = self.whole.status == 0 and "--help" not in self.words
+        return ways_to_be_refused(STORE, COPY) if is_task else [(b"", OUT_OF_MEMORY)]
+
+    def begun(self, count: int) -> list[bytes]:
+        """The first so many lines of faults with all memory."""
+        return told_of(self.whole.faults)[:count]
+
+    def may_leave(self, way: tuple[bytes, bytes], begun: list[bytes], left: Files,
+                  folder: Path) -> bool:
+        """Whether a task that was refused may have changed the files to these: to one without a
+        byte, for a store or a copy; or by whole merges. What is left of a store is then made the
+        one that the task makes, if it is done again."""
+        if self.task.command() == "copy":
+            is_unopened = way == (DISK_FAULT, b"sctd: copy: out of memory\n")
+            return is_unopened and left == {**self.before, COPY: b""}
+        if self.task.command() == "init":
+            return left == {STORE: b""} and self.is_done_again(folder) == self.after[STORE]
+        return self.task.command() == "merge" and bool(begun) and self.has_merged(folder)
+
+    def is_done_again(self, folder: Path) -> bytes:
+        """The store once the task was done on what is left, as it has to be with all memory."""
+        ran, _ = self.program.run(self.words, folder, self.task.given)
+        if ran[:2] != self.whole[:2]:
+            raise Wrong("again: %s" % ran.told())
+        return (folder / STORE).read_bytes()
+
+    def has_merged(self, folder: Path) -> bool:
+        """Whether the rows are those from before, also once it is merged further."""
+        digest = ["digest", "--store", STORE]
+        first = self.program.done(digest, folder)
+        self.is_done_again(folder)
+        again = self.program.done(digest, folder)
+        put(folder, self.before)
+        return first == again == self.program.done(digest, folder)
+
+    def all_runs(self) -> None:
+        try_each(lambda place, number: self.run(place, Refusals(number)))
+        try_each(lambda place, number: self.run(place, Refusals(number, ALL_BEHIND)), STEP)
+        if not self.ends["refused"]:
+            raise Wrong("NOTHING TRIED: no run was refused")
+
+
+class Demonstration(Trial):
+    """The demonstration, whose disk is in memory: where that runs out, the disk fails."""
+
+    def check_refused(self, ran: Ran, left: Files, folder: Path) -> None:
+        """Looks if it is refused before its first line, or if the replies are the usual ones up to
+        one that says that memory ran out or the disk failed, and no reply is missing."""
+        if left:
+            raise Wrong("it left %s" % sorted(left))
+        if ran in ((1, b"", OUT_OF_MEMORY), (1, OUT_OF_MEMORY, b""), (1, DISK_FAULT, b"")):
+            return
+        usual, said = list(replies_in(self.whole.output)), list(replies_in(ran.output))
+        if (ran.status, ran.faults) != (0, b"") or len(said) != len(usual):
+            raise Wrong(ran.told())
+        first = next(reply for reply, wanted in zip(said, usual) if reply != wanted)
+        if first not in (["ERR 1 OutOfMemory"], ["ERR 2 DiskFault"]):
+            raise Wrong("%r, before memory ran out" % first)
+
+
+def are_right(program: Program, folder: Path) -> bool:
+    """Makes the runs of all tasks, and prints what came; whether each was as it has to be."""
+    work = folder / "tasks"
+    work.mkdir()
+    (work / "releases").symlink_to(folder / "releases")
+    made = work / "made"
+    made.mkdir()
+    stores = stores_in(program, made)
+    is_right = True
+    for task in (*TASKS, DEMO):
+        kind = Demonstration if task == DEMO else Trial
+        try:
+            trial = kind(program, work, task, stores[task.store])
+            trial.all_runs()
+        except Wrong as wrong:
+            print("WRONG: sctd %s: %s" % (task.words, wrong))
+            is_right = False
+            continue
+        print("sctd %s: refused %d, done %d" % (
+            task.words, trial.ends["refused"], trial.ends["done"]))
+    return is_right

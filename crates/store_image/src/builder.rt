@@ -1,0 +1,40 @@
+//! What the rows of a segment are read into.
+
+ghost use Rattle.std.specs.Prelude.{◌≡◌, ◌<◌, ◌^◌, ◌++◌, ◌∷◌, List, [], length, IfOk, OnOk};
+ghost use Rattle.history_model.specs.declared.stamped.StampedRow.{StampedRow};
+ghost use Rattle.history_model.specs.InOrder.{IsAscending};
+ghost use Rattle.history_model.specs.History.{stamped_cmp};
+ghost use Rattle.segment.specs.Records.{segment_of};
+ghost use Rattle.segment.specs.Standing.{places_of};
+
+use history_model::StampedRow;
+use segment::RowPlace;
+use std::alloc::{AllocError, Global};
+
+/// Builds what is kept of the rows of a segment, as they are read.
+pub trait SegmentBuilder: Drop {
+    /// What is kept of a segment: the places of its rows, at least.
+    type Segment: Drop;
+    /// The rows so far.
+    ghost rows: { Self → List StampedRow };
+    /// The rows of a segment.
+    ghost sealed: { Self.Segment → List StampedRow };
+
+    /// No rows, with room for the places of so many.
+    fn with_capacity(alloc: Global, count: usize) -> Result<Self, AllocError>
+        ensures { IfOk result (λ builder. rows builder ≡ []) };
+
+    /// Adds a row, the record of which stands behind those of the rows before it.
+    fn push(&mut self, row: &StampedRow) -> Result<(), AllocError>
+        requires { length (segment_of (rows self.old ++ row.now ∷ [])) < 2 ^ 32 }
+        ensures { OnOk result (rows self.new ≡ rows self.old ++ row.now ∷ []) };
+
+    /// What is kept of the rows, of which no more come.
+    fn seal(self) -> Self::Segment
+        requires { IsAscending stamped_cmp (rows self) }
+        ensures { sealed result ≡ rows self };
+
+    /// The places of a segment's rows.
+    fn places(segment: &Self::Segment) -> &[RowPlace]
+        ensures { result.now ≡ places_of (sealed segment.now) };
+}

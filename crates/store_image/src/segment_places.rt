@@ -1,0 +1,78 @@
+//! The places of a segment's rows.
+
+ghost use Rattle.std.specs.Prelude.{◌≡◌};
+ghost use Rattle.segment.specs.Standing.{places_of};
+
+use crate::builder::SegmentBuilder;
+use history_model::{GhostRows, StampedRow};
+use segment::RowPlace;
+use std::alloc::{AllocError, Global};
+use std::marker::Model;
+
+/// The places of a segment's rows, and nothing else of them: clauses see the rows.
+#[derive(Drop)]
+pub struct SegmentPlaces {
+    places: Vec<RowPlace>,
+    rows: GhostRows,
+    /// How many bytes their records have.
+    bytes: u32,
+}
+
+impl Model for SegmentPlaces {
+    ghost use Rattle.std.specs.Prelude.{List, ◌≡◌, length};
+    ghost use Rattle.history_model.specs.declared.stamped.StampedRow.{StampedRow};
+    ghost use Rattle.segment.specs.Records.{segment_of};
+    ghost use Rattle.segment.specs.Standing.{places_of};
+
+    ghost Value = { List StampedRow };
+
+    ghost view = { λ a. a.rows };
+
+    ghost invariant = { λ a. (a.places.items ≡ places_of a.rows)
+        × (a.bytes ≡ length (segment_of a.rows)) };
+}
+
+impl SegmentPlaces {
+    /// The places, in key order.
+    pub fn places(&self) -> &[RowPlace]
+        ensures { result.now ≡ places_of self.now }
+    {
+        self.places.as_slice()
+    }
+}
+
+impl SegmentBuilder for SegmentPlaces {
+    type Segment = SegmentPlaces;
+
+    ghost rows = { λ s. s };
+
+    ghost sealed = { λ s. s };
+
+    fn with_capacity(alloc: Global, count: usize) -> Result<SegmentPlaces, AllocError> {
+        Ok(SegmentPlaces {
+            places: Vec::with_capacity(alloc, count)?,
+            rows: GhostRows::new(alloc),
+            bytes: 0,
+        })
+    }
+
+    fn push(&mut self, row: &StampedRow) -> Result<(), AllocError> {
+        let place = RowPlace::new(row, self.bytes);
+        let bytes = place.bytes;
+        self.places.reserve(1)?;
+        self.rows.push(row)?;
+        let Ok(()) = self.places.push(place) else {
+            unreachable!()
+        };
+        self.bytes += bytes;
+        Ok(())
+    }
+
+    fn seal(self) -> SegmentPlaces {
+        self
+    }
+
+    fn places(segment: &SegmentPlaces) -> &[RowPlace] {
+        segment.places()
+    }
+}
