@@ -4,8 +4,9 @@ files of this repository by their paths.
 
 check_names.py
 
-It also checks that no module, type or trait of the sources has the name of a crate, which `rt ci`
-refuses only once it comes to that crate, and that bench/README.md has each script of bench/.
+It also checks that no module, type or trait of the sources has the name of a crate, and that no
+folder of proofs/ stands for what is gone, both of which `rt ci` refuses only once it comes to that
+crate; and that bench/README.md has each script of bench/.
 
 It reads README.md, CHANGELOG.md, docs/*.md and bench/README.md. Of each text between backquotes
 that begins with the name of a crate and `::`, each further word has to stand in that crate's src/
@@ -74,6 +75,14 @@ def named_as_crates(crates: list[str]) -> Iterator[str]:
                 yield "%s: %s %s: a crate has that name" % (os.path.relpath(path, ROOT), kind, name)
 
 
+def proofs_of_nothing(words: dict[str, set[str]]) -> Iterator[str]:
+    """The folders of proofs/ whose module, type or function is gone."""
+    for path in sorted(glob.glob(ROOT + "/crates/*/proofs/**/", recursive=True)):
+        crate, _, *names = os.path.relpath(path, ROOT + "/crates").split("/")
+        if names and names[-1] not in words[crate]:
+            yield "crates/%s/proofs/%s: %s has no %s" % (crate, "/".join(names), crate, names[-1])
+
+
 def scripts_listed(text: str) -> Iterator[str]:
     """The scripts that the index of bench/ has, by their paths in bench/."""
     parts = HEADING.split(text)
@@ -106,7 +115,7 @@ def main() -> int:
         for fault in faults_of(text, words):
             lost += 1
             print("%s: %s" % (os.path.relpath(path, ROOT), fault), file=sys.stderr)
-    for fault in (*named_as_crates(crates), *scripts_not_listed()):
+    for fault in (*named_as_crates(crates), *proofs_of_nothing(words), *scripts_not_listed()):
         lost += 1
         print(fault, file=sys.stderr)
     print("quoted texts: %d, of what isn't there: %d" % (count, lost), file=sys.stderr)
