@@ -28,6 +28,8 @@ QUOTED = re.compile(r"`([^`]+)`")
 NAMED = re.compile(r"(?<![\w:])(\w+)::((?:\w+::)*)(\{[^}]*\}|\w+)")
 PATH = re.compile(r"[\w.-]+(?:/[\w.-]+)+\.(?:rt|antt|py|md|rs|service)$")
 ITEM = re.compile(r"^\s*(?:pub(?:\([a-z]+\))? )?(mod|struct|enum|trait|type) (\w+)", re.M)
+# (The proofs of what a type does for a trait stand under both names, put together.)
+MEETS = re.compile(r"^impl(?:<.*?>)? (?:\w+::)*(\w+)(?:<.*?>)? for (\w+)", re.M)
 INDEX = "bench/README.md"
 HEADING = re.compile(r"^## (\w+)", re.M)
 # What is named as an example of a path or of a release, and not as a file of this repository.
@@ -75,12 +77,22 @@ def named_as_crates(crates: list[str]) -> Iterator[str]:
                 yield "%s: %s %s: a crate has that name" % (os.path.relpath(path, ROOT), kind, name)
 
 
+def impls_of(crate: str) -> set[str]:
+    """Each type of a crate with each trait that it has, as one word."""
+    return {kind + trait
+            for path in glob.glob(ROOT + "/crates/" + crate + "/src/**/*.rt", recursive=True)
+            for trait, kind in MEETS.findall(text_of(path))}
+
+
 def proofs_of_nothing(words: dict[str, set[str]]) -> Iterator[str]:
     """The folders of proofs/ whose module, type or function is gone."""
-    for path in sorted(glob.glob(ROOT + "/crates/*/proofs/**/", recursive=True)):
-        crate, _, *names = os.path.relpath(path, ROOT + "/crates").split("/")
-        if names and names[-1] not in words[crate]:
-            yield "crates/%s/proofs/%s: %s has no %s" % (crate, "/".join(names), crate, names[-1])
+    for crate in sorted(words):
+        known = words[crate] | impls_of(crate)
+        top = os.path.join(ROOT, "crates", crate)
+        for path in sorted(glob.glob(top + "/proofs/*/**/", recursive=True)):
+            folder = os.path.relpath(path, top)
+            if os.path.basename(folder) not in known:
+                yield "crates/%s/%s: there is no such item" % (crate, folder)
 
 
 def scripts_listed(text: str) -> Iterator[str]:
