@@ -1,4 +1,4 @@
-ghost use Rattle.std.specs.Prelude.{◌≡◌, ◌+◌, ◌-◌, ◌≤◌, ◌<◌, ◌^◌, ◌++◌, [], length, replicate};
+ghost use Rattle.std.specs.Prelude.{◌≡◌, ◌+◌, ◌-◌, ◌≤◌, ◌<◌, ◌^◌, ◌++◌, length, replicate};
 ghost use Rattle.std.specs.Prelude.{IfOk, MatchResult};
 
 use crate::decoding::{has_sum, have_forms, read_entries, split_header};
@@ -71,15 +71,15 @@ impl From<AllocError> for DirectoryFault {
 
 impl Directory {
     ghost use Rattle.directory.specs.declared.layout.Layout.TheVariants as layouts;
-    ghost use Rattle.directory.specs.Listings.{DirectoryValue, IsListing, next_layout, number_of};
+    ghost use Rattle.directory.specs.Listings.{DirectoryValue, IsListing, empty_listing};
+    ghost use Rattle.directory.specs.Listings.{next_layout, number_of};
     ghost use Rattle.directory.specs.Listings.{with_entry, with_two_replaced, with_two_back};
     ghost use Rattle.directory.specs.Content.{Lists, listing_bytes, summed};
     ghost use Rattle.directory.specs.declared.listing.DirectoryFault.TheVariants as faults;
 
     /// The directory of a new store in this version: epoch 1, no imports, no entries.
     pub fn new(alloc: Global, layout: Layout) -> Result<Directory, AllocError>
-        ensures { IfOk result
-            (λ d. d ≡ record { layout = layout; epoch = 1; imports = 0; entries = [] }) }
+        ensures { IfOk result (λ d. d ≡ empty_listing layout) }
     {
         let entries = Vec::with_capacity(alloc, MOST_PLACES)?;
         Ok(Directory {

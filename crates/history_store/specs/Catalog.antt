@@ -67,6 +67,11 @@ place_for rows catalog =
     fit (block_count (record { first = 0; bytes = length (segment_of rows) })) catalog.entries
     (reserved_by catalog.merge)
 
+-- the catalog at the next epoch, in the version that is written next
+abbrev pub next_catalog : Catalog → Catalog
+next_catalog catalog =
+    record catalog { layout = next_layout catalog.layout; epoch = catalog.epoch + 1 }
+
 -- a segment of these rows is added, at the first place where it finds room. The version from
 -- before says how many entries there may be and which form the segment has, and the next one is
 -- written.
@@ -75,22 +80,13 @@ pub record IsPlaced (rows : List StampedRow) (catalog next : Catalog) : Type 0 w
   pub short : length (segment_of rows) < 2 ^ 32
   pub first : ℕ
   pub place : place_for rows catalog ≡ Some first
-  pub next_is : next ≡ record {
-    layout = next_layout catalog.layout;
-    epoch = catalog.epoch + 1;
+  pub next_is : next ≡ record (next_catalog catalog) {
     entries = catalog.entries ++ entry_at (form_of catalog.layout) first rows ∷ [];
-    merge = catalog.merge;
   }
 
 -- the catalog after an import of these new rows; without any, no segment is added
 abbrev pub IsCatalogAfter : List StampedRow → Catalog → Catalog → Type 0
-IsCatalogAfter [] catalog next =
-    next ≡ record {
-      layout = next_layout catalog.layout;
-      epoch = catalog.epoch + 1;
-      entries = catalog.entries;
-      merge = catalog.merge;
-    }
+IsCatalogAfter [] catalog next = next ≡ next_catalog catalog
 IsCatalogAfter (s ∷ rows) catalog next = IsPlaced (s ∷ rows) catalog next
 
 -- a segment is wanted, and the directory lists as many as it can

@@ -16,8 +16,8 @@ use Rattle.import_check.proofs.Receipts.{one_list}
 use Rattle.import_check.proofs.Deciding.{one_fault, read_has_no_fault, one_first_contradiction, consistent_has_none}
 use Rattle.history_store.specs.declared.refusal.Refusal.{Refusal}
 use Rattle.history_store.specs.declared.refusal.Refusal.TheVariants as refusals
-use Rattle.directory.specs.Listings.{form_of, next_layout}
-use Rattle.history_store.specs.Catalog.{Catalog, IsCatalogAfter, HasNoEntry, HasNoPlace, entry_at, place_for}
+use Rattle.directory.specs.Listings.{form_of}
+use Rattle.history_store.specs.Catalog.{Catalog, IsCatalogAfter, HasNoEntry, HasNoPlace, entry_at, next_catalog, place_for}
 use Rattle.segment.specs.Records.{segment_of}
 use Rattle.history_store.specs.StoreValue.{StoreValue, last_import, last_epoch}
 use Rattle.history_store.specs.Prepared.{IsNotSpent, IsForLater, IsAdmitted}
@@ -56,7 +56,7 @@ one_next : (rows : List StampedRow) (catalog next other : Catalog) → IsCatalog
 one_next [] catalog next other a b = b ∙ sym a
 one_next (s ∷ rows) catalog next other a b =
     let first : b.first ≡ a.first = one_some b.first a.first _ b.place a.place in
-    b.next_is ∙ ap (λ (k : ℕ). record { layout = next_layout catalog.layout; epoch = catalog.epoch + 1; entries = catalog.entries ++ entry_at (form_of catalog.layout) k (s ∷ rows) ∷ []; merge = catalog.merge }) first ∙ sym a.next_is
+    b.next_is ∙ ap (λ (k : ℕ). record (next_catalog catalog) { entries = catalog.entries ++ entry_at (form_of catalog.layout) k (s ∷ rows) ∷ [] }) first ∙ sym a.next_is
 
 entry_lacks : (rows : List StampedRow) (catalog next : Catalog) → HasNoEntry rows catalog → IsCatalogAfter rows catalog next → ⊥
 entry_lacks [] catalog next lacks a = omega (arith, lacks.some)
