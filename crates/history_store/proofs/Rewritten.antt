@@ -1,5 +1,5 @@
 -- The only segment of a store, written anew.
-use Rattle.std.specs.Prelude.{◌≢◌, ◌⊎◌, Some, None, Option, slice_get, slice_set, remove}
+use Rattle.std.specs.Prelude.{◌≢◌, ◌⊎◌, Some, None, Option, slice_get}
 use Rattle.std.specs.Int.{div_ceil}
 use Rattle.std.proofs.lemmas.Grind.{div_ceil_times}
 use Rattle.std.specs.List.{AllByRecursion, AllZip}
