@@ -12,6 +12,7 @@ use Rattle.directory.specs.Listings.{DirectoryValue, form_of, most_entries, next
 use Rattle.directory.specs.Places.{extent_of}
 use Rattle.directory.specs.Fit.{fit}
 use Rattle.segment.specs.Records.{segment_of}
+use Rattle.store_image.specs.Kept.{entry_at}
 
 -- a merge that goes on: the numbers of its two segments, from 0 on,
 -- where its output is to lie and in which form, and how many rows are left
@@ -51,15 +52,6 @@ plain_count entries = count_by (λ entry. is_plain_form entry.form) entries
 abbrev pub reserved_by : Option Merge → Option Extent
 reserved_by None = None
 reserved_by (Some merge) = Some merge.output
-
--- the segment of these rows in this form, from this block on
-abbrev pub entry_at : Form → ℕ → List StampedRow → Entry
-entry_at form first rows = record {
-  first = first;
-  bytes = length (segment_of rows);
-  rows = length rows;
-  form = form;
-}
 
 -- the first place where a segment of these rows finds room
 abbrev pub place_for : List StampedRow → Catalog → Option ℕ

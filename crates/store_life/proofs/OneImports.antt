@@ -17,7 +17,8 @@ use Rattle.import_check.proofs.Deciding.{one_fault, read_has_no_fault, one_first
 use Rattle.history_store.specs.declared.refusal.Refusal.{Refusal}
 use Rattle.history_store.specs.declared.refusal.Refusal.TheVariants as refusals
 use Rattle.directory.specs.Listings.{form_of}
-use Rattle.history_store.specs.Catalog.{Catalog, IsCatalogAfter, HasNoEntry, HasNoPlace, entry_at, next_catalog, place_for}
+use Rattle.history_store.specs.Catalog.{Catalog, IsCatalogAfter, HasNoEntry, HasNoPlace, next_catalog, place_for}
+use Rattle.store_image.specs.Kept.{entry_at}
 use Rattle.segment.specs.Records.{segment_of}
 use Rattle.history_store.specs.StoreValue.{StoreValue, last_import, last_epoch}
 use Rattle.history_store.specs.Prepared.{IsNotSpent, IsForLater, IsAdmitted}

@@ -8,12 +8,12 @@ use Rattle.directory.specs.Listings.{DirectoryValue, IsListing, IsEntry, form_of
 use Rattle.directory.specs.Listings.{next_layout, with_entry}
 use Rattle.directory.specs.Private.{after_import}
 use Rattle.segment.specs.Records.{segment_in, segment_of}
-use Rattle.store_image.specs.Kept.{IsSegmentOf, AreOfLayout}
+use Rattle.store_image.specs.Kept.{IsSegmentOf, AreOfLayout, entry_at}
 use Rattle.history_store.specs.declared.refusal.Refusal.{Refusal}
 use Rattle.history_store.specs.declared.refusal.Refusal.TheVariants as refusals
 use Rattle.history_store.specs.declared.preparing.Prepared.{Prepared}
 use Rattle.history_store.specs.Catalog.{Merge, Catalog, IsPlaced, HasNoEntry, HasNoPlace}
-use Rattle.history_store.specs.Catalog.{catalog_of, entry_at, place_for}
+use Rattle.history_store.specs.Catalog.{catalog_of, place_for}
 use Rattle.history_store.specs.StoreValue.{StoreValue}
 use Rattle.history_store.specs.Private.StoreValue.{directory_of, with_rows}
 
