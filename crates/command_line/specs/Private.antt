@@ -91,20 +91,15 @@ IsTrimmedTo view most (Err refusal) old new =
     IsHalted view most refusal old new
 
 -- the number and the name of a fault of serving, by which the program ends
-abbrev pub fault_number : ServeFault → ℕ
-fault_number faults.OutOfMemory = 1
-fault_number faults.Read = 50
-fault_number faults.Write = 51
-fault_number faults.Reads = 52
-
-abbrev pub fault_name : ServeFault → List ℕ
-fault_name faults.OutOfMemory = codes "OutOfMemory"
-fault_name faults.Read = codes "Read"
-fault_name faults.Write = codes "Write"
-fault_name faults.Reads = codes "Reads"
+abbrev pub fault_sign : ServeFault → ℕ × List ℕ
+fault_sign faults.OutOfMemory = (1, codes "OutOfMemory")
+fault_sign faults.Read = (50, codes "Read")
+fault_sign faults.Write = (51, codes "Write")
+fault_sign faults.Reads = (52, codes "Reads")
 
 abbrev pub fault_line : ServeFault → List ℕ
-fault_line fault = line (codes "ERR" ∷ decimal (fault_number fault) ∷ fault_name fault ∷ [])
+fault_line fault =
+    line (codes "ERR" ∷ decimal ((fault_sign fault).0) ∷ (fault_sign fault).1 ∷ [])
 
 abbrev pub IsArgument : Rule → Arg → Type 0
 IsArgument rule arg = (rule_of arg ≡ rule) × (arg.global ≡ false)

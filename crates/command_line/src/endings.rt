@@ -8,7 +8,7 @@ ghost use Rattle.line_server.specs.ReplyValue.{Answer, Done as AllDone, reply_va
 ghost use Rattle.line_server.specs.Turns.{IsToldBy};
 ghost use Rattle.command_line.specs.declared.endings.Ending.TheVariants.{Done};
 ghost use Rattle.command_line.specs.Endings.{IsTold};
-ghost use Rattle.command_line.specs.Private.{fault_number, fault_name, fault_line};
+ghost use Rattle.command_line.specs.Private.{fault_sign, fault_line};
 
 use history_store::Refusal;
 use line_server::{LineRefusal, Reply, ServeFault, reply_done, reply_refusal};
@@ -70,7 +70,7 @@ fn tell_fault<E: Write>(fault: ServeFault, faults: &mut E) -> Result<(), ServeFa
 
 /// The number of a fault.
 fn code_of(fault: ServeFault) -> u8
-    ensures { result ≡ fault_number fault }
+    ensures { result ≡ (fault_sign fault).0 }
 {
     match fault {
         ServeFault::OutOfMemory => 1,
@@ -82,7 +82,7 @@ fn code_of(fault: ServeFault) -> u8
 
 /// The name that stands behind the number.
 fn name_of(fault: ServeFault) -> &'static str
-    ensures { result.now ≡ fault_name fault }
+    ensures { result.now ≡ (fault_sign fault).1 }
 {
     match fault {
         ServeFault::OutOfMemory => "OutOfMemory",

@@ -8,7 +8,7 @@ use Rattle.checksum.specs.Crc32c.{crc32c}
 use Rattle.checksum.proofs.ChecksumLaws.{is_number_of_32_bits, one_byte_is_noticed}
 use Rattle.directory.specs.declared.layout.Layout.{Layout}
 use Rattle.directory.specs.declared.layout.Layout.TheVariants as layouts
-use Rattle.directory.specs.Listings.{DirectoryValue, next_layout}
+use Rattle.directory.specs.Listings.{DirectoryValue, RisesTo}
 use Rattle.directory.specs.Content.{HasMark, HasOlderMark, HasSum, Lists, MayPrecede, ChangedByteIsNoticed, ChangedByteMayNotPrecede, ListedMayPrecede, mark, sum_of}
 use Rattle.directory.proofs.Spelled.{block_is, header_fields, one_mark, same_4}
 
@@ -168,7 +168,7 @@ changed_byte_may_not_precede layout before after byte changed all small marks su
 pub not_three : (old : Layout) (block : List ℕ) → (old ≡ layouts.Three → ⊥) → HasMark old block → HasMark layouts.Three block → ⊥
 not_three old block other has three = other (one_mark old layouts.Three (sym has ∙ three))
 
-precedes : (old new : Layout) (block : List ℕ) → HasMark old block → HasSum old block → (new ≡ next_layout old) ⊎ (new ≡ layouts.Three) → MayPrecede new block
+precedes : (old new : Layout) (block : List ℕ) → HasMark old block → HasSum old block → RisesTo old new → MayPrecede new block
 precedes layouts.One layouts.One block has sum rises = not_three layouts.One block (λ e. cc) has
 precedes layouts.Two layouts.One block has sum rises = not_three layouts.Two block (λ e. cc) has
 precedes layouts.Three layouts.One block has sum rises = elim rises [ inl next ↦ absurd cc | inr three ↦ absurd cc ]

@@ -1,9 +1,10 @@
--- Entries one behind the other: a word of the private functions that read a content block.
-use Rattle.std.specs.Prelude.{◌≡◌, ℕ, List, ◌++◌, length}
+-- Words that private functions need, of this crate or of one above it. No public clause cites them.
+use Rattle.std.specs.Prelude.{◌≡◌, ℕ, ◌+◌, List, ◌++◌, length}
 use Rattle.std.specs.List.{AllByRecursion, flat_map}
 use Rattle.directory.specs.declared.entry.Entry.{Entry}
+use Rattle.directory.specs.declared.layout.Layout.{Layout}
 use Rattle.directory.specs.Places.{AreApart, extents_of}
-use Rattle.directory.specs.Listings.{IsEntry}
+use Rattle.directory.specs.Listings.{DirectoryValue, IsEntry, next_layout, with_two_replaced}
 use Rattle.directory.specs.Content.{entry_bytes}
 
 -- the bytes begin with so many entries, which a directory may list
@@ -13,3 +14,15 @@ pub record IsTable (bytes : List ℕ) (count : ℕ) (entries : List Entry) : Typ
   pub count_is : length entries ≡ count
   pub each : AllByRecursion IsEntry entries
   pub apart : AreApart (extents_of entries)
+
+-- the directory of the next epoch, in this version
+abbrev pub next_in : Layout → DirectoryValue → DirectoryValue
+next_in layout d = record d { layout = layout; epoch = d.epoch + 1 }
+
+-- the directory after an import that brings no new row
+abbrev pub after_import : DirectoryValue → DirectoryValue
+after_import d = record (next_in (next_layout d.layout) d) { imports = d.imports + 1 }
+
+-- the directory after a merge, whose output is the entry at place i, and takes that of the one at j
+abbrev pub after_merge : DirectoryValue → ℕ → ℕ → Entry → DirectoryValue
+after_merge d i j entry = with_two_replaced (next_in (next_layout d.layout) d) i j entry

@@ -1,4 +1,4 @@
-ghost use Rattle.std.specs.Prelude.{◌≡◌, ◌+◌, ◌-◌, ◌≤◌, ◌<◌, ◌^◌, ◌++◌, [], length, replicate};
+ghost use Rattle.std.specs.Prelude.{◌≡◌, ◌+◌, ◌-◌, ◌≤◌, ◌<◌, ◌^◌, ◌++◌, length, replicate};
 ghost use Rattle.std.specs.Prelude.{IfOk, MatchResult};
 
 use crate::decoding::{has_sum, have_forms, read_entries, split_header};
@@ -70,15 +70,16 @@ impl From<AllocError> for DirectoryFault {
 }
 
 impl Directory {
-    ghost use Rattle.directory.specs.Listings.{DirectoryValue, IsListing, number_of, of_three, upgraded};
+    ghost use Rattle.directory.specs.declared.layout.Layout.TheVariants as layouts;
+    ghost use Rattle.directory.specs.Listings.{DirectoryValue, IsListing, empty_listing};
+    ghost use Rattle.directory.specs.Listings.{next_layout, number_of};
     ghost use Rattle.directory.specs.Listings.{with_entry, with_two_replaced, with_two_back};
     ghost use Rattle.directory.specs.Content.{Lists, listing_bytes, summed};
     ghost use Rattle.directory.specs.declared.listing.DirectoryFault.TheVariants as faults;
 
     /// The directory of a new store in this version: epoch 1, no imports, no entries.
     pub fn new(alloc: Global, layout: Layout) -> Result<Directory, AllocError>
-        ensures { IfOk result
-            (λ d. d ≡ record { layout = layout; epoch = 1; imports = 0; entries = [] }) }
+        ensures { IfOk result (λ d. d ≡ empty_listing layout) }
     {
         let entries = Vec::with_capacity(alloc, MOST_PLACES)?;
         Ok(Directory {
@@ -173,14 +174,14 @@ impl Directory {
 
     /// Makes it one of the version in which it is written next. The epoch stays.
     pub fn upgrade(&mut self)
-        ensures { self.new ≡ upgraded self.old }
+        ensures { self.new ≡ record self.old { layout = next_layout self.old.layout } }
     {
         self.layout = self.layout.next();
     }
 
     /// Makes it one of version 3. The epoch stays.
     pub fn upgrade_to_three(&mut self)
-        ensures { self.new ≡ of_three self.old }
+        ensures { self.new ≡ record self.old { layout = layouts.Three } }
     {
         self.layout = Layout::Three;
     }

@@ -1,5 +1,5 @@
 -- What the check of a release answers, and what it leaves.
-use Rattle.std.proofs.Common.{◌≡◌, ◌↔◌, inl, ℕ, ◌+◌, ◌≤◌, Bool, false, IsTrue, List, length, Result, Ok, Err, refl, sym, ap, subst, ◌∙◌}
+use Rattle.std.proofs.Common.{◌≡◌, ◌↔◌, ℕ, ◌+◌, ◌≤◌, Bool, false, IsTrue, List, length, Result, Ok, Err, refl, sym, ap, subst, ◌∙◌}
 use Rattle.std.specs.List.{sum_by}
 use Rattle.std.proofs.lemmas.Bool.{false≢true}
 use Rattle.disk_model.specs.Disk.{Moments, EachImage}
@@ -26,26 +26,16 @@ use Rattle.history_store.specs.StoreValue.{StoreValue, IsAcknowledged}
 use Rattle.history_store.specs.Prepared.{IsNotSpent, IsForLater, IsAdmitted}
 use Rattle.history_store.specs.Queries.{ReadsThroughCache}
 use Rattle.store_image.specs.Images.{Represents}
-use Rattle.history_store.specs.Answers.{Counts, CountsRefusal, IsImportRefusal, IsRefused, IsRefusalOnAnyDisk, IsStill}
+use Rattle.history_store.specs.Answers.{Counts, CountsRefusal, IsImportRefusal, IsNotTaken, IsNotTakenByKey, IsRefused, IsStill}
 use Rattle.history_store.specs.Refusals.{refusal_of}
 use Rattle.history_store.specs.Private.Answers.{IsNotFresh}
-use Rattle.history_store.specs.Checking.{IsChecking, IsCheckingOf, IsCheckingOnAnyDisk, IsCheckingRefusal}
+use Rattle.history_store.specs.Checking.{IsChecking, IsCheckingOf, IsCheckingOnAnyDisk}
 use Rattle.history_store.specs.Private.Prepared.{IsUnprepared}
 use Rattle.history_store.specs.Private.Ready.{IsMadeReady, IsNext}
 use Rattle.history_store.proofs.Imported.{IsAt, taken, none_after, extended_catalog}
 use Rattle.history_store.proofs.TakenByKey.{taken_by_key}
 
 -- ---- refusals
-
--- a refusal of an import is one of a check, but for the device
-pub of_import : {D : Type 0} (s : StoreValue D) (release : Release) (e : Refusal) → (e ≡ refusals.DiskFault → ⊥) → IsImportRefusal e s release → IsCheckingRefusal e s release
-of_import s release refusals.DiskFault other why = absurd (other refl)
-of_import s release _ other why = why
-
--- a refusal of a check is one of an import
-pub as_import : {D : Type 0} (s : StoreValue D) (release : Release) (e : Refusal) → IsCheckingRefusal e s release → IsImportRefusal e s release
-as_import s release refusals.DiskFault why = (why.0, inl (why.1, why.2))
-as_import s release _ why = why
 
 -- a refusal that isn't the device's leaves the count of its failures
 pub counted_but : (e : Refusal) (old new : ℕ) → (e ≡ refusals.DiskFault → ⊥) → new ≡ old → CountsRefusal e old new
@@ -58,25 +48,25 @@ not_device rows catalog e why device = subst (λ x. IsUnprepared x rows catalog)
 -- ---- the new rows of a release are not had
 
 module _ {D : Type 0} (honest : Type 0) (s : StoreValue D) (release : Release) (still : s.needs_reopen ≡ false) (admits : IsAdmitted s.history s.catalog release) where
-  pub not_fresh : (e : Refusal) → IsNotFresh honest e (full s.history) release → honest → IsCheckingRefusal e s release
-  not_fresh e why up = subst (λ (x : Refusal). IsCheckingRefusal x s release) (sym why.1) (each why.0 why.2) where
-    each : (fault : ImportFault) → IsRefusal honest (full s.history) release fault → IsCheckingRefusal (refusal_of fault) s release
+  pub not_fresh : (e : Refusal) → IsNotFresh honest e (full s.history) release → honest → IsImportRefusal IsNotTaken e s release
+  not_fresh e why up = subst (λ (x : Refusal). IsImportRefusal IsNotTaken x s release) (sym why.1) (each why.0 why.2) where
+    each : (fault : ImportFault) → IsRefusal honest (full s.history) release fault → IsImportRefusal IsNotTaken (refusal_of fault) s release
     each importfault.OutOfMemory refused = (still, admits)
     each (importfault.Known readfault.OutOfMemory) refused = (still, admits)
-    each (importfault.Known readfault.DiskFault) refused = (still, admits, refused.0)
+    each (importfault.Known readfault.DiskFault) refused = (still, (admits, refused.0))
     each (importfault.Known readfault.Damaged) refused = absurd (refused.1 up refl)
     each (importfault.Row file line fault) refused = (still, (admits, refused))
-    each (importfault.Contradiction file line key) refused = (still, (admits, key, refused.1 up))
+    each (importfault.Contradiction file line key) refused = (still, (admits, (key, refused.1 up)))
 
-  pub not_fresh_at_all : (e : Refusal) → IsNotFresh honest e (full s.history) release → IsRefusalOnAnyDisk e s release
-  not_fresh_at_all e why = subst (λ (x : Refusal). IsRefusalOnAnyDisk x s release) (sym why.1) (each why.0 why.2) where
-    each : (fault : ImportFault) → IsRefusal honest (full s.history) release fault → IsRefusalOnAnyDisk (refusal_of fault) s release
+  pub not_fresh_at_all : (e : Refusal) → IsNotFresh honest e (full s.history) release → IsImportRefusal IsNotTakenByKey e s release
+  not_fresh_at_all e why = subst (λ (x : Refusal). IsImportRefusal IsNotTakenByKey x s release) (sym why.1) (each why.0 why.2) where
+    each : (fault : ImportFault) → IsRefusal honest (full s.history) release fault → IsImportRefusal IsNotTakenByKey (refusal_of fault) s release
     each importfault.OutOfMemory refused = (still, admits)
     each (importfault.Known readfault.OutOfMemory) refused = (still, admits)
-    each (importfault.Known readfault.DiskFault) refused = (still, admits, refused.0)
-    each (importfault.Known readfault.Damaged) refused = (still, admits, refused.0)
-    each (importfault.Row file line fault) refused = (still, admits, refused)
-    each (importfault.Contradiction file line key) refused = (still, admits, refused.0)
+    each (importfault.Known readfault.DiskFault) refused = (still, (admits, refused.0))
+    each (importfault.Known readfault.Damaged) refused = (still, (admits, refused.0))
+    each (importfault.Row file line fault) refused = (still, (admits, refused))
+    each (importfault.Contradiction file line key) refused = (still, (admits, refused.0))
 
 -- ---- what is ready
 

@@ -20,7 +20,6 @@ use Rattle.history_store.specs.StoreValue.{StoreValue, last_import, last_epoch}
 use Rattle.history_store.specs.Prepared.{IsNotSpent}
 use Rattle.history_store.specs.Answers.{IsTaken, IsNotTaken, WouldBeTaken, IsImportRefusal, IsRefused, IsStill, IsImportOf}
 use Rattle.history_store.specs.Checking.{HasFailed, CheckedIsImported}
-use Rattle.history_store.proofs.Checked.{as_import}
 
 -- ---- at one history and one catalog a release has one answer
 
@@ -50,18 +49,18 @@ has_place rows catalog next after lacks =
 
 -- where the release would be taken
 module _ (h : History) (catalog : Catalog) (release : Release) (taken : WouldBeTaken h catalog release) where
-  same_rows : (others : List RowValue) → IsReleaseOf release others → new_rows h others ≡ new_rows h taken.rows
-  same_rows others is = ap (new_rows h) (one_list release others taken.rows is taken.is_release)
+  same_rows : (others : List RowValue) → IsReleaseOf release others → new_rows h others ≡ new_rows h taken.accepted.rows
+  same_rows others is = ap (new_rows h) (one_list release others taken.accepted.rows is taken.accepted.is_release)
 
   taken_anyway : (e : Refusal) → IsNotTaken e h catalog release → HasFailed (Err e)
   taken_anyway refusals.OutOfMemory why = tt
   taken_anyway refusals.DiskFault why = tt
   taken_anyway refusals.LaterVersion why = taken.room.version why.1
   taken_anyway refusals.CountSpent why = not_both h.imports catalog.epoch taken.room.room why
-  taken_anyway (refusals.Line file line fault) why = read_has_no_fault release file line fault (was_read release taken.rows taken.is_release) why.1
-  taken_anyway (refusals.Contradiction file line) why = consistent_has_none (full h) release taken.rows taken.is_release taken.accepted file line why.1 why.2
-  taken_anyway refusals.TooManySegments why = has_entry (new_rows h taken.rows) catalog taken.next taken.catalog_is (subst (λ rows. HasNoEntry rows catalog) (same_rows why.rows why.is_release) why.lacks)
-  taken_anyway refusals.Full why = has_place (new_rows h taken.rows) catalog taken.next taken.catalog_is (subst (λ rows. HasNoPlace rows catalog) (same_rows why.rows why.is_release) why.lacks)
+  taken_anyway (refusals.Line file line fault) why = read_has_no_fault release file line fault (was_read release taken.accepted.rows taken.accepted.is_release) why.1
+  taken_anyway (refusals.Contradiction file line) why = consistent_has_none (full h) release taken.accepted.rows taken.accepted.is_release taken.accepted.consistent file line why.1.0 why.1.1
+  taken_anyway refusals.TooManySegments why = has_entry (new_rows h taken.accepted.rows) catalog taken.next taken.catalog_is (subst (λ rows. HasNoEntry rows catalog) (same_rows why.accepted.rows why.accepted.is_release) why.lacks)
+  taken_anyway refusals.Full why = has_place (new_rows h taken.accepted.rows) catalog taken.next taken.catalog_is (subst (λ rows. HasNoPlace rows catalog) (same_rows why.accepted.rows why.accepted.is_release) why.lacks)
   taken_anyway _ why = why
 
 -- where it isn't taken
@@ -70,7 +69,7 @@ module _ (h : History) (catalog : Catalog) (release : Release) where
   OneRefusal e f = (f ≡ e) ⊎ (HasFailed (Err e) ⊎ HasFailed (Err f))
 
   contradicts : (file line : ℕ) → IsNotTaken (refusals.Contradiction file line) h catalog release → IsRead release
-  contradicts file line why = record { lists = why.2.lists; spelled = why.2.spelled }
+  contradicts file line why = record { lists = why.1.1.lists; spelled = why.1.1.spelled }
 
   spent_alone : (f : Refusal) → IsNotTaken refusals.CountSpent h catalog release → IsNotTaken f h catalog release → OneRefusal refusals.CountSpent f
   spent_alone refusals.OutOfMemory why also = inr (inr tt)
@@ -103,8 +102,8 @@ module _ (h : History) (catalog : Catalog) (release : Release) where
       let one = one_fault release n l other file line fault also.1 why.1 in
       inl (λ i. refusals.Line (one.0 i) (one.1 i) (one.2 i))
   fault_alone file line fault (refusals.Contradiction n l) why also = absurd (read_has_no_fault release file line fault (contradicts n l also) why.1)
-  fault_alone file line fault refusals.TooManySegments why also = absurd (read_has_no_fault release file line fault (was_read release also.rows also.is_release) why.1)
-  fault_alone file line fault refusals.Full why also = absurd (read_has_no_fault release file line fault (was_read release also.rows also.is_release) why.1)
+  fault_alone file line fault refusals.TooManySegments why also = absurd (read_has_no_fault release file line fault (was_read release also.accepted.rows also.accepted.is_release) why.1)
+  fault_alone file line fault refusals.Full why also = absurd (read_has_no_fault release file line fault (was_read release also.accepted.rows also.accepted.is_release) why.1)
   fault_alone file line fault _ why also = absurd also
 
   contradiction_alone : (file line : ℕ) (f : Refusal) → IsNotTaken (refusals.Contradiction file line) h catalog release → IsNotTaken f h catalog release → OneRefusal (refusals.Contradiction file line) f
@@ -114,10 +113,10 @@ module _ (h : History) (catalog : Catalog) (release : Release) where
   contradiction_alone file line refusals.CountSpent why also = absurd (not_both h.imports catalog.epoch why.0.room also)
   contradiction_alone file line (refusals.Line n l other) why also = absurd (read_has_no_fault release n l other (contradicts file line why) also.1)
   contradiction_alone file line (refusals.Contradiction n l) why also =
-      let one = one_first_contradiction (full h) release n l also.1 file line why.1 also.2 why.2 in
+      let one = one_first_contradiction (full h) release n l also.1.0 file line why.1.0 also.1.1 why.1.1 in
       inl (λ i. refusals.Contradiction (one.0 i) (one.1 i))
-  contradiction_alone file line refusals.TooManySegments why also = absurd (consistent_has_none (full h) release also.rows also.is_release also.accepted file line why.1 why.2)
-  contradiction_alone file line refusals.Full why also = absurd (consistent_has_none (full h) release also.rows also.is_release also.accepted file line why.1 why.2)
+  contradiction_alone file line refusals.TooManySegments why also = absurd (consistent_has_none (full h) release also.accepted.rows also.accepted.is_release also.accepted.consistent file line why.1.0 why.1.1)
+  contradiction_alone file line refusals.Full why also = absurd (consistent_has_none (full h) release also.accepted.rows also.accepted.is_release also.accepted.consistent file line why.1.0 why.1.1)
   contradiction_alone file line _ why also = absurd also
 
   entry_alone : (f : Refusal) → IsNotTaken refusals.TooManySegments h catalog release → IsNotTaken f h catalog release → OneRefusal refusals.TooManySegments f
@@ -125,8 +124,8 @@ module _ (h : History) (catalog : Catalog) (release : Release) where
   entry_alone refusals.DiskFault why also = inr (inr tt)
   entry_alone refusals.LaterVersion why also = absurd (why.room.version also.1)
   entry_alone refusals.CountSpent why also = absurd (not_both h.imports catalog.epoch why.room.room also)
-  entry_alone (refusals.Line n l other) why also = absurd (read_has_no_fault release n l other (was_read release why.rows why.is_release) also.1)
-  entry_alone (refusals.Contradiction n l) why also = absurd (consistent_has_none (full h) release why.rows why.is_release why.accepted n l also.1 also.2)
+  entry_alone (refusals.Line n l other) why also = absurd (read_has_no_fault release n l other (was_read release why.accepted.rows why.accepted.is_release) also.1)
+  entry_alone (refusals.Contradiction n l) why also = absurd (consistent_has_none (full h) release why.accepted.rows why.accepted.is_release why.accepted.consistent n l also.1.0 also.1.1)
   entry_alone refusals.TooManySegments why also = inl refl
   entry_alone refusals.Full why also = absurd (omega (arith, why.lacks.all_taken, also.lacks.few))
   entry_alone _ why also = absurd also
@@ -136,8 +135,8 @@ module _ (h : History) (catalog : Catalog) (release : Release) where
   place_alone refusals.DiskFault why also = inr (inr tt)
   place_alone refusals.LaterVersion why also = absurd (why.room.version also.1)
   place_alone refusals.CountSpent why also = absurd (not_both h.imports catalog.epoch why.room.room also)
-  place_alone (refusals.Line n l other) why also = absurd (read_has_no_fault release n l other (was_read release why.rows why.is_release) also.1)
-  place_alone (refusals.Contradiction n l) why also = absurd (consistent_has_none (full h) release why.rows why.is_release why.accepted n l also.1 also.2)
+  place_alone (refusals.Line n l other) why also = absurd (read_has_no_fault release n l other (was_read release why.accepted.rows why.accepted.is_release) also.1)
+  place_alone (refusals.Contradiction n l) why also = absurd (consistent_has_none (full h) release why.accepted.rows why.accepted.is_release why.accepted.consistent n l also.1.0 also.1.1)
   place_alone refusals.TooManySegments why also = absurd (omega (arith, why.lacks.few, also.lacks.all_taken))
   place_alone refusals.Full why also = inl refl
   place_alone _ why also = absurd also
@@ -158,8 +157,6 @@ module _ (h : History) (catalog : Catalog) (release : Release) where
 would_be : (h after : History) (catalog next : Catalog) (release : Release) (receipt : Receipt) → IsTaken h after catalog next release receipt → WouldBeTaken h catalog release
 would_be h after catalog next release receipt taken = record {
   room = taken.room;
-  rows = taken.rows;
-  is_release = taken.is_release;
   accepted = taken.accepted;
   next = next;
   catalog_is = taken.catalog_is;
@@ -167,26 +164,26 @@ would_be h after catalog next release receipt taken = record {
 
 one_receipt : (h after end : History) (catalog next last : Catalog) (release : Release) (r q : Receipt) → IsTaken h after catalog next release r → IsTaken h end catalog last release q → q ≡ r
 one_receipt h after end catalog next last release r q first second =
-    let rows = one_list release second.rows first.rows second.is_release first.is_release in
-    let same = one_receipt_for_a_release h first.rows q.number q.new q.repeated r.number r.new r.repeated (subst (λ (l : List RowValue). ReceiptOf h l q.number q.new q.repeated) rows second.receipt_is) first.receipt_is in
+    let rows = one_list release second.accepted.rows first.accepted.rows second.accepted.is_release first.accepted.is_release in
+    let same = one_receipt_for_a_release h first.accepted.rows q.number q.new q.repeated r.number r.new r.repeated (subst (λ (l : List RowValue). ReceiptOf h l q.number q.new q.repeated) rows second.receipt_is) first.receipt_is in
     λ i. record { number = same.0 i; new = same.1 i; repeated = same.2 i }
 
 -- an open store refuses because of the release, of its counts or of its places
-open_refusal : {D : Type 0} (s : StoreValue D) (release : Release) (e : Refusal) → s.needs_reopen ≡ false → IsImportRefusal e s release → IsNotTaken e s.history s.catalog release
+open_refusal : {D : Type 0} (s : StoreValue D) (release : Release) (e : Refusal) → s.needs_reopen ≡ false → IsImportRefusal IsNotTaken e s release → IsNotTaken e s.history s.catalog release
 open_refusal s release refusals.ReopenNeeded still why = absurd (false≢true (sym still ∙ why))
 open_refusal s release _ still why = why.1
 
-closed_refusal : {D : Type 0} (s : StoreValue D) (release : Release) (f : Refusal) → s.needs_reopen ≡ true → IsImportRefusal f s release → f ≡ refusals.ReopenNeeded
+closed_refusal : {D : Type 0} (s : StoreValue D) (release : Release) (f : Refusal) → s.needs_reopen ≡ true → IsImportRefusal IsNotTaken f s release → f ≡ refusals.ReopenNeeded
 closed_refusal s release refusals.ReopenNeeded closed why = refl
 closed_refusal s release _ closed why = absurd (false≢true (sym why.0 ∙ closed))
 
 -- a refusal but for the device says what the store was, and the store stays
-stays_so : {D : Type 0} (old checked : StoreValue D) (release : Release) (e : Refusal) → IsRefused e old checked → (e ≡ refusals.DiskFault → ⊥) → IsImportRefusal e old release → IsImportRefusal e checked release
+stays_so : {D : Type 0} (old checked : StoreValue D) (release : Release) (e : Refusal) → IsRefused e old checked → (e ≡ refusals.DiskFault → ⊥) → IsImportRefusal IsNotTaken e old release → IsImportRefusal IsNotTaken e checked release
 stays_so old checked release e refused other why = each e refused other why where
   moved : (x : Refusal) → IsRefused x old checked → IsNotTaken x old.history old.catalog release → IsNotTaken x checked.history checked.catalog release
   moved x is reason = subst (λ (h : History). IsNotTaken x h checked.catalog release) (sym is.history) (subst (λ (c : Catalog). IsNotTaken x old.history c release) (sym is.catalog) reason)
 
-  each : (x : Refusal) → IsRefused x old checked → (x ≡ refusals.DiskFault → ⊥) → IsImportRefusal x old release → IsImportRefusal x checked release
+  each : (x : Refusal) → IsRefused x old checked → (x ≡ refusals.DiskFault → ⊥) → IsImportRefusal IsNotTaken x old release → IsImportRefusal IsNotTaken x checked release
   each refusals.DiskFault is other reason = absurd (other refl)
   each refusals.ReopenNeeded is other reason = is.still other ∙ reason
   each refusals.OutOfMemory is other reason = (is.still other ∙ reason.0, moved refusals.OutOfMemory is reason.1)
@@ -201,11 +198,11 @@ stays_so old checked release e refused other why = each e refused other why wher
 -- ---- the import behind a check that was refused
 
 module _ {D : Type 0} (checked : StoreValue D) (release : Release) where
-  refused_again : (e f : Refusal) → IsImportRefusal e checked release → IsImportRefusal f checked release → (f ≡ e) ⊎ (HasFailed (Err e) ⊎ HasFailed (Err f))
+  refused_again : (e f : Refusal) → IsImportRefusal IsNotTaken e checked release → IsImportRefusal IsNotTaken f checked release → (f ≡ e) ⊎ (HasFailed (Err e) ⊎ HasFailed (Err f))
   refused_again refusals.ReopenNeeded f why also = inl (closed_refusal checked release f why also)
   refused_again e f why also = one_refusal checked.history checked.catalog release e f why.1 (open_refusal checked release f why.0 also)
 
-  not_taken_then : (new : StoreValue D) (e : Refusal) (q : Receipt) → IsImportRefusal e checked release → IsImportOf (Ok q) checked new release → HasFailed (Err e)
+  not_taken_then : (new : StoreValue D) (e : Refusal) (q : Receipt) → IsImportRefusal IsNotTaken e checked release → IsImportOf (Ok q) checked new release → HasFailed (Err e)
   not_taken_then new e q why is = taken_anyway checked.history checked.catalog release (would_be checked.history new.history checked.catalog new.catalog release q is.0) e (open_refusal checked release e is.1 why)
 
 -- the device failed, or it didn't
@@ -230,8 +227,8 @@ checked_is_imported {D} old checked new release (Err e) result is imported = eli
   | inr other ↦ each other result imported
 ] where
   each : (e ≡ refusals.DiskFault → ⊥) → (x : Result Receipt Refusal) → IsImportOf x checked new release → (x ≡ Err e) ⊎ (HasFailed (Err e) ⊎ HasFailed x)
-  each other (Ok q) so = inr (inl (not_taken_then checked release new e q (stays_so old checked release e is.1 other (as_import old release e is.0)) so))
-  each other (Err f) so = elim (refused_again checked release e f (stays_so old checked release e is.1 other (as_import old release e is.0)) so.0) [
+  each other (Ok q) so = inr (inl (not_taken_then checked release new e q (stays_so old checked release e is.1 other is.0) so))
+  each other (Err f) so = elim (refused_again checked release e f (stays_so old checked release e is.1 other is.0) so.0) [
     | inl same ↦ inl (ap Err same)
     | inr failed ↦ inr failed
   ]

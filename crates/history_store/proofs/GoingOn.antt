@@ -15,15 +15,13 @@ use Rattle.blocks.specs.Outside.{SameOutside}
 use Rattle.history_model.specs.declared.stamped.StampedRow.{StampedRow}
 use Rattle.history_model.specs.Lists.{union}
 use Rattle.directory.specs.declared.entry.Entry.{Entry}
-use Rattle.directory.specs.declared.layout.Layout.{Layout}
-use Rattle.directory.specs.declared.layout.Layout.TheVariants as layouts
-use Rattle.directory.specs.Listings.{DirectoryValue, HasForm, IsEntry, next_layout}
+use Rattle.directory.specs.Listings.{DirectoryValue, HasForm, IsEntry, RisesTo, next_layout}
 use Rattle.directory.specs.Places.{AreBeside, extent_of, extents_of}
 use Rattle.directory.specs.Fit.{fit}
+use Rattle.directory.proofs.Adding.{form_risen}
 use Rattle.directory.proofs.Fitting.{fit_is_apart}
 use Rattle.segment.specs.Records.{segment_in, segment_of}
 use Rattle.segment.proofs.SegmentLaws.{length-segment_in}
-use Rattle.store_image.specs.Next.{RisesTo}
 use Rattle.store_image.proofs.Beside.{blocks_cover, one_ends}
 use Rattle.store_image.proofs.Unlisted.{begins_elsewhere}
 use Rattle.history_store.specs.declared.merge_in_progress.MergeInProgress.{MergeInProgress}
@@ -73,18 +71,6 @@ written_added d lists (Some m) other slot old new is is_other beside same writte
     (All-cons (IsOutside i) (slot_range slot) [] (outside_slot m.entry slot i is.is_entry ge) (All-nil (IsOutside i)))) written
 
 -- ---- it goes on beside the next directory
-
--- what has a form that a version has, has one that the next ones have
-pub form_next : (layout : Layout) (entry : Entry) → HasForm layout entry → HasForm (next_layout layout) entry
-form_next layouts.One entry has = has
-form_next layouts.Two entry has = has
-form_next layouts.Three entry has = has
-
-pub form_risen : (layout next : Layout) (entry : Entry) → RisesTo layout next → HasForm layout entry → HasForm next entry
-form_risen layout next entry rises has = elim rises [
-  | inl same ↦ subst (λ (v : Layout). HasForm v entry) (sym same) (form_next layout entry has)
-  | inr three ↦ subst (λ (v : Layout). HasForm v entry) (sym three) tt
-]
 
 pub merging_on : (d e : DirectoryValue) (lists : List (List StampedRow)) (merge : Option MergeInProgress) → e.entries ≡ d.entries → ((entry : Entry) → HasForm d.layout entry → HasForm e.layout entry) → IsMergingOf d lists merge → IsMergingOf e lists merge
 merging_on d e lists None same forms is = tt

@@ -7,12 +7,11 @@ use Rattle.blocks.specs.Outside.{StemsWithin}
 use Rattle.blocks.specs.Slots.{slots_range}
 use Rattle.history_model.specs.History.{History, stamped}
 use Rattle.directory.specs.declared.entry.Entry.{Entry}
-use Rattle.directory.specs.Listings.{next_layout}
 use Rattle.directory.specs.Places.{extent_of, extents_of}
 use Rattle.import_check.specs.declared.release.Release.{Release}
 use Rattle.import_check.specs.declared.found.NewRows.{NewRows}
 use Rattle.history_store.specs.declared.preparing.Prepared.{Prepared}
-use Rattle.history_store.specs.Catalog.{Catalog, IsCatalogAfter, catalog_of}
+use Rattle.history_store.specs.Catalog.{Catalog, IsCatalogAfter, catalog_of, next_catalog}
 use Rattle.history_store.specs.StoreValue.{StoreValue}
 use Rattle.history_store.specs.Written.{StemsWithinAll}
 use Rattle.history_store.specs.Answers.{StemsWithinNew}
@@ -31,8 +30,7 @@ pub slots_written : {D : Type 0} (s : StoreValue D) (release : Release) (fresh :
     → LeavesOnly old new (λ c. IsImage old.state c ⊎ StemsWithinNew s.history s.catalog release old.state c)
 unfolding welcome
 slots_written s release fresh old new at none leaves =
-    let next : Catalog = record { layout = next_layout s.catalog.layout; epoch = s.catalog.epoch + 1; entries = s.catalog.entries; merge = s.catalog.merge } in
-    let taken = welcome s release fresh next at (none_after fresh.rows.items (s.history.imports + 1) s.catalog next none refl) in
+    let taken = welcome s release fresh (next_catalog s.catalog) at (none_after fresh.rows.items (s.history.imports + 1) s.catalog (next_catalog s.catalog) none refl) in
     weaker old new (StemsWithin old.state slots_range) (λ c. IsImage old.state c ⊎ StemsWithinNew s.history s.catalog release old.state c)
     (λ c stems. inr (taken, subst (λ (l : List Entry). StemsWithinAll old.state (slots_range ∷ map byte_range (extents_of l)) c) (sym (none_behind s.catalog.entries s.catalog.entries refl)) stems)) leaves
 

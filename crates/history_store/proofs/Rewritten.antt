@@ -1,5 +1,5 @@
 -- The only segment of a store, written anew.
-use Rattle.std.specs.Prelude.{◌≢◌, ◌⊎◌, Some, None, Option, slice_get, slice_set, remove}
+use Rattle.std.specs.Prelude.{◌≢◌, ◌⊎◌, Some, None, Option, slice_get}
 use Rattle.std.specs.Int.{div_ceil}
 use Rattle.std.proofs.lemmas.Grind.{div_ceil_times}
 use Rattle.std.specs.List.{AllByRecursion, AllZip}
@@ -28,7 +28,7 @@ use Rattle.directory.specs.Listings.{DirectoryValue, IsEntry, IsListing, HasForm
 use Rattle.directory.specs.Places.{AreBeside, extent_of, extents_of}
 use Rattle.directory.specs.Fit.{IsFit, fit}
 use Rattle.directory.proofs.Fitting.{fit_is_least, fit_is_apart}
-use Rattle.directory.proofs.Adding.{fit_may_be_added}
+use Rattle.directory.proofs.Adding.{fit_may_be_added, next_is_listing}
 use Rattle.checksum.specs.declared.form.Form.{Form}
 use Rattle.segment.specs.declared.place.RowPlace.{RowPlace}
 use Rattle.segment.specs.Records.{record_of, segment_in, segment_of}
@@ -123,10 +123,10 @@ module _ (d : DirectoryValue) (entry : Entry) (anew : IsAnew d entry) where
       fit_may_be_added d entry None listing (let room = few in omega (arith, room)) e.bytes e.bytes_fit e.rows e.rows_fit three_has_form (subst P (sym anew.is) anew.place)
 
   abbrev alone_in : DirectoryValue
-  alone_in = record { layout = d.layout; epoch = d.epoch; imports = d.imports; entries = entry ∷ [] }
+  alone_in = record d { entries = entry ∷ [] }
 
   left_alone : with_two_replaced (with_entry d entry) 0 1 entry ≡ alone_in
-  left_alone = ap (λ (l : List Entry). record { layout = d.layout; epoch = d.epoch; imports = d.imports; entries = remove (slice_set (l ++ entry ∷ []) 0 entry) 1 }) anew.only.alone
+  left_alone = ap (λ (l : List Entry). with_two_replaced (with_entry (record d { entries = l }) entry) 0 1 entry) anew.only.alone
 
   alone_is_listing : IsListing d → IsListing alone_in
   alone_is_listing listing = record {
@@ -331,9 +331,8 @@ module _ (d : DirectoryValue) (entry : Entry) (anew : IsAnew d entry) (lists : L
   next_kept : d.epoch + 1 < 2 ^ 64 → IsKept (only_listing d entry) lists
   next_kept room =
       let o = only d entry anew lists kept in
-      let l = alone_is_listing d entry anew kept.listing in
       record {
-        listing = record { epoch = omega arith; epoch_fits = room; imports = l.imports; count = l.count; entries = l.entries; apart = l.apart; forms = l.forms };
+        listing = next_is_listing (record d { entries = entry ∷ [] }) d.layout (inr anew.only.three) room (alone_is_listing d entry anew kept.listing);
         segments = subst (λ (x : List (List StampedRow)). AreSegments (entry ∷ []) x) (sym o.lists_are) (o.segment, tt);
         apart = kept.apart;
         history = kept.history;
@@ -341,7 +340,7 @@ module _ (d : DirectoryValue) (entry : Entry) (anew : IsAnew d entry) (lists : L
       }
 
   pub next_comes : d.epoch + 1 < 2 ^ 64 → IsNext d (only_listing d entry) lists
-  next_comes room = record { layout = inr anew.only.three; epoch = refl; kept = next_kept room }
+  next_comes room = record { comes = record { layout = inr anew.only.three; epoch = refl }; kept = next_kept room }
 
   -- a read gives its records
   pub all_there : (now : List ℕ) → ((rows : List StampedRow) → lists ≡ rows ∷ [] → BeginsWith (extent_of entry) (segment_in entry.form rows) now) → HoldsAll (pieces_of (entry ∷ []) lists) now

@@ -11,31 +11,28 @@ use Rattle.directory.specs.declared.layout.Layout.{Layout}
 use Rattle.directory.specs.declared.layout.Layout.TheVariants as layouts
 use Rattle.directory.specs.Listings.{DirectoryValue}
 use Rattle.directory.specs.Places.{extents_of}
+use Rattle.directory.specs.Private.{next_in}
 use Rattle.store_image.specs.Images.{RepresentsAs}
+use Rattle.store_image.specs.Next.{IsRepeated}
 use Rattle.history_store.specs.declared.refusal.Refusal.{Refusal}
 use Rattle.history_store.specs.declared.refusal.Refusal.TheVariants as refusals
 use Rattle.history_store.specs.Catalog.{Catalog, catalog_of}
 use Rattle.history_store.specs.StoreValue.{StoreValue}
 use Rattle.history_store.specs.Private.StoreValue.{directory_of, with_imports}
-use Rattle.history_store.specs.Private.Publishing.{IsRelisting}
 use Rattle.history_store.specs.Private.Answers.{IsStep}
 use Rattle.history_store.specs.Upgrading.{MayBeUpgraded, IsNotUpgraded, IsUpgradingOf, upgrade_calls}
 use Rattle.history_store.specs.Queries.{ForgetsWritten}
 use Rattle.history_store.specs.Written.{added_entries, added_ranges}
 use Rattle.history_store.proofs.WrittenWhere.{none_behind}
 
-abbrev pub in_three : DirectoryValue → DirectoryValue
-in_three d = record { layout = layouts.Three; epoch = d.epoch + 1; imports = d.imports; entries = d.entries }
-
-pub relists : (d next : DirectoryValue) → next ≡ in_three d → IsRelisting d next
+pub relists : (d next : DirectoryValue) → next ≡ next_in layouts.Three d → IsRepeated d next
 relists d next is = record {
-  layout = inr (ap (λ (l : DirectoryValue). l.layout) is);
-  epoch = ap (λ (l : DirectoryValue). l.epoch) is;
+  comes = record { layout = inr (ap (λ (l : DirectoryValue). l.layout) is); epoch = ap (λ (l : DirectoryValue). l.epoch) is };
   imports = omega (arith, ap (λ (l : DirectoryValue). l.imports) is);
   entries = ap (λ (l : DirectoryValue). l.entries) is;
 }
 
-pub upgraded_or_not : {D : Type 0} (r : Result (Unit {0}) Refusal) (old new : StoreValue D) (next : DirectoryValue) → MayBeUpgraded old.catalog → old.needs_reopen ≡ false → next ≡ in_three (directory_of old)
+pub upgraded_or_not : {D : Type 0} (r : Result (Unit {0}) Refusal) (old new : StoreValue D) (next : DirectoryValue) → MayBeUpgraded old.catalog → old.needs_reopen ≡ false → next ≡ next_in layouts.Three (directory_of old)
     → IsStep r old new (with_imports old.history next.imports) (catalog_of next old.catalog.merge) → IsUpgradingOf r old new
 upgraded_or_not (Ok done) old new next may still is step = (
   inr (may, step.1 ∙ ap (λ (l : DirectoryValue). catalog_of l old.catalog.merge) is),
@@ -43,28 +40,28 @@ upgraded_or_not (Ok done) old new next may still is step = (
 )
 upgraded_or_not {D} (Err e) old new next may still is step = (subst (λ (x : Refusal). IsNotUpgraded x old) (sym step.0) (still, may), step.1)
 
-pub same_history : {D : Type 0} (r : Result (Unit {0}) Refusal) (old new : StoreValue D) (next : DirectoryValue) → next ≡ in_three (directory_of old)
+pub same_history : {D : Type 0} (r : Result (Unit {0}) Refusal) (old new : StoreValue D) (next : DirectoryValue) → next ≡ next_in layouts.Three (directory_of old)
     → IsStep r old new (with_imports old.history next.imports) (catalog_of next old.catalog.merge) → new.history ≡ old.history
 same_history (Ok done) old new next is step = step.0 ∙ ap (λ (l : DirectoryValue). with_imports old.history l.imports) is
 same_history (Err e) old new next is step = step.1.history
 
-pub leaves_upgraded : {D : Type 0} (s : StoreValue D) (next : DirectoryValue) (old new : Moments) → next ≡ in_three (directory_of s)
+pub leaves_upgraded : {D : Type 0} (s : StoreValue D) (next : DirectoryValue) (old new : Moments) → next ≡ next_in layouts.Three (directory_of s)
     → LeavesOnly old new (λ c. RepresentsAs s.catalog.layout s.history c ⊎ RepresentsAs next.layout (with_imports s.history next.imports) c)
     → LeavesOnly old new (λ c. RepresentsAs s.catalog.layout s.history c ⊎ RepresentsAs layouts.Three s.history c)
 leaves_upgraded s next old new is leaves =
     subst (λ (l : DirectoryValue). LeavesOnly old new (λ c. RepresentsAs s.catalog.layout s.history c ⊎ RepresentsAs l.layout (with_imports s.history l.imports) c)) is leaves
 
-same_entries : {D : Type 0} (done : Unit {0}) (old new : StoreValue D) (next : DirectoryValue) → next ≡ in_three (directory_of old)
+same_entries : {D : Type 0} (done : Unit {0}) (old new : StoreValue D) (next : DirectoryValue) → next ≡ next_in layouts.Three (directory_of old)
     → IsStep (Ok done) old new (with_imports old.history next.imports) (catalog_of next old.catalog.merge) → new.catalog.entries ≡ old.catalog.entries
 same_entries done old new next is step = ap (λ (c : Catalog). c.entries) step.1 ∙ ap (λ (l : DirectoryValue). l.entries) is
 
-pub elsewhere_upgraded : {D : Type 0} (r : Result (Unit {0}) Refusal) (old new : StoreValue D) (next : DirectoryValue) (a b : List ℕ) → next ≡ in_three (directory_of old)
+pub elsewhere_upgraded : {D : Type 0} (r : Result (Unit {0}) Refusal) (old new : StoreValue D) (next : DirectoryValue) (a b : List ℕ) → next ≡ next_in layouts.Three (directory_of old)
     → IsStep r old new (with_imports old.history next.imports) (catalog_of next old.catalog.merge) → OnOk r (SameOutside (slots_range ∷ added_ranges old.catalog new.catalog) a b) → OnOk r (SameOutside (slots_range ∷ []) a b)
 elsewhere_upgraded (Ok done) old new next a b is step same =
     subst (λ (l : List Entry). SameOutside (slots_range ∷ map byte_range (extents_of l)) a b) (none_behind old.catalog.entries new.catalog.entries (same_entries done old new next is step)) same
 elsewhere_upgraded (Err e) old new next a b is step same = tt
 
-pub forgets_upgraded : {D : Type 0} (r : Result (Unit {0}) Refusal) (old new : StoreValue D) (next : DirectoryValue) → next ≡ in_three (directory_of old)
+pub forgets_upgraded : {D : Type 0} (r : Result (Unit {0}) Refusal) (old new : StoreValue D) (next : DirectoryValue) → next ≡ next_in layouts.Three (directory_of old)
     → IsStep r old new (with_imports old.history next.imports) (catalog_of next old.catalog.merge) → OnOk r (ForgetsWritten (added_entries old.catalog new.catalog) old.cache new.cache)
     → OnOk r ((new.cache ≡ old.cache) ⊎ ForgetsWritten [] old.cache new.cache)
 forgets_upgraded (Ok done) old new next is step forgets =

@@ -1,5 +1,5 @@
 -- What the calls of a store answer.
-use Rattle.std.specs.Prelude.{◌≡◌, ◌≢◌, ◌⊎◌, ℕ, ◌+◌, ◌≤◌, true, false, List, [], ◌∷◌}
+use Rattle.std.specs.Prelude.{◌≡◌, ◌≢◌, ◌⊎◌, ℕ, ◌+◌, ◌≤◌, true, false, List, ◌∷◌}
 use Rattle.std.specs.Prelude.{length, None, Result, Ok, Err}
 use Rattle.fault_counts.specs.Counting.{HasRisen}
 use Rattle.disk_model.specs.Disk.{DiskState, Moments}
@@ -12,7 +12,7 @@ use Rattle.history_model.specs.History.{History, IsHistory, Accepts, after_relea
 use Rattle.history_model.specs.History.{no_history, full, stamped}
 use Rattle.history_model.specs.Lists.{new_rows}
 use Rattle.directory.specs.declared.layout.Layout.{Layout}
-use Rattle.directory.specs.Listings.{next_layout}
+use Rattle.directory.specs.Listings.{empty_listing, next_layout}
 use Rattle.import_check.specs.declared.release.Release.{Release}
 use Rattle.import_check.specs.declared.found.NewRows.{NewRows}
 use Rattle.import_check.specs.Release.{IsReleaseOf, IsFaultOfRelease, HasContradiction}
@@ -22,7 +22,7 @@ use Rattle.store_image.specs.Answers.{synced, IsNotOpened as IsNotLoaded}
 use Rattle.store_image.specs.Images.{Represents, RepresentsAs}
 use Rattle.history_store.specs.declared.refusal.Refusal.{Refusal}
 use Rattle.history_store.specs.declared.refusal.Refusal.TheVariants as refusals
-use Rattle.history_store.specs.Catalog.{Catalog, IsCatalogAfter, HasNoEntry, HasNoPlace}
+use Rattle.history_store.specs.Catalog.{Catalog, IsCatalogAfter, HasNoEntry, HasNoPlace, catalog_of}
 use Rattle.history_store.specs.StoreValue.{StoreValue, last_import, last_epoch}
 use Rattle.history_store.specs.Prepared.{IsNotSpent, IsForLater, IsAdmitted}
 use Rattle.history_store.specs.Written.{added_ranges, StemsWithinAll}
@@ -67,7 +67,7 @@ IsMakingCause _ = ⊥
 -- a new store in this version: nothing is imported, and it has no segment
 pub record IsNew {D : Type 0} (layout : Layout) (s : StoreValue D) : Type 0 where
   pub history : s.history ≡ no_history
-  pub catalog : s.catalog ≡ record { layout = layout; epoch = 1; entries = []; merge = None }
+  pub catalog : s.catalog ≡ catalog_of (empty_listing layout) None
   pub open_still : s.needs_reopen ≡ false
 
 -- every refusal but the failed device leaves the device as it was, and what a stop may leave of it
@@ -117,18 +117,21 @@ abbrev pub IsOpeningOf : {D : Type 0} → StoreOr D → List ℕ → Type 0
 IsOpeningOf (Ok store) bytes = IsOpened store bytes
 IsOpeningOf (Err e) bytes = IsNotOpened e.0 bytes
 
--- a release that is taken: each file is a release file, the union is consistent, the history goes
--- on with its rows, which the receipt counts, and a segment of the new ones is added, if there are
--- any
+-- a release that a history accepts: each file is a release file, and the union is consistent
+pub record IsAccepted (h : History) (release : Release) : Type 0 where
+  pub rows : List RowValue
+  pub is_release : IsReleaseOf release rows
+  pub consistent : Accepts h rows
+
+-- a release that is taken: it is accepted, the history goes on with its rows, which the receipt
+-- counts, and a segment of the new ones is added, if there are any
 pub record IsTaken (h after : History) (catalog next : Catalog) (release : Release)
     (receipt : Receipt) : Type 0 where
   pub room : IsAdmitted h catalog release
-  pub rows : List RowValue
-  pub is_release : IsReleaseOf release rows
-  pub accepted : Accepts h rows
-  pub history : after ≡ after_release h rows
-  pub receipt_is : ReceiptOf h rows receipt.number receipt.new receipt.repeated
-  pub catalog_is : IsCatalogAfter (new_rows h rows) catalog next
+  pub accepted : IsAccepted h release
+  pub history : after ≡ after_release h accepted.rows
+  pub receipt_is : ReceiptOf h accepted.rows receipt.number receipt.new receipt.repeated
+  pub catalog_is : IsCatalogAfter (new_rows h accepted.rows) catalog next
 
 -- A release that is taken, on every disk: each file is a release file, the history goes on with the
 -- rows that are new by their keys, which the receipt counts, and a segment of these is added, if
@@ -158,46 +161,56 @@ pub record LacksByKey (h : History) (catalog : Catalog) (release : Release)
 pub record WouldBeTakenBut (h : History) (catalog : Catalog) (release : Release)
     (Lacks : List StampedRow → Catalog → Type 0) : Type 0 where
   pub room : IsAdmitted h catalog release
-  pub rows : List RowValue
-  pub is_release : IsReleaseOf release rows
-  pub accepted : Accepts h rows
-  pub lacks : Lacks (new_rows h rows) catalog
+  pub accepted : IsAccepted h release
+  pub lacks : Lacks (new_rows h accepted.rows) catalog
 
 -- a release that would be taken: its new rows have a place, or there are none
 pub record WouldBeTaken (h : History) (catalog : Catalog) (release : Release) : Type 0 where
   pub room : IsAdmitted h catalog release
-  pub rows : List RowValue
-  pub is_release : IsReleaseOf release rows
-  pub accepted : Accepts h rows
+  pub accepted : IsAccepted h release
   pub next : Catalog
-  pub catalog_is : IsCatalogAfter (new_rows h rows) catalog next
+  pub catalog_is : IsCatalogAfter (new_rows h accepted.rows) catalog next
 
--- where the device may fail: known rows are read once each file is a
--- release file, and it is written to only for a release that would be taken
-abbrev pub DeviceMayFail : History → Catalog → Release → Type 0
-DeviceMayFail h catalog release =
-    (IsAdmitted h catalog release × IsRead release) ⊎ WouldBeTaken h catalog release
-
--- why a release isn't taken at a history and a catalog, on an honest device
-abbrev pub IsNotTaken : Refusal → History → Catalog → Release → Type 0
-IsNotTaken refusals.OutOfMemory h catalog release = IsAdmitted h catalog release
-IsNotTaken refusals.DiskFault h catalog release = DeviceMayFail h catalog release
-IsNotTaken refusals.CountSpent h catalog release =
+-- Why a release isn't taken at a history and a catalog. `Lacks` says what its new rows lack,
+-- `Contradicts` of which line the row contradicts another one, and `Damaged` where a known row is.
+-- The device is asked for known rows once each file is a release file, and not before.
+abbrev pub WhyNotTaken : (Lacks : (List StampedRow → Catalog → Type 0) → Type 0)
+    → (Contradicts : ℕ → ℕ → Type 0) → (Damaged : Type 0)
+    → Refusal → History → Catalog → Release → Type 0
+WhyNotTaken Lacks Contradicts Damaged refusals.OutOfMemory h catalog release =
+    IsAdmitted h catalog release
+WhyNotTaken Lacks Contradicts Damaged refusals.DiskFault h catalog release =
+    IsAdmitted h catalog release × IsRead release
+WhyNotTaken Lacks Contradicts Damaged refusals.CountSpent h catalog release =
     (h.imports ≡ last_import) ⊎ (catalog.epoch ≡ last_epoch)
-IsNotTaken refusals.LaterVersion h catalog release =
+WhyNotTaken Lacks Contradicts Damaged refusals.LaterVersion h catalog release =
     IsNotSpent h.imports catalog.epoch × IsForLater catalog.layout release
-IsNotTaken (refusals.Line file line fault) h catalog release =
+WhyNotTaken Lacks Contradicts Damaged (refusals.Line file line fault) h catalog release =
     IsAdmitted h catalog release × IsFaultOfRelease release file line fault
-IsNotTaken (refusals.Contradiction file line) h catalog release = IsAdmitted h catalog release
-    × (key : Key) × HasContradiction (full h) release file line key
-IsNotTaken refusals.TooManySegments h catalog release = WouldBeTakenBut h catalog release HasNoEntry
-IsNotTaken refusals.Full h catalog release = WouldBeTakenBut h catalog release HasNoPlace
-IsNotTaken _ h catalog release = ⊥
+WhyNotTaken Lacks Contradicts Damaged (refusals.Contradiction file line) h catalog release =
+    IsAdmitted h catalog release × Contradicts file line
+WhyNotTaken Lacks Contradicts Damaged refusals.TooManySegments h catalog release = Lacks HasNoEntry
+WhyNotTaken Lacks Contradicts Damaged refusals.Full h catalog release = Lacks HasNoPlace
+WhyNotTaken Lacks Contradicts Damaged refusals.Damaged h catalog release = Damaged
+WhyNotTaken Lacks Contradicts Damaged _ h catalog release = ⊥
+
+-- on an honest device
+abbrev pub IsNotTaken : Refusal → History → Catalog → Release → Type 0
+IsNotTaken e h catalog release = WhyNotTaken (WouldBeTakenBut h catalog release)
+    (λ file line. (key : Key) × HasContradiction (full h) release file line key) ⊥
+    e h catalog release
+
+-- On every device: whether a row contradicts the known ones is said on an honest one alone.
+abbrev pub IsNotTakenByKey : Refusal → History → Catalog → Release → Type 0
+IsNotTakenByKey e h catalog release = WhyNotTaken (LacksByKey h catalog release)
+    (λ file line. IsRead release) (IsAdmitted h catalog release × IsRead release)
+    e h catalog release
 
 -- why an import is refused: after a failed call the store has to be opened again first
-abbrev pub IsImportRefusal : {D : Type 0} → Refusal → StoreValue D → Release → Type 0
-IsImportRefusal refusals.ReopenNeeded s release = s.needs_reopen ≡ true
-IsImportRefusal e s release = (s.needs_reopen ≡ false) × IsNotTaken e s.history s.catalog release
+abbrev pub IsImportRefusal : {D : Type 0} → (Refusal → History → Catalog → Release → Type 0)
+    → Refusal → StoreValue D → Release → Type 0
+IsImportRefusal Why refusals.ReopenNeeded s release = s.needs_reopen ≡ true
+IsImportRefusal Why e s release = (s.needs_reopen ≡ false) × Why e s.history s.catalog release
 
 -- history and catalog stay, and a failure of the device alone closes the store
 pub record IsRefused {D : Type 0} (e : Refusal) (old new : StoreValue D) : Type 0 where
@@ -218,15 +231,12 @@ abbrev pub IsImportOf : {D : Type 0} → Result Receipt Refusal → StoreValue D
 IsImportOf (Ok receipt) old new release =
     IsTaken old.history new.history old.catalog new.catalog release receipt
     × (old.needs_reopen ≡ false) × (new.needs_reopen ≡ false)
-IsImportOf (Err e) old new release = IsImportRefusal e old release × IsRefused e old new
+IsImportOf (Err e) old new release = IsImportRefusal IsNotTaken e old release × IsRefused e old new
 
 -- the bytes represent the history with an accepted release, in this version
-pub record RepresentsWith (layout : Layout) (h : History) (release : Release) (c : List ℕ)
-    : Type 0 where
-  pub rows : List RowValue
-  pub is_release : IsReleaseOf release rows
-  pub accepted : Accepts h rows
-  pub stands : RepresentsAs layout (after_release h rows) c
+abbrev pub RepresentsWith : Layout → History → Release → List ℕ → Type 0
+RepresentsWith layout h release c =
+    (accepted : IsAccepted h release) × RepresentsAs layout (after_release h accepted.rows) c
 
 -- what a stop inside an import may leave: the history
 -- from before in its version, or the one after it in the next
@@ -260,42 +270,11 @@ abbrev pub IsReadingOf : {T D : Type 0} → Result T Refusal → StoreValue D �
 IsReadingOf (Ok x) old new = IsStill old new
 IsReadingOf (Err e) old new = IsReadRefusal e old × IsRefused e old new
 
--- Why an import is refused, on every disk: what the counts, the version, the files, the directory
--- and the keys of the rows say. Whether a row contradicts the known ones is said on an honest disk
--- alone.
-abbrev pub IsRefusalOnAnyDisk : {D : Type 0} → Refusal → StoreValue D → Release → Type 0
-IsRefusalOnAnyDisk refusals.OutOfMemory s release =
-    (s.needs_reopen ≡ false) × IsAdmitted s.history s.catalog release
-IsRefusalOnAnyDisk refusals.DiskFault s release =
-    (s.needs_reopen ≡ false) × IsAdmitted s.history s.catalog release × IsRead release
-IsRefusalOnAnyDisk refusals.ReopenNeeded s release = s.needs_reopen ≡ true
-IsRefusalOnAnyDisk refusals.NotEmpty s release = ⊥
-IsRefusalOnAnyDisk refusals.Full s release =
-    (s.needs_reopen ≡ false) × LacksByKey s.history s.catalog release HasNoPlace
-IsRefusalOnAnyDisk refusals.TooManySegments s release =
-    (s.needs_reopen ≡ false) × LacksByKey s.history s.catalog release HasNoEntry
-IsRefusalOnAnyDisk refusals.NotAStore s release = ⊥
-IsRefusalOnAnyDisk refusals.Damaged s release =
-    (s.needs_reopen ≡ false) × IsAdmitted s.history s.catalog release × IsRead release
-IsRefusalOnAnyDisk (refusals.Unreadable damage) s release = ⊥
-IsRefusalOnAnyDisk refusals.NothingToMerge s release = ⊥
-IsRefusalOnAnyDisk refusals.MergeBusy s release = ⊥
-IsRefusalOnAnyDisk refusals.NoMerge s release = ⊥
-IsRefusalOnAnyDisk refusals.MergeUnfinished s release = ⊥
-IsRefusalOnAnyDisk refusals.CountSpent s release = (s.needs_reopen ≡ false)
-    × ((s.history.imports ≡ last_import) ⊎ (s.catalog.epoch ≡ last_epoch))
-IsRefusalOnAnyDisk refusals.LaterVersion s release = (s.needs_reopen ≡ false)
-    × IsNotSpent s.history.imports s.catalog.epoch × IsForLater s.catalog.layout release
-IsRefusalOnAnyDisk (refusals.Line file line fault) s release = (s.needs_reopen ≡ false)
-    × IsAdmitted s.history s.catalog release × IsFaultOfRelease release file line fault
-IsRefusalOnAnyDisk (refusals.Contradiction file line) s release =
-    (s.needs_reopen ≡ false) × IsAdmitted s.history s.catalog release × IsRead release
-
--- what an import answers on every disk, and the store after it; a failure of the device alone closes
--- it
+-- what an import answers on every disk, and the store after it
 abbrev pub IsImportOnAnyDisk : {D : Type 0} → Result Receipt Refusal → StoreValue D → StoreValue D
     → Release → Type 0
 IsImportOnAnyDisk (Ok receipt) old new release =
     IsTakenByKey old.history new.history old.catalog new.catalog release receipt
     × (old.needs_reopen ≡ false) × (new.needs_reopen ≡ false)
-IsImportOnAnyDisk (Err e) old new release = IsRefusalOnAnyDisk e old release × IsRefused e old new
+IsImportOnAnyDisk (Err e) old new release =
+    IsImportRefusal IsNotTakenByKey e old release × IsRefused e old new

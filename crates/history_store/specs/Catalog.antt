@@ -12,6 +12,7 @@ use Rattle.directory.specs.Listings.{DirectoryValue, form_of, most_entries, next
 use Rattle.directory.specs.Places.{extent_of}
 use Rattle.directory.specs.Fit.{fit}
 use Rattle.segment.specs.Records.{segment_of}
+use Rattle.store_image.specs.Kept.{entry_at}
 
 -- a merge that goes on: the numbers of its two segments, from 0 on,
 -- where its output is to lie and in which form, and how many rows are left
@@ -52,20 +53,16 @@ abbrev pub reserved_by : Option Merge → Option Extent
 reserved_by None = None
 reserved_by (Some merge) = Some merge.output
 
--- the segment of these rows in this form, from this block on
-abbrev pub entry_at : Form → ℕ → List StampedRow → Entry
-entry_at form first rows = record {
-  first = first;
-  bytes = length (segment_of rows);
-  rows = length rows;
-  form = form;
-}
-
 -- the first place where a segment of these rows finds room
 abbrev pub place_for : List StampedRow → Catalog → Option ℕ
 place_for rows catalog =
     fit (block_count (record { first = 0; bytes = length (segment_of rows) })) catalog.entries
     (reserved_by catalog.merge)
+
+-- the catalog at the next epoch, in the version that is written next
+abbrev pub next_catalog : Catalog → Catalog
+next_catalog catalog =
+    record catalog { layout = next_layout catalog.layout; epoch = catalog.epoch + 1 }
 
 -- a segment of these rows is added, at the first place where it finds room. The version from
 -- before says how many entries there may be and which form the segment has, and the next one is
@@ -75,22 +72,13 @@ pub record IsPlaced (rows : List StampedRow) (catalog next : Catalog) : Type 0 w
   pub short : length (segment_of rows) < 2 ^ 32
   pub first : ℕ
   pub place : place_for rows catalog ≡ Some first
-  pub next_is : next ≡ record {
-    layout = next_layout catalog.layout;
-    epoch = catalog.epoch + 1;
+  pub next_is : next ≡ record (next_catalog catalog) {
     entries = catalog.entries ++ entry_at (form_of catalog.layout) first rows ∷ [];
-    merge = catalog.merge;
   }
 
 -- the catalog after an import of these new rows; without any, no segment is added
 abbrev pub IsCatalogAfter : List StampedRow → Catalog → Catalog → Type 0
-IsCatalogAfter [] catalog next =
-    next ≡ record {
-      layout = next_layout catalog.layout;
-      epoch = catalog.epoch + 1;
-      entries = catalog.entries;
-      merge = catalog.merge;
-    }
+IsCatalogAfter [] catalog next = next ≡ next_catalog catalog
 IsCatalogAfter (s ∷ rows) catalog next = IsPlaced (s ∷ rows) catalog next
 
 -- a segment is wanted, and the directory lists as many as it can

@@ -15,27 +15,21 @@ use Rattle.history_store.specs.declared.refusal.Refusal.TheVariants as refusals
 use Rattle.history_store.specs.Catalog.{Catalog}
 use Rattle.history_store.specs.Reading.{row_cost}
 use Rattle.history_store.specs.StoreValue.{StoreValue, IsAcknowledged}
-use Rattle.history_store.specs.Prepared.{IsNotSpent, IsForLater, IsAdmitted}
+use Rattle.history_store.specs.Prepared.{IsNotSpent, IsForLater}
 use Rattle.history_store.specs.Queries.{ReadsThroughCache}
 use Rattle.history_store.specs.Answers.{Counts, IsTaken, IsTakenByKey, IsRefused, IsStill}
-use Rattle.history_store.specs.Answers.{IsImportRefusal, IsRefusalOnAnyDisk}
+use Rattle.history_store.specs.Answers.{IsImportRefusal, IsNotTaken, IsNotTakenByKey}
 use Rattle.history_store.specs.Answers.{IsImportOf, IsImportOnAnyDisk}
 
--- The reasons are those of an import. But nothing is written, so that the device fails only while
--- known rows are read: a disk that is full, or that refuses a write, isn't found out.
-abbrev pub IsCheckingRefusal : {D : Type 0} → Refusal → StoreValue D → Release → Type 0
-IsCheckingRefusal refusals.DiskFault s release =
-    (s.needs_reopen ≡ false) × IsAdmitted s.history s.catalog release × IsRead release
-IsCheckingRefusal e s release = IsImportRefusal e s release
-
--- The receipt is that of an import which takes the release, and nothing is taken. A failure of the
--- device alone closes the store.
+-- The receipt and the reasons are those of an import, but nothing is taken. A disk that is full, or
+-- that refuses a write, isn't found out. A failure of the device alone closes the store.
 abbrev pub IsCheckingOf : {D : Type 0} → Result Receipt Refusal → StoreValue D → StoreValue D
     → Release → Type 0
 IsCheckingOf (Ok receipt) old new release =
     ((after : History) × (next : Catalog)
     × IsTaken old.history after old.catalog next release receipt) × IsStill old new
-IsCheckingOf (Err e) old new release = IsCheckingRefusal e old release × IsRefused e old new
+IsCheckingOf (Err e) old new release =
+    IsImportRefusal IsNotTaken e old release × IsRefused e old new
 
 -- the same on every disk
 abbrev pub IsCheckingOnAnyDisk : {D : Type 0} → Result Receipt Refusal → StoreValue D
@@ -44,7 +38,7 @@ IsCheckingOnAnyDisk (Ok receipt) old new release =
     ((after : History) × (next : Catalog)
     × IsTakenByKey old.history after old.catalog next release receipt) × IsStill old new
 IsCheckingOnAnyDisk (Err e) old new release =
-    IsRefusalOnAnyDisk e old release × IsRefused e old new
+    IsImportRefusal IsNotTakenByKey e old release × IsRefused e old new
 
 -- A release was checked. Whatever is answered, history and catalog stay, and a failed device alone
 -- closes the store. A store that has to be opened again leaves everything as it is, and so does one

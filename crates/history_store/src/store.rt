@@ -76,11 +76,11 @@ impl<D: Disk> Store<D> {
     ghost use Rattle.import_check.specs.NewRows.{IsAcceptedAs, IsRead};
     ghost use Rattle.import_check.specs.NewRows.{BringsByKey};
     ghost use Rattle.store_image.specs.Images.{Represents, RepresentsAs};
+    ghost use Rattle.store_image.specs.Next.{IsRepeated};
     ghost use Rattle.history_store.specs.Catalog.{catalog_of, blocks_in_use, plain_count};
     ghost use Rattle.history_store.specs.StoreValue.{IsAcknowledged};
     ghost use Rattle.history_store.specs.Prepared.{IsForLater};
     ghost use Rattle.history_store.specs.Private.StoreValue.{directory_of, with_imports, with_rows};
-    ghost use Rattle.history_store.specs.Private.Publishing.{IsRelisting};
     ghost use Rattle.history_store.specs.Private.Prepared.{IsPreparedFor};
     ghost use Rattle.blocks.specs.Calls.{MakesCalls};
     ghost use Rattle.blocks.specs.Outside.{SameOutside, StemsWithin};
@@ -233,7 +233,7 @@ impl<D: Disk> Store<D> {
     /// Publishes the next directory, which lists the same segments.
     pub(crate) fn publish_without_segment(&mut self, next: Directory) -> Result<(), Refusal>
         requires still { self.old.needs_reopen ≡ false }
-        requires next { IsRelisting (directory_of self.old) next }
+        requires next { IsRepeated (directory_of self.old) next }
         ensures step { IsStep result self.old self.new
             (with_imports self.old.history next.imports)
             (catalog_of next self.old.catalog.merge) }

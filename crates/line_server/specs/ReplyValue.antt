@@ -5,8 +5,8 @@ use Rattle.std.specs.List.{flat_map}
 use Rattle.hex.specs.Hex.{encode_lower}
 use Rattle.rf2_values.specs.Row.{RowValue, canonical}
 use Rattle.history_store.specs.declared.refusal.Refusal.TheVariants as store
-use Rattle.history_store.specs.Refusals.{refusal_number, refusal_name}
-use Rattle.line_commands.specs.Requests.{spaced, unread_number, unread_name}
+use Rattle.history_store.specs.Refusals.{refusal_sign}
+use Rattle.line_commands.specs.Requests.{spaced, unread_sign}
 use Rattle.line_server.specs.declared.refusal.LineRefusal.{LineRefusal}
 use Rattle.line_server.specs.declared.refusal.LineRefusal.TheVariants as refusals
 
@@ -30,17 +30,12 @@ pub record ReplyValue : Type 0 where
 abbrev pub line : List (List ℕ) → List ℕ
 line words = spaced words ++ 10 ∷ []
 
-abbrev pub number_of : LineRefusal → ℕ
-number_of (refusals.Unread reason) = unread_number reason
-number_of refusals.PinRange = 44
-number_of refusals.NoFolder = 45
-number_of (refusals.Store refusal) = refusal_number refusal
-
-abbrev pub name_of : LineRefusal → List ℕ
-name_of (refusals.Unread reason) = unread_name reason
-name_of refusals.PinRange = codes "PinRange"
-name_of refusals.NoFolder = codes "NoFolder"
-name_of (refusals.Store refusal) = refusal_name refusal
+-- the number and the name of a refusal
+abbrev pub sign_of : LineRefusal → ℕ × List ℕ
+sign_of (refusals.Unread reason) = unread_sign reason
+sign_of refusals.PinRange = (44, codes "PinRange")
+sign_of refusals.NoFolder = (45, codes "NoFolder")
+sign_of (refusals.Store refusal) = refusal_sign refusal
 
 -- the file and the line at which a release is refused
 abbrev pub place_of : LineRefusal → List (List ℕ)
@@ -76,7 +71,7 @@ last_of (Ok (Ids ids)) = line (codes "END" ∷ decimal (length ids) ∷ [])
 last_of (Ok (Dates dates)) = line (codes "END" ∷ decimal (length dates) ∷ [])
 last_of (Ok (Done words)) = line (codes "OK" ∷ words)
 last_of (Err refusal) =
-    line (codes "ERR" ∷ decimal (number_of refusal) ∷ name_of refusal ∷ place_of refusal)
+    line (codes "ERR" ∷ decimal ((sign_of refusal).0) ∷ (sign_of refusal).1 ∷ place_of refusal)
 
 abbrev pub reply_value : Result Answer LineRefusal → ReplyValue
 reply_value outcome = record { body = body_of outcome; last = last_of outcome }

@@ -61,11 +61,11 @@ impl From<AllocError> for LineRefusal {
 
 impl LineRefusal {
     ghost use Rattle.std.specs.Prelude.{◌≡◌, ◌≤◌, length};
-    ghost use Rattle.line_server.specs.ReplyValue.{number_of, name_of, place_of, place_words};
+    ghost use Rattle.line_server.specs.ReplyValue.{sign_of, place_of, place_words};
 
     /// The number by which the protocol knows the refusal.
     pub fn code(self) -> u8
-        ensures { result ≡ number_of self }
+        ensures { result ≡ (sign_of self).0 }
     {
         match self {
             LineRefusal::Unread(reason) => reason.code(),
@@ -77,7 +77,7 @@ impl LineRefusal {
 
     /// The name that stands behind the number.
     pub fn name(self) -> &'static str
-        ensures name { result.now ≡ name_of self }
+        ensures name { result.now ≡ (sign_of self).1 }
         ensures short { length result.now ≤ 20 }
     {
         match self {

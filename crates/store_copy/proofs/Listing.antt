@@ -15,9 +15,9 @@ use Rattle.directory.specs.declared.layout.Layout.TheVariants as layouts
 use Rattle.directory.specs.Listings.{DirectoryValue, IsEntry, IsListing, HasForm, form_of, most_entries}
 use Rattle.directory.specs.Places.{AreApart, AreBeside, end_block, extent_of, extents_of}
 use Rattle.segment.specs.Records.{IsSegment, segment_of, record_of}
-use Rattle.store_image.specs.Kept.{AreSegments, IsKept}
+use Rattle.store_image.specs.Kept.{AreSegments, IsKept, entry_at}
 use Rattle.store_image.proofs.Windowed.{record_least}
-use Rattle.store_copy.specs.Copying.{up_to, before, lists_up_to, entry_at, entries_from, end_from, copied_listing}
+use Rattle.store_copy.specs.Copying.{up_to, before, lists_up_to, entries_from, end_from, copied_listing}
 use Rattle.store_copy.specs.Private.Writing.{MayBeSegment}
 use Rattle.store_copy.proofs.UpTo.{up_to_ascends, up_to_all, lists_all, lists_are, listed_up_to, up_to_is_history, lists_kinds, lists_count}
 
@@ -150,12 +150,6 @@ entries_segments form first (rows ∷ lists) all =
     (record { is = all.0; bytes = refl; count = refl }, entries_segments form (end_block (extent_of (entry_at form first rows))) lists all.1)
 
 -- ---- the directory
-
-pub segments_count : (entries : List Entry) (lists : List (List StampedRow)) → AreSegments entries lists → length entries ≡ length lists
-segments_count [] [] are = refl
-segments_count [] (rows ∷ lists) are = absurd are
-segments_count (entry ∷ entries) [] are = absurd are
-segments_count (entry ∷ entries) (rows ∷ lists) are = let rest = segments_count entries lists are.1 in omega (arith, rest)
 
 -- of the first lists, too
 pub copied_is_listing : (layout : Layout) (n : ℕ) (lists : List (List StampedRow)) → n < 2 ^ 32 → length lists ≤ most_entries layout → AllByRecursion MayBeSegment lists → end_from 4 (lists_up_to n lists) ≤ block_limit → IsListing (copied_listing layout n lists)

@@ -9,8 +9,9 @@ use Rattle.directory.specs.declared.entry.Entry.{Entry}
 use Rattle.directory.specs.declared.layout.Layout.{Layout}
 use Rattle.directory.specs.Listings.{DirectoryValue, IsListing, form_of, most_entries, with_entry}
 use Rattle.segment.specs.Records.{segment_of}
+use Rattle.store_image.specs.Kept.{entry_at}
 use Rattle.store_copy.specs.declared.planning.Size.{Size}
-use Rattle.store_copy.specs.Copying.{up_to, lists_up_to, entry_at, entries_from, end_from, copied_listing}
+use Rattle.store_copy.specs.Copying.{up_to, lists_up_to, entries_from, end_from, copied_listing}
 use Rattle.store_copy.specs.Private.Writing.{MayBeSegment, next_entry}
 use Rattle.store_copy.proofs.UpTo.{lists-join}
 use Rattle.store_copy.proofs.Listing.{copied_is_listing, end-append, end_grows, entries-append}

@@ -10,6 +10,7 @@ use Rattle.directory.specs.declared.layout.Layout.{Layout}
 use Rattle.directory.specs.Listings.{DirectoryValue, form_of}
 use Rattle.directory.specs.Places.{end_block, extent_of}
 use Rattle.segment.specs.Records.{segment_of}
+use Rattle.store_image.specs.Kept.{entry_at}
 
 -- the rows that the first n imports brought, each with its number
 unfoldable pub up_to : ℕ → List StampedRow → List StampedRow
@@ -33,11 +34,6 @@ before (s ∷ rows) lists = (s ∷ rows) ∷ lists
 abbrev pub lists_up_to : ℕ → List (List StampedRow) → List (List StampedRow)
 lists_up_to n [] = []
 lists_up_to n (rows ∷ lists) = before (up_to n rows) (lists_up_to n lists)
-
--- the segment of these rows, from a block on
-abbrev pub entry_at : Form → ℕ → List StampedRow → Entry
-entry_at form first rows =
-    record { first = first; bytes = length (segment_of rows); rows = length rows; form = form }
 
 -- the segments of these rows, from a block on and with no block between them
 abbrev pub entries_from : Form → ℕ → List (List StampedRow) → List Entry

@@ -5,7 +5,8 @@ ghost use Rattle.std.specs.Prelude.{IfOk, IfErr, MatchResult};
 ghost use Rattle.fault_counts.specs.Counting.{Counts, CountsDiskFault};
 ghost use Rattle.fault_counts.specs.declared.fault.ReadFault.TheVariants as readfault;
 ghost use Rattle.history_model.specs.declared.stamped.StampedRow.{StampedRow};
-ghost use Rattle.store_copy.specs.Private.Writing.{IsRowOf, IsOfPlace, IsThere};
+ghost use Rattle.store_image.specs.Private.Reading.{IsRowOf, IsOfPlace};
+ghost use Rattle.store_copy.specs.Private.Writing.{IsThere};
 
 use blocks::BLOCK;
 use directory::Entry;

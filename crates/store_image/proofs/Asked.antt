@@ -9,7 +9,7 @@ use Rattle.directory.specs.declared.entry.Entry.{Entry}
 use Rattle.directory.specs.declared.layout.Layout.TheVariants as layouts
 use Rattle.directory.specs.declared.listing.DirectoryFault.{DirectoryFault}
 use Rattle.directory.specs.declared.listing.DirectoryFault.TheVariants as directories
-use Rattle.directory.specs.Listings.{DirectoryValue, IsListing}
+use Rattle.directory.specs.Listings.{DirectoryValue, IsListing, empty_listing}
 use Rattle.directory.specs.Content.{Lists}
 use Rattle.store_image.specs.declared.fault.Damage.TheVariants as damages
 use Rattle.store_image.specs.declared.fault.LoadFault.{LoadFault}
@@ -19,7 +19,7 @@ use Rattle.store_image.specs.declared.fault.RowsFault.TheVariants as faults
 use Rattle.store_image.specs.Kept.{bytes_listed}
 use Rattle.store_image.specs.Images.{OtherIsWhole}
 use Rattle.store_image.specs.Damage.{HasDirectory}
-use Rattle.store_image.specs.Answers.{empty_listing, of_slot, of_directory}
+use Rattle.store_image.specs.Answers.{of_slot, of_directory}
 use Rattle.store_image.specs.Asked.{MayBeListed, AreGoneOver, StopsAt, AsksWithin}
 use Rattle.store_image.specs.Private.Damage.{in_segment, StopsIn}
 use Rattle.store_image.proofs.Segments.{bytes_more}

@@ -13,9 +13,9 @@ use Rattle.history_model.proofs.InOrder.{Has-all, all_from_has}
 use Rattle.history_model.proofs.Listings.{Has-union_cases}
 use Rattle.directory.specs.declared.layout.Layout.{Layout}
 use Rattle.directory.specs.declared.layout.Layout.TheVariants as layouts
-use Rattle.directory.specs.Listings.{DirectoryValue, next_layout}
+use Rattle.directory.specs.Listings.{DirectoryValue, RisesTo, next_layout}
 use Rattle.store_image.specs.Kept.{HasKind, AreOfLayout}
-use Rattle.store_image.specs.Next.{RisesTo, merged}
+use Rattle.store_image.specs.Next.{merged}
 
 -- ---- a version has the kinds of those before it
 

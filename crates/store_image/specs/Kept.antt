@@ -1,5 +1,6 @@
 -- What a content block and the rows of its segments say. No file is seen here.
 use Rattle.std.specs.Prelude.{◌≡◌, ℕ, List, [], ◌∷◌, length, sum_by, All}
+use Rattle.std.specs.List.{AllZip}
 use Rattle.rf2_values.specs.declared.row.Kind.{Kind}
 use Rattle.rf2_values.specs.declared.row.Kind.TheVariants as kinds
 use Rattle.rf2_values.specs.Row.{kind_of}
@@ -7,6 +8,7 @@ use Rattle.history_model.specs.declared.stamped.StampedRow.{StampedRow}
 use Rattle.history_model.specs.History.{History, IsHistory}
 use Rattle.history_model.specs.Lists.{AreLists, listed}
 use Rattle.blocks.specs.Extents.{start_of}
+use Rattle.checksum.specs.declared.form.Form.{Form}
 use Rattle.directory.specs.declared.entry.Entry.{Entry}
 use Rattle.directory.specs.declared.layout.Layout.{Layout}
 use Rattle.directory.specs.declared.layout.Layout.TheVariants as layouts
@@ -21,16 +23,18 @@ pub record IsSegmentOf (entry : Entry) (rows : List StampedRow) : Type 0 where
   pub bytes : length (segment_of rows) ≡ entry.bytes
   pub count : length rows ≡ entry.rows
 
+-- the segment of these rows in this form, from this block on
+abbrev pub entry_at : Form → ℕ → List StampedRow → Entry
+entry_at form first rows =
+    record { first = first; bytes = length (segment_of rows); rows = length rows; form = form }
+
 -- the bytes of the listed segments
 abbrev pub bytes_listed : List Entry → ℕ
 bytes_listed entries = sum_by (λ entry. entry.bytes) entries
 
 -- one list of rows for each entry
 abbrev pub AreSegments : List Entry → List (List StampedRow) → Type 0
-AreSegments [] [] = Unit {0}
-AreSegments [] (rows ∷ lists) = ⊥
-AreSegments (entry ∷ entries) [] = ⊥
-AreSegments (entry ∷ entries) (rows ∷ lists) = IsSegmentOf entry rows × AreSegments entries lists
+AreSegments entries lists = AllZip IsSegmentOf entries lists
 
 -- the version has rows of this kind: concrete values from version 2 on, members from version 3 on
 abbrev pub HasKind : Layout → Kind → Type 0

@@ -9,7 +9,8 @@ ghost use Rattle.history_model.specs.History.{no_history};
 ghost use Rattle.store_image.specs.declared.fault.MakeFault.TheVariants as faults;
 ghost use Rattle.store_image.specs.Images.{Represents};
 ghost use Rattle.store_image.specs.OnDisk.{IsOnDisk};
-ghost use Rattle.store_image.specs.Answers.{empty_listing, IsLookedAt, IsMade, IsNewStore};
+ghost use Rattle.directory.specs.Listings.{empty_listing};
+ghost use Rattle.store_image.specs.Answers.{IsLookedAt, IsMade, IsNewStore};
 ghost use Rattle.store_image.specs.Answers.{CountsMaking, StaysIfRefused, LooksIfRefused};
 
 use crate::content::content_of;

@@ -22,7 +22,7 @@ use Rattle.history_store.specs.declared.refusal.Refusal.TheVariants as store
 use Rattle.history_store.specs.Catalog.{Catalog}
 use Rattle.history_store.specs.StoreValue.{StoreValue}
 use Rattle.history_store.specs.Prepared.{IsForLater, IsAdmitted}
-use Rattle.history_store.specs.Answers.{IsTaken, WouldBeTakenBut, IsImportOf}
+use Rattle.history_store.specs.Answers.{IsAccepted, IsTaken, WouldBeTakenBut, IsImportOf}
 use Rattle.store_life.specs.Laws.{IsSureImport}
 
 abbrev FileBytes : Type 0
@@ -136,11 +136,14 @@ module _ (release other : Release) (same : files_of release ≡ files_of other) 
   admitted_alike : {h : History} {catalog : Catalog} → IsAdmitted h catalog release → IsAdmitted h catalog other
   admitted_alike {h} {catalog} a = record { room = a.room; version = λ is. a.version (earlier_alike catalog.layout is) }
 
+  abbrev accepted_alike : {h : History} → IsAccepted h release → IsAccepted h other
+  accepted_alike a = record { rows = a.rows; is_release = release_alike a.is_release; consistent = a.consistent }
+
   taken_alike : {h after : History} {catalog next : Catalog} {receipt : Receipt} → IsTaken h after catalog next release receipt → IsTaken h after catalog next other receipt
-  taken_alike t = record { room = admitted_alike t.room; rows = t.rows; is_release = release_alike t.is_release; accepted = t.accepted; history = t.history; receipt_is = t.receipt_is; catalog_is = t.catalog_is }
+  taken_alike t = record { room = admitted_alike t.room; accepted = accepted_alike t.accepted; history = t.history; receipt_is = t.receipt_is; catalog_is = t.catalog_is }
 
   unplaced_alike : {h : History} {catalog : Catalog} {Lacks : List StampedRow → Catalog → Type 0} → WouldBeTakenBut h catalog release Lacks → WouldBeTakenBut h catalog other Lacks
-  unplaced_alike u = record { room = admitted_alike u.room; rows = u.rows; is_release = release_alike u.is_release; accepted = u.accepted; lacks = u.lacks }
+  unplaced_alike u = record { room = admitted_alike u.room; accepted = accepted_alike u.accepted; lacks = u.lacks }
 
   pub import_alike : {D : Type 0} (result : Result Receipt Refusal) (old new : StoreValue D) → IsSureImport result → IsImportOf result old new release → IsImportOf result old new other
   import_alike (Ok receipt) old new sure i = (taken_alike i.0, i.1, i.2)
@@ -148,7 +151,7 @@ module _ (release other : Release) (same : files_of release ≡ files_of other) 
   import_alike (Err store.CountSpent) old new sure i = i
   import_alike (Err store.LaterVersion) old new sure i = ((i.0.0, (i.0.1.0, later_alike old.catalog.layout i.0.1.1)), i.1)
   import_alike (Err (store.Line file line fault)) old new sure i = ((i.0.0, (admitted_alike i.0.1.0, fault_alike i.0.1.1)), i.1)
-  import_alike (Err (store.Contradiction file line)) old new sure i = ((i.0.0, (admitted_alike i.0.1.0, i.0.1.1, contradiction_alike i.0.1.2)), i.1)
+  import_alike (Err (store.Contradiction file line)) old new sure i = ((i.0.0, (admitted_alike i.0.1.0, (i.0.1.1.0, contradiction_alike i.0.1.1.1))), i.1)
   import_alike (Err store.TooManySegments) old new sure i = ((i.0.0, unplaced_alike i.0.1), i.1)
   import_alike (Err store.Full) old new sure i = ((i.0.0, unplaced_alike i.0.1), i.1)
   import_alike (Err store.OutOfMemory) old new sure i = absurd sure

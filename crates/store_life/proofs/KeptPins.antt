@@ -50,14 +50,14 @@ later g rows n le = omega (arith, le)
 pub takes_stays : (h k : History) (releases : List Release) (pin : ℕ) → IsHistory h → pin ≤ h.imports → TakesAll h releases k → rows_at pin k.rows ≡ rows_at pin h.rows
 takes_stays h k [] pin is le takes = ap (λ (x : History). rows_at pin x.rows) takes
 takes_stays h k (release ∷ releases) pin is le takes =
-    takes_stays (after_release h takes.0) k releases pin (then_is_history h takes.0 is) (later h takes.0 pin le) takes.3
-    ∙ pinned_stays h takes.0 pin is le
+    takes_stays (after_release h takes.0.rows) k releases pin (then_is_history h takes.0.rows is) (later h takes.0.rows pin le) takes.1
+    ∙ pinned_stays h takes.0.rows pin is le
 
 pub alike_later : (h k : History) (releases : List Release) (number : ℕ) → IsHistory h → number ≤ h.imports → TakesAll h releases k → BroughtAlike number k h
 alike_later h k [] number is le takes = ap (λ (x : History). brought_by number x.rows) takes
 alike_later h k (release ∷ releases) number is le takes =
-    alike_later (after_release h takes.0) k releases number (then_is_history h takes.0 is) (later h takes.0 number le) takes.3
-    ∙ brought_stays h takes.0 number is le
+    alike_later (after_release h takes.0.rows) k releases number (then_is_history h takes.0.rows is) (later h takes.0.rows number le) takes.1
+    ∙ brought_stays h takes.0.rows number is le
 
 -- what a store holds is a history
 pub held_history : {D : Type 0} (moments : D → Moments) (s : StoreValue D) → IsImage (moments s.disk).state (moments s.disk).state.now → IsAcknowledged moments s → IsHistory s.history

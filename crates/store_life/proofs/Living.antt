@@ -24,7 +24,7 @@ use Rattle.store_life.proofs.Made.{held}
 -- the releases of some calls, and then those of others
 takes_more : (h g k : History) (xs ys : List Release) → TakesAll h xs g → TakesAll g ys k → TakesAll h (xs ++ ys) k
 takes_more h g k [] ys one two = subst (λ (x : History). TakesAll x ys k) one two
-takes_more h g k (x ∷ xs) ys one two = (one.0, one.1, one.2, takes_more (after_release h one.0) g k xs ys one.3 two)
+takes_more h g k (x ∷ xs) ys one two = (one.0, takes_more (after_release h one.0.rows) g k xs ys one.1 two)
 
 -- what is opened of bytes has what is so of the history that they represent
 opened_as : {D : Type 0} (h : History) (bytes : List ℕ) (P : History → Type 0) → RepresentsHistory h bytes → P h → (result : Result (StoreValue D) (Refusal × D)) → IsOpeningOf result bytes
@@ -111,7 +111,7 @@ module _ (failed : Option Release) (within : Option Call) (h : History) (bytes :
 
   one_remains : (release : Release) → (failed ≡ Some release) ⊎ (within ≡ Some (Imported release)) ⊎ (within ≡ Some (Failed release)) → RepresentsNext h release bytes → Remains
   one_remains release why w =
-      (release ∷ [], inr (release, refl, why), (after_release h w.1.rows, (w.1.rows, w.1.is_release, w.1.accepted, refl), (w.0, w.1.stands)))
+      (release ∷ [], inr (release, refl, why), (after_release h w.1.0.rows, (w.1.0, refl), (w.0, w.1.1)))
 
   -- the device failed before, or it didn't
   failed_remains : (f : Option Release) → failed ≡ f → RepresentsBut h f bytes → Remains

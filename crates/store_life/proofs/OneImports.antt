@@ -16,8 +16,9 @@ use Rattle.import_check.proofs.Receipts.{one_list}
 use Rattle.import_check.proofs.Deciding.{one_fault, read_has_no_fault, one_first_contradiction, consistent_has_none}
 use Rattle.history_store.specs.declared.refusal.Refusal.{Refusal}
 use Rattle.history_store.specs.declared.refusal.Refusal.TheVariants as refusals
-use Rattle.directory.specs.Listings.{form_of, next_layout}
-use Rattle.history_store.specs.Catalog.{Catalog, IsCatalogAfter, HasNoEntry, HasNoPlace, entry_at, place_for}
+use Rattle.directory.specs.Listings.{form_of}
+use Rattle.history_store.specs.Catalog.{Catalog, IsCatalogAfter, HasNoEntry, HasNoPlace, next_catalog, place_for}
+use Rattle.store_image.specs.Kept.{entry_at}
 use Rattle.segment.specs.Records.{segment_of}
 use Rattle.history_store.specs.StoreValue.{StoreValue, last_import, last_epoch}
 use Rattle.history_store.specs.Prepared.{IsNotSpent, IsForLater, IsAdmitted}
@@ -56,7 +57,7 @@ one_next : (rows : List StampedRow) (catalog next other : Catalog) → IsCatalog
 one_next [] catalog next other a b = b ∙ sym a
 one_next (s ∷ rows) catalog next other a b =
     let first : b.first ≡ a.first = one_some b.first a.first _ b.place a.place in
-    b.next_is ∙ ap (λ (k : ℕ). record { layout = next_layout catalog.layout; epoch = catalog.epoch + 1; entries = catalog.entries ++ entry_at (form_of catalog.layout) k (s ∷ rows) ∷ []; merge = catalog.merge }) first ∙ sym a.next_is
+    b.next_is ∙ ap (λ (k : ℕ). record (next_catalog catalog) { entries = catalog.entries ++ entry_at (form_of catalog.layout) k (s ∷ rows) ∷ [] }) first ∙ sym a.next_is
 
 entry_lacks : (rows : List StampedRow) (catalog next : Catalog) → HasNoEntry rows catalog → IsCatalogAfter rows catalog next → ⊥
 entry_lacks [] catalog next lacks a = omega (arith, lacks.some)
@@ -106,9 +107,9 @@ module _ (D : Type 0) (needs : Bool) (h : History) (catalog : Catalog) (release 
   cause_of (Err refusals.CountSpent) d after sure i = spent refl i.0.0 i.0.1 (i.1.history, i.1.catalog, i.1.still (λ e. false≢true (ap is_fault e)))
   cause_of (Err refusals.LaterVersion) d after sure i = later refl i.0.0 i.0.1.0 i.0.1.1 (i.1.history, i.1.catalog, i.1.still (λ e. false≢true (ap is_fault e)))
   cause_of (Err (refusals.Line file line fault)) d after sure i = faulty file line fault refl i.0.0 i.0.1.0 i.0.1.1 (i.1.history, i.1.catalog, i.1.still (λ e. false≢true (ap is_fault e)))
-  cause_of (Err (refusals.Contradiction file line)) d after sure i = contradicting file line i.0.1.1 refl i.0.0 i.0.1.0 i.0.1.2 (i.1.history, i.1.catalog, i.1.still (λ e. false≢true (ap is_fault e)))
-  cause_of (Err refusals.TooManySegments) d after sure i = entryless refl i.0.0 i.0.1.room i.0.1.rows i.0.1.is_release i.0.1.accepted i.0.1.lacks (i.1.history, i.1.catalog, i.1.still (λ e. false≢true (ap is_fault e)))
-  cause_of (Err refusals.Full) d after sure i = placeless refl i.0.0 i.0.1.room i.0.1.rows i.0.1.is_release i.0.1.accepted i.0.1.lacks (i.1.history, i.1.catalog, i.1.still (λ e. false≢true (ap is_fault e)))
+  cause_of (Err (refusals.Contradiction file line)) d after sure i = contradicting file line i.0.1.1.0 refl i.0.0 i.0.1.0 i.0.1.1.1 (i.1.history, i.1.catalog, i.1.still (λ e. false≢true (ap is_fault e)))
+  cause_of (Err refusals.TooManySegments) d after sure i = entryless refl i.0.0 i.0.1.room i.0.1.accepted.rows i.0.1.accepted.is_release i.0.1.accepted.consistent i.0.1.lacks (i.1.history, i.1.catalog, i.1.still (λ e. false≢true (ap is_fault e)))
+  cause_of (Err refusals.Full) d after sure i = placeless refl i.0.0 i.0.1.room i.0.1.accepted.rows i.0.1.accepted.is_release i.0.1.accepted.consistent i.0.1.lacks (i.1.history, i.1.catalog, i.1.still (λ e. false≢true (ap is_fault e)))
   cause_of (Err refusals.OutOfMemory) d after sure i = absurd sure
   cause_of (Err refusals.DiskFault) d after sure i = absurd sure
   cause_of (Err _) d after sure i = absurd i.0.1
@@ -127,14 +128,14 @@ module _ (D : Type 0) (needs : Bool) (h : History) (catalog : Catalog) (release 
     stay s t = (t.0 ∙ sym s.0, t.1 ∙ sym s.1, t.2 ∙ sym s.2)
 
     one_history : (receipt other : Receipt) (t : IsTaken h after.history catalog after.catalog release receipt) (u : IsTaken h next.history catalog next.catalog release other) → next.history ≡ after.history
-    one_history receipt other t u = u.history ∙ ap (after_release h) (one_list release u.rows t.rows u.is_release t.is_release) ∙ sym t.history
+    one_history receipt other t u = u.history ∙ ap (after_release h) (one_list release u.accepted.rows t.accepted.rows u.accepted.is_release t.accepted.is_release) ∙ sym t.history
 
     one_catalog : (receipt other : Receipt) (t : IsTaken h after.history catalog after.catalog release receipt) (u : IsTaken h next.history catalog next.catalog release other) → next.catalog ≡ after.catalog
-    one_catalog receipt other t u = one_next (new_rows h t.rows) catalog after.catalog next.catalog t.catalog_is (subst (λ (l : List RowValue). IsCatalogAfter (new_rows h l) catalog next.catalog) (one_list release u.rows t.rows u.is_release t.is_release) u.catalog_is)
+    one_catalog receipt other t u = one_next (new_rows h t.accepted.rows) catalog after.catalog next.catalog t.catalog_is (subst (λ (l : List RowValue). IsCatalogAfter (new_rows h l) catalog next.catalog) (one_list release u.accepted.rows t.accepted.rows u.accepted.is_release t.accepted.is_release) u.catalog_is)
 
     one_receipt : (receipt other : Receipt) (t : IsTaken h after.history catalog after.catalog release receipt) (u : IsTaken h next.history catalog next.catalog release other) → receipt ≡ other
     one_receipt receipt other t u =
-        let rows = one_list release u.rows t.rows u.is_release t.is_release in
+        let rows = one_list release u.accepted.rows t.accepted.rows u.accepted.is_release t.accepted.is_release in
         let new_is = subst (λ (l : List RowValue). length h.rows + other.new ≡ length (after_release h l).rows) rows u.receipt_is.new_is in
         let repeated_is = subst (λ (l : List RowValue). other.new + other.repeated ≡ length l) rows u.receipt_is.repeated_is in
         same_receipt receipt other (t.receipt_is.number_is ∙ sym u.receipt_is.number_is) (omega (arith, t.receipt_is.new_is, new_is)) (omega (arith, t.receipt_is.new_is, new_is, t.receipt_is.repeated_is, repeated_is))
@@ -172,7 +173,7 @@ module _ (D : Type 0) (needs : Bool) (h : History) (catalog : Catalog) (release 
     agree (faulty file line fault is needs room fault_is stays) (contradicting file′ line′ key′ is′ needs′ room′ contradiction′ stays′) = absurd (read_has_no_fault release file line fault (record { lists = contradiction′.lists; spelled = contradiction′.spelled }) fault_is)
     agree (faulty file line fault is needs room fault_is stays) (entryless is′ needs′ room′ rows′ release_is′ accepted′ lacks′ stays′) = absurd (read_has_no_fault release file line fault (read_of release_is′) fault_is)
     agree (faulty file line fault is needs room fault_is stays) (placeless is′ needs′ room′ rows′ release_is′ accepted′ lacks′ stays′) = absurd (read_has_no_fault release file line fault (read_of release_is′) fault_is)
-    agree (faulty file line fault is needs room fault_is stays) (taken receipt′ is′ needs′ t′ open_still′) = absurd (read_has_no_fault release file line fault (read_of t′.is_release) fault_is)
+    agree (faulty file line fault is needs room fault_is stays) (taken receipt′ is′ needs′ t′ open_still′) = absurd (read_has_no_fault release file line fault (read_of t′.accepted.is_release) fault_is)
     agree (contradicting file line key is needs room contradiction stays) (closed is′ needs′ stays′) = absurd (false≢true (sym needs ∙ needs′))
     agree (contradicting file line key is needs room contradiction stays) (spent is′ needs′ spent_is′ stays′) = absurd (unspent spent_is′ room.room)
     agree (contradicting file line key is needs room contradiction stays) (later is′ needs′ room′ later_is′ stays′) = absurd (room.version later_is′)
@@ -181,7 +182,7 @@ module _ (D : Type 0) (needs : Bool) (h : History) (catalog : Catalog) (release 
         let st = stay stays stays′ in (is ∙ same_place one.0 one.1 ∙ sym is′, st.0, st.1, st.2)
     agree (contradicting file line key is needs room contradiction stays) (entryless is′ needs′ room′ rows′ release_is′ accepted′ lacks′ stays′) = absurd (consistent_has_none (full h) release rows′ release_is′ accepted′ file line key contradiction)
     agree (contradicting file line key is needs room contradiction stays) (placeless is′ needs′ room′ rows′ release_is′ accepted′ lacks′ stays′) = absurd (consistent_has_none (full h) release rows′ release_is′ accepted′ file line key contradiction)
-    agree (contradicting file line key is needs room contradiction stays) (taken receipt′ is′ needs′ t′ open_still′) = absurd (consistent_has_none (full h) release t′.rows t′.is_release t′.accepted file line key contradiction)
+    agree (contradicting file line key is needs room contradiction stays) (taken receipt′ is′ needs′ t′ open_still′) = absurd (consistent_has_none (full h) release t′.accepted.rows t′.accepted.is_release t′.accepted.consistent file line key contradiction)
     agree (entryless is needs room rows release_is accepted lacks stays) (closed is′ needs′ stays′) = absurd (false≢true (sym needs ∙ needs′))
     agree (entryless is needs room rows release_is accepted lacks stays) (spent is′ needs′ spent_is′ stays′) = absurd (unspent spent_is′ room.room)
     agree (entryless is needs room rows release_is accepted lacks stays) (later is′ needs′ room′ later_is′ stays′) = absurd (room.version later_is′)
@@ -189,7 +190,7 @@ module _ (D : Type 0) (needs : Bool) (h : History) (catalog : Catalog) (release 
     agree (entryless is needs room rows release_is accepted lacks stays) (contradicting file′ line′ key′ is′ needs′ room′ contradiction′ stays′) = absurd (consistent_has_none (full h) release rows release_is accepted file′ line′ key′ contradiction′)
     agree (entryless is needs room rows release_is accepted lacks stays) (entryless is′ needs′ room′ rows′ release_is′ accepted′ lacks′ stays′) = let st = stay stays stays′ in (is ∙ sym is′, st.0, st.1, st.2)
     agree (entryless is needs room rows release_is accepted lacks stays) (placeless is′ needs′ room′ rows′ release_is′ accepted′ lacks′ stays′) = absurd (omega (arith, lacks.all_taken, lacks′.few))
-    agree (entryless is needs room rows release_is accepted lacks stays) (taken receipt′ is′ needs′ t′ open_still′) = absurd (no_entry _ rows t′.rows release_is t′.is_release lacks t′.catalog_is)
+    agree (entryless is needs room rows release_is accepted lacks stays) (taken receipt′ is′ needs′ t′ open_still′) = absurd (no_entry _ rows t′.accepted.rows release_is t′.accepted.is_release lacks t′.catalog_is)
     agree (placeless is needs room rows release_is accepted lacks stays) (closed is′ needs′ stays′) = absurd (false≢true (sym needs ∙ needs′))
     agree (placeless is needs room rows release_is accepted lacks stays) (spent is′ needs′ spent_is′ stays′) = absurd (unspent spent_is′ room.room)
     agree (placeless is needs room rows release_is accepted lacks stays) (later is′ needs′ room′ later_is′ stays′) = absurd (room.version later_is′)
@@ -197,14 +198,14 @@ module _ (D : Type 0) (needs : Bool) (h : History) (catalog : Catalog) (release 
     agree (placeless is needs room rows release_is accepted lacks stays) (contradicting file′ line′ key′ is′ needs′ room′ contradiction′ stays′) = absurd (consistent_has_none (full h) release rows release_is accepted file′ line′ key′ contradiction′)
     agree (placeless is needs room rows release_is accepted lacks stays) (entryless is′ needs′ room′ rows′ release_is′ accepted′ lacks′ stays′) = absurd (omega (arith, lacks′.all_taken, lacks.few))
     agree (placeless is needs room rows release_is accepted lacks stays) (placeless is′ needs′ room′ rows′ release_is′ accepted′ lacks′ stays′) = let st = stay stays stays′ in (is ∙ sym is′, st.0, st.1, st.2)
-    agree (placeless is needs room rows release_is accepted lacks stays) (taken receipt′ is′ needs′ t′ open_still′) = absurd (no_place _ rows t′.rows release_is t′.is_release lacks t′.catalog_is)
+    agree (placeless is needs room rows release_is accepted lacks stays) (taken receipt′ is′ needs′ t′ open_still′) = absurd (no_place _ rows t′.accepted.rows release_is t′.accepted.is_release lacks t′.catalog_is)
     agree (taken receipt is needs t open_still) (closed is′ needs′ stays′) = absurd (false≢true (sym needs ∙ needs′))
     agree (taken receipt is needs t open_still) (spent is′ needs′ spent_is′ stays′) = absurd (unspent spent_is′ t.room.room)
     agree (taken receipt is needs t open_still) (later is′ needs′ room′ later_is′ stays′) = absurd (t.room.version later_is′)
-    agree (taken receipt is needs t open_still) (faulty file′ line′ fault′ is′ needs′ room′ fault_is′ stays′) = absurd (read_has_no_fault release file′ line′ fault′ (read_of t.is_release) fault_is′)
-    agree (taken receipt is needs t open_still) (contradicting file′ line′ key′ is′ needs′ room′ contradiction′ stays′) = absurd (consistent_has_none (full h) release t.rows t.is_release t.accepted file′ line′ key′ contradiction′)
-    agree (taken receipt is needs t open_still) (entryless is′ needs′ room′ rows′ release_is′ accepted′ lacks′ stays′) = absurd (no_entry _ rows′ t.rows release_is′ t.is_release lacks′ t.catalog_is)
-    agree (taken receipt is needs t open_still) (placeless is′ needs′ room′ rows′ release_is′ accepted′ lacks′ stays′) = absurd (no_place _ rows′ t.rows release_is′ t.is_release lacks′ t.catalog_is)
+    agree (taken receipt is needs t open_still) (faulty file′ line′ fault′ is′ needs′ room′ fault_is′ stays′) = absurd (read_has_no_fault release file′ line′ fault′ (read_of t.accepted.is_release) fault_is′)
+    agree (taken receipt is needs t open_still) (contradicting file′ line′ key′ is′ needs′ room′ contradiction′ stays′) = absurd (consistent_has_none (full h) release t.accepted.rows t.accepted.is_release t.accepted.consistent file′ line′ key′ contradiction′)
+    agree (taken receipt is needs t open_still) (entryless is′ needs′ room′ rows′ release_is′ accepted′ lacks′ stays′) = absurd (no_entry _ rows′ t.accepted.rows release_is′ t.accepted.is_release lacks′ t.catalog_is)
+    agree (taken receipt is needs t open_still) (placeless is′ needs′ room′ rows′ release_is′ accepted′ lacks′ stays′) = absurd (no_place _ rows′ t.accepted.rows release_is′ t.accepted.is_release lacks′ t.catalog_is)
     agree (taken receipt is needs t open_still) (taken receipt′ is′ needs′ t′ open_still′) = (is ∙ ap Ok (one_receipt receipt receipt′ t t′) ∙ sym is′, one_history receipt receipt′ t t′, one_catalog receipt receipt′ t t′, open_still′ ∙ sym open_still)
 
 pub one_import : (D : Type 0) → OneImport D

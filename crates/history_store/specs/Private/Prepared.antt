@@ -1,18 +1,19 @@
 -- Words beside those of `Prepared` that no public clause cites.
-use Rattle.std.specs.Prelude.{◌≡◌, ◌+◌, ◌^◌, ◌<◌, Option, Some, List, [], ◌∷◌, ◌++◌, length}
+use Rattle.std.specs.Prelude.{◌≡◌, ◌^◌, ◌<◌, Option, Some, List, [], ◌∷◌, length}
 use Rattle.history_model.specs.declared.stamped.StampedRow.{StampedRow}
 use Rattle.history_model.specs.History.{IsHistory}
 use Rattle.history_model.specs.Lists.{AreLists}
 use Rattle.directory.specs.declared.entry.Entry.{Entry}
 use Rattle.directory.specs.Listings.{DirectoryValue, IsListing, IsEntry, form_of, most_entries}
-use Rattle.directory.specs.Listings.{next_layout}
+use Rattle.directory.specs.Listings.{next_layout, with_entry}
+use Rattle.directory.specs.Private.{after_import}
 use Rattle.segment.specs.Records.{segment_in, segment_of}
-use Rattle.store_image.specs.Kept.{IsSegmentOf, AreOfLayout}
+use Rattle.store_image.specs.Kept.{IsSegmentOf, AreOfLayout, entry_at}
 use Rattle.history_store.specs.declared.refusal.Refusal.{Refusal}
 use Rattle.history_store.specs.declared.refusal.Refusal.TheVariants as refusals
 use Rattle.history_store.specs.declared.preparing.Prepared.{Prepared}
 use Rattle.history_store.specs.Catalog.{Merge, Catalog, IsPlaced, HasNoEntry, HasNoPlace}
-use Rattle.history_store.specs.Catalog.{catalog_of, entry_at, place_for}
+use Rattle.history_store.specs.Catalog.{catalog_of, place_for}
 use Rattle.history_store.specs.StoreValue.{StoreValue}
 use Rattle.history_store.specs.Private.StoreValue.{directory_of, with_rows}
 
@@ -32,12 +33,7 @@ pub record IsPrepared (d : DirectoryValue) (merge : Option Merge) (rows : List S
   pub entry_is : IsEntry p.entry
   pub segment : IsSegmentOf p.entry rows
   pub listing : IsListing p.directory
-  pub directory_is : p.directory ≡ record {
-    layout = next_layout d.layout;
-    epoch = d.epoch + 1;
-    imports = d.imports + 1;
-    entries = d.entries ++ p.entry ∷ [];
-  }
+  pub directory_is : p.directory ≡ with_entry (after_import d) p.entry
   pub placed : IsPlaced rows (catalog_of d merge) (catalog_of p.directory merge)
   pub at_fit : IsPlacedAt d merge rows p.entry
 

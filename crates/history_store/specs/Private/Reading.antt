@@ -15,7 +15,6 @@ use Rattle.directory.specs.Listings.{IsEntry}
 use Rattle.segment.specs.declared.place.RowPlace.{RowPlace}
 use Rattle.checksum.specs.declared.form.Form.{Form}
 use Rattle.segment.specs.Records.{record_in, IsStamped}
-use Rattle.segment.specs.Standing.{record_len}
 use Rattle.store_image.specs.Pieces.{HoldsAll}
 use Rattle.store_image.specs.Kept.{AreSegments, pieces_of}
 use Rattle.history_store.specs.Queries.{is_listed}
@@ -57,16 +56,6 @@ pub record IsThere (form : Form) (from : ℕ) (s : StampedRow) (p : RowPlace) (f
   pub stamped : IsStamped s
   pub key : key_of s.row ≡ p.key
   pub import : s.import ≡ p.import
-
--- the row is that of the place
-abbrev pub IsRowOf : StampedRow → RowPlace → Type 0
-IsRowOf s p = (key_of s.row ≡ p.key) × (s.import ≡ p.import)
-
--- the row may be written, and has the key, the number and the length of the place
-pub record IsOfPlace (s : StampedRow) (p : RowPlace) : Type 0 where
-  pub stamped : IsStamped s
-  pub is : IsRowOf s p
-  pub bytes : record_len s ≡ p.bytes
 
 -- the rows of the lists
 abbrev pub rows_of : List (List StampedRow) → List RowValue

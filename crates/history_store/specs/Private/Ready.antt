@@ -2,7 +2,7 @@
 use Rattle.std.specs.Prelude.{◌≡◌, ◌+◌, ◌≤◌, [], length, Result, Ok, Err}
 use Rattle.history_model.specs.declared.receipt.Receipt.{Receipt}
 use Rattle.history_model.specs.History.{IsHistory, full, stamped}
-use Rattle.directory.specs.Listings.{next_layout}
+use Rattle.directory.specs.Private.{after_import}
 use Rattle.import_check.specs.declared.release.Release.{Release}
 use Rattle.import_check.specs.declared.found.NewRows.{NewRows}
 use Rattle.import_check.specs.NewRows.{IsAcceptedAs, BringsByKey}
@@ -17,12 +17,8 @@ use Rattle.history_store.specs.Private.Prepared.{IsPrepared}
 
 -- the next directory: with a segment of the new rows, or without one where there are none
 abbrev pub IsNext : {D : Type 0} → StoreValue D → NewRows → Next → Type 0
-IsNext s fresh (nexts.WithoutSegment directory) = (fresh.rows.items ≡ []) × (directory ≡ record {
-  layout = next_layout s.catalog.layout;
-  epoch = s.catalog.epoch + 1;
-  imports = s.history.imports + 1;
-  entries = s.catalog.entries;
-})
+IsNext s fresh (nexts.WithoutSegment directory) =
+    (fresh.rows.items ≡ []) × (directory ≡ after_import (directory_of s))
 IsNext s fresh (nexts.WithSegment prepared) = (1 ≤ length fresh.rows.items)
     × IsPrepared (directory_of s) s.catalog.merge (stamped (s.history.imports + 1) fresh.rows.items)
     prepared

@@ -6,6 +6,7 @@ use Rattle.blocks.specs.declared.slots.Slot.{Slot}
 use Rattle.history_model.specs.declared.stamped.StampedRow.{StampedRow}
 use Rattle.directory.specs.declared.entry.Entry.{Entry}
 use Rattle.directory.specs.Listings.{DirectoryValue, IsListing}
+use Rattle.directory.specs.Private.{next_in}
 use Rattle.segment.specs.declared.place.RowPlace.{RowPlace}
 use Rattle.merge.specs.declared.Taken.{Taken}
 use Rattle.history_store.specs.declared.refusal.Refusal.{Refusal}
@@ -27,12 +28,7 @@ pub record IsAnew (d : DirectoryValue) (entry : Entry) : Type 0 where
 
 -- the directory that lists this entry alone, at the next epoch
 abbrev pub only_listing : DirectoryValue → Entry → DirectoryValue
-only_listing d entry = record {
-  layout = d.layout;
-  epoch = d.epoch + 1;
-  imports = d.imports;
-  entries = entry ∷ [];
-}
+only_listing d entry = record (next_in d.layout d) { entries = entry ∷ [] }
 
 -- a directory may list the entry in the place of the only one
 pub record MayListAnew (d : DirectoryValue) (entry : Entry) : Type 0 where

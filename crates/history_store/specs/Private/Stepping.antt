@@ -16,7 +16,8 @@ use Rattle.segment_index.specs.Output.{left_count, with_more}
 use Rattle.history_store.specs.declared.refusal.Refusal.{Refusal}
 use Rattle.history_store.specs.declared.refusal.Refusal.TheVariants as refusals
 use Rattle.history_store.specs.declared.merge_in_progress.MergeInProgress.{MergeInProgress}
-use Rattle.history_store.specs.Private.Reading.{IsOfPlace, AreThere}
+use Rattle.store_image.specs.Private.Reading.{IsOfPlace}
+use Rattle.history_store.specs.Private.Reading.{AreThere}
 use Rattle.history_store.specs.StoreValue.{IsHeld}
 use Rattle.history_store.specs.MergeInProgress.{HasMerge}
 

@@ -11,7 +11,6 @@ use Rattle.directory.specs.Listings.{DirectoryValue, IsListing, form_of}
 use Rattle.history_model.specs.declared.stamped.StampedRow.{StampedRow}
 use Rattle.segment.specs.declared.place.RowPlace.{RowPlace}
 use Rattle.segment.specs.Records.{IsStamped, record_in, segment_of, segment_in}
-use Rattle.segment.specs.Standing.{record_len}
 use Rattle.store_image.specs.Ahead.{BeginsWith}
 use Rattle.store_image.specs.Kept.{IsKept}
 use Rattle.fault_counts.specs.Counting.{CountsDiskFault, HasRisen}
@@ -64,16 +63,6 @@ pub record ArePending (form : Form) (extent : Extent) (rows : List StampedRow) (
   pub front_is : length front ≡ written
   pub there : BeginsWith extent front file
   pub all : front ++ bytes ≡ segment_in form rows
-
--- the row is that of the place
-abbrev pub IsRowOf : StampedRow → RowPlace → Type 0
-IsRowOf s p = (key_of s.row ≡ p.key) × (s.import ≡ p.import)
-
--- the row may be written, and has the key, the number and the length of the place
-pub record IsOfPlace (s : StampedRow) (p : RowPlace) : Type 0 where
-  pub stamped : IsStamped s
-  pub is : IsRowOf s p
-  pub bytes : record_len s ≡ p.bytes
 
 -- the row's record in this form is in the file at this byte, and this is what is listed of it
 pub record IsThere (form : Form) (from : ℕ) (s : StampedRow) (p : RowPlace) (file : List ℕ)

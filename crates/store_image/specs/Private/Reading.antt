@@ -20,6 +20,7 @@ use Rattle.checksum.specs.declared.form.Form.{Form}
 use Rattle.segment.specs.declared.fault.SegmentFault.TheVariants as segments
 use Rattle.segment.specs.declared.place.RowPlace.{RowPlace}
 use Rattle.segment.specs.Records.{record_in, record_of, segment_in, segment_of, IsStamped, IsSegmentIn}
+use Rattle.segment.specs.Standing.{record_len}
 use Rattle.store_image.specs.declared.fault.RowsFault.{RowsFault}
 use Rattle.store_image.specs.declared.fault.RowsFault.TheVariants as faults
 use Rattle.store_image.specs.declared.reading.ReadTo.{ReadTo}
@@ -113,6 +114,18 @@ IsNotReadAt faults.OutOfMemory imports entry file = Unit {0}
 IsNotReadAt faults.DiskFault imports entry file = Unit {0}
 IsNotReadAt faults.Damaged imports entry file =
     (rows : List StampedRow) → IsAt file entry rows → AreNumbered imports rows → ⊥
+
+-- ---- places
+
+-- the row is that of the place
+abbrev pub IsRowOf : StampedRow → RowPlace → Type 0
+IsRowOf s p = (key_of s.row ≡ p.key) × (s.import ≡ p.import)
+
+-- the row may be written, and has the key, the number and the length of the place
+pub record IsOfPlace (s : StampedRow) (p : RowPlace) : Type 0 where
+  pub stamped : IsStamped s
+  pub is : IsRowOf s p
+  pub bytes : record_len s ≡ p.bytes
 
 -- ---- the kinds of rows
 

@@ -8,7 +8,7 @@ use Rattle.directory.specs.Listings.{form_of}
 use Rattle.directory.specs.Fit.{fit}
 use Rattle.history_store.specs.Merging.{AreFewest}
 use Rattle.history_store.proofs.BegunMerge.{all_at, no_entry, lacks_output, both_short}
-use Rattle.history_store.proofs.Held.{lists_count}
+use Rattle.store_image.proofs.Damaged.{segments_count}
 use Rattle.history_store.proofs.beginning.begin.Goals as goal
 
 pub returns-in_default-checked_add-clause-refused : goal.returns-in_default-checked_add-clause-refused
@@ -51,7 +51,7 @@ returns-clause-begun c =
 pub new-requires-clause-within : goal.new-requires-clause-within
 new-requires-clause-within c =
     let within = subst (λ (x : List Entry). AreFewest x c.in-Some.i c.in-Some.j) c.entries-entries.ensures.entries c.in-Some.ensures.found in
-    omega (arith, within.within, lists_count c.args.directory.now.entries c.args.index.now c.requires.kept.segments)
+    omega (arith, within.within, segments_count c.args.directory.now.entries c.args.index.now c.requires.kept.segments)
 
 pub new-requires-clause-short : goal.new-requires-clause-short
 new-requires-clause-short c a b a_is b_is =

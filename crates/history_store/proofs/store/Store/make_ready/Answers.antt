@@ -7,7 +7,7 @@ use Rattle.history_store.specs.declared.refusal.Refusal.TheVariants as refusals
 use Rattle.history_store.proofs.Held.{held_stands}
 use Rattle.history_store.proofs.Imported.{at_mid, nothing, not_prepared, unprepared_refused}
 use Rattle.history_store.proofs.TakenByKey.{not_prepared_at_all}
-use Rattle.history_store.proofs.Checked.{admitted, not_later, turned_back, ready_at, foreseen, foreseen_at_all, checked_after, of_import, counted_but, not_device}
+use Rattle.history_store.proofs.Checked.{admitted, not_later, turned_back, ready_at, foreseen, foreseen_at_all, checked_after, counted_but, not_device}
 use Rattle.history_store.proofs.store.Store.make_ready.Goals as goal
 
 pub returns-then-is_empty-clause-ready : goal.returns-then-is_empty-clause-ready
@@ -64,7 +64,7 @@ returns-in_err-prepared-clause-checking g c =
     (record { still = e.still; version = not_later _ c.args.self.now c.args.release c.self.view_is (admitted _ _ _ _ (c.if-is_spent.ensures.left refl) c.if-is_for_later.ensures refl); moments = e.moments; acknowledged = standing; honesty = e.honesty; failures = e.failures; other_calls = e.other_calls; looked_up = e.looked_up; bytes_read = e.bytes_read; bytes_unread = e.bytes_unread })
     (λ honest.
     let at = at_mid _ c.args.self.now _ c.find_new_rows.new.self c.args.release c.in_ok-fresh.fresh c.self.view_is (admitted _ _ _ _ (c.if-is_spent.ensures.left refl) c.if-is_for_later.ensures refl) c.self-2.view_is c.self-2.invariant.0.kept.history e.still (e.accepted honest) in
-    (of_import c.args.self.now c.args.release _ other (not_prepared c.args.self.now _ c.find_new_rows.new.self c.args.release c.in_ok-fresh.fresh _ c.self-2.view_is e.still at why), refused))
+    (not_prepared c.args.self.now _ c.find_new_rows.new.self c.args.release c.in_ok-fresh.fresh _ c.self-2.view_is e.still at why, refused))
     (not_prepared_at_all _ c.args.self.now _ c.find_new_rows.new.self c.args.release c.in_ok-fresh.fresh _ c.self.view_is (admitted _ _ _ _ (c.if-is_spent.ensures.left refl) c.if-is_for_later.ensures refl) c.self-2.view_is e.still e.brings why, refused)
     (counted_but _ _ _ other e.failures))
 

@@ -9,7 +9,8 @@ use Rattle.history_store.specs.Private.Prepared.{IsPreparedFor}
 use Rattle.history_store.proofs.GoingOn.{merge_added}
 use Rattle.history_store.proofs.WrittenWhere.{one_added, leaves_but_segment}
 use Rattle.history_store.proofs.Forgotten.{segment_forgotten}
-use Rattle.history_store.proofs.Held.{held_added, held_stands, leaves_added, is_added, lists_count, with_more}
+use Rattle.store_image.proofs.Damaged.{segments_count}
+use Rattle.history_store.proofs.Held.{held_added, held_stands, leaves_added, is_added, with_more}
 use Rattle.history_store.proofs.NewSegment.{below_places}
 use Rattle.history_store.proofs.store.Store.publish_with_segment.Goals as goal
 
@@ -17,7 +18,7 @@ pub add-requires-clause-room : goal.add-requires-clause-room
 add-requires-clause-room g c =
     let for = subst (λ (s : StoreValue g.row.D.Denot). IsPreparedFor s c.args.prepared) (sym c.self.view_is) c.requires.prepared in
     let few = below_places c.self.inside.directory.layout (length c.self.inside.directory.entries) for.prepared.placed.few in
-    let count = lists_count c.self.inside.directory.entries c.self.inside.index c.self.invariant.0.kept.segments in
+    let count = segments_count c.self.inside.directory.entries c.self.inside.index c.self.invariant.0.kept.segments in
     omega (arith, few, count)
 
 pub add-requires-clause-lists : goal.add-requires-clause-lists

@@ -4,7 +4,7 @@ use Rattle.blocks.specs.Slots.{other}
 use Rattle.directory.specs.Listings.{IsListing}
 use Rattle.history_store.specs.StoreValue.{StoreValue}
 use Rattle.history_store.specs.Private.StoreValue.{directory_of}
-use Rattle.history_store.specs.Private.Publishing.{IsRelisting}
+use Rattle.store_image.specs.Next.{IsRepeated}
 use Rattle.history_store.proofs.GoingOn.{merge_repeated}
 use Rattle.history_store.proofs.WrittenWhere.{none_added, leaves_but_slots}
 use Rattle.history_store.proofs.Forgotten.{slot_forgotten}
@@ -13,37 +13,37 @@ use Rattle.history_store.proofs.store.Store.publish_without_segment.Goals as goa
 
 pub invariant_of-self : goal.invariant_of-self
 invariant_of-self g c =
-    let same = subst (λ (s : StoreValue g.row.D.Denot). IsRelisting (directory_of s) c.args.next) (sym c.self.view_is) c.requires.next in (
+    let same = subst (λ (s : StoreValue g.row.D.Denot). IsRepeated (directory_of s) c.args.next) (sym c.self.view_is) c.requires.next in (
       held_repeated _ (g.D.Disk.is_honest c.publish_directory.new.disk) _ (g.D.Disk.moments c.publish_directory.new.disk).state c.self.inside.cache c.forget.new.self _ c.in-Ok.slot c.self.inside.directory c.args.next _ _ c.self.invariant.0 c.publish_directory.ensures.honesty.1 (subst IsListing c.next.view_is c.next.invariant.is) same c.in-Ok.ensures.next c.in-Ok.ensures.on_disk c.in-Ok.ensures.elsewhere (subst (λ x. Forgets (is_in x) c.self.inside.cache c.forget.new.self) c.extent.ensures c.forget.ensures),
-      merge_repeated _ (g.D.Disk.is_honest c.publish_directory.new.disk) _ (g.D.Disk.moments c.publish_directory.new.disk).state.now (other c.self.inside.slot) c.self.inside.directory c.args.next c.self.inside.index c.self.inside.merge c.self.inside.needs_reopen c.self.invariant.1 c.publish_directory.ensures.honesty.1 same.entries same.layout c.in-Ok.ensures.elsewhere,
+      merge_repeated _ (g.D.Disk.is_honest c.publish_directory.new.disk) _ (g.D.Disk.moments c.publish_directory.new.disk).state.now (other c.self.inside.slot) c.self.inside.directory c.args.next c.self.inside.index c.self.inside.merge c.self.inside.needs_reopen c.self.invariant.1 c.publish_directory.ensures.honesty.1 same.entries same.comes.layout c.in-Ok.ensures.elsewhere,
     )
 
 pub returns-in-Ok-clause-any_moment : goal.returns-in-Ok-clause-any_moment
 returns-in-Ok-clause-any_moment g c =
-    let same = subst (λ (s : StoreValue g.row.D.Denot). IsRelisting (directory_of s) c.args.next) (sym c.self.view_is) c.requires.next in
+    let same = subst (λ (s : StoreValue g.row.D.Denot). IsRepeated (directory_of s) c.args.next) (sym c.self.view_is) c.requires.next in
     let still = subst (λ (s : StoreValue g.row.D.Denot). s.needs_reopen ≡ false) (sym c.self.view_is) c.requires.still in
     rw (← c.self.view_is) (λ honest. leaves_repeated _ _ _ c.self.inside.cache _ c.self.inside.directory c.args.next _ _ c.self.invariant.0 honest still (subst IsListing c.next.view_is c.next.invariant.is) same c.in-Ok.ensures.any_moment)
 
 pub returns-in-Ok-clause-acknowledged : goal.returns-in-Ok-clause-acknowledged
 returns-in-Ok-clause-acknowledged g c =
-    let same = subst (λ (s : StoreValue g.row.D.Denot). IsRelisting (directory_of s) c.args.next) (sym c.self.view_is) c.requires.next in
+    let same = subst (λ (s : StoreValue g.row.D.Denot). IsRepeated (directory_of s) c.args.next) (sym c.self.view_is) c.requires.next in
     let held = held_repeated _ (g.D.Disk.is_honest c.publish_directory.new.disk) _ (g.D.Disk.moments c.publish_directory.new.disk).state c.self.inside.cache c.forget.new.self _ c.in-Ok.slot c.self.inside.directory c.args.next _ _ c.self.invariant.0 c.publish_directory.ensures.honesty.1 (subst IsListing c.next.view_is c.next.invariant.is) same c.in-Ok.ensures.next c.in-Ok.ensures.on_disk c.in-Ok.ensures.elsewhere (subst (λ x. Forgets (is_in x) c.self.inside.cache c.forget.new.self) c.extent.ensures c.forget.ensures) in
     rw (← c.self.view_is) (λ honest still. record { open_still = still; each = held_stands _ _ _ _ _ _ _ held (c.publish_directory.ensures.honesty.0 honest) still })
 
 pub returns-in-Err-clause-any_moment : goal.returns-in-Err-clause-any_moment
 returns-in-Err-clause-any_moment g c =
-    let same = subst (λ (s : StoreValue g.row.D.Denot). IsRelisting (directory_of s) c.args.next) (sym c.self.view_is) c.requires.next in
+    let same = subst (λ (s : StoreValue g.row.D.Denot). IsRepeated (directory_of s) c.args.next) (sym c.self.view_is) c.requires.next in
     let still = subst (λ (s : StoreValue g.row.D.Denot). s.needs_reopen ≡ false) (sym c.self.view_is) c.requires.still in
     rw (← c.self.view_is) (λ honest. leaves_repeated _ _ _ c.self.inside.cache _ c.self.inside.directory c.args.next _ _ c.self.invariant.0 honest still (subst IsListing c.next.view_is c.next.invariant.is) same c.in-Err.ensures.any_moment)
 
 pub returns-in-Ok-clause-elsewhere : goal.returns-in-Ok-clause-elsewhere
 returns-in-Ok-clause-elsewhere g c =
-    let same = subst (λ (s : StoreValue g.row.D.Denot). IsRelisting (directory_of s) c.args.next) (sym c.self.view_is) c.requires.next in
+    let same = subst (λ (s : StoreValue g.row.D.Denot). IsRepeated (directory_of s) c.args.next) (sym c.self.view_is) c.requires.next in
     rw (← c.self.view_is) (λ honest. none_added (other c.self.inside.slot) c.self.inside.directory.entries c.args.next.entries _ _ same.entries (c.in-Ok.ensures.elsewhere honest))
 
 pub returns-in-Ok-clause-forgets : goal.returns-in-Ok-clause-forgets
 returns-in-Ok-clause-forgets g c =
-    let same = subst (λ (s : StoreValue g.row.D.Denot). IsRelisting (directory_of s) c.args.next) (sym c.self.view_is) c.requires.next in
+    let same = subst (λ (s : StoreValue g.row.D.Denot). IsRepeated (directory_of s) c.args.next) (sym c.self.view_is) c.requires.next in
     rw (← c.self.view_is) (slot_forgotten c.self.inside.directory.entries c.args.next.entries c.in-Ok.slot _ _ same.entries (subst (λ x. Forgets (is_in x) c.self.inside.cache c.forget.new.self) c.extent.ensures c.forget.ensures))
 
 pub returns-in-Ok-clause-inside : goal.returns-in-Ok-clause-inside

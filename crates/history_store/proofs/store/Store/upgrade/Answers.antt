@@ -4,13 +4,14 @@ use Rattle.disk_model.specs.Disk.{EachImage}
 use Rattle.disk_model.proofs.MomentSteps.{stayed}
 use Rattle.disk_model.proofs.Images.{same_but_all}
 use Rattle.directory.specs.declared.layout.Layout.TheVariants as layouts
+use Rattle.directory.specs.Private.{next_in}
 use Rattle.store_image.specs.Images.{RepresentsAs}
 use Rattle.history_store.specs.StoreValue.{StoreValue}
 use Rattle.history_store.specs.Private.StoreValue.{directory_of}
 use Rattle.history_store.specs.Upgrading.{MayBeUpgraded}
 use Rattle.history_store.proofs.Held.{held_stands}
 use Rattle.history_store.proofs.MergePublished.{same_refused}
-use Rattle.history_store.proofs.Upgraded.{in_three, relists, upgraded_or_not, same_history, leaves_upgraded, elsewhere_upgraded, forgets_upgraded, calls_upgraded, uncalled_upgraded, no_calls}
+use Rattle.history_store.proofs.Upgraded.{relists, upgraded_or_not, same_history, leaves_upgraded, elsewhere_upgraded, forgets_upgraded, calls_upgraded, uncalled_upgraded, no_calls}
 use Rattle.history_store.proofs.store.Store.upgrade.Goals as goal
 
 pub in_version_three-requires : goal.in_version_three-requires
@@ -21,7 +22,7 @@ in_version_three-requires g c =
 
 pub publish_without_segment-requires-clause-next : goal.publish_without_segment-requires-clause-next
 publish_without_segment-requires-clause-next g c =
-    let next_is = subst (λ (s : StoreValue g.row.D.Denot). c.in_ok-next.next ≡ in_three (directory_of s)) c.self.view_is c.in_ok-next.ensures in
+    let next_is = subst (λ (s : StoreValue g.row.D.Denot). c.in_ok-next.next ≡ next_in layouts.Three (directory_of s)) c.self.view_is c.in_ok-next.ensures in
     relists (directory_of c.args.self.now) c.in_ok-next.next next_is
 
 pub returns-then-is_three-clause-any_moment : goal.returns-then-is_three-clause-any_moment
@@ -57,7 +58,7 @@ returns-then-self-clause-inside g c =
 
 pub returns-clause-answer : goal.returns-clause-answer
 returns-clause-answer g c =
-    let next_is = subst (λ (s : StoreValue g.row.D.Denot). c.in_ok-next.next ≡ in_three (directory_of s)) c.self.view_is c.in_ok-next.ensures in
+    let next_is = subst (λ (s : StoreValue g.row.D.Denot). c.in_ok-next.next ≡ next_in layouts.Three (directory_of s)) c.self.view_is c.in_ok-next.ensures in
     let older : c.self.inside.directory.layout ≢ layouts.Three = λ e. c.is_three.ensures.older c.if-is_three.false (c.layout.ensures ∙ e) in
     let room : c.self.inside.directory.epoch < 18446744073709551615 = (let fits = c.self.invariant.0.kept.listing.epoch_fits in let epoch = c.epoch.ensures in grind (arith, nat_tests, fits, epoch, c.if-epoch.false)) in
     let still = subst (λ (s : StoreValue g.row.D.Denot). s.needs_reopen ≡ false) c.self.view_is c.if-self.false in
@@ -66,22 +67,22 @@ returns-clause-answer g c =
 
 pub returns-clause-history : goal.returns-clause-history
 returns-clause-history g c =
-    let next_is = subst (λ (s : StoreValue g.row.D.Denot). c.in_ok-next.next ≡ in_three (directory_of s)) c.self.view_is c.in_ok-next.ensures in
+    let next_is = subst (λ (s : StoreValue g.row.D.Denot). c.in_ok-next.next ≡ next_in layouts.Three (directory_of s)) c.self.view_is c.in_ok-next.ensures in
     same_history c.publish_without_segment.result c.args.self.now c.publish_without_segment.new.self c.in_ok-next.next next_is c.publish_without_segment.ensures.step
 
 pub returns-clause-any_moment : goal.returns-clause-any_moment
 returns-clause-any_moment g c =
-    let next_is = subst (λ (s : StoreValue g.row.D.Denot). c.in_ok-next.next ≡ in_three (directory_of s)) c.self.view_is c.in_ok-next.ensures in
+    let next_is = subst (λ (s : StoreValue g.row.D.Denot). c.in_ok-next.next ≡ next_in layouts.Three (directory_of s)) c.self.view_is c.in_ok-next.ensures in
     λ honest still. leaves_upgraded c.args.self.now c.in_ok-next.next _ _ next_is (c.publish_without_segment.ensures.any_moment honest)
 
 pub returns-clause-elsewhere : goal.returns-clause-elsewhere
 returns-clause-elsewhere g c =
-    let next_is = subst (λ (s : StoreValue g.row.D.Denot). c.in_ok-next.next ≡ in_three (directory_of s)) c.self.view_is c.in_ok-next.ensures in
+    let next_is = subst (λ (s : StoreValue g.row.D.Denot). c.in_ok-next.next ≡ next_in layouts.Three (directory_of s)) c.self.view_is c.in_ok-next.ensures in
     λ honest. elsewhere_upgraded c.publish_without_segment.result c.args.self.now c.publish_without_segment.new.self c.in_ok-next.next _ _ next_is c.publish_without_segment.ensures.step (c.publish_without_segment.ensures.elsewhere honest)
 
 pub returns-clause-forgets : goal.returns-clause-forgets
 returns-clause-forgets g c =
-    let next_is = subst (λ (s : StoreValue g.row.D.Denot). c.in_ok-next.next ≡ in_three (directory_of s)) c.self.view_is c.in_ok-next.ensures in
+    let next_is = subst (λ (s : StoreValue g.row.D.Denot). c.in_ok-next.next ≡ next_in layouts.Three (directory_of s)) c.self.view_is c.in_ok-next.ensures in
     forgets_upgraded c.publish_without_segment.result c.args.self.now c.publish_without_segment.new.self c.in_ok-next.next next_is c.publish_without_segment.ensures.step c.publish_without_segment.ensures.forgets
 
 pub returns-clause-calls : goal.returns-clause-calls
