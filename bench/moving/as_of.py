@@ -1,0 +1,279 @@
+#!/usr/bin/env python3
+"""Makes the date and the pin of a question one value, `AsOf { date, pin }`.
+
+as_of.py CRATE ..
+
+In src/ each function that takes both `time` and `pin` takes `as_of` in place of `time`; its clauses
+and its body then speak of `as_of`, `as_of.date` and `as_of.pin`. In specs/ and proofs/ each
+declaration, or module with parameters, that binds both `date` and `pin` binds `as_of`; proofs of
+functions speak of `as_of` in place of `time` and `pin`. Edits follow the sources. What is left is
+for people: run `rt fmt` and `rt check` afterwards. A second run changes nothing.
+"""
+
+import glob
+import os
+import re
+import sys
+
+TOP = os.path.dirname(os.path.dirname(os.path.dirname(os.path.abspath(__file__))))
+OPEN, CLOSE = "([{", ")]}"
+
+
+def closing(text, at):
+    """Where the bracket that opens at `at` closes."""
+    depth = 0
+    for i in range(at, len(text)):
+        if text[i] in OPEN:
+            depth += 1
+        elif text[i] in CLOSE:
+            depth -= 1
+            if depth == 0:
+                return i
+    raise ValueError(text[at:at + 80])
+
+
+def items(text):
+    """The items of a list with commas, at its top level."""
+    found, depth, start = [], 0, 0
+    for i, c in enumerate(text):
+        if c in OPEN or c == "<":
+            depth += 1
+        elif c in CLOSE or c == ">" and text[i - 1] not in "-=":
+            depth -= 1
+        elif c == "," and depth == 0:
+            found.append(text[start:i])
+            start = i + 1
+    if text[start:].strip():
+        found.append(text[start:])
+    return found
+
+
+def parts(text, start):
+    """Of a function whose `fn` stands at `start`: the span of its parameters, and its end."""
+    i = start
+    while text[i] not in "(<":
+        i += 1
+    if text[i] == "<":
+        depth = 0
+        while True:
+            depth += (text[i] == "<") - (text[i] == ">" and text[i - 1] not in "-=")
+            i += 1
+            if depth == 0:
+                break
+        while text[i] != "(":
+            i += 1
+    end = closing(text, i)
+    at = end + 1
+    while True:
+        m = re.compile(r"\s+|//[^\n]*\n|->[^\n{;]*?(?=\n| \{|;)|;").match(text, at)
+        if m:
+            at = m.end()
+            if m.group() == ";":
+                return i, end, at
+            continue
+        m = re.compile(r"(requires|ensures|ghost|where|decreases)\b[^{]*\{").match(text, at)
+        if m:
+            at = closing(text, m.end() - 1) + 1
+            continue
+        if text[at] == "{":
+            return i, end, closing(text, at) + 1
+        at += 1
+
+
+NAME = r"(?<![\w.])%s(?![\w])"
+
+
+def words(text):
+    """Clauses and bodies, once calls were changed."""
+    text = re.sub(r"(?<![\w.])time pin(?!\w)", "as_of", text)
+    text = re.sub(NAME % "time" + r"(?!\s*:[^:])(?!:$)", "as_of.date", text)
+    text = re.sub(NAME % "pin" + r"(?!\s*:[^:])", "as_of.pin", text)
+    return text
+
+
+def calls(text):
+    """Argument lists and struct literals that have both."""
+    i = 0
+    while i < len(text):
+        if text[i] in "({":
+            end = closing(text, i)
+            inner = calls(text[i + 1:end])
+            listed = items(inner)
+            plain = [x.strip() for x in listed]
+            if "time" in plain and "pin" in plain:
+                kept = [re.sub(r"\btime\b", "as_of", x) if x.strip() == "time" else x
+                        for x in listed if x.strip() != "pin"]
+                tail = re.search(r",?\s*$", inner).group()
+                inner = ",".join(kept).rstrip().rstrip(",") + tail
+            elif text[i] == "{" and "time" in plain and ";" not in inner and "\n" not in inner.strip():
+                inner = ",".join(x.replace("time", "time: as_of.date") if x.strip() == "time" else x
+                                 for x in listed)
+            text = text[:i + 1] + inner + text[end:]
+            i = closing(text, i)
+        i += 1
+    return text
+
+
+def source(text):
+    """A file of src/."""
+    at = 0
+    while True:
+        m = re.compile(r"\bfn \w+").search(text, at)
+        if not m:
+            break
+        line = text.rfind("\n", 0, m.start()) + 1
+        if "//" in text[line:m.start()]:
+            at = m.end()
+            continue
+        first, last, end = parts(text, m.start())
+        listed = items(text[first + 1:last])
+        names = [x.strip().split(":")[0] for x in listed]
+        if "time" in names and "pin" in names:
+            new = [re.sub(r"time: \w+", "as_of: AsOf", x) for x, n in zip(listed, names) if n != "pin"]
+            head = text[m.start():first + 1] + ",".join(new)
+            head = head.rstrip().rstrip(",")
+            if "\n" in text[first:last]:
+                head += ",\n" + re.match(r" *", text[line:]).group()
+            rest = text[last:end]
+            if re.search(r"let (mut )?(time|pin)\b", rest):
+                print("look:", text[m.start():m.start() + 40])
+            rest = words(calls(rest))
+            text = text[:m.start()] + head + rest + text[end:]
+            at = m.start() + len(head)
+        else:
+            at = last
+    if "AsOf" in text and not re.search(r"^(pub )?use [^;]*AsOf|struct AsOf", text, re.M):
+        print("import AsOf")
+    return text
+
+
+def antt(text):
+    """A file of specs/ or proofs/."""
+    lines, out, i = text.split("\n"), [], 0
+    while i < len(lines):
+        line = lines[i]
+        bound = binds_both(line)
+        if not bound:
+            out.append(line)
+            i += 1
+            continue
+        indent = len(line) - len(line.lstrip())
+        j = i + 1
+        is_module = line.lstrip().startswith("module")
+        while j < len(lines):
+            if is_module:
+                if lines[j].strip() and len(lines[j]) - len(lines[j].lstrip()) <= indent:
+                    break
+            elif not lines[j].strip():
+                break
+            j += 1
+        out.append(scoped("\n".join(lines[i:j])))
+        i = j
+    return imported("\n".join(out))
+
+
+BINDER = re.compile(r"\(([\w' -]+) : ℕ\)")
+
+
+def binds_both(line):
+    head = line.split(" → ")[0] if not line.lstrip().startswith("module") else line
+    # A declaration may bind them behind an arrow too.
+    names = [n for m in BINDER.finditer(line) for n in m.group(1).split()]
+    return "date" in names and "pin" in names
+
+
+def scoped(text):
+    """A scope that binds both, but for its comments."""
+    return "\n".join(line if line.lstrip().startswith("--") else bound(line)
+                     for line in text.split("\n"))
+
+
+IMPORT = "use Rattle.as_of_index.specs.declared.as_of.AsOf.{AsOf}"
+
+
+def imported(text):
+    """With the import that it needs."""
+    if not re.search(r": AsOf\)|→ AsOf →|: AsOf →", text) or IMPORT in text:
+        return text
+    lines = text.split("\n")
+    uses = [i for i, line in enumerate(lines) if line.startswith("use ")]
+    own = [i for i in uses if lines[i].startswith("use Rattle.as_of_index.")]
+    lines.insert(own[0] if own else uses[-1] + 1, IMPORT)
+    return "\n".join(lines)
+
+
+def bound(text):
+    def binder(m):
+        names = m.group(1).split()
+        if "date" in names:
+            before = [n for n in names[:names.index("date")] if n != "pin"]
+            after = [n for n in names[names.index("date") + 1:] if n != "pin"]
+            return (("(%s : ℕ) " % " ".join(before) if before else "") + "(as_of : AsOf)"
+                    + (" (%s : ℕ)" % " ".join(after) if after else ""))
+        if "pin" in names:
+            rest = [n for n in names if n != "pin"]
+            return "(%s : ℕ)" % " ".join(rest) if rest else "GONE"
+        return m.group(0)
+    text = BINDER.sub(binder, text)
+    text = text.replace(" GONE", "")
+    text = re.sub(r"(?<![\w.])date pin(?![\w'])", "as_of", text)
+    text = re.sub(r"(?<![\w.])date after limit pin(?![\w'])", "as_of after limit", text)
+    text = re.sub(r"(?<![\w.])date after pin(?![\w'])", "as_of after", text)
+    text = re.sub(NAME % "date", "as_of.date", text)
+    text = re.sub(NAME % "pin", "as_of.pin", text)
+    return text
+
+
+HOLDER = r"((?:c\.args|g?c\.args|l\.fn|a|l|u|d))"
+
+
+def proof(text):
+    """The proof of a function that takes `as_of`."""
+    text = re.sub(HOLDER + r"\.time \1\.pin\b", r"\1.as_of", text)
+    text = re.sub(r"(?<![\w.])" + HOLDER + r"\.time\b", r"\1.as_of.date", text)
+    text = re.sub(r"(?<![\w.])" + HOLDER + r"\.pin\b", r"\1.as_of.pin", text)
+    return text
+
+
+def takes_as_of(crate):
+    """The paths of functions that take `as_of`, as folders of proofs/ are named."""
+    found = set()
+    for path in glob.glob(f"{TOP}/crates/{crate}/src/*.rt"):
+        text = open(path, encoding="utf-8").read()
+        for m in re.finditer(r"\bfn (\w+)", text):
+            line = text.rfind("\n", 0, m.start()) + 1
+            if "//" in text[line:m.start()]:
+                continue
+            first, last, _ = parts(text, m.start())
+            if "as_of: AsOf" in text[first:last]:
+                found.add((os.path.basename(path)[:-3], m.group(1)))
+    return found
+
+
+def change(path, how):
+    with open(path, encoding="utf-8") as file:
+        old = file.read()
+    new = how(old)
+    if new != old:
+        with open(path, "w", encoding="utf-8") as file:
+            file.write(new)
+        print(path[len(TOP) + 1:])
+
+
+def main():
+    for crate in sys.argv[1:]:
+        folder = f"{TOP}/crates/{crate}"
+        for path in sorted(glob.glob(f"{folder}/src/*.rt")):
+            change(path, source)
+        taking = takes_as_of(crate)
+        for path in sorted(glob.glob(f"{folder}/proofs/**/*.antt", recursive=True)):
+            inner = os.path.relpath(path, f"{folder}/proofs").split("/")
+            if len(inner) > 1:
+                if (inner[0], inner[-2]) in taking:
+                    change(path, proof)
+            else:
+                change(path, antt)
+
+
+if __name__ == "__main__":
+    main()
