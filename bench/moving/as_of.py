@@ -142,8 +142,33 @@ def source(text):
             at = m.start() + len(head)
         else:
             at = last
-    if "AsOf" in text and not re.search(r"^(pub )?use [^;]*AsOf|struct AsOf", text, re.M):
-        print("import AsOf")
+    text = re.sub(r"(\n\s*(?:pub(?:\(crate\))? )?)time: EffectiveTime,\n\s*(?:pub(?:\(crate\))? )?pin: u32,",
+                  r"\1as_of: AsOf,", text)
+    text = re.sub(r"\b(self|asked)\.time,\s*\1\.pin\b", r"\1.as_of", text)
+    text = re.sub(r"\b(asked)\.now\.time \1\.now\.pin\b", r"\1.now.as_of", text)
+    text = re.sub(r"\b([ud])\.time\b", r"\1.as_of.date", text)
+    text = re.sub(r"\b([ud])\.pin\b", r"\1.as_of.pin", text)
+    text = seen(text)
+    return text
+
+
+def seen(text):
+    """With `rows_seen` for the rows that a question sees, and no import that is not used."""
+    text = re.sub(r"rows_at ((?:\w+\.)*as_of)\.pin\s+\(listed (lists|\([^()]*\))\)", r"rows_seen \1 \2", text)
+    if "rows_seen" in text:
+        lines = text.split("\n")
+        for word, line in (("rows_at", "ghost use Rattle.history_model.specs.History.{rows_at};"),
+                           ("listed", "ghost use Rattle.history_model.specs.Lists.{listed};")):
+            used = [x for x in lines if re.search(r"(?<![\w])%s(?!\w)" % word, x)
+                    and "use " not in x and "//" not in x]
+            if not used:
+                for i in reversed([i for i, x in enumerate(lines) if x.strip() == line]):
+                    indent = lines[i][:-len(line)]
+                    if word == "listed":
+                        lines[i] = indent + "ghost use Rattle.as_of_index.specs.Current.{rows_seen};"
+                    else:
+                        del lines[i]
+        text = "\n".join(lines)
     return text
 
 
@@ -224,6 +249,8 @@ def bound(text):
     return text
 
 
+# Where a crate takes `AsOf` from, if not from as_of_index.
+HOMES = {"as_of_index": "crate::as_of"}
 HOLDER = r"((?:c\.args|g?c\.args|l\.fn|a|l|u|d))"
 
 
@@ -250,6 +277,31 @@ def takes_as_of(crate):
     return found
 
 
+def used(text, home):
+    """With the imports of src/ that it needs, `AsOf` being of the crate `home`."""
+    body = "\n".join(x for x in text.split("\n") if not re.match(r"\s*(pub )?use |\s*//", x))
+    if re.search(r"\bAsOf\b", body) and "struct AsOf" not in text \
+            and not re.search(r"^use [^;]*\bAsOf\b", text, re.M):
+        m = re.search(r"^use %s::(\{[^}]*\}|\w+);" % home, text, re.M)
+        if m:
+            listed = [x.strip() for x in m.group(1).strip("{}").split(",") if x.strip()] + ["AsOf"]
+            listed.sort(key=lambda x: (x[0].islower(), x))
+            text = text[:m.start()] + "use %s::{%s};" % (home, ", ".join(listed)) + text[m.end():]
+        else:
+            lines = text.split("\n")
+            uses = [i for i, x in enumerate(lines) if x.startswith("use ")]
+            later = [i for i in uses if lines[i] > "use %s" % home and not lines[i].startswith("use crate")]
+            lines.insert(later[0] if later else uses[-1] + 1, "use %s::AsOf;" % home)
+            text = "\n".join(lines)
+    if not re.search(r"\bEffectiveTime\b", body):
+        def less(m):
+            listed = [x.strip() for x in m.group(2).split(",") if x.strip() and x.strip() != "EffectiveTime"]
+            return m.group(1) + (listed[0] if len(listed) == 1 else "{%s}" % ", ".join(listed)) + ";"
+        text = re.sub(r"^(use \w+::)\{([^}]*\bEffectiveTime\b[^}]*)\};", less, text, flags=re.M)
+        text = re.sub(r"^use \w+::EffectiveTime;\n", "", text, flags=re.M)
+    return text
+
+
 def change(path, how):
     with open(path, encoding="utf-8") as file:
         old = file.read()
@@ -265,6 +317,7 @@ def main():
         folder = f"{TOP}/crates/{crate}"
         for path in sorted(glob.glob(f"{folder}/src/*.rt")):
             change(path, source)
+            change(path, lambda text: used(text, HOMES.get(crate, "as_of_index")))
         taking = takes_as_of(crate)
         for path in sorted(glob.glob(f"{folder}/proofs/**/*.antt", recursive=True)):
             inner = os.path.relpath(path, f"{folder}/proofs").split("/")

@@ -7,7 +7,7 @@ ghost use Rattle.as_of_index.specs.Private.Search.{IsNext, IsNextVersion};
 use crate::as_of::AsOf;
 use crate::place_list::PlaceList;
 use crate::search::{Start, is_of, later, latest_in, next_in, sooner};
-use rf2_values::Kind;
+use rf2_values::{EffectiveTime, Kind};
 use segment::RowPlace;
 
 /// The number that is known in this list.

@@ -6,6 +6,6 @@ use Rattle.links.proofs.upwards.parents_of.Goals as goal
 pub returns-clause-found : goal.returns-clause-found
 returns-clause-found g c = λ honest listed_so posted.
     let a = c.args in
-    let rows = rows_at a.pin (listed (g.R.RowReader.lists a.reader.now)) in
-    parents_from_about a.concept a.time rows c.sort_once.new.ids.items
+    let rows = rows_at a.as_of.pin (listed (g.R.RowReader.lists a.reader.now)) in
+    parents_from_about a.concept a.as_of.date rows c.sort_once.new.ids.items
     (rw (c.in_ok-ids.ensures, c.as_slice.ensures.value, c.in_ok-rows.ensures.found honest listed_so posted) at c.sort_once.ensures)
