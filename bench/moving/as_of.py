@@ -250,7 +250,42 @@ def bound(text):
 
 
 # Where a crate takes `AsOf` from, if not from as_of_index.
-HOMES = {"as_of_index": "crate::as_of"}
+HOMES = {"as_of_index": "crate::as_of", "line_server": "history_store",
+         "store_cases": "history_store", "test_support": "history_store",
+         "line_support": "history_store", "test_program": "history_store",
+         "bench_store": "history_store"}
+# What no rule says: texts of files of a crate, and what stands in their place.
+SPECIAL = {
+    "history_store": [
+        ("src/lib.rt", "pub use directory::Layout;\n",
+         "pub use as_of_index::AsOf;\npub use directory::Layout;\n"),
+        ("src/auditing.rt", "(λ ids. ids.items) id as_of\n", "(λ ids. ids.items) id as_of.date as_of.pin\n"),
+        ("src/known.rt", """        let (index, pin) = (self.index, self.pin);
+        let place = index.place_from_hints(self.hints, key.kind, key.id, key.time, pin);
+""", """        let (index, pin) = (self.index, self.pin);
+        let as_of = AsOf {
+            date: key.time,
+            pin,
+        };
+        let place = index.place_from_hints(self.hints, key.kind, key.id, as_of);
+"""),
+        ("src/known.rt", """    let place = index.place_at(key.kind, key.id, key.time, pin);
+""", """    let as_of = AsOf {
+        date: key.time,
+        pin,
+    };
+    let place = index.place_at(key.kind, key.id, as_of);
+"""),
+        ("proofs/store/Store/ancestors/Answers.antt", "id_items c.args.id c.args.as_of c",
+         "id_items c.args.id c.args.as_of.date c.args.as_of.pin c"),
+        ("proofs/store/Store/ancestors/Answers.antt", "id_items c.args.id c.args.as_of _",
+         "id_items c.args.id c.args.as_of.date c.args.as_of.pin _"),
+        ("proofs/store/Store/ancestors/Answers.antt", "id_items c.args.id c.args.as_of\n",
+         "id_items c.args.id c.args.as_of.date c.args.as_of.pin\n"),
+    ],
+}
+# Crates whose lemmas go on with a date and a pin.
+PLAIN_LEMMAS = ("history_store", "line_server")
 HOLDER = r"((?:c\.args|g?c\.args|l\.fn|a|l|u|d))"
 
 
@@ -263,7 +298,7 @@ def proof(text):
 
 
 def takes_as_of(crate):
-    """The paths of functions that take `as_of`, as folders of proofs/ are named."""
+    """The names of functions that take `as_of`."""
     found = set()
     for path in glob.glob(f"{TOP}/crates/{crate}/src/*.rt"):
         text = open(path, encoding="utf-8").read()
@@ -273,7 +308,7 @@ def takes_as_of(crate):
                 continue
             first, last, _ = parts(text, m.start())
             if "as_of: AsOf" in text[first:last]:
-                found.add((os.path.basename(path)[:-3], m.group(1)))
+                found.add(m.group(1))
     return found
 
 
@@ -302,6 +337,38 @@ def used(text, home):
     return text
 
 
+CLAUSE = re.compile(r"\s*(requires|ensures|ghost \w+ =)")
+
+
+def wrapped(text):
+    """With no line of a clause beyond 100 columns."""
+    lines, out, i, depth = text.split("\n"), [], 0, 0
+    while i < len(lines):
+        line = lines[i]
+        begins = bool(CLAUSE.match(line))
+        if (begins or depth) and len(line) > 100 and "as_of" in line and not line.strip().startswith("//"):
+            level, best = 0, None
+            for at, c in enumerate(line[:101]):
+                level += (c in OPEN) - (c in CLOSE)
+                if c == " " and at >= 60 and line[at:].strip(" )}") and (best is None or level <= best[0]):
+                    best = (level, at)
+            at = best[1]
+            indent = len(line) - len(line.lstrip()) + (4 if begins else 0)
+            rest, line = line[at + 1:], line[:at]
+            follows = lines[i + 1].strip() if i + 1 < len(lines) else ""
+            whole = " " * indent + rest
+            open_after = depth + sum((c in OPEN) - (c in CLOSE) for c in line + rest)
+            if open_after > 0 and follows and not re.match(r"//|[→×⊎]", follows):
+                lines[i + 1] = whole + " " + follows
+            else:
+                lines.insert(i + 1, whole)
+        if begins or depth:
+            depth += sum((c in OPEN) - (c in CLOSE) for c in line)
+        out.append(line)
+        i += 1
+    return "\n".join(out)
+
+
 def change(path, how):
     with open(path, encoding="utf-8") as file:
         old = file.read()
@@ -317,15 +384,21 @@ def main():
         folder = f"{TOP}/crates/{crate}"
         for path in sorted(glob.glob(f"{folder}/src/*.rt")):
             change(path, source)
-            change(path, lambda text: used(text, HOMES.get(crate, "as_of_index")))
+        for path, old, new in SPECIAL.get(crate, []):
+            change(f"{folder}/{path}", lambda text: text if new in text else text.replace(old, new))
+        for path in sorted(glob.glob(f"{folder}/src/*.rt")):
+            change(path, lambda text: wrapped(used(text, HOMES.get(crate, "as_of_index"))))
         taking = takes_as_of(crate)
+        special = [x for x in SPECIAL.get(crate, []) if x[0].startswith("proofs/")]
         for path in sorted(glob.glob(f"{folder}/proofs/**/*.antt", recursive=True)):
             inner = os.path.relpath(path, f"{folder}/proofs").split("/")
             if len(inner) > 1:
-                if (inner[0], inner[-2]) in taking:
+                if inner[-2] in taking:
                     change(path, proof)
-            else:
+            elif crate not in PLAIN_LEMMAS:
                 change(path, antt)
+        for path, old, new in special:
+            change(f"{folder}/{path}", lambda text: text if new in text else text.replace(old, new))
 
 
 if __name__ == "__main__":
