@@ -152,6 +152,38 @@ def source(text):
     return text
 
 
+def lent(text):
+    """With `as_of` lent, as a Copy struct that holds a type with a model is not passed by value
+    twice."""
+    at = 0
+    while True:
+        m = re.compile(r"\bfn \w+").search(text, at)
+        if not m:
+            return text
+        line = text.rfind("\n", 0, m.start()) + 1
+        at = m.end()
+        if "//" in text[line:m.start()]:
+            continue
+        first, last, end = parts(text, m.start())
+        if "as_of: AsOf" not in text[first:last]:
+            continue
+        body = text.rfind("{", last, end) if text[end - 1] == ";" else opening(text, end - 1)
+        head = text[first:last].replace("as_of: AsOf", "as_of: &AsOf")
+        clauses = re.sub(NAME % "as_of" + r"(?!\.now)", "as_of.now", text[last:body])
+        rest = re.sub(r"(Asked \{[^{}]*)\bas_of,", r"\1as_of: *as_of,", text[body:end])
+        text = text[:first] + head + clauses + rest + text[end:]
+
+
+def opening(text, at):
+    """Where the brace opens that closes at `at`."""
+    depth = 0
+    for i in range(at, -1, -1):
+        depth += (text[i] == "}") - (text[i] == "{")
+        if depth == 0:
+            return i
+    raise ValueError
+
+
 def seen(text):
     """With `rows_seen` for the rows that a question sees, and no import that is not used."""
     text = re.sub(r"rows_at ((?:\w+\.)*as_of)\.pin\s+\(listed (lists|\([^()]*\))\)", r"rows_seen \1 \2", text)
@@ -170,6 +202,36 @@ def seen(text):
                         del lines[i]
         text = "\n".join(lines)
     return text
+
+
+def seen_in_proof(text):
+    """A file of proofs/ with `rows_seen`, and its imports."""
+    text = re.sub(r"(?<![\w-])shown lists are ((?:\w+\.)*as_of)\b", r"rows_seen \1 lists", text)
+    text = re.sub(r"(?<![\w-])rows_at ((?:[\w.]+\.)?as_of)\.pin \(listed (\w[\w.]*|\((?:[^()]|\([^()]*\))*\))\)",
+                  r"rows_seen \1 \2", text)
+    if not re.search(r"\brows_seen\b", text):
+        return text
+    lines = text.split("\n")
+    uses = [i for i, line in enumerate(lines) if line.startswith("use ")]
+    body = "\n".join(line for i, line in enumerate(lines) if i not in uses and not line.lstrip().startswith("--"))
+    for i in uses:
+        m = re.match(r"(use [\w.]+\.)\{([^}]*)\}$", lines[i])
+        if not m or not re.search(r"\.(History|Lists|proofs\.Current)\.$", m.group(1)):
+            continue
+        words = [w.strip() for w in m.group(2).split(",")]
+        kept = [w for w in words if w not in ("rows_at", "listed", "shown")
+                or re.search(r"(?<![\w.-])%s(?![\w-])" % w, body)]
+        lines[i] = m.group(1) + "{" + ", ".join(kept) + "}" if kept else None
+    home = "use Rattle.as_of_index.specs.Current."
+    if not any(line and line.startswith(home) and "rows_seen" in line for line in lines):
+        own = [i for i in uses if lines[i] and lines[i].startswith(home + "{")]
+        if own:
+            lines[own[0]] = lines[own[0]].replace("{", "{rows_seen, ", 1)
+        else:
+            later = [i for i in uses if lines[i] and lines[i].startswith("use Rattle.as_of_index.")]
+            at = later[-1] + 1 if later else uses[-1] + 1
+            lines.insert(at, home + "{rows_seen}")
+    return "\n".join(line for line in lines if line is not None)
 
 
 def antt(text):
@@ -194,7 +256,7 @@ def antt(text):
             j += 1
         out.append(scoped("\n".join(lines[i:j])))
         i = j
-    return imported("\n".join(out))
+    return seen_in_proof(imported("\n".join(out)))
 
 
 BINDER = re.compile(r"\(([\w' -]+) : ℕ\)")
@@ -256,6 +318,11 @@ HOMES = {"as_of_index": "crate::as_of", "line_server": "history_store",
          "bench_store": "history_store"}
 # What no rule says: texts of files of a crate, and what stands in their place.
 SPECIAL = {
+    "links": [
+        ("proofs/TimelineRows.antt", "rows = shown lists are 0 pin", "rows = rows_at pin (listed lists)"),
+        ("proofs/TimelineRows.antt", "proofs.Current.{standing_row, shown}", "proofs.Current.{standing_row}"),
+        ("proofs/TimelineRows.antt", "specs.History.{row_cmp}", "specs.History.{row_cmp, rows_at}"),
+    ],
     "history_store": [
         ("src/lib.rt", "pub use directory::Layout;\n",
          "pub use as_of_index::AsOf;\npub use directory::Layout;\n"),
@@ -285,6 +352,7 @@ SPECIAL = {
     ],
 }
 # Crates whose lemmas go on with a date and a pin.
+LENT = ("as_of_index", "links")
 PLAIN_LEMMAS = ("history_store", "line_server")
 HOLDER = r"((?:c\.args|g?c\.args|l\.fn|a|l|u|d))"
 
@@ -294,7 +362,7 @@ def proof(text):
     text = re.sub(HOLDER + r"\.time \1\.pin\b", r"\1.as_of", text)
     text = re.sub(r"(?<![\w.])" + HOLDER + r"\.time\b", r"\1.as_of.date", text)
     text = re.sub(r"(?<![\w.])" + HOLDER + r"\.pin\b", r"\1.as_of.pin", text)
-    return text
+    return seen_in_proof(text)
 
 
 def takes_as_of(crate):
@@ -307,7 +375,7 @@ def takes_as_of(crate):
             if "//" in text[line:m.start()]:
                 continue
             first, last, _ = parts(text, m.start())
-            if "as_of: AsOf" in text[first:last]:
+            if re.search(r"as_of: &?AsOf", text[first:last]):
                 found.add(m.group(1))
     return found
 
@@ -387,6 +455,8 @@ def main():
         for path, old, new in SPECIAL.get(crate, []):
             change(f"{folder}/{path}", lambda text: text if new in text else text.replace(old, new))
         for path in sorted(glob.glob(f"{folder}/src/*.rt")):
+            if crate in LENT:
+                change(path, lent)
             change(path, lambda text: wrapped(used(text, HOMES.get(crate, "as_of_index"))))
         taking = takes_as_of(crate)
         special = [x for x in SPECIAL.get(crate, []) if x[0].startswith("proofs/")]
@@ -395,6 +465,9 @@ def main():
             if len(inner) > 1:
                 if inner[-2] in taking:
                     change(path, proof)
+                    if crate in LENT and inner[-1] != "Invariants.antt":
+                        change(path, lambda text: re.sub(
+                            r"((?<![\w.])(?:a|c\.args)\.as_of)\b(?!\.now)", r"\1.now", text))
             elif crate not in PLAIN_LEMMAS:
                 change(path, antt)
         for path, old, new in special:

@@ -11,7 +11,7 @@ use Rattle.rf2_values.specs.Row.{RowValue, kind_of}
 use Rattle.rf2_values.specs.Key.{key_of}
 use Rattle.history_model.specs.declared.stamped.StampedRow.{StampedRow}
 use Rattle.history_model.specs.InOrder.{Has, IsAscending, joined}
-use Rattle.history_model.specs.History.{row_cmp, rows_at}
+use Rattle.history_model.specs.History.{row_cmp}
 use Rattle.history_model.specs.Lists.{listed}
 use Rattle.history_model.specs.Queries.{get, snapshot, is_current}
 use Rattle.history_model.proofs.InOrder.{Has-all, all_from_has}
@@ -22,7 +22,7 @@ use Rattle.as_of_index.specs.declared.as_of.AsOf.{AsOf}
 use Rattle.as_of_index.specs.declared.chosen.Chosen.{Chosen}
 use Rattle.segment.specs.Standing.{places_of, StandsAt}
 use Rattle.as_of_index.specs.Places.{ArePlaces}
-use Rattle.as_of_index.specs.Current.{IsCurrentAt}
+use Rattle.as_of_index.specs.Current.{rows_seen, IsCurrentAt}
 use Rattle.as_of_index.specs.Chosen.{StandAtAll}
 use Rattle.as_of_index.specs.Private.Chosen.{chosen_cmp}
 use Rattle.segment.proofs.Posting.{says, row_there}
@@ -45,8 +45,8 @@ module _ (lists : List (List StampedRow)) (are : ArePlaces (map places_of lists)
       listed_once lists (are_lists lists are) s t x.0 y.0 (sym x.1 ∙ ap (λ (z : RowPlace). z.key) e ∙ y.1)
 
   module _ (as_of : AsOf) where
-    abbrev pub shown : List RowValue
-    shown = rows_at as_of.pin (listed lists)
+    abbrev shown : List RowValue
+    shown = rows_seen as_of lists
 
     -- a row that is shown is the one that stands where its key does
     pub standing_is : (n : ℕ) (p : RowPlace) (s : StampedRow) (row : RowValue) → StandsAt lists n p s → Has shown row → key_of row ≡ key_of s.row → row ≡ s.row
@@ -94,7 +94,7 @@ module _ (lists : List (List StampedRow)) (as_of : AsOf) where
     pub there : Has ks k
     pub s : StampedRow
     pub stands : StandsAt lists k.segment k.at s
-    pub found : get k.at.key.kind k.at.key.id as_of.date (rows_at as_of.pin (listed lists)) ≡ Some s.row
+    pub found : get k.at.key.kind k.at.key.id as_of.date (rows_seen as_of lists) ≡ Some s.row
     pub row_is : s.row ≡ row
 
   pub row_for : (ks : List Chosen) (c : AllCurrent ks) (row : RowValue) → Has (map (λ (s : StampedRow). s.row) (rows_for ks c)) row → IsRowAt ks row
@@ -104,10 +104,10 @@ module _ (lists : List (List StampedRow)) (as_of : AsOf) where
     | inr t ↦ (let w = row_for ks (λ j g. c j (inr g)) row t in record { k = w.k; there = inr w.there; s = w.s; stands = w.stands; found = w.found; row_is = w.row_is })
   ]
 
-  pub for_row : (ks : List Chosen) (c : AllCurrent ks) (k : Chosen) → Has ks k → (s : StampedRow) × StandsAt lists k.segment k.at s × (get k.at.key.kind k.at.key.id as_of.date (rows_at as_of.pin (listed lists)) ≡ Some s.row) × Has (map (λ (s : StampedRow). s.row) (rows_for ks c)) s.row
+  pub for_row : (ks : List Chosen) (c : AllCurrent ks) (k : Chosen) → Has ks k → (s : StampedRow) × StandsAt lists k.segment k.at s × (get k.at.key.kind k.at.key.id as_of.date (rows_seen as_of lists) ≡ Some s.row) × Has (map (λ (s : StampedRow). s.row) (rows_for ks c)) s.row
   for_row [] c k h = absurd h
   for_row (j ∷ ks) c k h = elim h [
-    | inl e ↦ subst (λ (x : Chosen). (s : StampedRow) × StandsAt lists x.segment x.at s × (get x.at.key.kind x.at.key.id as_of.date (rows_at as_of.pin (listed lists)) ≡ Some s.row) × Has (map (λ (s : StampedRow). s.row) (rows_for (j ∷ ks) c)) s.row) e
+    | inl e ↦ subst (λ (x : Chosen). (s : StampedRow) × StandsAt lists x.segment x.at s × (get x.at.key.kind x.at.key.id as_of.date (rows_seen as_of lists) ≡ Some s.row) × Has (map (λ (s : StampedRow). s.row) (rows_for (j ∷ ks) c)) s.row) e
         (let w = c j (inl refl) in (w.0, w.1, w.2, inl refl))
     | inr t ↦ (let w = for_row ks (λ i g. c i (inr g)) k t in (w.0, w.1, w.2, inr w.3))
   ]

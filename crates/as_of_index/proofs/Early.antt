@@ -3,7 +3,6 @@ use Rattle.std.proofs.Common.{◌≡◌, ℕ, ◌≤◌, List, map, ap, subst, a
 use Rattle.rf2_values.specs.declared.key.Key.{Key}
 use Rattle.rf2_values.specs.Key.{key_of}
 use Rattle.history_model.specs.declared.stamped.StampedRow.{StampedRow}
-use Rattle.history_model.specs.History.{rows_at}
 use Rattle.history_model.specs.Lists.{listed}
 use Rattle.history_model.proofs.Snapshots.{current_from_snapshot, Has-rows_at_cases, Has-listed_cases, listed_once}
 use Rattle.segment.specs.declared.place.RowPlace.{RowPlace}
@@ -11,7 +10,7 @@ use Rattle.segment.specs.Standing.{places_of}
 use Rattle.segment.proofs.Posting.{says, row_there}
 use Rattle.as_of_index.specs.declared.as_of.AsOf.{AsOf}
 use Rattle.as_of_index.specs.Places.{ArePlaces}
-use Rattle.as_of_index.specs.Current.{IsCurrentAt}
+use Rattle.as_of_index.specs.Current.{rows_seen, IsCurrentAt}
 use Rattle.as_of_index.proofs.Among.{looked_up, has_joined}
 use Rattle.as_of_index.proofs.Standing.{are_lists}
 
@@ -20,7 +19,7 @@ current_is_early lists are as_of n p now =
     let s = now.0 in
     let stands = now.1 in
     let is = says 0 stands.rows (s, p) stands.there in
-    let shown_rows = rows_at as_of.pin (listed lists) in
+    let shown_rows = rows_seen as_of lists in
     let cur = current_from_snapshot shown_rows as_of.date s.row (looked_up p.key.kind p.key.id as_of.date shown_rows s.row now.2) in
     let shown = Has-rows_at_cases as_of.pin (listed lists) s.row cur.known in
     let there = Has-listed_cases lists shown.stamped_row shown.known in

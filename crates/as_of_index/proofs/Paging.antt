@@ -16,7 +16,7 @@ use Rattle.rf2_values.specs.Row.{RowValue, kind_of}
 use Rattle.rf2_values.specs.Key.{kind_place, key_of}
 use Rattle.history_model.specs.declared.stamped.StampedRow.{StampedRow}
 use Rattle.history_model.specs.InOrder.{Has, IsAscending}
-use Rattle.history_model.specs.History.{row_cmp, rows_at}
+use Rattle.history_model.specs.History.{row_cmp}
 use Rattle.history_model.specs.Lists.{listed}
 use Rattle.history_model.specs.Queries.{is_kind, is_above, snapshot, get, all_above, page, changed_above, delta}
 use Rattle.history_model.specs.Queries.{is_kind_above as is_row_above}
@@ -32,6 +32,7 @@ use Rattle.as_of_index.specs.Places.{place_cmp}
 use Rattle.as_of_index.specs.Private.Search.{all_places, is_of, is_shown, is_changed, IsNext, IsNextId, IsNextChanged, is_kind_above}
 use Rattle.as_of_index.specs.Private.Walk.{is_walked, walked}
 use Rattle.as_of_index.proofs.Standing.{place_of_row}
+use Rattle.as_of_index.specs.Current.{rows_seen}
 
 pub less_by_id : (a b : RowPlace) → kind_place a.key.kind ≡ kind_place b.key.kind → nat_cmp a.key.id b.key.id ≡ Less → place_cmp a b ≡ Less
 less_by_id a b k e =
@@ -201,7 +202,7 @@ walked_delta kind from date after limit rows = refl
 
 module _ (kind : Kind) (from : Option ℕ) (as_of : AsOf) (lists : List (List StampedRow)) where
   abbrev shown : List RowValue
-  shown = rows_at as_of.pin (listed lists)
+  shown = rows_seen as_of lists
 
   abbrev places : List (ℕ × RowPlace)
   places = all_places 0 (map places_of lists)

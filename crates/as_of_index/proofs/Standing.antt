@@ -30,6 +30,7 @@ use Rattle.segment.proofs.Posting.{Says, says_posted, says, placed, row_there}
 use Rattle.as_of_index.specs.Search.{IsPlaceOf}
 use Rattle.as_of_index.specs.Private.Search.{in_segment, all_places, is_candidate, IsPick, IsPickFrom}
 use Rattle.as_of_index.proofs.Found.{Picks, candidate, candidate_test}
+use Rattle.as_of_index.specs.Current.{rows_seen}
 
 -- ---- the rows' lists are lists
 
@@ -124,7 +125,7 @@ id_from k l i j e = grind (arith, nat_tests, e)
 
 module _ (kind : Kind) (id : ℕ) (as_of : AsOf) (lists : List (List StampedRow)) (are : AreLists lists) where
   abbrev shown : List RowValue
-  shown = rows_at as_of.pin (listed lists)
+  shown = rows_seen as_of lists
 
   -- a version that is shown has a candidate
   pub record HasCandidate (c : RowValue) : Type 0 where
@@ -183,8 +184,8 @@ IsChange kind id from date pin lists (Some x) = (s : StampedRow) × StandsAt lis
 pub change_from_pick : (kind : Kind) (id : ℕ) (from : Option ℕ) (as_of : AsOf) (lists : List (List StampedRow)) (are : AreLists lists) (best : Option (ℕ × RowPlace)) → IsPickFrom kind id from as_of (λ (x : ℕ × RowPlace). x.1) (all_places 0 (map places_of lists)) best → IsChange kind id from as_of lists best
 unfolding IsPick IsPickFrom
 change_from_pick kind id from as_of lists are None none = λ row found late.
-    let r = row_at kind id as_of.date (rows_at as_of.pin (listed lists)) row found in
-    let c = current_from_snapshot (rows_at as_of.pin (listed lists)) as_of.date row r.current in
+    let r = row_at kind id as_of.date (rows_seen as_of lists) row found in
+    let c = current_from_snapshot (rows_seen as_of lists) as_of.date row r.current in
     let k = candidate_of kind id as_of lists are row c.known r.version c.early in
     none k.x k.there k.passes (ap (is_above from) k.time_is ∙ late)
 change_from_pick kind id from as_of lists are (Some b) p =

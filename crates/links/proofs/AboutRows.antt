@@ -25,8 +25,9 @@ use Rattle.as_of_index.specs.Private.Chosen.{chosen, chosen_cmp}
 use Rattle.as_of_index.specs.Private.Postings.{numbered}
 use Rattle.as_of_index.proofs.Among.{looked_up}
 use Rattle.as_of_index.proofs.Numbered.{stands_there, place_of_row}
-use Rattle.as_of_index.proofs.Current.{standing_row, one_row, shown, current_where, AllCurrent, rows_for, stand_for, row_for, for_row, ascending_rows_for}
+use Rattle.as_of_index.proofs.Current.{standing_row, one_row, current_where, AllCurrent, rows_for, stand_for, row_for, for_row, ascending_rows_for}
 use Rattle.as_of_index.proofs.Pushing.{numbers_of_row}
+use Rattle.as_of_index.specs.Current.{rows_seen}
 use Rattle.links.specs.declared.postings.Subject.{Subject}
 use Rattle.links.specs.Edges.{Edges, subject_rank}
 use Rattle.links.specs.Private.{subjects_in, GivesRow, AreRows}
@@ -39,13 +40,13 @@ ids_total = on_total (λ (row : RowValue). row.id) nat_cmp_total
 
 module _ (lists : List (List StampedRow)) (are : ArePlaces (map places_of lists)) (edges : List Edges) (posts : EachPosted lists edges) (kind : Kind) (d : ℕ) (as_of : AsOf) where
   abbrev wanted : List RowValue
-  wanted = about kind d as_of.date (shown lists are as_of)
+  wanted = about kind d as_of.date (rows_seen as_of lists)
 
   -- the row of one that is chosen
   record IsAboutAt (k : Chosen) : Type 0 where
     s : StampedRow
     stands : StandsAt lists k.segment k.at s
-    found : get k.at.key.kind k.at.key.id as_of.date (shown lists are as_of) ≡ Some s.row
+    found : get k.at.key.kind k.at.key.id as_of.date (rows_seen as_of lists) ≡ Some s.row
     kind_is : k.at.key.kind ≡ kind
     active : s.row.active ≡ true
     subject_is : subject_of s.row ≡ Some d
@@ -87,9 +88,9 @@ module _ (lists : List (List StampedRow)) (are : ArePlaces (map places_of lists)
         let same : w.s ≡ x.s = one_row lists are x.k.segment x.k.segment x.k.at x.k.at w.s x.s w.stands x.stands refl in
         let kinds : kind_of x.s.row ≡ kind = ap (λ (q : Key). q.kind) (sym (key_at x.k x.s x.stands)) ∙ w.kind_is in
         subst (λ z. Has wanted z) x.row_is
-        ((about_is_all kind d as_of.date (shown lists are as_of) x.s.row).1 (
+        ((about_is_all kind d as_of.date (rows_seen as_of lists) x.s.row).1 (
           record {
-            current = looked_up x.k.at.key.kind x.k.at.key.id as_of.date (shown lists are as_of) x.s.row x.found;
+            current = looked_up x.k.at.key.kind x.k.at.key.id as_of.date (rows_seen as_of lists) x.s.row x.found;
             kind_is = kinds;
             active = subst (λ (z : StampedRow). z.row.active ≡ true) same w.active;
           },
@@ -98,8 +99,8 @@ module _ (lists : List (List StampedRow)) (are : ArePlaces (map places_of lists)
 
     from_wanted : (row : RowValue) → Has wanted row → Has found_rows row
     from_wanted row h =
-        let w = (about_is_all kind d as_of.date (shown lists are as_of) row).0 h in
-        let known = Has-rows_at_cases as_of.pin (listed lists) row (current_from_snapshot (shown lists are as_of) as_of.date row w.0.current).known in
+        let w = (about_is_all kind d as_of.date (rows_seen as_of lists) row).0 h in
+        let known = Has-rows_at_cases as_of.pin (listed lists) row (current_from_snapshot (rows_seen as_of lists) as_of.date row w.0.current).known in
         let s = known.stamped_row in
         let numbers = numbers_of_row lists s (Has-listed_cases lists s known.known) in
         let n = numbers.0 in
@@ -120,7 +121,7 @@ module _ (lists : List (List StampedRow)) (are : ArePlaces (map places_of lists)
         let v = for_row lists as_of kept each_current j t.1 in
         let kinds_are : j.at.key.kind ≡ at.key.kind = (about_kept j t.1).kind_is ∙ sym kind_is in
         let ids_are : j.at.key.id ≡ at.key.id = sym (ranked at.key.id j.at.key.id Equal (sym t.2)) in
-        let both_found = sym v.2 ∙ (λ i. get (kinds_are i) (ids_are i) as_of.date (shown lists are as_of)) ∙ now.1.2 in
+        let both_found = sym v.2 ∙ (λ i. get (kinds_are i) (ids_are i) as_of.date (rows_seen as_of lists)) ∙ now.1.2 in
         let one : v.0.row ≡ now.1.0.row = cc in
         let same : v.0.row ≡ row = one ∙ ap (λ (z : StampedRow). z.row) (one_row lists are n n at at now.1.0 s now.1.1 stands refl) ∙ known.same in
         subst (λ z. Has found_rows z) same v.3
@@ -131,9 +132,9 @@ module _ (lists : List (List StampedRow)) (are : ArePlaces (map places_of lists)
         let id_t : t.row.id ≡ k.at.key.id = ap (λ (q : Key). q.id) (sym (key_at k t w)) in
         (λ i. nat_cmp (id_s i) (id_t i)) ∙ less) a.2.ascending
 
-    pub about_from_chosen : (rows : List StampedRow) × StandAtAll lists kept rows × (map (λ (s : StampedRow). s.row) rows ≡ about kind d as_of.date (shown lists are as_of))
+    pub about_from_chosen : (rows : List StampedRow) × StandAtAll lists kept rows × (map (λ (s : StampedRow). s.row) rows ≡ about kind d as_of.date (rows_seen as_of lists))
     about_from_chosen = (
       rows_for lists as_of kept each_current,
       stand_for lists as_of kept each_current,
-      same_ascending ids_total found_rows wanted rows_ascend (about_ascends kind d as_of.date (shown lists are as_of) (IsAscending-rows_at as_of.pin (listed lists) (IsAscending-listed lists))) to_wanted from_wanted,
+      same_ascending ids_total found_rows wanted rows_ascend (about_ascends kind d as_of.date (rows_seen as_of lists) (IsAscending-rows_at as_of.pin (listed lists) (IsAscending-listed lists))) to_wanted from_wanted,
     )

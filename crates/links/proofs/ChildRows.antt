@@ -21,10 +21,11 @@ use Rattle.as_of_index.specs.Places.{ArePlaces}
 use Rattle.as_of_index.specs.Private.Postings.{numbered}
 use Rattle.as_of_index.proofs.Numbered.{stands_there, place_of_row}
 use Rattle.as_of_index.proofs.Among.{looked_up}
-use Rattle.as_of_index.proofs.Current.{standing_row, one_row, shown, current_where}
+use Rattle.as_of_index.proofs.Current.{standing_row, one_row, current_where}
 use Rattle.links.specs.Edges.{Edges}
 use Rattle.links.specs.Laws.{EachPosted}
 use Rattle.as_of_index.specs.Private.Once.{IsThere}
+use Rattle.as_of_index.specs.Current.{rows_seen}
 use Rattle.links.specs.Private.{links_in, AreSources}
 use Rattle.links.proofs.Posted.{link_stands, link_of_child}
 
@@ -49,7 +50,7 @@ number_there ids id w = subst (λ m. Has ids m) (sym (ranked id w.0 Equal (sym w
 
 module _ (lists : List (List StampedRow)) (are : ArePlaces (map places_of lists)) (edges : List Edges) (posts : EachPosted lists edges) (concept : ℕ) (as_of : AsOf) where
   abbrev at_date : List RowValue
-  at_date = snapshot (shown lists are as_of) as_of.date
+  at_date = snapshot (rows_seen as_of lists) as_of.date
 
   abbrev sources : List ℕ
   sources = map (λ (row : RowValue). source_of row.body) (filter (is_child_of concept) at_date)
@@ -65,7 +66,7 @@ module _ (lists : List (List StampedRow)) (are : ArePlaces (map places_of lists)
         let stands = stands_there lists x.0 x.1.row post.0 at post.1 w.3.row_there.0 in
         let same : s ≡ post.0 = one_row lists are x.0 x.0 at at s post.0 w.3.row_there.1.1 stands refl in
         let child : is_child_of concept s.row ≡ true = subst (λ (z : StampedRow). is_child_of concept z.row ≡ true) (sym same) (subst (λ d. is_child_of d post.0.row ≡ true) w.2 post.2.says) in
-        let there = Has-filter_from (is_child_of concept) at_date s.row (looked_up at.key.kind at.key.id as_of.date (shown lists are as_of) s.row w.3.row_there.1.2) child in
+        let there = Has-filter_from (is_child_of concept) at_date s.row (looked_up at.key.kind at.key.id as_of.date (rows_seen as_of lists) s.row w.3.row_there.1.2) child in
         let id_is : source_of s.row.body ≡ id = ap (λ (z : StampedRow). source_of z.row.body) same ∙ post.2.source_is ∙ w.3.answer_is in
         subst (λ k. Has sources k) id_is (Has-map_from (λ (row : RowValue). source_of row.body) (filter (is_child_of concept) at_date) s.row there)
 
@@ -87,7 +88,7 @@ module _ (lists : List (List StampedRow)) (are : ArePlaces (map places_of lists)
         let id_is : l.source ≡ id = sym post.2.source_is ∙ ap (λ (z : RowValue). source_of z.body) (sym now.0) ∙ m.2 in
         subst (λ k. Has ids k) id_is (number_there ids l.source (a.2.there l.source (a.1.taken g.x l.source g.there dest (record { at = p.0; row_there = (p.1, now.1); answer_is = refl }))))
 
-    pub children_from_sources : ids ≡ children concept as_of.date (shown lists are as_of)
+    pub children_from_sources : ids ≡ children concept as_of.date (rows_seen as_of lists)
     unfolding children
     children_from_sources = same_ascending nat_cmp_total ids (in_order nat_cmp sources) a.2.ascending (IsAscending-in_order nat_cmp_total sources)
         (λ id h. Has-put_all_new nat_cmp sources [] id (λ y there tie. sym (ranked id y Equal (sym tie))) (to_children id h))

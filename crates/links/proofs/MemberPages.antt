@@ -23,7 +23,8 @@ use Rattle.as_of_index.specs.Places.{ArePlaces}
 use Rattle.as_of_index.specs.Chosen.{StandAtAll}
 use Rattle.as_of_index.specs.Private.Chosen.{chosen_cmp}
 use Rattle.as_of_index.specs.Private.Postings.{numbered}
-use Rattle.as_of_index.proofs.Current.{standing_row, shown}
+use Rattle.as_of_index.proofs.Current.{standing_row}
+use Rattle.as_of_index.specs.Current.{rows_seen}
 use Rattle.links.specs.declared.member_search.Wanted.TheVariants as wanted
 use Rattle.links.specs.Edges.{Edges}
 use Rattle.links.specs.Private.Memberships.{memberships_in, AreMembers, AreEnough}
@@ -79,15 +80,15 @@ module _ (lists : List (List StampedRow)) (are : ArePlaces (map places_of lists)
       let id_t : t.row.id ≡ k.at.key.id = ap (λ (q : Key). q.id) (sym (standing_row lists are k.segment k.at t w).1) in
       (λ i. nat_cmp (id_s i) (id_t i)) ∙ less
 
-  shown_up : IsAscending row_cmp (shown lists are as_of)
+  shown_up : IsAscending row_cmp (rows_seen as_of lists)
   shown_up = IsAscending-rows_at as_of.pin (listed lists) (IsAscending-listed lists)
 
   pub page_from_chosen : (after : Option ℕ) (limit : ℕ) (kept : List Chosen) → AreEnough chosen_cmp (λ last. wanted.Above after last) limit lists refset as_of (numbered 0 (memberships_in edges)) kept
-      → (rows : List StampedRow) × StandAtAll lists (take limit kept) rows × (map (λ (s : StampedRow). s.row) rows ≡ members refset as_of.date after limit (shown lists are as_of))
+      → (rows : List StampedRow) × StandAtAll lists (take limit kept) rows × (map (λ (s : StampedRow). s.row) rows ≡ members refset as_of.date after limit (rows_seen as_of lists))
   unfolding members
   page_from_chosen after limit kept a =
       let last = a.0 in
-      let now = shown lists are as_of in
+      let now = rows_seen as_of lists in
       let w = members_from_chosen lists are edges posts refset as_of (wanted.Above after last) chosen_cmp same_id kept a.1 (members_up_to last refset as_of.date after now) (members_up_to_all refset as_of.date after last now)
       by_id ids_total (members_up_to_ascend refset as_of.date after last now shown_up) (λ j k s t g h. by_rows_id j k s t) in
       let rising = ids_rise (members_above refset as_of.date after now) (members_ascend refset as_of.date after now shown_up) in (
@@ -98,7 +99,7 @@ module _ (lists : List (List StampedRow)) (are : ArePlaces (map places_of lists)
       )
 
   pub about_from_members : (id : ℕ) (kept : List Chosen) → AreMembers chosen_cmp lists (record { refset = refset; wanted = wanted.About id; as_of = as_of }) (numbered 0 (memberships_in edges)) kept
-      → (rows : List StampedRow) × StandAtAll lists kept rows × (map (λ (s : StampedRow). s.row) rows ≡ members_about refset id as_of.date (shown lists are as_of))
+      → (rows : List StampedRow) × StandAtAll lists kept rows × (map (λ (s : StampedRow). s.row) rows ≡ members_about refset id as_of.date (rows_seen as_of lists))
   about_from_members id kept a =
-      members_from_chosen lists are edges posts refset as_of (wanted.About id) chosen_cmp same_id kept a (members_about refset id as_of.date (shown lists are as_of)) (about_are_all refset id as_of.date (shown lists are as_of))
-      by_id ids_total (about_members_ascend refset id as_of.date (shown lists are as_of) shown_up) (λ j k s t g h. by_rows_id j k s t)
+      members_from_chosen lists are edges posts refset as_of (wanted.About id) chosen_cmp same_id kept a (members_about refset id as_of.date (rows_seen as_of lists)) (about_are_all refset id as_of.date (rows_seen as_of lists))
+      by_id ids_total (about_members_ascend refset id as_of.date (rows_seen as_of lists) shown_up) (λ j k s t g h. by_rows_id j k s t)

@@ -24,8 +24,9 @@ use Rattle.as_of_index.specs.Chosen.{StandAtAll}
 use Rattle.as_of_index.specs.Private.Postings.{numbered}
 use Rattle.as_of_index.proofs.Among.{looked_up}
 use Rattle.as_of_index.proofs.Numbered.{stands_there, place_of_row}
-use Rattle.as_of_index.proofs.Current.{standing_row, one_row, shown, current_where, AllCurrent, rows_for, stand_for, row_for, for_row, ascending_rows_for}
+use Rattle.as_of_index.proofs.Current.{standing_row, one_row, current_where, AllCurrent, rows_for, stand_for, row_for, for_row, ascending_rows_for}
 use Rattle.as_of_index.proofs.Pushing.{numbers_of_row}
+use Rattle.as_of_index.specs.Current.{rows_seen}
 use Rattle.links.specs.declared.membership.Membership.{Membership}
 use Rattle.links.specs.declared.member_search.Asked.{Asked}
 use Rattle.links.specs.declared.member_search.Wanted.{Wanted}
@@ -55,7 +56,7 @@ module _ (lists : List (List StampedRow)) (are : ArePlaces (map places_of lists)
   pub record IsMemberAt (k : Chosen) : Type 0 where
     pub s : StampedRow
     pub stands : StandsAt lists k.segment k.at s
-    pub found : get k.at.key.kind k.at.key.id as_of.date (shown lists are as_of) ≡ Some s.row
+    pub found : get k.at.key.kind k.at.key.id as_of.date (rows_seen as_of lists) ≡ Some s.row
     pub kind_is : k.at.key.kind ≡ kinds.Member
     pub wanted_so : wanted_row refset w s.row ≡ true
     pub refset_is : k.refset ≡ refset
@@ -103,7 +104,7 @@ module _ (lists : List (List StampedRow)) (are : ArePlaces (map places_of lists)
     pub component_at : (k : Chosen) (s : StampedRow) → Has kept k → StandsAt lists k.segment k.at s → component_of s.row ≡ k.target
     component_at k s h v = subst (λ (z : StampedRow). component_of z.row ≡ k.target) (own_row k s h v) (member_kept k h).component_is
 
-    module _ (answer : List RowValue) (is_all : (row : RowValue) → (Has answer row → Has (snapshot (shown lists are as_of) as_of.date) row × (wanted_row refset w row ≡ true)) × (Has (snapshot (shown lists are as_of) as_of.date) row × (wanted_row refset w row ≡ true) → Has answer row))
+    module _ (answer : List RowValue) (is_all : (row : RowValue) → (Has answer row → Has (snapshot (rows_seen as_of lists) as_of.date) row × (wanted_row refset w row ≡ true)) × (Has (snapshot (rows_seen as_of lists) as_of.date) row × (wanted_row refset w row ≡ true) → Has answer row))
         (order : RowValue → RowValue → Ordering) (total : IsTotalOrder order) (up : IsAscending order answer)
         (rank_is : (j k : Chosen) (s t : StampedRow) → Has kept j → Has kept k → StandsAt lists j.segment j.at s → StandsAt lists k.segment k.at t → cmp j k ≡ Less → order s.row t.row ≡ Less) where
       to_answer : (row : RowValue) → Has found_rows row → Has answer row
@@ -112,14 +113,14 @@ module _ (lists : List (List StampedRow)) (are : ArePlaces (map places_of lists)
           let v = member_kept x.k x.there in
           subst (λ z. Has answer z) x.row_is
           ((is_all x.s.row).1 (
-            looked_up x.k.at.key.kind x.k.at.key.id as_of.date (shown lists are as_of) x.s.row x.found,
+            looked_up x.k.at.key.kind x.k.at.key.id as_of.date (rows_seen as_of lists) x.s.row x.found,
             subst (λ (z : StampedRow). wanted_row refset w z.row ≡ true) (own_row x.k x.s x.there x.stands) v.wanted_so,
           ))
 
       from_answer : (row : RowValue) → Has answer row → Has found_rows row
       from_answer row h =
           let v = (is_all row).0 h in
-          let known = Has-rows_at_cases as_of.pin (listed lists) row (current_from_snapshot (shown lists are as_of) as_of.date row v.0).known in
+          let known = Has-rows_at_cases as_of.pin (listed lists) row (current_from_snapshot (rows_seen as_of lists) as_of.date row v.0).known in
           let s = known.stamped_row in
           let numbers = numbers_of_row lists s (Has-listed_cases lists s known.known) in
           let n = numbers.0 in
@@ -147,7 +148,7 @@ module _ (lists : List (List StampedRow)) (are : ArePlaces (map places_of lists)
           let u = for_row lists as_of kept each_current j t.1 in
           let kinds_are : j.at.key.kind ≡ at.key.kind = (member_kept j t.1).kind_is ∙ sym kind_is in
           let ids_are : j.at.key.id ≡ at.key.id = sym (ties (member_place n m at) j t.2) in
-          let both_found = sym u.2 ∙ (λ i. get (kinds_are i) (ids_are i) as_of.date (shown lists are as_of)) ∙ now.1.2 in
+          let both_found = sym u.2 ∙ (λ i. get (kinds_are i) (ids_are i) as_of.date (rows_seen as_of lists)) ∙ now.1.2 in
           let one : u.0.row ≡ now.1.0.row = cc in
           let same : u.0.row ≡ row = one ∙ ap (λ (z : StampedRow). z.row) (one_row lists are n n at at now.1.0 s now.1.1 stands refl) ∙ known.same in
           subst (λ z. Has found_rows z) same u.3

@@ -13,7 +13,8 @@ use Rattle.as_of_index.specs.Places.{ArePlaces}
 use Rattle.as_of_index.specs.Chosen.{StandAtAll}
 use Rattle.as_of_index.specs.Private.Chosen.{chosen_cmp}
 use Rattle.as_of_index.specs.Private.Postings.{numbered}
-use Rattle.as_of_index.proofs.Current.{standing_row, shown}
+use Rattle.as_of_index.proofs.Current.{standing_row}
+use Rattle.as_of_index.specs.Current.{rows_seen}
 use Rattle.links.specs.declared.membership.Membership.{Membership}
 use Rattle.links.specs.Edges.{Edges}
 use Rattle.links.specs.Private.Memberships.{memberships_in, with_members, asked_about, AreMembers, AreNamed}
@@ -53,7 +54,7 @@ with_rows lists k s (j ∷ those) (t ∷ rows) v a = (s ∷ t ∷ rows, (v, a), 
 module _ (lists : List (List StampedRow)) (are : ArePlaces (map places_of lists)) (edges : List Edges) (posts : EachPosted lists edges) (refset : ℕ) (as_of : AsOf) where
   -- the answer about one description
   abbrev answer_about : RowValue → List RowValue
-  answer_about row = with_others row (members_about refset row.id as_of.date (shown lists are as_of))
+  answer_about row = with_others row (members_about refset row.id as_of.date (rows_seen as_of lists))
 
   pub named_from_chosen : (ks : List Chosen) (rows : List StampedRow) (kept : List Chosen) → StandAtAll lists ks rows → AreNamed lists refset as_of (numbered 0 (memberships_in edges)) ks kept
       → (all : List StampedRow) × StandAtAll lists kept all × (map (λ (s : StampedRow). s.row) all ≡ flat_map answer_about (map (λ (s : StampedRow). s.row) rows))
@@ -66,15 +67,15 @@ module _ (lists : List (List StampedRow)) (are : ArePlaces (map places_of lists)
       let one = with_rows lists k s n.0 m.0 a.0 m.1 in
       let rest = named_from_chosen ks rows n.1 a.1 n.4 in
       let about_is : map (λ (t : StampedRow). t.row) one.0 ≡ answer_about s.row =
-      one.2 ∙ ap (λ (ys : List RowValue). with_others s.row ys) (m.2 ∙ ap (λ id. members_about refset id as_of.date (shown lists are as_of)) id_is) in (
+      one.2 ∙ ap (λ (ys : List RowValue). with_others s.row ys) (m.2 ∙ ap (λ id. members_about refset id as_of.date (rows_seen as_of lists)) id_is) in (
         one.0 ++ rest.0,
         subst (λ (ys : List Chosen). StandAtAll lists ys (one.0 ++ rest.0)) (sym n.3) (stand_append lists (with_members k n.0) one.0 n.1 rest.0 one.1 rest.1),
         map_append one.0 rest.0 ∙ (λ i. about_is i ++ rest.2 i),
       )
 
-  pub called_from_chosen : (concept : ℕ) (ks : List Chosen) → ((rows : List StampedRow) × StandAtAll lists ks rows × (map (λ (s : StampedRow). s.row) rows ≡ about kinds.Description concept as_of.date (shown lists are as_of)))
+  pub called_from_chosen : (concept : ℕ) (ks : List Chosen) → ((rows : List StampedRow) × StandAtAll lists ks rows × (map (λ (s : StampedRow). s.row) rows ≡ about kinds.Description concept as_of.date (rows_seen as_of lists)))
       → (kept : List Chosen) → AreNamed lists refset as_of (numbered 0 (memberships_in edges)) ks kept
-      → (rows : List StampedRow) × StandAtAll lists kept rows × (map (λ (s : StampedRow). s.row) rows ≡ called concept as_of.date refset (shown lists are as_of))
+      → (rows : List StampedRow) × StandAtAll lists kept rows × (map (λ (s : StampedRow). s.row) rows ≡ called concept as_of.date refset (rows_seen as_of lists))
   unfolding called
   called_from_chosen concept ks w kept n =
       let all = named_from_chosen ks w.0 kept w.1 n in

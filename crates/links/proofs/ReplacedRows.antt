@@ -27,8 +27,9 @@ use Rattle.as_of_index.specs.Private.Chosen.{ranked_cmp}
 use Rattle.as_of_index.specs.Private.Postings.{numbered}
 use Rattle.as_of_index.proofs.Among.{looked_up}
 use Rattle.as_of_index.proofs.Numbered.{stands_there, place_of_row}
-use Rattle.as_of_index.proofs.Current.{standing_row, one_row, shown, current_where, AllCurrent, rows_for, stand_for, row_for, for_row, ascending_rows_for}
+use Rattle.as_of_index.proofs.Current.{standing_row, one_row, current_where, AllCurrent, rows_for, stand_for, row_for, for_row, ascending_rows_for}
 use Rattle.as_of_index.proofs.Pushing.{numbers_of_row, posting_there}
+use Rattle.as_of_index.specs.Current.{rows_seen}
 use Rattle.links.specs.declared.postings.Target.{Target}
 use Rattle.links.specs.Edges.{Edges, target_of_body, posted_target}
 use Rattle.links.specs.Private.{targets_in, ranked_back, GivesRankedBack, AreReplaced}
@@ -58,16 +59,16 @@ target_of_row target row i e =
 
 module _ (lists : List (List StampedRow)) (are : ArePlaces (map places_of lists)) (edges : List Edges) (posts : EachPosted lists edges) (d : ℕ) (as_of : AsOf) where
   abbrev wanted : List RowValue
-  wanted = replaces d as_of.date (shown lists are as_of)
+  wanted = replaces d as_of.date (rows_seen as_of lists)
 
-  shown_up : IsAscending row_cmp (shown lists are as_of)
+  shown_up : IsAscending row_cmp (rows_seen as_of lists)
   shown_up = IsAscending-rows_at as_of.pin (listed lists) (IsAscending-listed lists)
 
   -- the row of one that is chosen
   record IsReplacedAt (k : Chosen) : Type 0 where
     s : StampedRow
     stands : StandsAt lists k.segment k.at s
-    found : get k.at.key.kind k.at.key.id as_of.date (shown lists are as_of) ≡ Some s.row
+    found : get k.at.key.kind k.at.key.id as_of.date (rows_seen as_of lists) ≡ Some s.row
     kind_is : k.at.key.kind ≡ kinds.Association
     replaced : is_replaced_by d s.row ≡ true
     refset_is : refset_of s.row.body ≡ k.refset
@@ -113,15 +114,15 @@ module _ (lists : List (List StampedRow)) (are : ArePlaces (map places_of lists)
         let x = row_for lists as_of kept each_current row h in
         let w = replaced_kept x.k x.there in
         subst (λ z. Has wanted z) x.row_is
-        ((replaces_are_all d as_of.date (shown lists are as_of) x.s.row shown_up).1 (
-          looked_up x.k.at.key.kind x.k.at.key.id as_of.date (shown lists are as_of) x.s.row x.found,
+        ((replaces_are_all d as_of.date (rows_seen as_of lists) x.s.row shown_up).1 (
+          looked_up x.k.at.key.kind x.k.at.key.id as_of.date (rows_seen as_of lists) x.s.row x.found,
           subst (λ (z : StampedRow). is_replaced_by d z.row ≡ true) (own_row x.k x.s x.there x.stands) w.replaced,
         ))
 
     from_wanted : (row : RowValue) → Has wanted row → Has found_rows row
     from_wanted row h =
-        let w = (replaces_are_all d as_of.date (shown lists are as_of) row shown_up).0 h in
-        let known = Has-rows_at_cases as_of.pin (listed lists) row (current_from_snapshot (shown lists are as_of) as_of.date row w.0).known in
+        let w = (replaces_are_all d as_of.date (rows_seen as_of lists) row shown_up).0 h in
+        let known = Has-rows_at_cases as_of.pin (listed lists) row (current_from_snapshot (rows_seen as_of lists) as_of.date row w.0).known in
         let s = known.stamped_row in
         let numbers = numbers_of_row lists s (Has-listed_cases lists s known.known) in
         let n = numbers.0 in
@@ -143,7 +144,7 @@ module _ (lists : List (List StampedRow)) (are : ArePlaces (map places_of lists)
         let v = for_row lists as_of kept each_current j t.1 in
         let kinds_are : j.at.key.kind ≡ at.key.kind = (replaced_kept j t.1).kind_is ∙ sym kind_is in
         let ids_are : j.at.key.id ≡ at.key.id = sym (one_id (ranked_back n r at) j t.2) in
-        let both_found = sym v.2 ∙ (λ i. get (kinds_are i) (ids_are i) as_of.date (shown lists are as_of)) ∙ now.1.2 in
+        let both_found = sym v.2 ∙ (λ i. get (kinds_are i) (ids_are i) as_of.date (rows_seen as_of lists)) ∙ now.1.2 in
         let one : v.0.row ≡ now.1.0.row = cc in
         let same : v.0.row ≡ row = one ∙ ap (λ (z : StampedRow). z.row) (one_row lists are n n at at now.1.0 s now.1.1 stands refl) ∙ known.same in
         subst (λ z. Has found_rows z) same v.3
@@ -165,9 +166,9 @@ module _ (lists : List (List StampedRow)) (are : ArePlaces (map places_of lists)
     rows_ascend : IsAscending replaced_cmp found_rows
     rows_ascend = ascending_rows_for lists as_of replaced_cmp ranked_cmp kept each_current (λ j k s t g h v w less. rank_is j k s t g h v w ∙ less) a.2.ascending
 
-    pub replaces_from_chosen : (rows : List StampedRow) × StandAtAll lists kept rows × (map (λ (s : StampedRow). s.row) rows ≡ replaces d as_of.date (shown lists are as_of))
+    pub replaces_from_chosen : (rows : List StampedRow) × StandAtAll lists kept rows × (map (λ (s : StampedRow). s.row) rows ≡ replaces d as_of.date (rows_seen as_of lists))
     replaces_from_chosen = (
       rows_for lists as_of kept each_current,
       stand_for lists as_of kept each_current,
-      same_ascending replaced_total found_rows wanted rows_ascend (replaces_ascend d as_of.date (shown lists are as_of)) to_wanted from_wanted,
+      same_ascending replaced_total found_rows wanted rows_ascend (replaces_ascend d as_of.date (rows_seen as_of lists)) to_wanted from_wanted,
     )

@@ -22,11 +22,11 @@ use Rattle.as_of_index.specs.declared.chosen.Chosen.{Chosen}
 use Rattle.as_of_index.specs.Places.{item_at, ArePlaces}
 use Rattle.as_of_index.specs.Chosen.{StandAtAll}
 use Rattle.as_of_index.specs.Private.Chosen.{ranked_cmp}
-use Rattle.as_of_index.specs.Current.{IsCurrentAt}
+use Rattle.as_of_index.specs.Current.{rows_seen, IsCurrentAt}
 use Rattle.as_of_index.specs.Private.Postings.{numbered}
 use Rattle.as_of_index.proofs.Numbered.{stands_there, place_of_row}
 use Rattle.as_of_index.proofs.Among.{looked_up}
-use Rattle.as_of_index.proofs.Current.{standing_row, one_row, shown, current_where, AllCurrent, rows_for, stand_for, row_for, for_row, ascending_rows_for}
+use Rattle.as_of_index.proofs.Current.{standing_row, one_row, current_where, AllCurrent, rows_for, stand_for, row_for, for_row, ascending_rows_for}
 use Rattle.links.specs.declared.postings.Reference.{Reference}
 use Rattle.links.specs.Edges.{Edges}
 use Rattle.links.specs.Laws.{EachPosted}
@@ -58,7 +58,7 @@ associated d row (body.Member m) e f = absurd (cc)
 
 module _ (lists : List (List StampedRow)) (are : ArePlaces (map places_of lists)) (edges : List Edges) (posts : EachPosted lists edges) (d : ℕ) (as_of : AsOf) where
   abbrev at_date : List RowValue
-  at_date = snapshot (shown lists are as_of) as_of.date
+  at_date = snapshot (rows_seen as_of lists) as_of.date
 
   abbrev wanted : List RowValue
   wanted = filter (is_replacement_of d) at_date
@@ -120,7 +120,7 @@ module _ (lists : List (List StampedRow)) (are : ArePlaces (map places_of lists)
         let says = said x.k x.s x.there x.stands in
         let replaces : is_replacement_of d x.s.row ≡ true = subst (λ n. is_replacement_of n x.s.row ≡ true) p.d_is says.says in
         subst (λ z. Has wanted z) x.row_is
-        (Has-filter_from (is_replacement_of d) at_date x.s.row (looked_up x.k.at.key.kind x.k.at.key.id as_of.date (shown lists are as_of) x.s.row x.found) replaces)
+        (Has-filter_from (is_replacement_of d) at_date x.s.row (looked_up x.k.at.key.kind x.k.at.key.id as_of.date (rows_seen as_of lists) x.s.row x.found) replaces)
 
     from_wanted : (row : RowValue) → Has wanted row → Has found_rows row
     from_wanted row h =
@@ -147,7 +147,7 @@ module _ (lists : List (List StampedRow)) (are : ArePlaces (map places_of lists)
         let kind_j : kind_of v.0.row ≡ kinds.Association = associated p.x.1.referenced v.0.row v.0.row.body refl (both v.0.row.active (refers_to p.x.1.referenced v.0.row.body) says.says).1 in
         let kinds_are : j.at.key.kind ≡ at.key.kind = ap (λ (k : Key). k.kind) keys ∙ kind_j ∙ sym kind ∙ ap (λ (k : Key). k.kind) (sym key_is) in
         let ids_are : j.at.key.id ≡ at.key.id = sym (one_id (ranked n r at) j w.2) in
-        let one : v.0.row ≡ now.1.0.row = same_some v.0.row now.1.0.row (sym v.2 ∙ (λ i. get (kinds_are i) (ids_are i) as_of.date (shown lists are as_of)) ∙ now.1.2) in
+        let one : v.0.row ≡ now.1.0.row = same_some v.0.row now.1.0.row (sym v.2 ∙ (λ i. get (kinds_are i) (ids_are i) as_of.date (rows_seen as_of lists)) ∙ now.1.2) in
         let same : v.0.row ≡ row = one ∙ ap (λ (z : StampedRow). z.row) (one_row lists are n n at at now.1.0 post.0 now.1.1 stands refl) ∙ sym now.0 in
         subst (λ z. Has found_rows z) same v.3
 
@@ -167,11 +167,11 @@ module _ (lists : List (List StampedRow)) (are : ArePlaces (map places_of lists)
         let kind_n : kind_of n.s.row ≡ kinds.Association = associated _ n.s.row n.s.row.body refl (both n.s.row.active _ kn.says).1 in
         let kinds_are : m.k.at.key.kind ≡ n.k.at.key.kind = ap (λ (q : Key). q.kind) key_m ∙ kind_m ∙ sym kind_n ∙ ap (λ (q : Key). q.kind) (sym key_n) in
         let ids_are : m.k.at.key.id ≡ n.k.at.key.id = ap (λ (q : Key). q.id) key_m ∙ ap (λ (v : RowValue). v.id) m.row_is ∙ one_row_id x y tie ∙ ap (λ (v : RowValue). v.id) (sym n.row_is) ∙ ap (λ (q : Key). q.id) (sym key_n) in
-        let found = sym m.found ∙ (λ i. get (kinds_are i) (ids_are i) as_of.date (shown lists are as_of)) ∙ n.found in
+        let found = sym m.found ∙ (λ i. get (kinds_are i) (ids_are i) as_of.date (rows_seen as_of lists)) ∙ n.found in
         let one : m.s.row ≡ n.s.row = cc in
         sym n.row_is ∙ sym one ∙ m.row_is
 
-    pub replacements_from_chosen : (rows : List StampedRow) × StandAtAll lists kept rows × (map (λ (s : StampedRow). s.row) rows ≡ replacements d as_of.date (shown lists are as_of))
+    pub replacements_from_chosen : (rows : List StampedRow) × StandAtAll lists kept rows × (map (λ (s : StampedRow). s.row) rows ≡ replacements d as_of.date (rows_seen as_of lists))
     unfolding replacements
     replacements_from_chosen = (
       rows_for lists as_of kept each_current,

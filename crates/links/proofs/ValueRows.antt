@@ -23,7 +23,8 @@ use Rattle.as_of_index.specs.Places.{ArePlaces}
 use Rattle.as_of_index.specs.Chosen.{StandAtAll}
 use Rattle.as_of_index.specs.Private.Chosen.{ranked_cmp}
 use Rattle.as_of_index.specs.Private.Postings.{numbered}
-use Rattle.as_of_index.proofs.Current.{standing_row, shown}
+use Rattle.as_of_index.proofs.Current.{standing_row}
+use Rattle.as_of_index.specs.Current.{rows_seen}
 use Rattle.links.specs.declared.member_search.Wanted.TheVariants as wanted
 use Rattle.links.specs.Edges.{Edges}
 use Rattle.links.specs.Private.Memberships.{memberships_in, AreMembers, IsCutAt}
@@ -98,14 +99,14 @@ module _ (lists : List (List StampedRow)) (are : ArePlaces (map places_of lists)
       (λ i. ordering_then (nat_cmp (component_s i) (component_t i)) (nat_cmp (id_s i) (id_t i)))
       ∙ sym (ap (λ o. ordering_then o (ordering_then (nat_cmp j.target k.target) (nat_cmp j.at.key.id k.at.key.id))) tie) ∙ less
 
-  shown_up : IsAscending row_cmp (shown lists are as_of)
+  shown_up : IsAscending row_cmp (rows_seen as_of lists)
   shown_up = IsAscending-rows_at as_of.pin (listed lists) (IsAscending-listed lists)
 
   pub values_from_chosen : (limit count : ℕ) → (last ≡ None) ⊎ (limit ≤ length kept) → IsCutAt limit (map {B = ℕ} (λ (k : Chosen). k.target) kept) count
-      → (rows : List StampedRow) × StandAtAll lists (take count kept) rows × (map (λ (s : StampedRow). s.row) rows ≡ values refset as_of.date after limit (shown lists are as_of))
+      → (rows : List StampedRow) × StandAtAll lists (take count kept) rows × (map (λ (s : StampedRow). s.row) rows ≡ values refset as_of.date after limit (rows_seen as_of lists))
   unfolding values
   values_from_chosen limit count enough cut =
-      let now = shown lists are as_of in
+      let now = rows_seen as_of lists in
       let answer = values_up_to last refset as_of.date after now in
       let w = members_from_chosen lists are edges posts refset as_of (wanted.Values after last) ranked_cmp one_id kept a answer (values_up_to_all refset as_of.date after last now shown_up)
       value_cmp values_total (values_up_to_ascend refset as_of.date after last now) ranks in

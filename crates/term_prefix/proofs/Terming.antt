@@ -30,7 +30,7 @@ use Rattle.segment.proofs.Posting.{says}
 use Rattle.as_of_index.specs.Chosen.{StandAtAll}
 use Rattle.as_of_index.specs.Private.Chosen.{chosen, chosen_cmp}
 use Rattle.as_of_index.specs.Places.{item_at}
-use Rattle.as_of_index.specs.Current.{IsPlaceOfRow}
+use Rattle.as_of_index.specs.Current.{rows_seen, IsPlaceOfRow}
 use Rattle.as_of_index.specs.Private.Postings.{numbered}
 use Rattle.term_prefix.specs.Terms.{TermAt}
 use Rattle.term_prefix.specs.Pushed.{ArePosted}
@@ -40,7 +40,7 @@ use Rattle.as_of_index.proofs.Numbered.{stands_there, place_of_row, Has-flat_map
 use Rattle.as_of_index.proofs.Paging.{less_from}
 use Rattle.as_of_index.proofs.Among.{looked_up}
 use Rattle.as_of_index.proofs.First.{same_first}
-use Rattle.as_of_index.proofs.Current.{standing_row, one_row, shown, shown_ascends, current_where, AllCurrent, rows_for, stand_for, length-rows_for, row_for, for_row, ascending_rows_for}
+use Rattle.as_of_index.proofs.Current.{standing_row, one_row, shown_ascends, current_where, AllCurrent, rows_for, stand_for, length-rows_for, row_for, for_row, ascending_rows_for}
 
 abbrev in_list : ℕ → List TermAt → List (ℕ × TermAt)
 in_list n ts = map (λ (t : TermAt). (n, t)) ts
@@ -244,7 +244,7 @@ module _ (lists : List (List StampedRow)) (are : ArePlaces (map places_of lists)
         a.ascending
 
     abbrev wanted : List RowValue
-    wanted = filter (is_term_above prefix search.after) (snapshot (shown lists are search.as_of) search.as_of.date)
+    wanted = filter (is_term_above prefix search.after) (snapshot (rows_seen search.as_of lists) search.as_of.date)
 
     to_wanted : (row : RowValue) → Has found_rows row → Has wanted row
     to_wanted row h =
@@ -255,11 +255,11 @@ module _ (lists : List (List StampedRow)) (are : ArePlaces (map places_of lists)
         let begins_so : begins_with prefix r.s.row.body ≡ true = subst (λ (z : StampedRow). begins_with prefix z.row.body ≡ true) same (begins_from prefix p.x.1.folded p.s.row.body p.says.folded_is p.begins_so) in
         let above : is_above search.after r.s.row.id ≡ true = subst (λ id. is_above search.after id ≡ true) (id_at r.k.segment r.k.at r.s r.stands) (a.only r.k r.there).1.above in
         subst (λ z. Has wanted z) r.row_is
-        (Has-filter_from (is_term_above prefix search.after) (snapshot (shown lists are search.as_of) search.as_of.date) r.s.row (looked_up r.k.at.key.kind r.k.at.key.id search.as_of.date (shown lists are search.as_of) r.s.row r.found) (rw (active, begins_so, above) refl))
+        (Has-filter_from (is_term_above prefix search.after) (snapshot (rows_seen search.as_of lists) search.as_of.date) r.s.row (looked_up r.k.at.key.kind r.k.at.key.id search.as_of.date (rows_seen search.as_of lists) r.s.row r.found) (rw (active, begins_so, above) refl))
 
     from_wanted : (row : RowValue) → Has wanted row → Has found_rows row ⊎ ((search.limit ≤ length found_rows) × ((y : RowValue) → Has found_rows y → row_cmp y row ≡ Less))
     from_wanted row h =
-        let f = Has-filter (is_term_above prefix search.after) (snapshot (shown lists are search.as_of) search.as_of.date) row h in
+        let f = Has-filter (is_term_above prefix search.after) (snapshot (rows_seen search.as_of lists) search.as_of.date) row h in
         let u = both (is_term prefix row) (is_above search.after row.id) f.1 in
         let g = term_of_description lists terms posts prefix search.as_of search.after row f.0 f.1 in
         let n = g.x.0 in
@@ -280,7 +280,7 @@ module _ (lists : List (List StampedRow)) (are : ArePlaces (map places_of lists)
               let w = for_row lists search.as_of kept each_current j.0 j.1 in
               let keys = (standing_row lists are j.0.segment j.0.at w.0 w.1).1 in
               let kinds_are : j.0.at.key.kind ≡ at.key.kind = ap (λ (k : Key). k.kind) keys ∙ kept_kind j.0 w.0 j.1 w.1 ∙ sym kind ∙ ap (λ (k : Key). k.kind) (sym key_is) in
-              let both_found = sym w.2 ∙ (λ i. get (kinds_are i) (j.2 i) search.as_of.date (shown lists are search.as_of)) ∙ now.1.2 in
+              let both_found = sym w.2 ∙ (λ i. get (kinds_are i) (j.2 i) search.as_of.date (rows_seen search.as_of lists)) ∙ now.1.2 in
               let one : w.0.row ≡ now.1.0.row = cc in
               let same : w.0.row ≡ row = one ∙ ap (λ (z : StampedRow). z.row) (one_row lists are n n at at now.1.0 post.0 now.1.1 stands refl) ∙ sym now.0 in
               subst (λ z. Has found_rows z) same w.3)
@@ -294,11 +294,11 @@ module _ (lists : List (List StampedRow)) (are : ArePlaces (map places_of lists)
           )
         ]
 
-    pub terms_from_kept : (rows : List StampedRow) × StandAtAll lists kept rows × (map (λ (s : StampedRow). s.row) rows ≡ search_terms prefix search.as_of.date search.after search.limit (shown lists are search.as_of))
+    pub terms_from_kept : (rows : List StampedRow) × StandAtAll lists kept rows × (map (λ (s : StampedRow). s.row) rows ≡ search_terms prefix search.as_of.date search.after search.limit (rows_seen search.as_of lists))
     unfolding search_terms terms_above
     terms_from_kept = (
       rows_for lists search.as_of kept each_current,
       stand_for lists search.as_of kept each_current,
-      same_first rows_total search.limit found_rows wanted rows_ascend (IsAscending-filter (is_term_above prefix search.after) row_cmp (snapshot (shown lists are search.as_of) search.as_of.date) (shown_ascends lists are search.as_of))
+      same_first rows_total search.limit found_rows wanted rows_ascend (IsAscending-filter (is_term_above prefix search.after) row_cmp (snapshot (rows_seen search.as_of lists) search.as_of.date) (shown_ascends lists are search.as_of))
           (let e = length-rows_for lists search.as_of kept each_current in let le = a.few in omega arith) to_wanted from_wanted,
     )
