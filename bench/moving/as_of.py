@@ -152,12 +152,18 @@ def source(text):
     return text
 
 
+# The public functions of the crates in LENT that take `as_of`.
+PUBLIC = ("place_at", "place_from_hints", "current_at", "get", "page", "delta", "children",
+          "descendants", "ancestors", "about", "replacements", "replaces", "members", "values",
+          "called")
+
+
 def lent(text):
-    """With `as_of` lent, as a Copy struct that holds a type with a model is not passed by value
-    twice."""
+    """With `as_of` lent to private functions: a Copy struct that holds a type with a model is not
+    passed by value twice."""
     at = 0
     while True:
-        m = re.compile(r"\bfn \w+").search(text, at)
+        m = re.compile(r"\bfn (\w+)").search(text, at)
         if not m:
             return text
         line = text.rfind("\n", 0, m.start()) + 1
@@ -165,13 +171,46 @@ def lent(text):
         if "//" in text[line:m.start()]:
             continue
         first, last, end = parts(text, m.start())
-        if "as_of: AsOf" not in text[first:last]:
+        is_lent = not re.search(r"\bpub fn$", text[line:m.start() + 2])
+        if "as_of: AsOf" not in text[first:last] and "as_of: &AsOf" not in text[first:last]:
+            if "self.as_of" in text[last:end]:
+                text = text[:last] + handed(text[last:end], "self.as_of", False) + text[end:]
             continue
-        body = text.rfind("{", last, end) if text[end - 1] == ";" else opening(text, end - 1)
-        head = text[first:last].replace("as_of: AsOf", "as_of: &AsOf")
-        clauses = re.sub(NAME % "as_of" + r"(?!\.now)", "as_of.now", text[last:body])
-        rest = re.sub(r"(Asked \{[^{}]*)\bas_of,", r"\1as_of: *as_of,", text[body:end])
+        fresh = "as_of: AsOf" in text[first:last]
+        body = opening(text, end - 1)
+        head, clauses, rest = text[first:last], text[last:body], text[body:end]
+        if is_lent and fresh:
+            head = head.replace("as_of: AsOf", "as_of: &AsOf")
+            clauses = re.sub(NAME % "as_of" + r"(?!\.now)", "as_of.now", clauses)
+            rest = re.sub(r"(Asked \{[^{}]*)\bas_of,", r"\1as_of: *as_of,", rest)
+        rest = handed(rest, "as_of", is_lent)
         text = text[:first] + head + clauses + rest + text[end:]
+
+
+def handed(body, name, is_lent):
+    """With the value handed on by value to public functions, and lent to others."""
+    def call(text):
+        i = 0
+        while i < len(text):
+            if text[i] == "(":
+                end = closing(text, i)
+                inner = call(text[i + 1:end])
+                m = re.search(r"(\w+)(::<[^>]*>)?$", text[:i])
+                listed = items(inner)
+                if m and any(x.strip().lstrip("&*") == name for x in listed):
+                    if m.group(1) in PUBLIC:
+                        own = "*" + name if is_lent else name
+                    else:
+                        own = name if is_lent else "&" + name
+                    tail = re.search(r",?\s*$", inner).group()
+                    inner = ",".join(x[:len(x) - len(x.lstrip())] + own
+                                     if x.strip().lstrip("&*") == name else x
+                                     for x in listed).rstrip().rstrip(",") + tail
+                text = text[:i + 1] + inner + text[end:]
+                i = closing(text, i)
+            i += 1
+        return text
+    return call(body)
 
 
 def opening(text, at):
@@ -465,7 +504,7 @@ def main():
             if len(inner) > 1:
                 if inner[-2] in taking:
                     change(path, proof)
-                    if crate in LENT and inner[-1] != "Invariants.antt":
+                    if crate in LENT and inner[-2] not in PUBLIC and inner[-1] != "Invariants.antt":
                         change(path, lambda text: re.sub(
                             r"((?<![\w.])(?:a|c\.args)\.as_of)\b(?!\.now)", r"\1.now", text))
             elif crate not in PLAIN_LEMMAS:

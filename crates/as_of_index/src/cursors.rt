@@ -20,10 +20,10 @@ pub(crate) fn cursors_at(
     lists: &[PlaceList],
     start: &Start,
     from: Option<u32>,
-    as_of: AsOf,
+    as_of: &AsOf,
 ) -> Result<Vec<usize>, AllocError>
     ensures { IfOk result
-        (λ cursors. ArePassed start.now (changed_parts from as_of lists.now) cursors.items) }
+        (λ cursors. ArePassed start.now (changed_parts from as_of.now lists.now) cursors.items) }
 {
     let mut cursors = Vec::with_capacity(alloc, lists.len())?;
     for list in lists {
@@ -39,13 +39,13 @@ pub(crate) fn next_id(
     kind: Kind,
     after: Option<u128>,
     from: Option<u32>,
-    as_of: AsOf,
+    as_of: &AsOf,
 ) -> Option<u128>
     requires { ArePassed (starts.Components kind after)
-        (changed_parts from as_of lists.now) cursors.old.items }
-    ensures next { IsNextChanged kind after from as_of (all_places 0 lists.now) result }
+        (changed_parts from as_of.now lists.now) cursors.old.items }
+    ensures next { IsNextChanged kind after from as_of.now (all_places 0 lists.now) result }
     ensures passed { ArePassed (starts.Components kind after)
-        (changed_parts from as_of lists.now) cursors.new.items }
+        (changed_parts from as_of.now lists.now) cursors.new.items }
 {
     let start = Start::Components { kind, after };
     let mut best = None;
@@ -82,11 +82,11 @@ pub(crate) fn latest_on(
     kind: Kind,
     id: u128,
     from: Option<u32>,
-    as_of: AsOf,
+    as_of: &AsOf,
 ) -> Option<(usize, RowPlace)>
     requires { ArePassed (starts.Later kind id None)
-        (changed_parts from as_of lists.now) cursors.now }
-    ensures { IsPickFrom kind id from as_of (λ x. x.1) (all_places 0 lists.now) result }
+        (changed_parts from as_of.now lists.now) cursors.now }
+    ensures { IsPickFrom kind id from as_of.now (λ x. x.1) (all_places 0 lists.now) result }
 {
     let mut best = None;
     for (segment, list) in lists.iter().enumerate() {

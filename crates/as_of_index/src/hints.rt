@@ -146,10 +146,10 @@ fn exactly_at(
     number: usize,
     kind: Kind,
     id: u128,
-    as_of: AsOf,
+    as_of: &AsOf,
 ) -> Option<RowPlace>
     ensures { IfSome result (λ p. Has list.now p × IsTrue (is_of kind id p)
-        × (p.key.time ≡ as_of.date) × (p.import ≤ as_of.pin)) }
+        × (p.key.time ≡ as_of.now.date) × (p.import ≤ as_of.now.pin)) }
 {
     match lent_at(list, number) {
         Some(p) if is_of(kind, id, p) && p.key.time == as_of.date && p.import <= as_of.pin => {
@@ -165,10 +165,10 @@ fn at_a_hint(
     hints: &mut Hints,
     kind: Kind,
     id: u128,
-    as_of: AsOf,
+    as_of: &AsOf,
 ) -> Option<(usize, RowPlace)>
     ensures { IfSome result
-        (λ x. IsPick kind id as_of (λ x. x.1) (all_places 0 lists.now) (Some x)) }
+        (λ x. IsPick kind id as_of.now (λ x. x.1) (all_places 0 lists.now) (Some x)) }
 {
     let segment = hints.list_of(id, as_of.date)?;
     let number = hints.of(segment);
@@ -188,9 +188,9 @@ fn search_from_hints(
     hints: &mut Hints,
     kind: Kind,
     id: u128,
-    as_of: AsOf,
+    as_of: &AsOf,
 ) -> Option<(usize, RowPlace)>
-    ensures { IsPick kind id as_of (λ x. x.1) (all_places 0 lists.now) result }
+    ensures { IsPick kind id as_of.now (λ x. x.1) (all_places 0 lists.now) result }
 {
     let start = Start::AfterVersion { kind, id, time: as_of.date };
     let mut best = None;
@@ -216,9 +216,9 @@ pub(crate) fn latest_from_hints(
     hints: &mut Hints,
     kind: Kind,
     id: u128,
-    as_of: AsOf,
+    as_of: &AsOf,
 ) -> Option<(usize, RowPlace)>
-    ensures { IsPick kind id as_of (λ x. x.1) (all_places 0 lists.now) result }
+    ensures { IsPick kind id as_of.now (λ x. x.1) (all_places 0 lists.now) result }
 {
     match at_a_hint(lists, hints, kind, id, as_of) {
         Some(found) => Some(found),

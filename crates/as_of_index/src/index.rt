@@ -84,8 +84,8 @@ fn is_shown(p: &RowPlace, pin: u32) -> bool
 }
 
 /// Whether the version holds from the date on or before it, and the pin shows it.
-fn is_early(p: &RowPlace, as_of: AsOf) -> bool
-    ensures { IsTrue result ↔ ((p.now.key.time ≤ as_of.date) × (p.now.import ≤ as_of.pin)) }
+fn is_early(p: &RowPlace, as_of: &AsOf) -> bool
+    ensures { IsTrue result ↔ ((p.now.key.time ≤ as_of.now.date) × (p.now.import ≤ as_of.now.pin)) }
 {
     p.key.time <= as_of.date && p.import <= as_of.pin
 }
@@ -145,11 +145,11 @@ impl Index {
         near: Option<(usize, usize)>,
         kind: Kind,
         id: u128,
-        as_of: AsOf,
+        as_of: &AsOf,
     ) -> Option<(usize, RowPlace)>
         ensures places { ArePlaces self.now }
         ensures found { (lists : List (List StampedRow)) → Lists self.now lists
-            → IsPlaceOf lists (get kind id as_of.date (rows_seen as_of lists)) result }
+            → IsPlaceOf lists (get kind id as_of.now.date (rows_seen as_of.now lists)) result }
     {
         latest(self.lists.as_slice(), near, kind, id, as_of)
     }
@@ -166,7 +166,7 @@ impl Index {
         ensures found { (lists : List (List StampedRow)) → Lists self.now lists
             → IsPlaceOf lists (get kind id as_of.date (rows_seen as_of lists)) result }
     {
-        self.place_near(None, kind, id, as_of)
+        self.place_near(None, kind, id, &as_of)
     }
 
     /// The same place as `place_at` gives. Where components are asked for in key order, a search in
@@ -183,7 +183,7 @@ impl Index {
         ensures found { (lists : List (List StampedRow)) → Lists self.now lists
             → IsPlaceOf lists (get kind id as_of.date (rows_seen as_of lists)) result }
     {
-        latest_from_hints(self.lists.as_slice(), hints, kind, id, as_of)
+        latest_from_hints(self.lists.as_slice(), hints, kind, id, &as_of)
     }
 
     /// The place with a number in the list with a number, if there are both.
@@ -228,10 +228,10 @@ impl Index {
         near: Option<(usize, usize)>,
         segment: usize,
         at: &RowPlace,
-        as_of: AsOf,
+        as_of: &AsOf,
     ) -> bool
         ensures { (lists : List (List StampedRow)) → Lists self.now lists
-            → IsTrue result ↔ IsCurrentAt lists as_of segment at.now }
+            → IsTrue result ↔ IsCurrentAt lists as_of.now segment at.now }
     {
         // Its contract says that no key is listed twice.
         let _listed = self.lists();
@@ -259,7 +259,7 @@ impl Index {
         let number = number as usize;
         match self.place_of_row(segment, number) {
             Some(at) => {
-                if self.is_current_near(Some((segment, number)), segment, &at, as_of) {
+                if self.is_current_near(Some((segment, number)), segment, &at, &as_of) {
                     Some(at)
                 } else {
                     None
@@ -363,24 +363,27 @@ impl Index {
         reader: &mut R,
         kind: Kind,
         from: Option<u32>,
-        as_of: AsOf,
+        as_of: &AsOf,
         after: Option<u128>,
         limit: u32,
     ) -> Result<Vec<Row>, ReadFault>
         ensures found { R.is_honest reader.old → Lists self.now (R.lists reader.old)
             → IfOk result (λ rows. rows.items
-            ≡ walked kind from as_of.date after limit (rows_seen as_of (R.lists reader.old))) }
+            ≡ walked kind from as_of.now.date after limit (rows_seen as_of.now
+            (R.lists reader.old))) }
         // Whatever was read, the keys are those of these rows.
         ensures keys { Lists self.now (R.lists reader.old)
             → IfOk result (λ rows. map key_of rows.items ≡ map key_of
-            (walked kind from as_of.date after limit (rows_seen as_of (R.lists reader.old)))) }
+            (walked kind from as_of.now.date after limit (rows_seen as_of.now
+            (R.lists reader.old)))) }
         ensures undamaged { R.is_honest reader.old → Lists self.now (R.lists reader.old)
             → IfErr result (λ e. e ≢ readfault.Damaged) }
         ensures work { IfOk result (λ rows.
             R.work reader.new ≤ R.work reader.old + sum_by R.cost rows.items) }
         ensures work_always { Lists self.now (R.lists reader.old)
             → R.work reader.new ≤ R.work reader.old + sum_by R.cost
-            (walked kind from as_of.date after limit (rows_seen as_of (R.lists reader.old))) }
+            (walked kind from as_of.now.date after limit (rows_seen as_of.now
+            (R.lists reader.old))) }
         ensures lists { R.lists reader.new ≡ R.lists reader.old }
         ensures honesty { R.is_honest reader.old → R.is_honest reader.new }
         ensures stays { R.stays reader.old reader.new }
@@ -445,7 +448,7 @@ impl Index {
             (R.disk_faults reader.old) (R.disk_faults reader.new) }
         ensures damages { Counts CountsDamage result (R.damages reader.old) (R.damages reader.new) }
     {
-        self.walk(reader, kind, None, as_of, after, limit)
+        self.walk(reader, kind, None, &as_of, after, limit)
     }
 
     /// What changed from one date to another: the first rows of a kind at the date that are later
@@ -484,7 +487,7 @@ impl Index {
             (R.disk_faults reader.old) (R.disk_faults reader.new) }
         ensures damages { Counts CountsDamage result (R.damages reader.old) (R.damages reader.new) }
     {
-        self.walk(reader, kind, Some(from.value()), as_of, after, limit)
+        self.walk(reader, kind, Some(from.value()), &as_of, after, limit)
     }
 
     /// The distinct effective times of the rows that the pin shows, ascending. It looks at no

@@ -124,15 +124,15 @@ impl PlaceList {
     }
 
     /// Whether neither the date is before all places nor the pin below all imports.
-    fn may_show(&self, as_of: AsOf) -> bool
-        ensures { result ≡ may_show as_of self.now }
+    fn may_show(&self, as_of: &AsOf) -> bool
+        ensures { result ≡ may_show as_of.now self.now }
     {
         self.first_time <= as_of.date.value() && self.first_import <= as_of.pin
     }
 
     /// The places, in key order, or none where the date is before all or the pin below all imports.
-    pub(crate) fn shown_part(&self, as_of: AsOf) -> &[RowPlace]
-        ensures part { result.now ≡ shown_part as_of self.now }
+    pub(crate) fn shown_part(&self, as_of: &AsOf) -> &[RowPlace]
+        ensures part { result.now ≡ shown_part as_of.now self.now }
         ensures ascending { IsAscending place_cmp result.now }
     {
         let places = self.places.as_slice();
@@ -144,8 +144,8 @@ impl PlaceList {
     }
 
     /// Whether not all places are up to `from` either, if that is given.
-    fn may_change(&self, from: Option<u32>, as_of: AsOf) -> bool
-        ensures { result ≡ may_change from as_of self.now }
+    fn may_change(&self, from: Option<u32>, as_of: &AsOf) -> bool
+        ensures { result ≡ may_change from as_of.now self.now }
     {
         self.may_show(as_of) && is_later(from, self.last_time)
     }
@@ -155,9 +155,9 @@ impl PlaceList {
     pub(crate) fn changed_part(
         &self,
         from: Option<u32>,
-        as_of: AsOf,
+        as_of: &AsOf,
     ) -> &[RowPlace]
-        ensures part { result.now ≡ changed_part from as_of self.now }
+        ensures part { result.now ≡ changed_part from as_of.now self.now }
         ensures ascending { IsAscending place_cmp result.now }
     {
         let places = self.places.as_slice();

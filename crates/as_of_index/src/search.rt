@@ -162,12 +162,12 @@ pub(crate) fn latest_before(
     end: usize,
     kind: Kind,
     id: u128,
-    as_of: AsOf,
+    as_of: &AsOf,
 ) -> Option<RowPlace>
     requires { end ≤ length list.now }
     ensures { IsAscending place_cmp list.now
-        → SplitsAt (is_before (starts.AfterVersion kind id as_of.date)) list.now end
-        → IsPick kind id as_of (λ p. p) list.now result }
+        → SplitsAt (is_before (starts.AfterVersion kind id as_of.now.date)) list.now end
+        → IsPick kind id as_of.now (λ p. p) list.now result }
 {
     match last_stop(&list[..end], kind, id, as_of.pin) {
         Some(p) if is_of(kind, id, p) => Some(*p),
@@ -182,10 +182,10 @@ pub(crate) fn latest_from(
     cursor: usize,
     kind: Kind,
     id: u128,
-    as_of: AsOf,
+    as_of: &AsOf,
 ) -> Option<RowPlace>
     requires { IsPassed (starts.Later kind id None) list.now cursor }
-    ensures { IsAscending place_cmp list.now → IsPick kind id as_of (λ p. p) list.now result }
+    ensures { IsAscending place_cmp list.now → IsPick kind id as_of.now (λ p. p) list.now result }
 {
     let end = go_on(list, cursor, &Start::AfterVersion { kind, id, time: as_of.date });
     if end == cursor {
@@ -201,9 +201,9 @@ pub(crate) fn latest_in(
     near: Option<usize>,
     kind: Kind,
     id: u128,
-    as_of: AsOf,
+    as_of: &AsOf,
 ) -> Option<RowPlace>
-    ensures { IsAscending place_cmp list.now → IsPick kind id as_of (λ p. p) list.now result }
+    ensures { IsAscending place_cmp list.now → IsPick kind id as_of.now (λ p. p) list.now result }
 {
     let end = place_near(list, near, &Start::AfterVersion { kind, id, time: as_of.date });
     latest_before(list, end, kind, id, as_of)

@@ -28,9 +28,9 @@ pub(crate) fn latest(
     near: Option<(usize, usize)>,
     kind: Kind,
     id: u128,
-    as_of: AsOf,
+    as_of: &AsOf,
 ) -> Option<(usize, RowPlace)>
-    ensures { IsPick kind id as_of (λ x. x.1) (all_places 0 lists.now) result }
+    ensures { IsPick kind id as_of.now (λ x. x.1) (all_places 0 lists.now) result }
 {
     let mut best = None;
     for (segment, list) in lists.iter().enumerate() {

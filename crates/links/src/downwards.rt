@@ -57,7 +57,7 @@ impl Steps for Downwards<'_> {
     ghost fails_by_memory = { λ d. refl };
 
     fn next(&mut self, alloc: Global, concept: u64) -> Result<Vec<u64>, ReadFault> {
-        let found = children_of(alloc, self.links, self.index, concept, self.as_of)?;
+        let found = children_of(alloc, self.links, self.index, concept, &self.as_of)?;
         Ok(found)
     }
 }

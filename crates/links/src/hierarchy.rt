@@ -36,13 +36,13 @@ fn add_sources(
     links: &[Link],
     segment: usize,
     index: &Index,
-    as_of: AsOf,
+    as_of: &AsOf,
 ) -> Result<(), AllocError>
     ensures { OnOk result ((lists : List (List StampedRow)) → Lists index.now lists
-        → Takes (GivesSource lists as_of segment) links.now ids.old.items ids.new.items) }
+        → Takes (GivesSource lists as_of.now segment) links.now ids.old.items ids.new.items) }
 {
     for link in links {
-        if let Some(_at) = index.current_at(segment, link.row, as_of) {
+        if let Some(_at) = index.current_at(segment, link.row, *as_of) {
             ids.push(link.source)?;
         }
     }
@@ -63,10 +63,10 @@ fn sources(
     links: &[Sealed],
     index: &Index,
     destination: u64,
-    as_of: AsOf,
+    as_of: &AsOf,
 ) -> Result<Vec<u64>, AllocError>
     ensures { IfOk result (λ ids. (lists : List (List StampedRow)) → Lists index.now lists
-        → AreSources lists as_of destination (numbered 0 (links_in links.now)) ids.items) }
+        → AreSources lists as_of.now destination (numbered 0 (links_in links.now)) ids.items) }
 {
     let mut ids = Vec::new(alloc);
     for (segment, list) in links.iter().enumerate() {
@@ -83,11 +83,11 @@ pub(crate) fn children_of(
     links: &Links,
     index: &Index,
     concept: u64,
-    as_of: AsOf,
+    as_of: &AsOf,
 ) -> Result<Vec<u64>, AllocError>
     ensures found { IfOk result (λ ids. (lists : List (List StampedRow)) → Lists index.now lists
         → EachPosted lists links.now
-        → ids.items ≡ children concept as_of.date (rows_seen as_of lists)) }
+        → ids.items ≡ children concept as_of.now.date (rows_seen as_of.now lists)) }
 {
     // Its contract says that no key is listed twice.
     let _listed = index.lists();
@@ -110,5 +110,5 @@ pub fn children(
         → EachPosted lists links.now
         → ids.items ≡ children concept as_of.date (rows_seen as_of lists)) }
 {
-    children_of(alloc, links, index, concept.value(), as_of)
+    children_of(alloc, links, index, concept.value(), &as_of)
 }

@@ -43,10 +43,10 @@ fn named(
     index: &Index,
     descriptions: &[Chosen],
     refset: u64,
-    as_of: AsOf,
+    as_of: &AsOf,
 ) -> Result<Vec<Chosen>, AllocError>
     ensures { IfOk result (λ kept. (lists : List (List StampedRow)) → Lists index.now lists
-        → AreNamed lists refset as_of (numbered 0 (memberships_in links.now))
+        → AreNamed lists refset as_of.now (numbered 0 (memberships_in links.now))
         descriptions.now kept.items) }
 {
     let mut kept = Vec::new(alloc);
@@ -54,7 +54,7 @@ fn named(
         let asked = Asked {
             refset,
             wanted: Wanted::About(k.at.key.id),
-            as_of,
+            as_of: *as_of,
         };
         let those = members_by_id(alloc, links, index, &asked)?;
         push_with(&mut kept, *k, those.as_slice())?;
@@ -107,14 +107,14 @@ pub fn called<R: RowReader>(
     let _listed = index.lists();
     let links = links.as_slice();
     let concept = concept.value();
-    let descriptions = chosen_all(alloc, links, index, Kind::Description, concept, as_of)?;
+    let descriptions = chosen_all(alloc, links, index, Kind::Description, concept, &as_of)?;
     let kept = named(
         alloc,
         links,
         index,
         descriptions.as_slice(),
         refset.value(),
-        as_of,
+        &as_of,
     )?;
     read_all(alloc, reader, kept.as_slice())
 }

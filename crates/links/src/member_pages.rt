@@ -70,18 +70,18 @@ fn enough_by_id(
     links: &[Sealed],
     index: &Index,
     refset: u64,
-    as_of: AsOf,
+    as_of: &AsOf,
     after: Option<u128>,
     limit: u32,
 ) -> Result<Vec<Chosen>, AllocError>
     ensures { IfOk result (λ kept. (lists : List (List StampedRow)) → Lists index.now lists
-        → AreEnough chosen_cmp (λ last. Above after last) limit lists refset as_of
+        → AreEnough chosen_cmp (λ last. Above after last) limit lists refset as_of.now
         (numbered 0 (memberships_in links.now)) kept.items) }
 {
     let all = Asked {
         refset,
         wanted: Wanted::Above(after, None),
-        as_of,
+        as_of: *as_of,
     };
     let ids = posted_ids(alloc, links, index, &all, after)?;
     let mut count = limit as usize;
@@ -92,7 +92,7 @@ fn enough_by_id(
         let asked = Asked {
             refset,
             wanted: Wanted::Above(after, Some(*last)),
-            as_of,
+            as_of: *as_of,
         };
         let kept = members_by_id(alloc, links, index, &asked)?;
         if limit as usize <= kept.len() {
@@ -147,7 +147,7 @@ pub fn members<R: RowReader>(
     // Its contract says that no key is listed twice.
     let _listed = index.lists();
     let links = links.as_slice();
-    let mut kept = enough_by_id(alloc, links, index, refset.value(), as_of, after, limit)?;
+    let mut kept = enough_by_id(alloc, links, index, refset.value(), &as_of, after, limit)?;
     kept.truncate(limit as usize);
     read_all(alloc, reader, kept.as_slice())
 }

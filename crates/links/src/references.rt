@@ -75,14 +75,14 @@ fn add_references(
     references: &[Reference],
     segment: usize,
     index: &Index,
-    as_of: AsOf,
+    as_of: &AsOf,
 ) -> Result<(), AllocError>
     ensures { OnOk result ((lists : List (List StampedRow)) → Lists index.now lists
-        → Takes (GivesRanked lists as_of segment) references.now kept.old.items
+        → Takes (GivesRanked lists as_of.now segment) references.now kept.old.items
         kept.new.items) }
 {
     for r in references {
-        if let Some(at) = index.current_at(segment, r.row, as_of) {
+        if let Some(at) = index.current_at(segment, r.row, *as_of) {
             kept.push(chosen(segment, r, at))?;
         }
     }
@@ -95,10 +95,10 @@ fn chosen_all(
     links: &[Sealed],
     index: &Index,
     referenced: u64,
-    as_of: AsOf,
+    as_of: &AsOf,
 ) -> Result<Vec<Chosen>, AllocError>
     ensures { IfOk result (λ kept. (lists : List (List StampedRow)) → Lists index.now lists
-        → AreRanked lists as_of referenced (numbered 0 (references_in links.now)) kept.items) }
+        → AreRanked lists as_of.now referenced (numbered 0 (references_in links.now)) kept.items) }
 {
     let mut kept = Vec::new(alloc);
     for (segment, list) in links.iter().enumerate() {
@@ -148,6 +148,6 @@ pub fn replacements<R: RowReader>(
 {
     // Its contract says that no key is listed twice.
     let _listed = index.lists();
-    let kept = chosen_all(alloc, links.as_slice(), index, component.value(), as_of)?;
+    let kept = chosen_all(alloc, links.as_slice(), index, component.value(), &as_of)?;
     read_all(alloc, reader, kept.as_slice())
 }

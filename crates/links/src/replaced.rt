@@ -52,14 +52,14 @@ fn add_replaced(
     targets: &[Target],
     segment: usize,
     index: &Index,
-    as_of: AsOf,
+    as_of: &AsOf,
 ) -> Result<(), AllocError>
     ensures { OnOk result ((lists : List (List StampedRow)) → Lists index.now lists
-        → Takes (GivesRankedBack lists as_of segment) targets.now kept.old.items
+        → Takes (GivesRankedBack lists as_of.now segment) targets.now kept.old.items
         kept.new.items) }
 {
     for t in targets {
-        if let Some(at) = index.current_at(segment, t.row, as_of) {
+        if let Some(at) = index.current_at(segment, t.row, *as_of) {
             kept.push(chosen(segment, t, at))?;
         }
     }
@@ -72,10 +72,10 @@ fn chosen_all(
     links: &[Sealed],
     index: &Index,
     target: u64,
-    as_of: AsOf,
+    as_of: &AsOf,
 ) -> Result<Vec<Chosen>, AllocError>
     ensures { IfOk result (λ kept. (lists : List (List StampedRow)) → Lists index.now lists
-        → AreReplaced lists as_of target (numbered 0 (targets_in links.now)) kept.items) }
+        → AreReplaced lists as_of.now target (numbered 0 (targets_in links.now)) kept.items) }
 {
     let mut kept = Vec::new(alloc);
     for (segment, list) in links.iter().enumerate() {
@@ -126,6 +126,6 @@ pub fn replaces<R: RowReader>(
 {
     // Its contract says that no key is listed twice.
     let _listed = index.lists();
-    let kept = chosen_all(alloc, links.as_slice(), index, component.value(), as_of)?;
+    let kept = chosen_all(alloc, links.as_slice(), index, component.value(), &as_of)?;
     read_all(alloc, reader, kept.as_slice())
 }

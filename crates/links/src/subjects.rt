@@ -92,13 +92,13 @@ fn add_current(
     subjects: &[Subject],
     segment: usize,
     index: &Index,
-    as_of: AsOf,
+    as_of: &AsOf,
 ) -> Result<(), AllocError>
     ensures { OnOk result ((lists : List (List StampedRow)) → Lists index.now lists
-        → Takes (GivesRow lists as_of segment) subjects.now kept.old.items kept.new.items) }
+        → Takes (GivesRow lists as_of.now segment) subjects.now kept.old.items kept.new.items) }
 {
     for x in subjects {
-        if let Some(at) = index.current_at(segment, x.row, as_of) {
+        if let Some(at) = index.current_at(segment, x.row, *as_of) {
             kept.push(chosen(segment, at))?;
         }
     }
@@ -112,10 +112,10 @@ pub(crate) fn chosen_all(
     index: &Index,
     kind: Kind,
     id: u64,
-    as_of: AsOf,
+    as_of: &AsOf,
 ) -> Result<Vec<Chosen>, AllocError>
     ensures { IfOk result (λ kept. (lists : List (List StampedRow)) → Lists index.now lists
-        → AreRows lists kind as_of id (numbered 0 (subjects_in links.now)) kept.items) }
+        → AreRows lists kind as_of.now id (numbered 0 (subjects_in links.now)) kept.items) }
 {
     let mut kept = Vec::new(alloc);
     for (segment, list) in links.iter().enumerate() {
@@ -134,16 +134,16 @@ pub(crate) fn about_of<R: RowReader>(
     reader: &mut R,
     kind: Kind,
     id: u64,
-    as_of: AsOf,
+    as_of: &AsOf,
 ) -> Result<Vec<Row>, ReadFault>
     ensures found { R.is_honest reader.old → Lists index.now (R.lists reader.old)
         → EachPosted (R.lists reader.old) links.now
         → IfOk result (λ rows.
-        rows.items ≡ about kind id as_of.date (rows_seen as_of (R.lists reader.old))) }
+        rows.items ≡ about kind id as_of.now.date (rows_seen as_of.now (R.lists reader.old))) }
     // Whatever was read, the keys are those of the rows about the component.
     ensures keys { Lists index.now (R.lists reader.old) → EachPosted (R.lists reader.old) links.now
         → IfOk result (λ rows. map key_of rows.items
-        ≡ map key_of (about kind id as_of.date (rows_seen as_of (R.lists reader.old)))) }
+        ≡ map key_of (about kind id as_of.now.date (rows_seen as_of.now (R.lists reader.old)))) }
     ensures undamaged { R.is_honest reader.old → Lists index.now (R.lists reader.old)
         → EachPosted (R.lists reader.old) links.now
         → IfErr result (λ e. e ≢ readfault.Damaged) }
@@ -155,7 +155,7 @@ pub(crate) fn about_of<R: RowReader>(
     ensures work_always { Lists index.now (R.lists reader.old)
         → EachPosted (R.lists reader.old) links.now
         → R.work reader.new ≤ R.work reader.old + sum_by R.cost
-        (about kind id as_of.date (rows_seen as_of (R.lists reader.old))) }
+        (about kind id as_of.now.date (rows_seen as_of.now (R.lists reader.old))) }
     ensures lists { R.lists reader.new ≡ R.lists reader.old }
     ensures honesty { R.is_honest reader.old → R.is_honest reader.new }
     ensures stays { R.stays reader.old reader.new }
@@ -208,5 +208,5 @@ pub fn about<R: RowReader>(
         (R.disk_faults reader.old) (R.disk_faults reader.new) }
     ensures damages { Counts CountsDamage result (R.damages reader.old) (R.damages reader.new) }
 {
-    about_of(alloc, links, index, reader, kind, id.value(), as_of)
+    about_of(alloc, links, index, reader, kind, id.value(), &as_of)
 }

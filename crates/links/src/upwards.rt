@@ -54,19 +54,20 @@ fn parents_of<R: RowReader>(
     index: &Index,
     reader: &mut R,
     concept: u64,
-    as_of: AsOf,
+    as_of: &AsOf,
 ) -> Result<Vec<u64>, ReadFault>
     ensures found { R.is_honest reader.old → Lists index.now (R.lists reader.old)
         → EachPosted (R.lists reader.old) links.now
         → IfOk result (λ ids.
-        ids.items ≡ parents concept as_of.date (rows_seen as_of (R.lists reader.old))) }
+        ids.items ≡ parents concept as_of.now.date (rows_seen as_of.now (R.lists reader.old))) }
     ensures undamaged { R.is_honest reader.old → Lists index.now (R.lists reader.old)
         → EachPosted (R.lists reader.old) links.now
         → IfErr result (λ e. e ≢ readfault.Damaged) }
     ensures work_always { Lists index.now (R.lists reader.old)
         → EachPosted (R.lists reader.old) links.now
         → R.work reader.new ≤ R.work reader.old + sum_by R.cost
-        (about kinds.Relationship concept as_of.date (rows_seen as_of (R.lists reader.old))) }
+        (about kinds.Relationship concept as_of.now.date (rows_seen as_of.now
+        (R.lists reader.old))) }
     ensures lists { R.lists reader.new ≡ R.lists reader.old }
     ensures honesty { R.is_honest reader.old → R.is_honest reader.new }
     ensures stays { R.stays reader.old reader.new }
@@ -151,7 +152,7 @@ impl<R: RowReader> Steps for Upwards<'_, R> {
             self.index,
             self.reader,
             concept,
-            self.as_of,
+            &self.as_of,
         )
     }
 }

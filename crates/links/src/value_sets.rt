@@ -66,18 +66,18 @@ fn enough_by_component(
     links: &[Sealed],
     index: &Index,
     refset: u64,
-    as_of: AsOf,
+    as_of: &AsOf,
     after: Option<u64>,
     limit: u32,
 ) -> Result<Vec<Chosen>, AllocError>
     ensures { IfOk result (λ kept. (lists : List (List StampedRow)) → Lists index.now lists
-        → AreEnough ranked_cmp (λ last. Values after last) limit lists refset as_of
+        → AreEnough ranked_cmp (λ last. Values after last) limit lists refset as_of.now
         (numbered 0 (memberships_in links.now)) kept.items) }
 {
     let all = Asked {
         refset,
         wanted: Wanted::Values(after, None),
-        as_of,
+        as_of: *as_of,
     };
     let mut count = limit as usize;
     for _ in 0..16 {
@@ -87,7 +87,7 @@ fn enough_by_component(
         let asked = Asked {
             refset,
             wanted: Wanted::Values(after, Some(last)),
-            as_of,
+            as_of: *as_of,
         };
         let kept = members_by_component(alloc, links, index, &asked)?;
         if limit as usize <= kept.len() {
@@ -161,7 +161,7 @@ pub fn values<R: RowReader>(
     let _listed = index.lists();
     let links = links.as_slice();
     let refset = refset.value();
-    let mut kept = enough_by_component(alloc, links, index, refset, as_of, after, limit)?;
+    let mut kept = enough_by_component(alloc, links, index, refset, &as_of, after, limit)?;
     let count = count_with_ties(kept.as_slice(), limit);
     kept.truncate(count);
     read_all(alloc, reader, kept.as_slice())
