@@ -47,7 +47,7 @@ impl<D: Disk> Store<D> {
         }
     }
 
-    /// The component's row at the date, as the first `pin` imports show it.
+    /// The component's row at the date, as the imports that the pin shows have it.
     pub fn get(
         &mut self,
         kind: Kind,

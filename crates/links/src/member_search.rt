@@ -34,7 +34,7 @@ pub(crate) enum Wanted {
     About(u128),
 }
 
-/// Which members are asked for: of this reference set, at this date, of the imports up to the pin.
+/// Which members are asked for: of this reference set, as of this.
 #[derive(Clone, Copy)]
 pub(crate) struct Asked {
     pub(crate) refset: u64,
