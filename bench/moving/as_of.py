@@ -357,6 +357,10 @@ HOMES = {"as_of_index": "crate::as_of", "line_server": "history_store",
          "bench_store": "history_store"}
 # What no rule says: texts of files of a crate, and what stands in their place.
 SPECIAL = {
+    "line_server": [
+        (f"proofs/auditing/answer_ancestors/Answers.antt", "c.args.concept c.args.as_of c.args.store",
+         "c.args.concept c.args.as_of.date c.args.as_of.pin c.args.store"),
+    ],
     "links": [
         ("proofs/TimelineRows.antt", "rows = shown lists are 0 pin", "rows = rows_at pin (listed lists)"),
         ("proofs/TimelineRows.antt", "proofs.Current.{standing_row, shown}", "proofs.Current.{standing_row}"),
@@ -476,6 +480,23 @@ def wrapped(text):
     return "\n".join(out)
 
 
+def asking(text):
+    """What answers a question: as of its date and the pin."""
+    text = re.sub(r"\btime\b", "date", text)
+    i = text.index("match *question {")
+    while i < len(text):
+        if text[i] == "(":
+            end = closing(text, i)
+            listed = items(text[i + 1:end])
+            plain = [x.strip() for x in listed]
+            if "date" in plain and "pin" in plain:
+                inner = ",".join(re.sub(r"\bdate\b", "AsOf { date, pin }", x) if x.strip() == "date" else x
+                                 for x in listed if x.strip() != "pin")
+                text = text[:i + 1] + inner.strip() + text[end:]
+        i += 1
+    return text
+
+
 def change(path, how):
     with open(path, encoding="utf-8") as file:
         old = file.read()
@@ -497,6 +518,8 @@ def main():
             if crate in LENT:
                 change(path, lent)
             change(path, lambda text: wrapped(used(text, HOMES.get(crate, "as_of_index"))))
+        if crate == "line_server":
+            change(f"{folder}/src/asking.rt", lambda text: used(asking(text), "history_store"))
         taking = takes_as_of(crate)
         special = [x for x in SPECIAL.get(crate, []) if x[0].startswith("proofs/")]
         for path in sorted(glob.glob(f"{folder}/proofs/**/*.antt", recursive=True)):
