@@ -367,6 +367,8 @@ SPECIAL = {
         ("proofs/TimelineRows.antt", "specs.History.{row_cmp}", "specs.History.{row_cmp, rows_at}"),
     ],
     "history_store": [
+        ("src/queries.rt", "    /// The component's row at the date, as the first `pin` imports show it.\n",
+         "    /// The component's row at the date, as the imports that the pin shows have it.\n"),
         ("src/lib.rt", "pub use directory::Layout;\n",
          "pub use as_of_index::AsOf;\npub use directory::Layout;\n"),
         ("src/auditing.rt", "(λ ids. ids.items) id as_of\n", "(λ ids. ids.items) id as_of.date as_of.pin\n"),

@@ -130,11 +130,11 @@ fn name_of(question: Question) -> &'static str {
 }
 
 /// How many of the associations are found.
-fn get_each(made: &Made, reader: &mut OneRow, size: u64, as_of: AsOf) -> Option<u64> {
+fn get_each(made: &Made, reader: &mut OneRow, size: u64, as_of: &AsOf) -> Option<u64> {
     let mut found = 0u64;
     for n in 0..size / 20 {
         let id = u128::from(scramble(n, size / 2));
-        let row = made.index.get(reader, Kind::Association, id, as_of).ok()?;
+        let row = made.index.get(reader, Kind::Association, id, *as_of).ok()?;
         found = found.wrapping_add(u64::from(row.is_some()));
     }
     Some(found)
@@ -146,14 +146,14 @@ fn turn_pages(
     reader: &mut OneRow,
     size: u64,
     limit: u32,
-    as_of: AsOf,
+    as_of: &AsOf,
 ) -> Option<u64> {
     let mut rows = 0u64;
     for n in 0..100u64 {
         let after = Some(u128::from(scramble(n, size / 4)));
         let page = made
             .index
-            .page(reader, Kind::Association, as_of, after, limit);
+            .page(reader, Kind::Association, *as_of, after, limit);
         rows = rows.wrapping_add(page.ok()?.len() as u64);
     }
     Some(rows)
@@ -165,10 +165,10 @@ fn search(
     made: &Made,
     reader: &mut OneRow,
     limit: u32,
-    as_of: AsOf,
+    as_of: &AsOf,
 ) -> Option<u64> {
     let wanted = Search {
-        as_of,
+        as_of: *as_of,
         after: None,
         limit,
     };
@@ -181,9 +181,9 @@ fn search(
 }
 
 /// How many children the root has.
-fn count_children(alloc: Global, made: &Made, as_of: AsOf) -> Option<u64> {
+fn count_children(alloc: Global, made: &Made, as_of: &AsOf) -> Option<u64> {
     let root = Sctid::of(ROOT)?;
-    let ids = children(alloc, &made.links, &made.index, root, as_of);
+    let ids = children(alloc, &made.links, &made.index, root, *as_of);
     Some(ids.ok()?.len() as u64)
 }
 
@@ -192,11 +192,11 @@ fn count_about(
     alloc: Global,
     made: &Made,
     reader: &mut OneRow,
-    as_of: AsOf,
+    as_of: &AsOf,
 ) -> Option<u64> {
     let root = Sctid::of(ROOT)?;
     let kind = Kind::Description;
-    let rows = about(alloc, &made.links, &made.index, reader, kind, root, as_of);
+    let rows = about(alloc, &made.links, &made.index, reader, kind, root, *as_of);
     Some(rows.ok()?.len() as u64)
 }
 
@@ -207,11 +207,11 @@ fn ask(alloc: Global, made: &Made, reader: &mut OneRow, question: Question) -> O
         pin: 1,
     };
     match question {
-        Question::Gets(size) => get_each(made, reader, size, as_of),
-        Question::Pages(size, limit) => turn_pages(made, reader, size, limit, as_of),
-        Question::Searches(limit) => search(alloc, made, reader, limit, as_of),
-        Question::Children => count_children(alloc, made, as_of),
-        Question::About => count_about(alloc, made, reader, as_of),
+        Question::Gets(size) => get_each(made, reader, size, &as_of),
+        Question::Pages(size, limit) => turn_pages(made, reader, size, limit, &as_of),
+        Question::Searches(limit) => search(alloc, made, reader, limit, &as_of),
+        Question::Children => count_children(alloc, made, &as_of),
+        Question::About => count_about(alloc, made, reader, &as_of),
     }
 }
 
