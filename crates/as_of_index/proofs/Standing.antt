@@ -10,7 +10,7 @@ use Rattle.rf2_values.specs.Row.{RowValue, kind_of}
 use Rattle.rf2_values.specs.Key.{kind_place, key_of, key_cmp}
 use Rattle.history_model.specs.declared.stamped.StampedRow.{StampedRow}
 use Rattle.history_model.specs.InOrder.{Has, IsAscending, joined}
-use Rattle.history_model.specs.History.{stamped_cmp, rows_at}
+use Rattle.history_model.specs.History.{stamped_cmp}
 use Rattle.history_model.specs.Lists.{listed, AreLists}
 use Rattle.history_model.specs.Lists.{EachApart as RowsApart}
 use Rattle.history_model.specs.Private.{ShareNoKey as RowsShareNoKey}
@@ -177,9 +177,9 @@ module _ (kind : Kind) (id : ℕ) (as_of : AsOf) (lists : List (List StampedRow)
 -- ---- and what one says that is later than a date
 
 -- the component's row that stands there, which is later than `from`; where none does, its row isn't
-abbrev pub IsChange : Kind → ℕ → Option ℕ → ℕ → ℕ → List (List StampedRow) → Option (ℕ × RowPlace) → Type 0
-IsChange kind id from date pin lists None = (row : RowValue) → get kind id date (rows_at pin (listed lists)) ≡ Some row → is_above from row.time ≡ true → ⊥
-IsChange kind id from date pin lists (Some x) = (s : StampedRow) × StandsAt lists x.0 x.1 s × (get kind id date (rows_at pin (listed lists)) ≡ Some s.row) × (is_above from s.row.time ≡ true)
+abbrev pub IsChange : Kind → ℕ → Option ℕ → AsOf → List (List StampedRow) → Option (ℕ × RowPlace) → Type 0
+IsChange kind id from as_of lists None = (row : RowValue) → get kind id as_of.date (rows_seen as_of lists) ≡ Some row → is_above from row.time ≡ true → ⊥
+IsChange kind id from as_of lists (Some x) = (s : StampedRow) × StandsAt lists x.0 x.1 s × (get kind id as_of.date (rows_seen as_of lists) ≡ Some s.row) × (is_above from s.row.time ≡ true)
 
 pub change_from_pick : (kind : Kind) (id : ℕ) (from : Option ℕ) (as_of : AsOf) (lists : List (List StampedRow)) (are : AreLists lists) (best : Option (ℕ × RowPlace)) → IsPickFrom kind id from as_of (λ (x : ℕ × RowPlace). x.1) (all_places 0 (map places_of lists)) best → IsChange kind id from as_of lists best
 unfolding IsPick IsPickFrom
