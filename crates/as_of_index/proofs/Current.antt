@@ -11,17 +11,18 @@ use Rattle.rf2_values.specs.Row.{RowValue, kind_of}
 use Rattle.rf2_values.specs.Key.{key_of}
 use Rattle.history_model.specs.declared.stamped.StampedRow.{StampedRow}
 use Rattle.history_model.specs.InOrder.{Has, IsAscending, joined}
-use Rattle.history_model.specs.History.{row_cmp, rows_at}
+use Rattle.history_model.specs.History.{row_cmp}
 use Rattle.history_model.specs.Lists.{listed}
 use Rattle.history_model.specs.Queries.{get, snapshot, is_current}
 use Rattle.history_model.proofs.InOrder.{Has-all, all_from_has}
 use Rattle.history_model.proofs.Filtered.{IsAscending-filter}
 use Rattle.history_model.proofs.Snapshots.{get_is, listed_once, current_from_snapshot, IsConsistent-from_ascending, IsAscending-rows_at, IsAscending-listed, Has-listed_cases, Has-rows_at_cases}
 use Rattle.segment.specs.declared.place.RowPlace.{RowPlace}
+use Rattle.as_of_index.specs.declared.as_of.AsOf.{AsOf}
 use Rattle.as_of_index.specs.declared.chosen.Chosen.{Chosen}
 use Rattle.segment.specs.Standing.{places_of, StandsAt}
 use Rattle.as_of_index.specs.Places.{ArePlaces}
-use Rattle.as_of_index.specs.Current.{IsCurrentAt}
+use Rattle.as_of_index.specs.Current.{rows_seen, IsCurrentAt}
 use Rattle.as_of_index.specs.Chosen.{StandAtAll}
 use Rattle.as_of_index.specs.Private.Chosen.{chosen_cmp}
 use Rattle.segment.proofs.Posting.{says, row_there}
@@ -43,27 +44,27 @@ module _ (lists : List (List StampedRow)) (are : ArePlaces (map places_of lists)
       let y = standing_row m q t b in
       listed_once lists (are_lists lists are) s t x.0 y.0 (sym x.1 ∙ ap (λ (z : RowPlace). z.key) e ∙ y.1)
 
-  module _ (date pin : ℕ) where
-    abbrev pub shown : List RowValue
-    shown = rows_at pin (listed lists)
+  module _ (as_of : AsOf) where
+    abbrev shown : List RowValue
+    shown = rows_seen as_of lists
 
     -- a row that is shown is the one that stands where its key does
     pub standing_is : (n : ℕ) (p : RowPlace) (s : StampedRow) (row : RowValue) → StandsAt lists n p s → Has shown row → key_of row ≡ key_of s.row → row ≡ s.row
     standing_is n p s row w h e =
-        let k = Has-rows_at_cases pin (listed lists) row h in
+        let k = Has-rows_at_cases as_of.pin (listed lists) row h in
         let x = standing_row n p s w in
         sym k.same ∙ ap (λ (z : StampedRow). z.row) (listed_once lists (are_lists lists are) k.stamped_row s (Has-listed_cases lists k.stamped_row k.known) x.0 (ap key_of k.same ∙ e))
 
-    pub shown_ascends : IsAscending row_cmp (snapshot shown date)
-    shown_ascends = IsAscending-at_date shown date (IsAscending-rows_at pin (listed lists) (IsAscending-listed lists))
+    pub shown_ascends : IsAscending row_cmp (snapshot shown as_of.date)
+    shown_ascends = IsAscending-at_date shown as_of.date (IsAscending-rows_at as_of.pin (listed lists) (IsAscending-listed lists))
 
     -- a row at the date is current where its key stands
-    pub current_where : (n : ℕ) (p : RowPlace) (s : StampedRow) (row : RowValue) → StandsAt lists n p s → Has (snapshot shown date) row → p.key ≡ key_of row → (row ≡ s.row) × IsCurrentAt lists date pin n p
+    pub current_where : (n : ℕ) (p : RowPlace) (s : StampedRow) (row : RowValue) → StandsAt lists n p s → Has (snapshot shown as_of.date) row → p.key ≡ key_of row → (row ≡ s.row) × IsCurrentAt lists as_of n p
     current_where n p s row w h e =
-        let current = current_from_snapshot shown date row h in
+        let current = current_from_snapshot shown as_of.date row h in
         let same : row ≡ s.row = standing_is n p s row w current.known (sym e ∙ (standing_row n p s w).1) in
-        let found : get (kind_of row) row.id date shown ≡ Some row = get_is (kind_of row) row.id date shown row (IsConsistent-from_ascending shown (IsAscending-rows_at pin (listed lists) (IsAscending-listed lists))) current.known (record { kind_is = refl; id_is = refl }) current.early current.latest in
-        (same, (s, w, ap (λ (k : Key). get k.kind k.id date shown) e ∙ found ∙ ap Some same))
+        let found : get (kind_of row) row.id as_of.date shown ≡ Some row = get_is (kind_of row) row.id as_of.date shown row (IsConsistent-from_ascending shown (IsAscending-rows_at as_of.pin (listed lists) (IsAscending-listed lists))) current.known (record { kind_is = refl; id_is = refl }) current.early current.latest in
+        (same, (s, w, ap (λ (k : Key). get k.kind k.id as_of.date shown) e ∙ found ∙ ap Some same))
 
 -- ---- the rows of places that are current
 
@@ -71,9 +72,9 @@ module _ (lists : List (List StampedRow)) (are : ArePlaces (map places_of lists)
 pub chosen_total : IsTotalOrder chosen_cmp
 chosen_total = on_total (λ (k : Chosen). k.at.key.id) nat_cmp_total
 
-module _ (lists : List (List StampedRow)) (date pin : ℕ) where
+module _ (lists : List (List StampedRow)) (as_of : AsOf) where
   abbrev pub AllCurrent : List Chosen → Type 0
-  AllCurrent ks = (k : Chosen) → Has ks k → IsCurrentAt lists date pin k.segment k.at
+  AllCurrent ks = (k : Chosen) → Has ks k → IsCurrentAt lists as_of k.segment k.at
 
   abbrev pub rows_for : (ks : List Chosen) → AllCurrent ks → List StampedRow
   rows_for [] c = []
@@ -93,7 +94,7 @@ module _ (lists : List (List StampedRow)) (date pin : ℕ) where
     pub there : Has ks k
     pub s : StampedRow
     pub stands : StandsAt lists k.segment k.at s
-    pub found : get k.at.key.kind k.at.key.id date (rows_at pin (listed lists)) ≡ Some s.row
+    pub found : get k.at.key.kind k.at.key.id as_of.date (rows_seen as_of lists) ≡ Some s.row
     pub row_is : s.row ≡ row
 
   pub row_for : (ks : List Chosen) (c : AllCurrent ks) (row : RowValue) → Has (map (λ (s : StampedRow). s.row) (rows_for ks c)) row → IsRowAt ks row
@@ -103,10 +104,10 @@ module _ (lists : List (List StampedRow)) (date pin : ℕ) where
     | inr t ↦ (let w = row_for ks (λ j g. c j (inr g)) row t in record { k = w.k; there = inr w.there; s = w.s; stands = w.stands; found = w.found; row_is = w.row_is })
   ]
 
-  pub for_row : (ks : List Chosen) (c : AllCurrent ks) (k : Chosen) → Has ks k → (s : StampedRow) × StandsAt lists k.segment k.at s × (get k.at.key.kind k.at.key.id date (rows_at pin (listed lists)) ≡ Some s.row) × Has (map (λ (s : StampedRow). s.row) (rows_for ks c)) s.row
+  pub for_row : (ks : List Chosen) (c : AllCurrent ks) (k : Chosen) → Has ks k → (s : StampedRow) × StandsAt lists k.segment k.at s × (get k.at.key.kind k.at.key.id as_of.date (rows_seen as_of lists) ≡ Some s.row) × Has (map (λ (s : StampedRow). s.row) (rows_for ks c)) s.row
   for_row [] c k h = absurd h
   for_row (j ∷ ks) c k h = elim h [
-    | inl e ↦ subst (λ (x : Chosen). (s : StampedRow) × StandsAt lists x.segment x.at s × (get x.at.key.kind x.at.key.id date (rows_at pin (listed lists)) ≡ Some s.row) × Has (map (λ (s : StampedRow). s.row) (rows_for (j ∷ ks) c)) s.row) e
+    | inl e ↦ subst (λ (x : Chosen). (s : StampedRow) × StandsAt lists x.segment x.at s × (get x.at.key.kind x.at.key.id as_of.date (rows_seen as_of lists) ≡ Some s.row) × Has (map (λ (s : StampedRow). s.row) (rows_for (j ∷ ks) c)) s.row) e
         (let w = c j (inl refl) in (w.0, w.1, w.2, inl refl))
     | inr t ↦ (let w = for_row ks (λ i g. c i (inr g)) k t in (w.0, w.1, w.2, inr w.3))
   ]

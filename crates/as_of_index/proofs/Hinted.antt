@@ -9,6 +9,7 @@ use Rattle.history_model.specs.InOrder.{Has, IsAscending}
 use Rattle.history_model.proofs.InOrder.{Has-append_left, Has-append_right}
 use Rattle.history_model.proofs.Filtered.{Has-map_from}
 use Rattle.segment.specs.declared.place.RowPlace.{RowPlace}
+use Rattle.as_of_index.specs.declared.as_of.AsOf.{AsOf}
 use Rattle.as_of_index.specs.declared.search.Start.{Start}
 use Rattle.as_of_index.specs.Places.{place_cmp}
 use Rattle.as_of_index.specs.Private.Search.{in_segment, all_places, is_of, is_before, SplitsAt, IsPick}
@@ -90,23 +91,23 @@ has_numbered k (qs ∷ lists) (suc i) ps p lt is h =
     (subst (λ n. Has (all_places (k + 1) lists) (n, p)) number (has_numbered (k + 1) lists i ps p (omega arith) is h))
 
 -- what is found in one list is the answer of all, if it is of the date itself
-pub picks_sure : (kind : Kind) (id date pin : ℕ) (lists : List (List RowPlace)) (i : ℕ) (ps : List RowPlace) (p : RowPlace) → i < length lists → ps ≡ get_or lists i ps → IsPick kind id date pin (λ q. q) ps (Some p) → p.key.time ≡ date → Picks kind id date pin (all_places 0 lists) (Some (i, p))
+pub picks_sure : (kind : Kind) (id : ℕ) (as_of : AsOf) (lists : List (List RowPlace)) (i : ℕ) (ps : List RowPlace) (p : RowPlace) → i < length lists → ps ≡ get_or lists i ps → IsPick kind id as_of (λ q. q) ps (Some p) → p.key.time ≡ as_of.date → Picks kind id as_of (all_places 0 lists) (Some (i, p))
 unfolding IsPick
-picks_sure kind id date pin lists i ps p lt is pick at =
+picks_sure kind id as_of lists i ps p lt is pick at =
     let number : 0 + i ≡ i = omega arith in
     record {
       there = subst (λ n. Has (all_places 0 lists) (n, p)) number (has_numbered 0 lists i ps p lt is pick.there);
       passes = pick.passes;
-      latest = λ x h c. (let early = (candidate kind id date pin x.1 c).early in omega (arith, at));
+      latest = λ x h c. (let early = (candidate kind id as_of x.1 c).early in omega (arith, at));
     }
 
 -- a version of the date itself that the pin shows is the answer of all lists
-pub picks_exact : (kind : Kind) (id date pin : ℕ) (lists : List (List RowPlace)) (i : ℕ) (ps : List RowPlace) (p : RowPlace) → i < length lists → ps ≡ get_or lists i ps → Has ps p → is_of kind id p ≡ true → p.key.time ≡ date → p.import ≤ pin → Picks kind id date pin (all_places 0 lists) (Some (i, p))
+pub picks_exact : (kind : Kind) (id : ℕ) (as_of : AsOf) (lists : List (List RowPlace)) (i : ℕ) (ps : List RowPlace) (p : RowPlace) → i < length lists → ps ≡ get_or lists i ps → Has ps p → is_of kind id p ≡ true → p.key.time ≡ as_of.date → p.import ≤ as_of.pin → Picks kind id as_of (all_places 0 lists) (Some (i, p))
 unfolding IsPick
-picks_exact kind id date pin lists i ps p lt is h of at shown =
+picks_exact kind id as_of lists i ps p lt is h of at shown =
     let number : 0 + i ≡ i = omega arith in
     record {
       there = subst (λ n. Has (all_places 0 lists) (n, p)) number (has_numbered 0 lists i ps p lt is h);
-      passes = candidate_test kind id date pin p of (omega (arith, at)) shown;
-      latest = λ x h c. (let early = (candidate kind id date pin x.1 c).early in omega (arith, at));
+      passes = candidate_test kind id as_of p of (omega (arith, at)) shown;
+      latest = λ x h c. (let early = (candidate kind id as_of x.1 c).early in omega (arith, at));
     }

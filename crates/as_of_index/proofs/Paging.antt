@@ -16,7 +16,7 @@ use Rattle.rf2_values.specs.Row.{RowValue, kind_of}
 use Rattle.rf2_values.specs.Key.{kind_place, key_of}
 use Rattle.history_model.specs.declared.stamped.StampedRow.{StampedRow}
 use Rattle.history_model.specs.InOrder.{Has, IsAscending}
-use Rattle.history_model.specs.History.{row_cmp, rows_at}
+use Rattle.history_model.specs.History.{row_cmp}
 use Rattle.history_model.specs.Lists.{listed}
 use Rattle.history_model.specs.Queries.{is_kind, is_above, snapshot, get, all_above, page, changed_above, delta}
 use Rattle.history_model.specs.Queries.{is_kind_above as is_row_above}
@@ -25,12 +25,14 @@ use Rattle.history_model.proofs.Keys.{same_kind}
 use Rattle.history_model.proofs.Snapshots.{Rises-current, IsAscending-snapshot, take-nil, and-true, current_from_snapshot, IsAscending-rows_at, IsAscending-listed, Has-listed_cases, Has-rows_at_cases}
 use Rattle.history_model.proofs.Audits.{row_at, at_row}
 use Rattle.segment.specs.declared.place.RowPlace.{RowPlace}
+use Rattle.as_of_index.specs.declared.as_of.AsOf.{AsOf}
 use Rattle.as_of_index.specs.declared.search.Start.TheVariants.{Components}
 use Rattle.segment.specs.Standing.{places_of}
 use Rattle.as_of_index.specs.Places.{place_cmp}
 use Rattle.as_of_index.specs.Private.Search.{all_places, is_of, is_shown, is_changed, IsNext, IsNextId, IsNextChanged, is_kind_above}
 use Rattle.as_of_index.specs.Private.Walk.{is_walked, walked}
 use Rattle.as_of_index.proofs.Standing.{place_of_row}
+use Rattle.as_of_index.specs.Current.{rows_seen}
 
 pub less_by_id : (a b : RowPlace) → kind_place a.key.kind ≡ kind_place b.key.kind → nat_cmp a.key.id b.key.id ≡ Less → place_cmp a b ≡ Less
 less_by_id a b k e =
@@ -150,8 +152,8 @@ both_so : (a b : Bool) → a ≡ true → b ≡ true → (a && b) ≡ true
 both_so true b e f = f
 both_so false b e f = absurd (cc)
 
-shown_test : (t i date pin : ℕ) → t ≤ date → i ≤ pin → (nat_le t date && nat_le i pin) ≡ true
-shown_test t i date pin e f = grind (arith, nat_tests, e, f)
+shown_test : (t i : ℕ) (as_of : AsOf) → t ≤ as_of.date → i ≤ as_of.pin → (nat_le t as_of.date && nat_le i as_of.pin) ≡ true
+shown_test t i as_of e f = grind (arith, nat_tests, e, f)
 
 -- ---- what is found at a date: a page, or a Delta
 
@@ -198,25 +200,25 @@ pub walked_delta : (kind : Kind) (from date : ℕ) (after : Option ℕ) (limit :
 unfolding walked delta changed_above
 walked_delta kind from date after limit rows = refl
 
-module _ (kind : Kind) (from : Option ℕ) (date pin : ℕ) (lists : List (List StampedRow)) where
+module _ (kind : Kind) (from : Option ℕ) (as_of : AsOf) (lists : List (List StampedRow)) where
   abbrev shown : List RowValue
-  shown = rows_at pin (listed lists)
+  shown = rows_seen as_of lists
 
   abbrev places : List (ℕ × RowPlace)
   places = all_places 0 (map places_of lists)
 
   -- a row that comes is changed where it stands
-  changed_there : (c : RowValue) (p : RowPlace) (s : StampedRow) → p.key ≡ key_of c → p.import ≡ s.import → c.time ≤ date → s.import ≤ pin → is_above from c.time ≡ true → is_changed from date pin p ≡ true
+  changed_there : (c : RowValue) (p : RowPlace) (s : StampedRow) → p.key ≡ key_of c → p.import ≡ s.import → c.time ≤ as_of.date → s.import ≤ as_of.pin → is_above from c.time ≡ true → is_changed from as_of p ≡ true
   changed_there c p s key_is import_is early le later =
       let times : p.key.time ≡ c.time = ap (λ (z : Key). z.time) key_is in
-      both_so (is_shown date pin p) (is_above from p.key.time) (shown_test p.key.time p.import date pin (omega arith) (omega arith)) (ap (is_above from) times ∙ later)
+      both_so (is_shown as_of p) (is_above from p.key.time) (shown_test p.key.time p.import as_of (omega arith) (omega arith)) (ap (is_above from) times ∙ later)
 
   -- the next id is not above that of a row that comes
-  not_passed : (last : Option ℕ) (id : ℕ) → IsNextChanged kind last from date pin places (Some id) → (c : RowValue) → Has (snapshot shown date) c → kind_of c ≡ kind → is_above last c.id ≡ true → is_above from c.time ≡ true → id ≤ c.id
+  not_passed : (last : Option ℕ) (id : ℕ) → IsNextChanged kind last from as_of places (Some id) → (c : RowValue) → Has (snapshot shown as_of.date) c → kind_of c ≡ kind → is_above last c.id ≡ true → is_above from c.time ≡ true → id ≤ c.id
   unfolding IsNextChanged
   not_passed last id n c h k a later =
-      let current = current_from_snapshot shown date c h in
-      let w = Has-rows_at_cases pin (listed lists) c current.known in
+      let current = current_from_snapshot shown as_of.date c h in
+      let w = Has-rows_at_cases as_of.pin (listed lists) c current.known in
       let q = place_of_row 0 lists w.stamped_row (Has-listed_cases lists w.stamped_row w.known) in
       let key_is : q.0.1.key ≡ key_of c = q.2.key_is ∙ ap key_of w.same in
       let kinds : kind_place q.0.1.key.kind ≡ kind_place kind = ap (λ (z : Key). kind_place z.kind) key_is ∙ ap kind_place k in
@@ -224,84 +226,84 @@ module _ (kind : Kind) (from : Option ℕ) (date pin : ℕ) (lists : List (List 
       let le = n.first q.0 q.1 (id_at last _ _ _ kinds (ap (is_above last) ids ∙ a)) (changed_there c q.0.1 w.stamped_row key_is q.2.import_is current.early w.early later) in
       omega arith
 
-  nothing_passed : (last : Option ℕ) → IsNextChanged kind last from date pin places None → (c : RowValue) → Has (snapshot shown date) c → kind_of c ≡ kind → is_above last c.id ≡ true → is_above from c.time ≡ true → ⊥
+  nothing_passed : (last : Option ℕ) → IsNextChanged kind last from as_of places None → (c : RowValue) → Has (snapshot shown as_of.date) c → kind_of c ≡ kind → is_above last c.id ≡ true → is_above from c.time ≡ true → ⊥
   unfolding IsNextChanged
   nothing_passed last n c h k a later =
-      let current = current_from_snapshot shown date c h in
-      let w = Has-rows_at_cases pin (listed lists) c current.known in
+      let current = current_from_snapshot shown as_of.date c h in
+      let w = Has-rows_at_cases as_of.pin (listed lists) c current.known in
       let q = place_of_row 0 lists w.stamped_row (Has-listed_cases lists w.stamped_row w.known) in
       let key_is : q.0.1.key ≡ key_of c = q.2.key_is ∙ ap key_of w.same in
       let kinds : kind_place q.0.1.key.kind ≡ kind_place kind = ap (λ (z : Key). kind_place z.kind) key_is ∙ ap kind_place k in
       let ids : q.0.1.key.id ≡ c.id = ap (λ (z : Key). z.id) key_is in
       n q.0 q.1 (id_at last _ _ _ kinds (ap (is_above last) ids ∙ a)) (changed_there c q.0.1 w.stamped_row key_is q.2.import_is current.early w.early later)
 
-  next_above : (last : Option ℕ) (id : ℕ) → IsNextChanged kind last from date pin places (Some id) → is_above last id ≡ true
+  next_above : (last : Option ℕ) (id : ℕ) → IsNextChanged kind last from as_of places (Some id) → is_above last id ≡ true
   unfolding IsNextChanged
   next_above last id n = n.above
 
   ascends : IsAscending row_cmp shown
-  ascends = IsAscending-rows_at pin (listed lists) (IsAscending-listed lists)
+  ascends = IsAscending-rows_at as_of.pin (listed lists) (IsAscending-listed lists)
 
   -- the component has no row that comes
   abbrev pub NoneComes : ℕ → Type 0
-  NoneComes id = (row : RowValue) → get kind id date shown ≡ Some row → is_above from row.time ≡ true → ⊥
+  NoneComes id = (row : RowValue) → get kind id as_of.date shown ≡ Some row → is_above from row.time ≡ true → ⊥
 
-  pub walk_nobody : (last : Option ℕ) (id n : ℕ) → IsNextChanged kind last from date pin places (Some id) → NoneComes id → walked kind from date last n shown ≡ walked kind from date (Some id) n shown
+  pub walk_nobody : (last : Option ℕ) (id n : ℕ) → IsNextChanged kind last from as_of places (Some id) → NoneComes id → walked kind from as_of.date last n shown ≡ walked kind from as_of.date (Some id) n shown
   unfolding walked
-  walk_nobody last id n next none = ap (take n) (filter_same (is_walked kind from last) (is_walked kind from (Some id)) (snapshot shown date) (λ x h.
+  walk_nobody last id n next none = ap (take n) (filter_same (is_walked kind from last) (is_walked kind from (Some id)) (snapshot shown as_of.date) (λ x h.
       three_tests (is_kind kind x) (is_above last x.id) (nat_lt id x.id) (is_above from x.time)
       (λ e.
-      let w = walked_row kind from date shown ascends last x e in
+      let w = walked_row kind from as_of.date shown ascends last x e in
       let le = not_passed last id next x h w.kind_is w.above w.later in
-      above_test id x.id le (λ same. none x (at_row kind id date shown x ascends (record { current = h; version = record { kind_is = w.kind_is; id_is = same } })) w.later))
+      above_test id x.id le (λ same. none x (at_row kind id as_of.date shown x ascends (record { current = h; version = record { kind_is = w.kind_is; id_is = same } })) w.later))
       (λ e. above_further last id x.id (next_above last id next) e)))
 
-  pub walk_nomore : (last : Option ℕ) (n : ℕ) → IsNextChanged kind last from date pin places None → walked kind from date last n shown ≡ []
-  walk_nomore last n next = walked_none kind from date shown ascends last n (λ c h w. nothing_passed last next c h w.kind_is w.above w.later)
+  pub walk_nomore : (last : Option ℕ) (n : ℕ) → IsNextChanged kind last from as_of places None → walked kind from as_of.date last n shown ≡ []
+  walk_nomore last n next = walked_none kind from as_of.date shown ascends last n (λ c h w. nothing_passed last next c h w.kind_is w.above w.later)
 
-  pub walk_somebody : (last : Option ℕ) (id n : ℕ) (b : RowValue) → IsNextChanged kind last from date pin places (Some id) → get kind id date shown ≡ Some b → is_above from b.time ≡ true → walked kind from date last (suc n) shown ≡ b ∷ walked kind from date (Some id) n shown
+  pub walk_somebody : (last : Option ℕ) (id n : ℕ) (b : RowValue) → IsNextChanged kind last from as_of places (Some id) → get kind id as_of.date shown ≡ Some b → is_above from b.time ≡ true → walked kind from as_of.date last (suc n) shown ≡ b ∷ walked kind from as_of.date (Some id) n shown
   walk_somebody last id n b next found later =
-      let r = row_at kind id date shown b found in
+      let r = row_at kind id as_of.date shown b found in
       let own = r.version.id_is in
-      walked_first kind from date shown ascends last n b r.current
+      walked_first kind from as_of.date shown ascends last n b r.current
       (record { kind_is = r.version.kind_is; above = subst (λ m. is_above last m ≡ true) (sym own) (next_above last id next); later = later })
       (λ c h w. let le = not_passed last id next c h w.kind_is w.above w.later in omega arith)
-      ∙ ap (λ m. b ∷ walked kind from date (Some m) n shown) own
+      ∙ ap (λ m. b ∷ walked kind from as_of.date (Some m) n shown) own
 
   -- ---- the steps of the loop
 
-  pub walk_more : (last : Option ℕ) (id limit : ℕ) (rows target : List RowValue) (b : RowValue) → length rows < limit → IsNextChanged kind last from date pin places (Some id) → get kind id date shown ≡ Some b → is_above from b.time ≡ true → rows ++ walked kind from date last (limit - length rows) shown ≡ target → (rows ++ b ∷ []) ++ walked kind from date (Some id) (limit - length (rows ++ b ∷ [])) shown ≡ target
+  pub walk_more : (last : Option ℕ) (id limit : ℕ) (rows target : List RowValue) (b : RowValue) → length rows < limit → IsNextChanged kind last from as_of places (Some id) → get kind id as_of.date shown ≡ Some b → is_above from b.time ≡ true → rows ++ walked kind from as_of.date last (limit - length rows) shown ≡ target → (rows ++ b ∷ []) ++ walked kind from as_of.date (Some id) (limit - length (rows ++ b ∷ [])) shown ≡ target
   walk_more last id limit rows target b lt next found later so_far =
       let longer = length_push rows b in
       let left : limit - length (rows ++ b ∷ []) ≡ limit - (length rows + 1) = ap (λ n. limit - n) longer in
       let one_less : limit - length rows ≡ suc (limit - (length rows + 1)) = omega arith in
-      ap (λ n. (rows ++ b ∷ []) ++ walked kind from date (Some id) n shown) left
-      ∙ append_assoc rows (b ∷ []) (walked kind from date (Some id) (limit - (length rows + 1)) shown)
+      ap (λ n. (rows ++ b ∷ []) ++ walked kind from as_of.date (Some id) n shown) left
+      ∙ append_assoc rows (b ∷ []) (walked kind from as_of.date (Some id) (limit - (length rows + 1)) shown)
       ∙ ap (λ ys. rows ++ ys) (sym (walk_somebody last id (limit - (length rows + 1)) b next found later))
-      ∙ ap (λ n. rows ++ walked kind from date last n shown) (sym one_less) ∙ so_far
+      ∙ ap (λ n. rows ++ walked kind from as_of.date last n shown) (sym one_less) ∙ so_far
 
   -- what a page takes, of which the next row is the first
-  pub walk_cost : (f : RowValue → ℕ) (last : Option ℕ) (id limit : ℕ) (rows : List RowValue) (b c : RowValue) → length rows < limit → IsNextChanged kind last from date pin places (Some id) → get kind id date shown ≡ Some b → is_above from b.time ≡ true → sum_by f (walked kind from date last (limit - length rows) shown) ≡ f b + sum_by f (walked kind from date (Some id) (limit - length (rows ++ c ∷ [])) shown)
+  pub walk_cost : (f : RowValue → ℕ) (last : Option ℕ) (id limit : ℕ) (rows : List RowValue) (b c : RowValue) → length rows < limit → IsNextChanged kind last from as_of places (Some id) → get kind id as_of.date shown ≡ Some b → is_above from b.time ≡ true → sum_by f (walked kind from as_of.date last (limit - length rows) shown) ≡ f b + sum_by f (walked kind from as_of.date (Some id) (limit - length (rows ++ c ∷ [])) shown)
   walk_cost f last id limit rows b c lt next found later =
       let longer = length_push rows c in
       let left : limit - (length rows + 1) ≡ limit - length (rows ++ c ∷ []) = ap (λ n. limit - n) (sym longer) in
       let one_less : limit - length rows ≡ suc (limit - (length rows + 1)) = omega arith in
-      ap (λ n. sum_by f (walked kind from date last n shown)) one_less
+      ap (λ n. sum_by f (walked kind from as_of.date last n shown)) one_less
       ∙ ap (sum_by f) (walk_somebody last id (limit - (length rows + 1)) b next found later)
-      ∙ sum_by-cons f b (walked kind from date (Some id) (limit - (length rows + 1)) shown)
-      ∙ ap (λ n. f b + sum_by f (walked kind from date (Some id) n shown)) left
+      ∙ sum_by-cons f b (walked kind from as_of.date (Some id) (limit - (length rows + 1)) shown)
+      ∙ ap (λ n. f b + sum_by f (walked kind from as_of.date (Some id) n shown)) left
 
-  pub walk_same : (last : Option ℕ) (id n : ℕ) (rows target : List RowValue) → IsNextChanged kind last from date pin places (Some id) → NoneComes id → rows ++ walked kind from date last n shown ≡ target → rows ++ walked kind from date (Some id) n shown ≡ target
+  pub walk_same : (last : Option ℕ) (id n : ℕ) (rows target : List RowValue) → IsNextChanged kind last from as_of places (Some id) → NoneComes id → rows ++ walked kind from as_of.date last n shown ≡ target → rows ++ walked kind from as_of.date (Some id) n shown ≡ target
   walk_same last id n rows target next none so_far = ap (λ ys. rows ++ ys) (sym (walk_nobody last id n next none)) ∙ so_far
 
-  pub walk_done : (last : Option ℕ) (n : ℕ) (rows target : List RowValue) → IsNextChanged kind last from date pin places None → rows ++ walked kind from date last n shown ≡ target → rows ≡ target
+  pub walk_done : (last : Option ℕ) (n : ℕ) (rows target : List RowValue) → IsNextChanged kind last from as_of places None → rows ++ walked kind from as_of.date last n shown ≡ target → rows ≡ target
   walk_done last n rows target next so_far = sym (append-nil rows) ∙ ap (λ ys. rows ++ ys) (sym (walk_nomore last n next)) ∙ so_far
 
-  pub walk_full : (last : Option ℕ) (limit : ℕ) (rows target : List RowValue) → limit ≤ length rows → rows ++ walked kind from date last (limit - length rows) shown ≡ target → rows ≡ target
+  pub walk_full : (last : Option ℕ) (limit : ℕ) (rows target : List RowValue) → limit ≤ length rows → rows ++ walked kind from as_of.date last (limit - length rows) shown ≡ target → rows ≡ target
   unfolding walked
   walk_full last limit rows target le so_far =
       let nothing : limit - length rows ≡ 0 = omega arith in
-      sym (append-nil rows) ∙ ap (λ n. rows ++ walked kind from date last n shown) (sym nothing) ∙ so_far
+      sym (append-nil rows) ∙ ap (λ n. rows ++ walked kind from as_of.date last n shown) (sym nothing) ∙ so_far
 
 -- ---- fewer are left
 
@@ -343,9 +345,9 @@ pub weaker : (k a b : Bool) → (b ≡ true → a ≡ true) → (k && b) ≡ tru
 weaker true a b f e = f e
 weaker false a b f e = e
 
-pub fewer_left : (kind : Kind) (last from : Option ℕ) (date pin id : ℕ) (xs : List (ℕ × RowPlace)) → IsNextChanged kind last from date pin xs (Some id) → length (filter (λ x. is_kind_above kind (Some id) x.1) xs) < length (filter (λ x. is_kind_above kind last x.1) xs)
+pub fewer_left : (kind : Kind) (last from : Option ℕ) (as_of : AsOf) (id : ℕ) (xs : List (ℕ × RowPlace)) → IsNextChanged kind last from as_of xs (Some id) → length (filter (λ x. is_kind_above kind (Some id) x.1) xs) < length (filter (λ x. is_kind_above kind last x.1) xs)
 unfolding IsNextChanged
-fewer_left kind last from date pin id xs n =
+fewer_left kind last from as_of id xs n =
     let b = n.there.0 in
     let own = n.there.2 in
     let at_own : is_above last b.1.key.id ≡ true = ap (is_above last) (own_id _ _ b.1.key.id id own) ∙ n.above in

@@ -8,15 +8,16 @@ use Rattle.std.proofs.lemmas.List.Elements.{All-from_recursion, recursion_from_A
 use Rattle.rf2_values.specs.Row.{RowValue}
 use Rattle.history_model.specs.declared.stamped.StampedRow.{StampedRow}
 use Rattle.history_model.specs.InOrder.{Has, joined}
-use Rattle.history_model.specs.History.{rows_at}
 use Rattle.history_model.specs.Lists.{listed}
 use Rattle.history_model.specs.Queries.{snapshot}
 use Rattle.history_model.proofs.InOrder.{Has-all, all_from_has, Has-append_left, Has-append_right, Has-append_cases}
 use Rattle.history_model.proofs.Filtered.{Has-map, Has-map_from}
 use Rattle.history_model.proofs.Snapshots.{current_from_snapshot, Has-listed_cases, Has-rows_at_cases}
+use Rattle.as_of_index.specs.declared.as_of.AsOf.{AsOf}
 use Rattle.as_of_index.specs.Places.{item_at}
 use Rattle.as_of_index.specs.Postings.{posted_all, AllPosted}
 use Rattle.as_of_index.specs.Private.Postings.{numbered}
+use Rattle.as_of_index.specs.Current.{rows_seen}
 
 pub Has-permuted : {X : Type 0} (xs ys : List X) → IsPermutation xs ys → (z : X) → Has ys z → Has xs z
 Has-permuted xs ys p z h = Has-all (λ w. Has xs w) ys z (recursion_from_All (λ w. Has xs w) ys (All-permutation (λ w. Has xs w) xs ys p (All-from_recursion (λ w. Has xs w) xs (all_from_has (λ w. Has xs w) xs (λ w k. k))))) h
@@ -125,10 +126,10 @@ pub record IsPostedAs {X : Type 0} (number : X → ℕ) (lists : List (List Stam
   pub same : s.row ≡ row
 
 -- a row of the Snapshot that passes a test is posted, where such rows are
-pub posted_as : {X : Type 0} (posted : RowValue → ℕ → List X) (number : X → ℕ) (test : RowValue → Bool) (complete : (row : RowValue) (i : ℕ) → test row ≡ true → (t : X) × Has (posted row i) t × (number t ≡ i)) (lists : List (List StampedRow)) (terms : List (List X)) (date pin : ℕ) → AllPosted posted lists terms → (row : RowValue) → Has (snapshot (rows_at pin (listed lists)) date) row → test row ≡ true → IsPostedAs number lists terms row
-posted_as posted number test complete lists terms date pin a row h e =
-    let current = current_from_snapshot (rows_at pin (listed lists)) date row h in
-    let w = Has-rows_at_cases pin (listed lists) row current.known in
+pub posted_as : {X : Type 0} (posted : RowValue → ℕ → List X) (number : X → ℕ) (test : RowValue → Bool) (complete : (row : RowValue) (i : ℕ) → test row ≡ true → (t : X) × Has (posted row i) t × (number t ≡ i)) (lists : List (List StampedRow)) (terms : List (List X)) (as_of : AsOf) → AllPosted posted lists terms → (row : RowValue) → Has (snapshot (rows_seen as_of lists) as_of.date) row → test row ≡ true → IsPostedAs number lists terms row
+posted_as posted number test complete lists terms as_of a row h e =
+    let current = current_from_snapshot (rows_seen as_of lists) as_of.date row h in
+    let w = Has-rows_at_cases as_of.pin (listed lists) row current.known in
     let s = w.stamped_row in
     let p = numbers_of_row lists s (Has-listed_cases lists s w.known) in
     let t = complete s.row p.1 (subst (λ (r : RowValue). test r ≡ true) (sym w.same) e) in

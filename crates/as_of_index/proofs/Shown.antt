@@ -7,6 +7,7 @@ use Rattle.std.proofs.lemmas.List.{take_more}
 use Rattle.rf2_values.specs.declared.row.Kind.{Kind}
 use Rattle.history_model.specs.InOrder.{Has}
 use Rattle.segment.specs.declared.place.RowPlace.{RowPlace}
+use Rattle.as_of_index.specs.declared.as_of.AsOf.{AsOf}
 use Rattle.as_of_index.specs.Places.{least_by}
 use Rattle.as_of_index.specs.Private.Search.{may_show, shown_part, IsPick}
 use Rattle.as_of_index.proofs.Found.{candidate}
@@ -33,29 +34,29 @@ least_there number (q ∷ places) p h = elim h [
 
 -- ---- a part that is taken as empty
 
-second_at_most : (a b date pin : ℕ) → (nat_le a date && nat_le b pin) ≡ false → a ≤ date → b ≤ pin → ⊥
-second_at_most a b date pin e f g = grind (arith, nat_tests, e, f, g)
+second_at_most : (a b : ℕ) (as_of : AsOf) → (nat_le a as_of.date && nat_le b as_of.pin) ≡ false → a ≤ as_of.date → b ≤ as_of.pin → ⊥
+second_at_most a b as_of e f g = grind (arith, nat_tests, e, f, g)
 
-pub shown_at : (t i date pin : ℕ) → (nat_le t date && nat_le i pin) ≡ true → (t ≤ date) × (i ≤ pin)
-shown_at t i date pin e = (grind (arith, nat_tests, e), grind (arith, nat_tests, e))
+pub shown_at : (t i : ℕ) (as_of : AsOf) → (nat_le t as_of.date && nat_le i as_of.pin) ≡ true → (t ≤ as_of.date) × (i ≤ as_of.pin)
+shown_at t i as_of e = (grind (arith, nat_tests, e), grind (arith, nat_tests, e))
 
-module _ (date pin : ℕ) where
-  pub none_there : (places : List RowPlace) → may_show date pin places ≡ false → (p : RowPlace) → Has places p → p.key.time ≤ date → p.import ≤ pin → ⊥
+module _ (as_of : AsOf) where
+  pub none_there : (places : List RowPlace) → may_show as_of places ≡ false → (p : RowPlace) → Has places p → p.key.time ≤ as_of.date → p.import ≤ as_of.pin → ⊥
   none_there places e p h early shown =
       let t = least_there (λ (q : RowPlace). q.key.time) places p h in
       let i = least_there (λ (q : RowPlace). q.import) places p h in
-      second_at_most _ _ date pin e (omega arith) (omega arith)
+      second_at_most _ _ as_of e (omega arith) (omega arith)
 
   -- ---- the latest version
 
-  pick_of_hidden : (kind : Kind) (id : ℕ) (places : List RowPlace) → may_show date pin places ≡ false → (found : Option RowPlace) → IsPick kind id date pin (λ p. p) [] found → IsPick kind id date pin (λ p. p) places found
+  pick_of_hidden : (kind : Kind) (id : ℕ) (places : List RowPlace) → may_show as_of places ≡ false → (found : Option RowPlace) → IsPick kind id as_of (λ p. p) [] found → IsPick kind id as_of (λ p. p) places found
   unfolding IsPick
-  pick_of_hidden kind id places e None r = λ x h c. let k = candidate kind id date pin x c in none_there places e x h k.early k.shown
+  pick_of_hidden kind id places e None r = λ x h c. let k = candidate kind id as_of x c in none_there places e x h k.early k.shown
   pick_of_hidden kind id places e (Some b) r = absurd r.there
 
-  pub pick_of_part : (kind : Kind) (id : ℕ) (places : List RowPlace) (found : Option RowPlace) → IsPick kind id date pin (λ p. p) (shown_part date pin places) found → IsPick kind id date pin (λ p. p) places found
+  pub pick_of_part : (kind : Kind) (id : ℕ) (places : List RowPlace) (found : Option RowPlace) → IsPick kind id as_of (λ p. p) (shown_part as_of places) found → IsPick kind id as_of (λ p. p) places found
   pick_of_part kind id places found =
-      elim (may_show date pin places) as (λ t. may_show date pin places ≡ t → IsPick kind id date pin (λ p. p) (cond t places []) found → IsPick kind id date pin (λ p. p) places found) [
+      elim (may_show as_of places) as (λ t. may_show as_of places ≡ t → IsPick kind id as_of (λ p. p) (cond t places []) found → IsPick kind id as_of (λ p. p) places found) [
         | true ↦ λ e r. r
         | false ↦ λ e r. pick_of_hidden kind id places e found r
       ] refl

@@ -10,7 +10,7 @@ use Rattle.rf2_values.specs.Row.{RowValue, kind_of}
 use Rattle.rf2_values.specs.Key.{kind_place, key_of, key_cmp}
 use Rattle.history_model.specs.declared.stamped.StampedRow.{StampedRow}
 use Rattle.history_model.specs.InOrder.{Has, IsAscending, joined}
-use Rattle.history_model.specs.History.{stamped_cmp, rows_at}
+use Rattle.history_model.specs.History.{stamped_cmp}
 use Rattle.history_model.specs.Lists.{listed, AreLists}
 use Rattle.history_model.specs.Lists.{EachApart as RowsApart}
 use Rattle.history_model.specs.Private.{ShareNoKey as RowsShareNoKey}
@@ -23,12 +23,14 @@ use Rattle.history_model.proofs.Snapshots.{IsVersionOf, current_from_snapshot, g
 use Rattle.segment.specs.Standing.{record_len}
 use Rattle.segment.specs.declared.place.RowPlace.{RowPlace}
 use Rattle.segment.specs.Standing.{row_place, with_places, places_of, StandsAt}
+use Rattle.as_of_index.specs.declared.as_of.AsOf.{AsOf}
 use Rattle.as_of_index.specs.Places.{place_cmp, EachApart, ArePlaces}
 use Rattle.as_of_index.specs.Private.Search.{ShareNoKey}
 use Rattle.segment.proofs.Posting.{Says, says_posted, says, placed, row_there}
 use Rattle.as_of_index.specs.Search.{IsPlaceOf}
 use Rattle.as_of_index.specs.Private.Search.{in_segment, all_places, is_candidate, IsPick, IsPickFrom}
 use Rattle.as_of_index.proofs.Found.{Picks, candidate, candidate_test}
+use Rattle.as_of_index.specs.Current.{rows_seen}
 
 -- ---- the rows' lists are lists
 
@@ -121,20 +123,20 @@ kind_from k l i j e = grind (arith, nat_tests, e)
 id_from : (k l i j : ℕ) → (k == l && i == j) ≡ true → i ≡ j
 id_from k l i j e = grind (arith, nat_tests, e)
 
-module _ (kind : Kind) (id date pin : ℕ) (lists : List (List StampedRow)) (are : AreLists lists) where
+module _ (kind : Kind) (id : ℕ) (as_of : AsOf) (lists : List (List StampedRow)) (are : AreLists lists) where
   abbrev shown : List RowValue
-  shown = rows_at pin (listed lists)
+  shown = rows_seen as_of lists
 
   -- a version that is shown has a candidate
   pub record HasCandidate (c : RowValue) : Type 0 where
     pub x : ℕ × RowPlace
     pub there : Has (all_places 0 (map places_of lists)) x
-    pub passes : is_candidate kind id date pin x.1 ≡ true
+    pub passes : is_candidate kind id as_of x.1 ≡ true
     pub time_is : x.1.key.time ≡ c.time
 
-  pub candidate_of : (c : RowValue) → Has shown c → IsVersionOf kind id c → c.time ≤ date → HasCandidate c
+  pub candidate_of : (c : RowValue) → Has shown c → IsVersionOf kind id c → c.time ≤ as_of.date → HasCandidate c
   candidate_of c h v early =
-      let w = Has-rows_at_cases pin (listed lists) c h in
+      let w = Has-rows_at_cases as_of.pin (listed lists) c h in
       let q = place_of_row 0 lists w.stamped_row (Has-listed_cases lists w.stamped_row w.known) in
       let key_is : q.0.1.key ≡ key_of c = q.2.key_is ∙ ap key_of w.same in
       let kinds : kind_place q.0.1.key.kind ≡ kind_place kind = ap (λ (k : Key). kind_place k.kind) key_is ∙ ap kind_place v.kind_is in
@@ -145,17 +147,17 @@ module _ (kind : Kind) (id date pin : ℕ) (lists : List (List StampedRow)) (are
       record {
         x = q.0;
         there = q.1;
-        passes = candidate_test kind id date pin q.0.1 (number_test _ _ _ _ kinds ids) (omega arith) (omega arith);
+        passes = candidate_test kind id as_of q.0.1 (number_test _ _ _ _ kinds ids) (omega arith) (omega arith);
         time_is = times;
       }
 
-  pub get_from_pick : (best : Option (ℕ × RowPlace)) → Picks kind id date pin (all_places 0 (map places_of lists)) best → IsPlaceOf lists (get kind id date shown) best
+  pub get_from_pick : (best : Option (ℕ × RowPlace)) → Picks kind id as_of (all_places 0 (map places_of lists)) best → IsPlaceOf lists (get kind id as_of.date shown) best
   unfolding IsPick
-  get_from_pick None none = get_none kind id date shown (λ c h v early. let k = candidate_of c h v early in none k.x k.there k.passes)
+  get_from_pick None none = get_none kind id as_of.date shown (λ c h v early. let k = candidate_of c h v early in none k.x k.there k.passes)
   get_from_pick (Some b) l =
       let w = row_of_place 0 lists b l.there in
       let m = says_at 0 lists b.0 b.1 w.0 w.1 in
-      let k = candidate kind id date pin b.1 l.passes in
+      let k = candidate kind id as_of b.1 l.passes in
       let key_is = m.key_is in
       let kinds : kind_of w.0.row ≡ kind = same_kind (kind_of w.0.row) kind (ap (λ (x : Key). kind_place x.kind) (sym key_is) ∙ kind_from _ _ _ _ k.of) in
       let ids : w.0.row.id ≡ id = ap (λ (x : Key). x.id) (sym key_is) ∙ id_from _ _ _ _ k.of in
@@ -165,8 +167,8 @@ module _ (kind : Kind) (id date pin : ℕ) (lists : List (List StampedRow)) (are
       let early = k.early in (
         w.0,
         stands_at lists b.0 b.1 w.0 w.1,
-        get_is kind id date shown w.0.row (IsConsistent-from_ascending shown (IsAscending-rows_at pin (listed lists) (IsAscending-listed lists)))
-            (Has-rows_at_from pin (listed lists) w.0 (Has-listed_from lists w.0 are w.2) (omega arith))
+        get_is kind id as_of.date shown w.0.row (IsConsistent-from_ascending shown (IsAscending-rows_at as_of.pin (listed lists) (IsAscending-listed lists)))
+            (Has-rows_at_from as_of.pin (listed lists) w.0 (Has-listed_from lists w.0 are w.2) (omega arith))
             (record { kind_is = kinds; id_is = ids })
             (omega arith)
             (λ c h v early. let q = candidate_of c h v early in let le = l.latest q.x q.there q.passes in let e = q.time_is in omega arith),
@@ -175,18 +177,18 @@ module _ (kind : Kind) (id date pin : ℕ) (lists : List (List StampedRow)) (are
 -- ---- and what one says that is later than a date
 
 -- the component's row that stands there, which is later than `from`; where none does, its row isn't
-abbrev pub IsChange : Kind → ℕ → Option ℕ → ℕ → ℕ → List (List StampedRow) → Option (ℕ × RowPlace) → Type 0
-IsChange kind id from date pin lists None = (row : RowValue) → get kind id date (rows_at pin (listed lists)) ≡ Some row → is_above from row.time ≡ true → ⊥
-IsChange kind id from date pin lists (Some x) = (s : StampedRow) × StandsAt lists x.0 x.1 s × (get kind id date (rows_at pin (listed lists)) ≡ Some s.row) × (is_above from s.row.time ≡ true)
+abbrev pub IsChange : Kind → ℕ → Option ℕ → AsOf → List (List StampedRow) → Option (ℕ × RowPlace) → Type 0
+IsChange kind id from as_of lists None = (row : RowValue) → get kind id as_of.date (rows_seen as_of lists) ≡ Some row → is_above from row.time ≡ true → ⊥
+IsChange kind id from as_of lists (Some x) = (s : StampedRow) × StandsAt lists x.0 x.1 s × (get kind id as_of.date (rows_seen as_of lists) ≡ Some s.row) × (is_above from s.row.time ≡ true)
 
-pub change_from_pick : (kind : Kind) (id : ℕ) (from : Option ℕ) (date pin : ℕ) (lists : List (List StampedRow)) (are : AreLists lists) (best : Option (ℕ × RowPlace)) → IsPickFrom kind id from date pin (λ (x : ℕ × RowPlace). x.1) (all_places 0 (map places_of lists)) best → IsChange kind id from date pin lists best
+pub change_from_pick : (kind : Kind) (id : ℕ) (from : Option ℕ) (as_of : AsOf) (lists : List (List StampedRow)) (are : AreLists lists) (best : Option (ℕ × RowPlace)) → IsPickFrom kind id from as_of (λ (x : ℕ × RowPlace). x.1) (all_places 0 (map places_of lists)) best → IsChange kind id from as_of lists best
 unfolding IsPick IsPickFrom
-change_from_pick kind id from date pin lists are None none = λ row found late.
-    let r = row_at kind id date (rows_at pin (listed lists)) row found in
-    let c = current_from_snapshot (rows_at pin (listed lists)) date row r.current in
-    let k = candidate_of kind id date pin lists are row c.known r.version c.early in
+change_from_pick kind id from as_of lists are None none = λ row found late.
+    let r = row_at kind id as_of.date (rows_seen as_of lists) row found in
+    let c = current_from_snapshot (rows_seen as_of lists) as_of.date row r.current in
+    let k = candidate_of kind id as_of lists are row c.known r.version c.early in
     none k.x k.there k.passes (ap (is_above from) k.time_is ∙ late)
-change_from_pick kind id from date pin lists are (Some b) p =
-    let w = get_from_pick kind id date pin lists are (Some b) p.0 in
+change_from_pick kind id from as_of lists are (Some b) p =
+    let w = get_from_pick kind id as_of lists are (Some b) p.0 in
     let key_is = (says 0 w.1.rows (w.0, b.1) w.1.there).key_is in
     (w.0, w.1, w.2, ap (λ (k : Key). is_above from k.time) (sym key_is) ∙ p.1)

@@ -9,6 +9,7 @@ use Rattle.rf2_values.specs.Key.{kind_place}
 use Rattle.history_model.specs.InOrder.{IsAscending}
 use Rattle.history_model.specs.Queries.{is_above}
 use Rattle.segment.specs.declared.place.RowPlace.{RowPlace}
+use Rattle.as_of_index.specs.declared.as_of.AsOf.{AsOf}
 use Rattle.as_of_index.specs.declared.search.Start.{Start}
 use Rattle.as_of_index.specs.declared.search.Start.TheVariants.{AfterVersion, Later, Components}
 use Rattle.as_of_index.specs.Places.{place_cmp}
@@ -128,6 +129,6 @@ module _ (kind : Kind) (id : ℕ) (lists : List (List RowPlace)) (cursors : List
   others_ahead None above a = passed_further (Components kind None) (Components kind (Some id)) (λ p e. component-none (kind_place p.key.kind) (kind_place kind) p.key.id id e) lists cursors a
   others_ahead (Some last) above a = passed_further (Components kind (Some last)) (Components kind (Some id)) (λ p e. component-some (kind_place p.key.kind) (kind_place kind) p.key.id id last above e) lists cursors a
 
-pub id_above : (kind : Kind) (last from : Option ℕ) (date pin : ℕ) (xs : List (ℕ × RowPlace)) (id : ℕ) → IsNextChanged kind last from date pin xs (Some id) → is_above last id ≡ true
+pub id_above : (kind : Kind) (last from : Option ℕ) (as_of : AsOf) (xs : List (ℕ × RowPlace)) (id : ℕ) → IsNextChanged kind last from as_of xs (Some id) → is_above last id ≡ true
 unfolding IsNextChanged
-id_above kind last from date pin xs id n = n.above
+id_above kind last from as_of xs id n = n.above

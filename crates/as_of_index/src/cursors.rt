@@ -7,9 +7,10 @@ ghost use Rattle.as_of_index.specs.Private.Search.{all_places, changed_parts, Ar
 ghost use Rattle.as_of_index.specs.Private.Search.{IsNextChanged, IsPickFrom, later_than};
 ghost use Rattle.as_of_index.specs.declared.search.Start.TheVariants as starts;
 
+use crate::as_of::AsOf;
 use crate::place_list::{PlaceList, is_later, time_of};
 use crate::search::{Start, go_on, id_at, later, latest_from, lesser, place};
-use rf2_values::{EffectiveTime, Kind};
+use rf2_values::Kind;
 use segment::RowPlace;
 use std::alloc::{AllocError, Global};
 
@@ -19,15 +20,14 @@ pub(crate) fn cursors_at(
     lists: &[PlaceList],
     start: &Start,
     from: Option<u32>,
-    time: EffectiveTime,
-    pin: u32,
+    as_of: &AsOf,
 ) -> Result<Vec<usize>, AllocError>
     ensures { IfOk result
-        (λ cursors. ArePassed start.now (changed_parts from time pin lists.now) cursors.items) }
+        (λ cursors. ArePassed start.now (changed_parts from as_of.now lists.now) cursors.items) }
 {
     let mut cursors = Vec::with_capacity(alloc, lists.len())?;
     for list in lists {
-        cursors.push(place(list.changed_part(from, time, pin), *start))?;
+        cursors.push(place(list.changed_part(from, as_of), *start))?;
     }
     Ok(cursors)
 }
@@ -39,19 +39,18 @@ pub(crate) fn next_id(
     kind: Kind,
     after: Option<u128>,
     from: Option<u32>,
-    time: EffectiveTime,
-    pin: u32,
+    as_of: &AsOf,
 ) -> Option<u128>
     requires { ArePassed (starts.Components kind after)
-        (changed_parts from time pin lists.now) cursors.old.items }
-    ensures next { IsNextChanged kind after from time pin (all_places 0 lists.now) result }
+        (changed_parts from as_of.now lists.now) cursors.old.items }
+    ensures next { IsNextChanged kind after from as_of.now (all_places 0 lists.now) result }
     ensures passed { ArePassed (starts.Components kind after)
-        (changed_parts from time pin lists.now) cursors.new.items }
+        (changed_parts from as_of.now lists.now) cursors.new.items }
 {
     let start = Start::Components { kind, after };
     let mut best = None;
     for (segment, list) in lists.iter().enumerate() {
-        let places = list.changed_part(from, time, pin);
+        let places = list.changed_part(from, as_of);
         let first = go_on(places, cursors[segment], &start);
         cursors[segment] = first;
         best = lesser(best, id_at(places, first, kind));
@@ -83,17 +82,16 @@ pub(crate) fn latest_on(
     kind: Kind,
     id: u128,
     from: Option<u32>,
-    time: EffectiveTime,
-    pin: u32,
+    as_of: &AsOf,
 ) -> Option<(usize, RowPlace)>
     requires { ArePassed (starts.Later kind id None)
-        (changed_parts from time pin lists.now) cursors.now }
-    ensures { IsPickFrom kind id from time pin (λ x. x.1) (all_places 0 lists.now) result }
+        (changed_parts from as_of.now lists.now) cursors.now }
+    ensures { IsPickFrom kind id from as_of.now (λ x. x.1) (all_places 0 lists.now) result }
 {
     let mut best = None;
     for (segment, list) in lists.iter().enumerate() {
-        let places = list.changed_part(from, time, pin);
-        let found = latest_from(places, cursors[segment], kind, id, time, pin);
+        let places = list.changed_part(from, as_of);
+        let found = latest_from(places, cursors[segment], kind, id, as_of);
         if let Some(p) = later_than(from, found) {
             best = later(best, segment, Some(p));
         }

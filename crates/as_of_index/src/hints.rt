@@ -8,6 +8,7 @@ ghost use Rattle.history_model.specs.InOrder.{Has, IsAscending};
 ghost use Rattle.as_of_index.specs.Places.{place_cmp};
 ghost use Rattle.as_of_index.specs.Private.Search.{all_places, is_of, is_before, SplitsAt, IsPick};
 
+use crate::as_of::AsOf;
 use crate::place_list::PlaceList;
 use crate::search::{Start, is_before, is_of, later, latest_before, lent_at, place};
 use rf2_values::{EffectiveTime, Kind};
@@ -145,14 +146,15 @@ fn exactly_at(
     number: usize,
     kind: Kind,
     id: u128,
-    time: EffectiveTime,
-    pin: u32,
+    as_of: &AsOf,
 ) -> Option<RowPlace>
     ensures { IfSome result (λ p. Has list.now p × IsTrue (is_of kind id p)
-        × (p.key.time ≡ time) × (p.import ≤ pin)) }
+        × (p.key.time ≡ as_of.now.date) × (p.import ≤ as_of.now.pin)) }
 {
     match lent_at(list, number) {
-        Some(p) if is_of(kind, id, p) && p.key.time == time && p.import <= pin => Some(*p),
+        Some(p) if is_of(kind, id, p) && p.key.time == as_of.date && p.import <= as_of.pin => {
+            Some(*p)
+        }
         _ => None,
     }
 }
@@ -163,19 +165,18 @@ fn at_a_hint(
     hints: &mut Hints,
     kind: Kind,
     id: u128,
-    time: EffectiveTime,
-    pin: u32,
+    as_of: &AsOf,
 ) -> Option<(usize, RowPlace)>
     ensures { IfSome result
-        (λ x. IsPick kind id time pin (λ x. x.1) (all_places 0 lists.now) (Some x)) }
+        (λ x. IsPick kind id as_of.now (λ x. x.1) (all_places 0 lists.now) (Some x)) }
 {
-    let segment = hints.list_of(id, time)?;
+    let segment = hints.list_of(id, as_of.date)?;
     let number = hints.of(segment);
     if segment >= lists.len() {
         return None;
     }
     let places = lists[segment].places();
-    let p = exactly_at(places, number, kind, id, time, pin)?;
+    let p = exactly_at(places, number, kind, id, as_of)?;
     hints.set(segment, places, number.saturating_add(1));
     Some((segment, p))
 }
@@ -187,20 +188,19 @@ fn search_from_hints(
     hints: &mut Hints,
     kind: Kind,
     id: u128,
-    time: EffectiveTime,
-    pin: u32,
+    as_of: &AsOf,
 ) -> Option<(usize, RowPlace)>
-    ensures { IsPick kind id time pin (λ x. x.1) (all_places 0 lists.now) result }
+    ensures { IsPick kind id as_of.now (λ x. x.1) (all_places 0 lists.now) result }
 {
-    let start = Start::AfterVersion { kind, id, time };
+    let start = Start::AfterVersion { kind, id, time: as_of.date };
     let mut best = None;
     for (segment, list) in lists.iter().enumerate() {
         let places = list.places();
         let end = place_from(places, hints.of(segment), &start);
         hints.set(segment, places, end);
-        let found = latest_before(places, end, kind, id, pin);
+        let found = latest_before(places, end, kind, id, as_of);
         if let Some(p) = found {
-            if p.key.time == time {
+            if p.key.time == as_of.date {
                 return Some((segment, p));
             }
             best = later(best, segment, Some(p));
@@ -216,13 +216,12 @@ pub(crate) fn latest_from_hints(
     hints: &mut Hints,
     kind: Kind,
     id: u128,
-    time: EffectiveTime,
-    pin: u32,
+    as_of: &AsOf,
 ) -> Option<(usize, RowPlace)>
-    ensures { IsPick kind id time pin (λ x. x.1) (all_places 0 lists.now) result }
+    ensures { IsPick kind id as_of.now (λ x. x.1) (all_places 0 lists.now) result }
 {
-    match at_a_hint(lists, hints, kind, id, time, pin) {
+    match at_a_hint(lists, hints, kind, id, as_of) {
         Some(found) => Some(found),
-        None => search_from_hints(lists, hints, kind, id, time, pin),
+        None => search_from_hints(lists, hints, kind, id, as_of),
     }
 }

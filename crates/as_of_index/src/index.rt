@@ -14,7 +14,7 @@ ghost use Rattle.history_model.specs.Queries.{get, versions, page, delta, dates}
 ghost use Rattle.segment.specs.declared.place.RowPlace.{RowPlace};
 ghost use Rattle.as_of_index.specs.Places.{max_lists, item_at, ArePlaces, Lists};
 ghost use Rattle.fault_counts.specs.Counting.{Counts, CountsDiskFault, CountsDamage};
-ghost use Rattle.as_of_index.specs.Current.{IsPlaceOfRow, IsCurrentAt};
+ghost use Rattle.as_of_index.specs.Current.{rows_seen, IsPlaceOfRow, IsCurrentAt};
 ghost use Rattle.as_of_index.specs.Private.Current.{is_same_place};
 ghost use Rattle.as_of_index.specs.Search.{IsPlaceOf};
 ghost use Rattle.as_of_index.specs.Private.Search.{all_places, IsPick, IsNext, IsNextId};
@@ -22,6 +22,7 @@ ghost use Rattle.as_of_index.specs.Private.Search.{IsNextVersion};
 ghost use Rattle.as_of_index.specs.Private.Walk.{walked};
 ghost use Rattle.fault_counts.specs.declared.fault.ReadFault.TheVariants as readfault;
 
+use crate::as_of::AsOf;
 use crate::cursors::{cursors_at, latest_on, next_id};
 use crate::dates::sort_once;
 use crate::hints::{Hints, latest_from_hints};
@@ -83,10 +84,10 @@ fn is_shown(p: &RowPlace, pin: u32) -> bool
 }
 
 /// Whether the version holds from the date on or before it, and the pin shows it.
-fn is_early(p: &RowPlace, time: EffectiveTime, pin: u32) -> bool
-    ensures { IsTrue result ↔ ((p.now.key.time ≤ time) × (p.now.import ≤ pin)) }
+fn is_early(p: &RowPlace, as_of: &AsOf) -> bool
+    ensures { IsTrue result ↔ ((p.now.key.time ≤ as_of.now.date) × (p.now.import ≤ as_of.now.pin)) }
 {
-    p.key.time <= time && p.import <= pin
+    p.key.time <= as_of.date && p.import <= as_of.pin
 }
 
 impl Index {
@@ -144,14 +145,13 @@ impl Index {
         near: Option<(usize, usize)>,
         kind: Kind,
         id: u128,
-        time: EffectiveTime,
-        pin: u32,
+        as_of: &AsOf,
     ) -> Option<(usize, RowPlace)>
         ensures places { ArePlaces self.now }
         ensures found { (lists : List (List StampedRow)) → Lists self.now lists
-            → IsPlaceOf lists (get kind id time (rows_at pin (listed lists))) result }
+            → IsPlaceOf lists (get kind id as_of.now.date (rows_seen as_of.now lists)) result }
     {
-        latest(self.lists.as_slice(), near, kind, id, time, pin)
+        latest(self.lists.as_slice(), near, kind, id, as_of)
     }
 
     /// Where the component's row at the date stands, of the rows that the pin shows,
@@ -160,14 +160,13 @@ impl Index {
         &self,
         kind: Kind,
         id: u128,
-        time: EffectiveTime,
-        pin: u32,
+        as_of: AsOf,
     ) -> Option<(usize, RowPlace)>
         ensures places { ArePlaces self.now }
         ensures found { (lists : List (List StampedRow)) → Lists self.now lists
-            → IsPlaceOf lists (get kind id time (rows_at pin (listed lists))) result }
+            → IsPlaceOf lists (get kind id as_of.date (rows_seen as_of lists)) result }
     {
-        self.place_near(None, kind, id, time, pin)
+        self.place_near(None, kind, id, &as_of)
     }
 
     /// The same place as `place_at` gives. Where components are asked for in key order, a search in
@@ -177,15 +176,14 @@ impl Index {
         hints: &mut Hints,
         kind: Kind,
         id: u128,
-        time: EffectiveTime,
-        pin: u32,
+        as_of: AsOf,
     ) -> Option<(usize, RowPlace)>
         // Whatever the hints are.
         ensures places { ArePlaces self.now }
         ensures found { (lists : List (List StampedRow)) → Lists self.now lists
-            → IsPlaceOf lists (get kind id time (rows_at pin (listed lists))) result }
+            → IsPlaceOf lists (get kind id as_of.date (rows_seen as_of lists)) result }
     {
-        latest_from_hints(self.lists.as_slice(), hints, kind, id, time, pin)
+        latest_from_hints(self.lists.as_slice(), hints, kind, id, &as_of)
     }
 
     /// The place with a number in the list with a number, if there are both.
@@ -230,18 +228,17 @@ impl Index {
         near: Option<(usize, usize)>,
         segment: usize,
         at: &RowPlace,
-        time: EffectiveTime,
-        pin: u32,
+        as_of: &AsOf,
     ) -> bool
         ensures { (lists : List (List StampedRow)) → Lists self.now lists
-            → IsTrue result ↔ IsCurrentAt lists time pin segment at.now }
+            → IsTrue result ↔ IsCurrentAt lists as_of.now segment at.now }
     {
         // Its contract says that no key is listed twice.
         let _listed = self.lists();
-        if !is_early(at, time, pin) {
+        if !is_early(at, as_of) {
             return false;
         }
-        match self.place_near(near, at.key.kind, at.key.id, time, pin) {
+        match self.place_near(near, at.key.kind, at.key.id, as_of) {
             Some((n, p)) => is_same_place(n, &p, segment, at),
             None => false,
         }
@@ -253,17 +250,16 @@ impl Index {
         &self,
         segment: usize,
         number: u32,
-        time: EffectiveTime,
-        pin: u32,
+        as_of: AsOf,
     ) -> Option<RowPlace>
         ensures { (lists : List (List StampedRow)) → Lists self.now lists → (at : RowPlace)
             → (result ≡ Some at)
-            ↔ (IsPlaceOfRow lists segment number at × IsCurrentAt lists time pin segment at) }
+            ↔ (IsPlaceOfRow lists segment number at × IsCurrentAt lists as_of segment at) }
     {
         let number = number as usize;
         match self.place_of_row(segment, number) {
             Some(at) => {
-                if self.is_current_near(Some((segment, number)), segment, &at, time, pin) {
+                if self.is_current_near(Some((segment, number)), segment, &at, &as_of) {
                     Some(at)
                 } else {
                     None
@@ -279,16 +275,15 @@ impl Index {
         reader: &mut R,
         kind: Kind,
         id: u128,
-        time: EffectiveTime,
-        pin: u32,
+        as_of: AsOf,
     ) -> Result<Option<Row>, ReadFault>
         ensures found { R.is_honest reader.old → Lists self.now (R.lists reader.old)
             → IfOk result (λ found. found
-            ≡ get kind id time (rows_at pin (listed (R.lists reader.old)))) }
+            ≡ get kind id as_of.date (rows_seen as_of (R.lists reader.old))) }
         // Whatever was read, its key is that of the row to be found.
         ensures keys { Lists self.now (R.lists reader.old)
             → IfOk result (λ found. map key_of (option_to_list found) ≡ map key_of (option_to_list
-            (get kind id time (rows_at pin (listed (R.lists reader.old)))))) }
+            (get kind id as_of.date (rows_seen as_of (R.lists reader.old))))) }
         ensures undamaged { R.is_honest reader.old → Lists self.now (R.lists reader.old)
             → IfErr result (λ e. e ≢ readfault.Damaged) }
         // No more is read than the row that it answers takes, and nothing where it answers none.
@@ -298,7 +293,7 @@ impl Index {
         // there, and nothing where there is none.
         ensures work_always { Lists self.now (R.lists reader.old)
             → R.work reader.new ≤ R.work reader.old + sum_by R.cost (option_to_list
-            (get kind id time (rows_at pin (listed (R.lists reader.old))))) }
+            (get kind id as_of.date (rows_seen as_of (R.lists reader.old)))) }
         ensures lists { R.lists reader.new ≡ R.lists reader.old }
         ensures honesty { R.is_honest reader.old → R.is_honest reader.new }
         ensures stays { R.stays reader.old reader.new }
@@ -306,7 +301,7 @@ impl Index {
             (R.disk_faults reader.old) (R.disk_faults reader.new) }
         ensures damages { Counts CountsDamage result (R.damages reader.old) (R.damages reader.new) }
     {
-        match self.place_at(kind, id, time, pin) {
+        match self.place_at(kind, id, as_of) {
             None => Ok(None),
             Some((segment, at)) => {
                 let stamped = reader.row(self.alloc, segment, at)?;
@@ -368,25 +363,27 @@ impl Index {
         reader: &mut R,
         kind: Kind,
         from: Option<u32>,
-        time: EffectiveTime,
+        as_of: &AsOf,
         after: Option<u128>,
         limit: u32,
-        pin: u32,
     ) -> Result<Vec<Row>, ReadFault>
         ensures found { R.is_honest reader.old → Lists self.now (R.lists reader.old)
             → IfOk result (λ rows. rows.items
-            ≡ walked kind from time after limit (rows_at pin (listed (R.lists reader.old)))) }
+            ≡ walked kind from as_of.now.date after limit (rows_seen as_of.now
+            (R.lists reader.old))) }
         // Whatever was read, the keys are those of these rows.
         ensures keys { Lists self.now (R.lists reader.old)
             → IfOk result (λ rows. map key_of rows.items ≡ map key_of
-            (walked kind from time after limit (rows_at pin (listed (R.lists reader.old))))) }
+            (walked kind from as_of.now.date after limit (rows_seen as_of.now
+            (R.lists reader.old)))) }
         ensures undamaged { R.is_honest reader.old → Lists self.now (R.lists reader.old)
             → IfErr result (λ e. e ≢ readfault.Damaged) }
         ensures work { IfOk result (λ rows.
             R.work reader.new ≤ R.work reader.old + sum_by R.cost rows.items) }
         ensures work_always { Lists self.now (R.lists reader.old)
             → R.work reader.new ≤ R.work reader.old + sum_by R.cost
-            (walked kind from time after limit (rows_at pin (listed (R.lists reader.old)))) }
+            (walked kind from as_of.now.date after limit (rows_seen as_of.now
+            (R.lists reader.old))) }
         ensures lists { R.lists reader.new ≡ R.lists reader.old }
         ensures honesty { R.is_honest reader.old → R.is_honest reader.new }
         ensures stays { R.stays reader.old reader.new }
@@ -398,12 +395,12 @@ impl Index {
         let mut rows = Vec::new(self.alloc);
         let mut last = after;
         let start = Start::Components { kind, after };
-        let mut cursors = cursors_at(self.alloc, lists, &start, from, time, pin)?;
+        let mut cursors = cursors_at(self.alloc, lists, &start, from, as_of)?;
         while rows.len() < limit as usize {
-            match next_id(lists, &mut cursors, kind, last, from, time, pin) {
+            match next_id(lists, &mut cursors, kind, last, from, as_of) {
                 Some(id) => {
                     if let Some((segment, at)) = latest_on(
-                        lists, &cursors, kind, id, from, time, pin,
+                        lists, &cursors, kind, id, from, as_of,
                     ) {
                         let found = reader.row(self.alloc, segment, at)?;
                         rows.push(found.row)?;
@@ -423,18 +420,17 @@ impl Index {
         &self,
         reader: &mut R,
         kind: Kind,
-        time: EffectiveTime,
+        as_of: AsOf,
         after: Option<u128>,
         limit: u32,
-        pin: u32,
     ) -> Result<Vec<Row>, ReadFault>
         ensures found { R.is_honest reader.old → Lists self.now (R.lists reader.old)
             → IfOk result (λ rows. rows.items
-            ≡ page kind time after limit (rows_at pin (listed (R.lists reader.old)))) }
+            ≡ page kind as_of.date after limit (rows_seen as_of (R.lists reader.old))) }
         // Whatever was read, the keys are those of the rows of this page.
         ensures keys { Lists self.now (R.lists reader.old)
             → IfOk result (λ rows. map key_of rows.items ≡ map key_of
-            (page kind time after limit (rows_at pin (listed (R.lists reader.old))))) }
+            (page kind as_of.date after limit (rows_seen as_of (R.lists reader.old)))) }
         ensures undamaged { R.is_honest reader.old → Lists self.now (R.lists reader.old)
             → IfErr result (λ e. e ≢ readfault.Damaged) }
         // No more is read than the rows that it answers take, each read once.
@@ -444,7 +440,7 @@ impl Index {
         // take, each counted once.
         ensures work_always { Lists self.now (R.lists reader.old)
             → R.work reader.new ≤ R.work reader.old + sum_by R.cost
-            (page kind time after limit (rows_at pin (listed (R.lists reader.old)))) }
+            (page kind as_of.date after limit (rows_seen as_of (R.lists reader.old))) }
         ensures lists { R.lists reader.new ≡ R.lists reader.old }
         ensures honesty { R.is_honest reader.old → R.is_honest reader.new }
         ensures stays { R.stays reader.old reader.new }
@@ -452,7 +448,7 @@ impl Index {
             (R.disk_faults reader.old) (R.disk_faults reader.new) }
         ensures damages { Counts CountsDamage result (R.damages reader.old) (R.damages reader.new) }
     {
-        self.walk(reader, kind, None, time, after, limit, pin)
+        self.walk(reader, kind, None, &as_of, after, limit)
     }
 
     /// What changed from one date to another: the first rows of a kind at the date that are later
@@ -463,18 +459,17 @@ impl Index {
         reader: &mut R,
         kind: Kind,
         from: EffectiveTime,
-        time: EffectiveTime,
+        as_of: AsOf,
         after: Option<u128>,
         limit: u32,
-        pin: u32,
     ) -> Result<Vec<Row>, ReadFault>
         ensures found { R.is_honest reader.old → Lists self.now (R.lists reader.old)
             → IfOk result (λ rows. rows.items
-            ≡ delta kind from time after limit (rows_at pin (listed (R.lists reader.old)))) }
+            ≡ delta kind from as_of.date after limit (rows_seen as_of (R.lists reader.old))) }
         // Whatever was read, the keys are those of the rows of this Delta.
         ensures keys { Lists self.now (R.lists reader.old)
             → IfOk result (λ rows. map key_of rows.items ≡ map key_of
-            (delta kind from time after limit (rows_at pin (listed (R.lists reader.old))))) }
+            (delta kind from as_of.date after limit (rows_seen as_of (R.lists reader.old)))) }
         ensures undamaged { R.is_honest reader.old → Lists self.now (R.lists reader.old)
             → IfErr result (λ e. e ≢ readfault.Damaged) }
         // No more is read than the rows that it answers take, each read once.
@@ -484,7 +479,7 @@ impl Index {
         // take, each counted once.
         ensures work_always { Lists self.now (R.lists reader.old)
             → R.work reader.new ≤ R.work reader.old + sum_by R.cost
-            (delta kind from time after limit (rows_at pin (listed (R.lists reader.old)))) }
+            (delta kind from as_of.date after limit (rows_seen as_of (R.lists reader.old))) }
         ensures lists { R.lists reader.new ≡ R.lists reader.old }
         ensures honesty { R.is_honest reader.old → R.is_honest reader.new }
         ensures stays { R.stays reader.old reader.new }
@@ -492,7 +487,7 @@ impl Index {
             (R.disk_faults reader.old) (R.disk_faults reader.new) }
         ensures damages { Counts CountsDamage result (R.damages reader.old) (R.damages reader.new) }
     {
-        self.walk(reader, kind, Some(from.value()), time, after, limit, pin)
+        self.walk(reader, kind, Some(from.value()), &as_of, after, limit)
     }
 
     /// The distinct effective times of the rows that the pin shows, ascending. It looks at no

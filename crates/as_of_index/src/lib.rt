@@ -2,6 +2,7 @@
 //! rows are read through a reader that is lent.
 #![tactic(auto)]
 
+mod as_of;
 mod chosen;
 mod cursors;
 mod dates;
@@ -19,6 +20,7 @@ mod reader;
 mod search;
 mod several;
 
+pub use as_of::AsOf;
 pub use chosen::{Chosen, read_all};
 pub use fault_counts::ReadFault;
 pub use hints::Hints;

@@ -7,6 +7,7 @@ ghost use Rattle.as_of_index.specs.Places.{place_cmp, least_by, greatest_by};
 ghost use Rattle.as_of_index.specs.Private.Dates.{AddsDates};
 ghost use Rattle.as_of_index.specs.Private.Search.{may_show, shown_part, may_change, changed_part};
 
+use crate::as_of::AsOf;
 use crate::dates::{DateEntry, add_shown, entries_of};
 use rf2_values::EffectiveTime;
 use segment::RowPlace;
@@ -123,19 +124,19 @@ impl PlaceList {
     }
 
     /// Whether neither the date is before all places nor the pin below all imports.
-    fn may_show(&self, time: EffectiveTime, pin: u32) -> bool
-        ensures { result ≡ may_show time pin self.now }
+    fn may_show(&self, as_of: &AsOf) -> bool
+        ensures { result ≡ may_show as_of.now self.now }
     {
-        self.first_time <= time.value() && self.first_import <= pin
+        self.first_time <= as_of.date.value() && self.first_import <= as_of.pin
     }
 
     /// The places, in key order, or none where the date is before all or the pin below all imports.
-    pub(crate) fn shown_part(&self, time: EffectiveTime, pin: u32) -> &[RowPlace]
-        ensures part { result.now ≡ shown_part time pin self.now }
+    pub(crate) fn shown_part(&self, as_of: &AsOf) -> &[RowPlace]
+        ensures part { result.now ≡ shown_part as_of.now self.now }
         ensures ascending { IsAscending place_cmp result.now }
     {
         let places = self.places.as_slice();
-        if self.may_show(time, pin) {
+        if self.may_show(as_of) {
             places
         } else {
             &places[..0]
@@ -143,10 +144,10 @@ impl PlaceList {
     }
 
     /// Whether not all places are up to `from` either, if that is given.
-    fn may_change(&self, from: Option<u32>, time: EffectiveTime, pin: u32) -> bool
-        ensures { result ≡ may_change from time pin self.now }
+    fn may_change(&self, from: Option<u32>, as_of: &AsOf) -> bool
+        ensures { result ≡ may_change from as_of.now self.now }
     {
-        self.may_show(time, pin) && is_later(from, self.last_time)
+        self.may_show(as_of) && is_later(from, self.last_time)
     }
 
     /// The places, in key order, or none where `shown_part` has none, or where all are up to
@@ -154,14 +155,13 @@ impl PlaceList {
     pub(crate) fn changed_part(
         &self,
         from: Option<u32>,
-        time: EffectiveTime,
-        pin: u32,
+        as_of: &AsOf,
     ) -> &[RowPlace]
-        ensures part { result.now ≡ changed_part from time pin self.now }
+        ensures part { result.now ≡ changed_part from as_of.now self.now }
         ensures ascending { IsAscending place_cmp result.now }
     {
         let places = self.places.as_slice();
-        if self.may_change(from, time, pin) {
+        if self.may_change(from, as_of) {
             places
         } else {
             &places[..0]

@@ -13,6 +13,7 @@ ghost use Rattle.as_of_index.specs.Private.Search.{id_of_kind, later_of, lesser_
 ghost use Rattle.as_of_index.specs.Private.Search.{sooner_of};
 ghost use Rattle.as_of_index.specs.declared.search.Start.TheVariants as starts;
 
+use crate::as_of::AsOf;
 use rf2_values::{EffectiveTime, Key, Kind};
 use segment::RowPlace;
 use std::cmp::Ordering;
@@ -161,14 +162,14 @@ pub(crate) fn latest_before(
     end: usize,
     kind: Kind,
     id: u128,
-    pin: u32,
+    as_of: &AsOf,
 ) -> Option<RowPlace>
     requires { end ≤ length list.now }
-    ensures { (date : ℕ) → IsAscending place_cmp list.now
-        → SplitsAt (is_before (starts.AfterVersion kind id date)) list.now end
-        → IsPick kind id date pin (λ p. p) list.now result }
+    ensures { IsAscending place_cmp list.now
+        → SplitsAt (is_before (starts.AfterVersion kind id as_of.now.date)) list.now end
+        → IsPick kind id as_of.now (λ p. p) list.now result }
 {
-    match last_stop(&list[..end], kind, id, pin) {
+    match last_stop(&list[..end], kind, id, as_of.pin) {
         Some(p) if is_of(kind, id, p) => Some(*p),
         _ => None,
     }
@@ -181,17 +182,16 @@ pub(crate) fn latest_from(
     cursor: usize,
     kind: Kind,
     id: u128,
-    time: EffectiveTime,
-    pin: u32,
+    as_of: &AsOf,
 ) -> Option<RowPlace>
     requires { IsPassed (starts.Later kind id None) list.now cursor }
-    ensures { IsAscending place_cmp list.now → IsPick kind id time pin (λ p. p) list.now result }
+    ensures { IsAscending place_cmp list.now → IsPick kind id as_of.now (λ p. p) list.now result }
 {
-    let end = go_on(list, cursor, &Start::AfterVersion { kind, id, time });
+    let end = go_on(list, cursor, &Start::AfterVersion { kind, id, time: as_of.date });
     if end == cursor {
         return None;
     }
-    latest_before(list, end, kind, id, pin)
+    latest_before(list, end, kind, id, as_of)
 }
 
 /// The latest version of the component in the list, up to the date, that the pin shows. Where the
@@ -201,13 +201,12 @@ pub(crate) fn latest_in(
     near: Option<usize>,
     kind: Kind,
     id: u128,
-    time: EffectiveTime,
-    pin: u32,
+    as_of: &AsOf,
 ) -> Option<RowPlace>
-    ensures { IsAscending place_cmp list.now → IsPick kind id time pin (λ p. p) list.now result }
+    ensures { IsAscending place_cmp list.now → IsPick kind id as_of.now (λ p. p) list.now result }
 {
-    let end = place_near(list, near, &Start::AfterVersion { kind, id, time });
-    latest_before(list, end, kind, id, pin)
+    let end = place_near(list, near, &Start::AfterVersion { kind, id, time: as_of.date });
+    latest_before(list, end, kind, id, as_of)
 }
 
 pub(crate) fn later(

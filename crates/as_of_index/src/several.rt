@@ -4,6 +4,7 @@ ghost use Rattle.std.specs.Prelude.{◌≡◌};
 ghost use Rattle.as_of_index.specs.Private.Search.{all_places, number_in, IsPick};
 ghost use Rattle.as_of_index.specs.Private.Search.{IsNext, IsNextVersion};
 
+use crate::as_of::AsOf;
 use crate::place_list::PlaceList;
 use crate::search::{Start, is_of, later, latest_in, next_in, sooner};
 use rf2_values::{EffectiveTime, Kind};
@@ -27,15 +28,14 @@ pub(crate) fn latest(
     near: Option<(usize, usize)>,
     kind: Kind,
     id: u128,
-    time: EffectiveTime,
-    pin: u32,
+    as_of: &AsOf,
 ) -> Option<(usize, RowPlace)>
-    ensures { IsPick kind id time pin (λ x. x.1) (all_places 0 lists.now) result }
+    ensures { IsPick kind id as_of.now (λ x. x.1) (all_places 0 lists.now) result }
 {
     let mut best = None;
     for (segment, list) in lists.iter().enumerate() {
-        let places = list.shown_part(time, pin);
-        let found = latest_in(places, number_in(near, segment), kind, id, time, pin);
+        let places = list.shown_part(as_of);
+        let found = latest_in(places, number_in(near, segment), kind, id, as_of);
         best = later(best, segment, found);
     }
     best

@@ -3,7 +3,7 @@
 use crate::open_store;
 use bstr::ByteSlice;
 use disk_model::FileDisk;
-use history_store::Store;
+use history_store::{AsOf, Store};
 use rf2_rows::{EffectiveTime, Kind, Sctid};
 use std::fs;
 use std::rt::HostRuntime;
@@ -47,20 +47,23 @@ fn ask(
     store: &mut Store<FileDisk>,
     question: Question,
     id: Sctid,
-    time: EffectiveTime,
+    date: EffectiveTime,
 ) -> Option<usize> {
-    let pin = store.imports();
+    let as_of = AsOf {
+        date,
+        pin: store.imports(),
+    };
     let value = u128::from(id.value());
     match question {
         Question::Lookup => {
-            let row = store.get(Kind::Concept, value, time, pin).ok()?;
+            let row = store.get(Kind::Concept, value, as_of).ok()?;
             Some(usize::from(row.is_some()))
         }
         Question::Page => {
-            let rows = store.page(Kind::Concept, time, Some(value), 100, pin).ok()?;
+            let rows = store.page(Kind::Concept, as_of, Some(value), 100).ok()?;
             Some(rows.len())
         }
-        Question::Children => Some(store.children(id, time, pin).ok()?.len()),
+        Question::Children => Some(store.children(id, as_of).ok()?.len()),
     }
 }
 
@@ -70,31 +73,34 @@ pub(crate) fn ask_each(
     question: Question,
     ids: &[Sctid],
 ) -> Option<u64> {
-    let time = EffectiveTime::of(DATE)?;
+    let date = EffectiveTime::of(DATE)?;
     let mut found: u64 = 0;
     for id in ids {
-        found = found.saturating_add(ask(store, question, *id, time)? as u64);
+        found = found.saturating_add(ask(store, question, *id, date)? as u64);
     }
     Some(found)
 }
 
 /// Searches for ten descriptions by a prefix. How many there are.
-fn search(store: &mut Store<FileDisk>, prefix: &[u8], time: EffectiveTime) -> Option<usize> {
+fn search(store: &mut Store<FileDisk>, prefix: &[u8], date: EffectiveTime) -> Option<usize> {
     let Ok(prefix) = str::from_utf8(prefix) else {
         return Some(0);
     };
-    let pin = store.imports();
-    Some(store.terms(prefix, time, 10, pin).ok()?.len())
+    let as_of = AsOf {
+        date,
+        pin: store.imports(),
+    };
+    Some(store.terms(prefix, as_of, 10).ok()?.len())
 }
 
 /// Searches for ten descriptions by each prefix of a file. How many rows that are.
 pub(crate) fn search_terms(rt: &HostRuntime, path: &str, prefixes: &str) -> Option<u64> {
     let mut store = open_store(rt, path)?;
     let prefixes = fs::read(rt, prefixes).ok()?;
-    let time = EffectiveTime::of(DATE)?;
+    let date = EffectiveTime::of(DATE)?;
     let mut found: u64 = 0;
     for prefix in prefixes.as_slice().lines() {
-        found = found.saturating_add(search(&mut *store, prefix, time)? as u64);
+        found = found.saturating_add(search(&mut *store, prefix, date)? as u64);
     }
     Some(found)
 }
@@ -105,9 +111,11 @@ pub(crate) fn turn_page(
     after: Option<u128>,
     rows: u32,
 ) -> Option<Option<u128>> {
-    let time = EffectiveTime::of(DATE)?;
-    let pin = store.imports();
-    let rows = store.page(Kind::Description, time, after, rows, pin).ok()?;
+    let as_of = AsOf {
+        date: EffectiveTime::of(DATE)?,
+        pin: store.imports(),
+    };
+    let rows = store.page(Kind::Description, as_of, after, rows).ok()?;
     match rows.last() {
         Some(row) => Some(Some(row.id)),
         None => Some(None),

@@ -5,7 +5,7 @@ ghost use Rattle.rf2_values.specs.Key.{key_of};
 
 use crate::making::{Made, Order, ROOT, association, description, make_lists, scramble};
 use crate::watch::start_watch;
-use as_of_index::{ReadFault, RowPlace, RowReader};
+use as_of_index::{AsOf, ReadFault, RowPlace, RowReader};
 use fault_counts::raised;
 use history_model::StampedRow;
 use links::{about, children};
@@ -130,11 +130,11 @@ fn name_of(question: Question) -> &'static str {
 }
 
 /// How many of the associations are found.
-fn get_each(made: &Made, reader: &mut OneRow, size: u64, date: EffectiveTime) -> Option<u64> {
+fn get_each(made: &Made, reader: &mut OneRow, size: u64, as_of: &AsOf) -> Option<u64> {
     let mut found = 0u64;
     for n in 0..size / 20 {
         let id = u128::from(scramble(n, size / 2));
-        let row = made.index.get(reader, Kind::Association, id, date, 1).ok()?;
+        let row = made.index.get(reader, Kind::Association, id, *as_of).ok()?;
         found = found.wrapping_add(u64::from(row.is_some()));
     }
     Some(found)
@@ -146,14 +146,14 @@ fn turn_pages(
     reader: &mut OneRow,
     size: u64,
     limit: u32,
-    date: EffectiveTime,
+    as_of: &AsOf,
 ) -> Option<u64> {
     let mut rows = 0u64;
     for n in 0..100u64 {
         let after = Some(u128::from(scramble(n, size / 4)));
         let page = made
             .index
-            .page(reader, Kind::Association, date, after, limit, 1);
+            .page(reader, Kind::Association, *as_of, after, limit);
         rows = rows.wrapping_add(page.ok()?.len() as u64);
     }
     Some(rows)
@@ -165,11 +165,10 @@ fn search(
     made: &Made,
     reader: &mut OneRow,
     limit: u32,
-    time: EffectiveTime,
+    as_of: &AsOf,
 ) -> Option<u64> {
     let wanted = Search {
-        time,
-        pin: 1,
+        as_of: *as_of,
         after: None,
         limit,
     };
@@ -182,9 +181,9 @@ fn search(
 }
 
 /// How many children the root has.
-fn count_children(alloc: Global, made: &Made, date: EffectiveTime) -> Option<u64> {
+fn count_children(alloc: Global, made: &Made, as_of: &AsOf) -> Option<u64> {
     let root = Sctid::of(ROOT)?;
-    let ids = children(alloc, &made.links, &made.index, root, date, 1);
+    let ids = children(alloc, &made.links, &made.index, root, *as_of);
     Some(ids.ok()?.len() as u64)
 }
 
@@ -193,23 +192,26 @@ fn count_about(
     alloc: Global,
     made: &Made,
     reader: &mut OneRow,
-    date: EffectiveTime,
+    as_of: &AsOf,
 ) -> Option<u64> {
     let root = Sctid::of(ROOT)?;
     let kind = Kind::Description;
-    let rows = about(alloc, &made.links, &made.index, reader, kind, root, date, 1);
+    let rows = about(alloc, &made.links, &made.index, reader, kind, root, *as_of);
     Some(rows.ok()?.len() as u64)
 }
 
 /// How many rows or ids are found.
 fn ask(alloc: Global, made: &Made, reader: &mut OneRow, question: Question) -> Option<u64> {
-    let date = EffectiveTime::of(DATE)?;
+    let as_of = AsOf {
+        date: EffectiveTime::of(DATE)?,
+        pin: 1,
+    };
     match question {
-        Question::Gets(size) => get_each(made, reader, size, date),
-        Question::Pages(size, limit) => turn_pages(made, reader, size, limit, date),
-        Question::Searches(limit) => search(alloc, made, reader, limit, date),
-        Question::Children => count_children(alloc, made, date),
-        Question::About => count_about(alloc, made, reader, date),
+        Question::Gets(size) => get_each(made, reader, size, &as_of),
+        Question::Pages(size, limit) => turn_pages(made, reader, size, limit, &as_of),
+        Question::Searches(limit) => search(alloc, made, reader, limit, &as_of),
+        Question::Children => count_children(alloc, made, &as_of),
+        Question::About => count_about(alloc, made, reader, &as_of),
     }
 }
 

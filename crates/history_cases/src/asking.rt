@@ -29,7 +29,7 @@ use crate::index_questions::{Request, ask_index, count_reads, rows_found};
 use crate::indexed::{Indexed, by_date, list_of, lists_of, spread};
 use crate::plain_questions::ask_plainly;
 use crate::turns::{merge_posted, take_in_turns};
-use as_of_index::Hints;
+use as_of_index::{AsOf, Hints};
 use case_files::{Answer, NoAnswer, unquoted};
 use case_values::{day_of, first_word, kind_of, number, read_question, split_prefix};
 use history_model::StampedRow;
@@ -246,10 +246,14 @@ impl Examples {
         let (pin, words) = first_word(words)?;
         let (kind, words) = first_word(words)?;
         let (id, date) = first_word(words)?;
-        let (kind, id, date, pin) = (kind_of(kind)?, number(id)?, day_of(date)?, number(pin)?);
+        let (kind, id) = (kind_of(kind)?, number(id)?);
+        let as_of = AsOf {
+            date: day_of(date)?,
+            pin: number(pin)?,
+        };
         let found = match (word, &mut self.hints) {
-            ("hinted", Some(hints)) => made.index.place_from_hints(hints, kind, id, date, pin),
-            ("place", _) => made.index.place_at(kind, id, date, pin),
+            ("hinted", Some(hints)) => made.index.place_from_hints(hints, kind, id, as_of),
+            ("place", _) => made.index.place_at(kind, id, as_of),
             _ => return Err(NoAnswer::NoQuestion),
         };
         match found {
@@ -268,9 +272,11 @@ impl Examples {
         let (row, words) = first_word(words)?;
         let (date, pin) = first_word(words)?;
         let (list, row): (usize, u32) = (number(list)?, number(row)?);
-        let current = made
-            .index
-            .current_at(list, row, day_of(date)?, number(pin)?);
+        let as_of = AsOf {
+            date: day_of(date)?,
+            pin: number(pin)?,
+        };
+        let current = made.index.current_at(list, row, as_of);
         match (made.index.id_at(list, row), current) {
             (None, None) => Ok(String::from_str(self.alloc, "none")?),
             (Some(id), None) => Ok(format!(in self.alloc; "{id}")?),

@@ -2,14 +2,14 @@
 
 use crate::indexed::Indexed;
 use crate::spelled::{spell_dates, spell_ids, spell_rows};
-use as_of_index::{ReadFault, RowReader};
+use as_of_index::{AsOf, ReadFault, RowReader};
 use case_files::{Answer, NoAnswer};
 use case_values::Question;
 use links::{
     about, ancestors, called, children, descendants, members, replacements, replaces, timeline,
     values,
 };
-use rf2_values::{EffectiveTime, Row};
+use rf2_values::Row;
 use std::alloc::{AllocError, Global};
 use term_prefix::{Search, find};
 
@@ -44,12 +44,11 @@ fn search<R: RowReader>(
     made: &Indexed,
     reader: &mut R,
     prefix: &str,
-    (time, pin): (EffectiveTime, u32),
+    as_of: AsOf,
     (after, limit): (Option<u128>, u32),
 ) -> Result<Vec<Row>, ReadFault> {
     let asked = Search {
-        time,
-        pin,
+        as_of,
         after,
         limit,
     };
@@ -67,34 +66,34 @@ pub fn rows_found<R: RowReader>(
     let (links, index) = (&made.links, &made.index);
     let Request { question, pin } = request;
     match question {
-        Question::Get(kind, id, date) => rows_of(alloc, index.get(reader, kind, id, date, pin)?),
+        Question::Get(kind, id, date) => rows_of(alloc, index.get(reader, kind, id, AsOf { date, pin })?),
         Question::Versions(kind, id) => index.history(reader, kind, id, pin),
         Question::Page(kind, date, after, limit) => {
-            index.page(reader, kind, date, after, limit, pin)
+            index.page(reader, kind, AsOf { date, pin }, after, limit)
         }
         Question::Delta(kind, from, date, after, limit) => {
-            index.delta(reader, kind, from, date, after, limit, pin)
+            index.delta(reader, kind, from, AsOf { date, pin }, after, limit)
         }
-        Question::Replacements(id, time) => {
-            replacements(alloc, links, index, reader, id, time, pin)
+        Question::Replacements(id, date) => {
+            replacements(alloc, links, index, reader, id, AsOf { date, pin })
         }
-        Question::Replaces(id, time) => replaces(alloc, links, index, reader, id, time, pin),
-        Question::About(kind, id, time) => about(alloc, links, index, reader, kind, id, time, pin),
+        Question::Replaces(id, date) => replaces(alloc, links, index, reader, id, AsOf { date, pin }),
+        Question::About(kind, id, date) => about(alloc, links, index, reader, kind, id, AsOf { date, pin }),
         Question::Timeline(kind, id) => timeline(alloc, links, index, reader, kind, id, pin),
-        Question::Members(refset, time, after, limit) => {
-            members(alloc, links, index, reader, refset, time, after, limit, pin)
+        Question::Members(refset, date, after, limit) => {
+            members(alloc, links, index, reader, refset, AsOf { date, pin }, after, limit)
         }
-        Question::Values(refset, time, after, limit) => {
-            values(alloc, links, index, reader, refset, time, after, limit, pin)
+        Question::Values(refset, date, after, limit) => {
+            values(alloc, links, index, reader, refset, AsOf { date, pin }, after, limit)
         }
-        Question::Called(id, time, refset) => {
-            called(alloc, links, index, reader, id, time, refset, pin)
+        Question::Called(id, date, refset) => {
+            called(alloc, links, index, reader, id, AsOf { date, pin }, refset)
         }
-        Question::Terms(time, limit) => {
-            search(alloc, made, reader, prefix, (time, pin), (None, limit))
+        Question::Terms(date, limit) => {
+            search(alloc, made, reader, prefix, AsOf { date, pin }, (None, limit))
         }
-        Question::Search(time, after, limit) => {
-            search(alloc, made, reader, prefix, (time, pin), (after, limit))
+        Question::Search(date, after, limit) => {
+            search(alloc, made, reader, prefix, AsOf { date, pin }, (after, limit))
         }
         Question::Children(_, _)
         | Question::Descendants(_, _)
@@ -131,9 +130,9 @@ fn concepts_found<R: RowReader>(
     let (links, index) = (&made.links, &made.index);
     let Request { question, pin } = request;
     match question {
-        Question::Children(id, date) => Ok(children(alloc, links, index, id, date, pin)?),
-        Question::Descendants(id, date) => descendants(alloc, links, index, id, date, pin),
-        Question::Ancestors(id, date) => ancestors(alloc, links, index, reader, id, date, pin),
+        Question::Children(id, date) => Ok(children(alloc, links, index, id, AsOf { date, pin })?),
+        Question::Descendants(id, date) => descendants(alloc, links, index, id, AsOf { date, pin }),
+        Question::Ancestors(id, date) => ancestors(alloc, links, index, reader, id, AsOf { date, pin }),
         _ => Ok(Vec::new(alloc)),
     }
 }

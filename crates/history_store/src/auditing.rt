@@ -6,6 +6,7 @@ ghost use Rattle.std.specs.Prelude.{◌≡◌, ◌≤◌};
 use crate::reading::DiskRows;
 use crate::refusal::Refusal;
 use crate::store::Store;
+use as_of_index::AsOf;
 use disk_model::Disk;
 use links::{ancestors, descendants, replaces, timeline};
 use rf2_rows::{EffectiveTime, Kind, Row, Sctid};
@@ -21,12 +22,11 @@ impl<D: Disk> Store<D> {
     pub fn descendants(
         &mut self,
         id: Sctid,
-        time: EffectiveTime,
-        pin: u32,
+        as_of: AsOf,
     ) -> Result<Vec<u64>, Refusal>
-        requires { pin ≤ self.old.history.imports }
-        ensures answer { IsIndexQuery result (λ ids rows. AreDescendants id time rows ids.items) pin
-            self.old self.new }
+        requires { as_of.pin ≤ self.old.history.imports }
+        ensures answer { IsIndexQuery result (λ ids rows. AreDescendants id as_of.date rows
+            ids.items) as_of.pin self.old self.new }
     {
         if self.needs_reopen {
             return Err(Refusal::ReopenNeeded);
@@ -36,8 +36,7 @@ impl<D: Disk> Store<D> {
             self.index.links(),
             self.index.places(),
             id,
-            time,
-            pin,
+            as_of,
         )?;
         Ok(found)
     }
@@ -48,11 +47,10 @@ impl<D: Disk> Store<D> {
     pub fn ancestors(
         &mut self,
         id: Sctid,
-        time: EffectiveTime,
-        pin: u32,
+        as_of: AsOf,
     ) -> Result<Vec<u64>, Refusal>
-        requires { pin ≤ self.old.history.imports }
-        ensures answer { IsAncestorsQuery result (λ ids. ids.items) id time pin
+        requires { as_of.pin ≤ self.old.history.imports }
+        ensures answer { IsAncestorsQuery result (λ ids. ids.items) id as_of.date as_of.pin
             D.is_honest D.moments D.failures D.bytes_read D.other_calls self.old self.new }
     {
         if self.needs_reopen {
@@ -70,8 +68,7 @@ impl<D: Disk> Store<D> {
             self.index.places(),
             &mut reader,
             id,
-            time,
-            pin,
+            as_of,
         );
         self.answered(read)
     }
@@ -81,11 +78,10 @@ impl<D: Disk> Store<D> {
     pub fn replaces(
         &mut self,
         id: Sctid,
-        time: EffectiveTime,
-        pin: u32,
+        as_of: AsOf,
     ) -> Result<Vec<Row>, Refusal>
-        requires { pin ≤ self.old.history.imports }
-        ensures answer { IsRowsQuery result (λ rows. rows.items) (replaces id time) pin
+        requires { as_of.pin ≤ self.old.history.imports }
+        ensures answer { IsRowsQuery result (λ rows. rows.items) (replaces id as_of.date) as_of.pin
             D.is_honest D.moments D.failures D.bytes_read D.other_calls self.old self.new }
     {
         if self.needs_reopen {
@@ -103,8 +99,7 @@ impl<D: Disk> Store<D> {
             self.index.places(),
             &mut reader,
             id,
-            time,
-            pin,
+            as_of,
         );
         self.answered(read)
     }
@@ -143,14 +138,14 @@ impl<D: Disk> Store<D> {
         &mut self,
         kind: Kind,
         from: EffectiveTime,
-        time: EffectiveTime,
+        as_of: AsOf,
         after: Option<u128>,
         limit: u32,
-        pin: u32,
     ) -> Result<Vec<Row>, Refusal>
-        requires { pin ≤ self.old.history.imports }
-        ensures answer { IsRowsQuery result (λ rows. rows.items) (delta kind from time after limit)
-            pin D.is_honest D.moments D.failures D.bytes_read D.other_calls self.old self.new }
+        requires { as_of.pin ≤ self.old.history.imports }
+        ensures answer { IsRowsQuery result (λ rows. rows.items)
+            (delta kind from as_of.date after limit) as_of.pin D.is_honest D.moments D.failures
+            D.bytes_read D.other_calls self.old self.new }
     {
         if self.needs_reopen {
             return Err(Refusal::ReopenNeeded);
@@ -164,7 +159,7 @@ impl<D: Disk> Store<D> {
         let read = self
             .index
             .places()
-            .delta(&mut reader, kind, from, time, after, limit, pin);
+            .delta(&mut reader, kind, from, as_of, after, limit);
         self.answered(read)
     }
 

@@ -32,6 +32,7 @@ mod store;
 mod taken_blocks;
 mod upgrading;
 
+pub use as_of_index::AsOf;
 pub use directory::Layout;
 pub use history_model::{ImportReceipt, Receipt};
 pub use refusal::Refusal;

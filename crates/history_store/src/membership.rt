@@ -6,9 +6,10 @@ ghost use Rattle.std.specs.Prelude.{◌≡◌, ◌≤◌};
 use crate::reading::DiskRows;
 use crate::refusal::Refusal;
 use crate::store::Store;
+use as_of_index::AsOf;
 use disk_model::Disk;
 use links::{called, members, values};
-use rf2_rows::{EffectiveTime, Row, Sctid};
+use rf2_rows::{Row, Sctid};
 
 impl<D: Disk> Store<D> {
     ghost use Rattle.history_model.specs.Queries.{members, values, called};
@@ -19,14 +20,14 @@ impl<D: Disk> Store<D> {
     pub fn members(
         &mut self,
         refset: Sctid,
-        time: EffectiveTime,
+        as_of: AsOf,
         after: Option<u128>,
         limit: u32,
-        pin: u32,
     ) -> Result<Vec<Row>, Refusal>
-        requires { pin ≤ self.old.history.imports }
-        ensures answer { IsRowsQuery result (λ rows. rows.items) (members refset time after limit)
-            pin D.is_honest D.moments D.failures D.bytes_read D.other_calls self.old self.new }
+        requires { as_of.pin ≤ self.old.history.imports }
+        ensures answer { IsRowsQuery result (λ rows. rows.items)
+            (members refset as_of.date after limit) as_of.pin D.is_honest D.moments D.failures
+            D.bytes_read D.other_calls self.old self.new }
     {
         if self.needs_reopen {
             return Err(Refusal::ReopenNeeded);
@@ -43,10 +44,9 @@ impl<D: Disk> Store<D> {
             self.index.places(),
             &mut reader,
             refset,
-            time,
+            as_of,
             after,
             limit,
-            pin,
         );
         self.answered(read)
     }
@@ -57,14 +57,14 @@ impl<D: Disk> Store<D> {
     pub fn values(
         &mut self,
         refset: Sctid,
-        time: EffectiveTime,
+        as_of: AsOf,
         after: Option<u64>,
         limit: u32,
-        pin: u32,
     ) -> Result<Vec<Row>, Refusal>
-        requires { pin ≤ self.old.history.imports }
-        ensures answer { IsRowsQuery result (λ rows. rows.items) (values refset time after limit)
-            pin D.is_honest D.moments D.failures D.bytes_read D.other_calls self.old self.new }
+        requires { as_of.pin ≤ self.old.history.imports }
+        ensures answer { IsRowsQuery result (λ rows. rows.items)
+            (values refset as_of.date after limit) as_of.pin D.is_honest D.moments D.failures
+            D.bytes_read D.other_calls self.old self.new }
     {
         if self.needs_reopen {
             return Err(Refusal::ReopenNeeded);
@@ -81,10 +81,9 @@ impl<D: Disk> Store<D> {
             self.index.places(),
             &mut reader,
             refset,
-            time,
+            as_of,
             after,
             limit,
-            pin,
         );
         self.answered(read)
     }
@@ -95,13 +94,13 @@ impl<D: Disk> Store<D> {
     pub fn called(
         &mut self,
         concept: Sctid,
-        time: EffectiveTime,
+        as_of: AsOf,
         refset: Sctid,
-        pin: u32,
     ) -> Result<Vec<Row>, Refusal>
-        requires { pin ≤ self.old.history.imports }
-        ensures answer { IsRowsQuery result (λ rows. rows.items) (called concept time refset)
-            pin D.is_honest D.moments D.failures D.bytes_read D.other_calls self.old self.new }
+        requires { as_of.pin ≤ self.old.history.imports }
+        ensures answer { IsRowsQuery result (λ rows. rows.items) (called concept as_of.date refset)
+            as_of.pin D.is_honest D.moments D.failures D.bytes_read D.other_calls self.old
+            self.new }
     {
         if self.needs_reopen {
             return Err(Refusal::ReopenNeeded);
@@ -118,9 +117,8 @@ impl<D: Disk> Store<D> {
             self.index.places(),
             &mut reader,
             concept,
-            time,
+            as_of,
             refset,
-            pin,
         );
         self.answered(read)
     }

@@ -6,11 +6,11 @@ use crate::brought::receipt_of;
 use crate::reading::DiskRows;
 use crate::refusal::Refusal;
 use crate::store::Store;
-use as_of_index::ReadFault;
+use as_of_index::{AsOf, ReadFault};
 use disk_model::Disk;
 use history_model::ImportReceipt;
 use links::{about, children, replacements};
-use rf2_rows::{EffectiveTime, Kind, Row, Sctid};
+use rf2_rows::{Kind, Row, Sctid};
 use term_prefix::{Search, find};
 
 impl<D: Disk> Store<D> {
@@ -47,17 +47,16 @@ impl<D: Disk> Store<D> {
         }
     }
 
-    /// The component's row at the date, as the first `pin` imports show it.
+    /// The component's row at the date, as the imports that the pin shows have it.
     pub fn get(
         &mut self,
         kind: Kind,
         id: u128,
-        time: EffectiveTime,
-        pin: u32,
+        as_of: AsOf,
     ) -> Result<Option<Row>, Refusal>
-        requires { pin ≤ self.old.history.imports }
+        requires { as_of.pin ≤ self.old.history.imports }
         ensures answer { IsRowsQuery result option_to_list
-            (λ rows. option_to_list (get kind id time rows)) pin
+            (λ rows. option_to_list (get kind id as_of.date rows)) as_of.pin
             D.is_honest D.moments D.failures D.bytes_read D.other_calls self.old self.new }
     {
         if self.needs_reopen {
@@ -69,7 +68,7 @@ impl<D: Disk> Store<D> {
             &self.directory,
             &self.index,
         );
-        let read = self.index.places().get(&mut reader, kind, id, time, pin);
+        let read = self.index.places().get(&mut reader, kind, id, as_of);
         self.answered(read)
     }
 
@@ -97,14 +96,14 @@ impl<D: Disk> Store<D> {
     pub fn page(
         &mut self,
         kind: Kind,
-        time: EffectiveTime,
+        as_of: AsOf,
         after: Option<u128>,
         limit: u32,
-        pin: u32,
     ) -> Result<Vec<Row>, Refusal>
-        requires { pin ≤ self.old.history.imports }
-        ensures answer { IsRowsQuery result (λ rows. rows.items) (page kind time after limit) pin
-            D.is_honest D.moments D.failures D.bytes_read D.other_calls self.old self.new }
+        requires { as_of.pin ≤ self.old.history.imports }
+        ensures answer { IsRowsQuery result (λ rows. rows.items) (page kind as_of.date after limit)
+            as_of.pin D.is_honest D.moments D.failures D.bytes_read D.other_calls self.old
+            self.new }
     {
         if self.needs_reopen {
             return Err(Refusal::ReopenNeeded);
@@ -118,7 +117,7 @@ impl<D: Disk> Store<D> {
         let read = self
             .index
             .places()
-            .page(&mut reader, kind, time, after, limit, pin);
+            .page(&mut reader, kind, as_of, after, limit);
         self.answered(read)
     }
 
@@ -128,12 +127,12 @@ impl<D: Disk> Store<D> {
         &mut self,
         kind: Kind,
         id: Sctid,
-        time: EffectiveTime,
-        pin: u32,
+        as_of: AsOf,
     ) -> Result<Vec<Row>, Refusal>
-        requires { pin ≤ self.old.history.imports }
-        ensures answer { IsRowsQuery result (λ rows. rows.items) (about kind id time) pin
-            D.is_honest D.moments D.failures D.bytes_read D.other_calls self.old self.new }
+        requires { as_of.pin ≤ self.old.history.imports }
+        ensures answer { IsRowsQuery result (λ rows. rows.items) (about kind id as_of.date)
+            as_of.pin D.is_honest D.moments D.failures D.bytes_read D.other_calls self.old
+            self.new }
     {
         if self.needs_reopen {
             return Err(Refusal::ReopenNeeded);
@@ -151,8 +150,7 @@ impl<D: Disk> Store<D> {
             &mut reader,
             kind,
             id,
-            time,
-            pin,
+            as_of,
         );
         self.answered(read)
     }
@@ -162,14 +160,13 @@ impl<D: Disk> Store<D> {
     pub fn search(
         &mut self,
         prefix: &str,
-        time: EffectiveTime,
+        as_of: AsOf,
         after: Option<u128>,
         limit: u32,
-        pin: u32,
     ) -> Result<Vec<Row>, Refusal>
-        requires { pin ≤ self.old.history.imports }
+        requires { as_of.pin ≤ self.old.history.imports }
         ensures answer { IsRowsQuery result (λ rows. rows.items)
-            (search_terms prefix.now time after limit) pin
+            (search_terms prefix.now as_of.date after limit) as_of.pin
             D.is_honest D.moments D.failures D.bytes_read D.other_calls self.old self.new }
     {
         if self.needs_reopen {
@@ -188,8 +185,7 @@ impl<D: Disk> Store<D> {
             &mut reader,
             prefix,
             &Search {
-                time,
-                pin,
+                as_of,
                 after,
                 limit,
             },
@@ -202,15 +198,15 @@ impl<D: Disk> Store<D> {
     pub fn terms(
         &mut self,
         prefix: &str,
-        time: EffectiveTime,
+        as_of: AsOf,
         limit: u32,
-        pin: u32,
     ) -> Result<Vec<Row>, Refusal>
-        requires { pin ≤ self.old.history.imports }
-        ensures answer { IsRowsQuery result (λ rows. rows.items) (terms prefix.now time limit) pin
-            D.is_honest D.moments D.failures D.bytes_read D.other_calls self.old self.new }
+        requires { as_of.pin ≤ self.old.history.imports }
+        ensures answer { IsRowsQuery result (λ rows. rows.items) (terms prefix.now as_of.date limit)
+            as_of.pin D.is_honest D.moments D.failures D.bytes_read D.other_calls self.old
+            self.new }
     {
-        self.search(prefix, time, None, limit, pin)
+        self.search(prefix, as_of, None, limit)
     }
 
     /// The sources of the active relationships of the type "is a" to a concept, ascending.
@@ -218,12 +214,11 @@ impl<D: Disk> Store<D> {
     pub fn children(
         &mut self,
         id: Sctid,
-        time: EffectiveTime,
-        pin: u32,
+        as_of: AsOf,
     ) -> Result<Vec<u64>, Refusal>
-        requires { pin ≤ self.old.history.imports }
-        ensures answer { IsIndexQuery result (λ ids rows. ids.items ≡ children id time rows) pin
-            self.old self.new }
+        requires { as_of.pin ≤ self.old.history.imports }
+        ensures answer { IsIndexQuery result (λ ids rows. ids.items ≡ children id as_of.date rows)
+            as_of.pin self.old self.new }
     {
         if self.needs_reopen {
             return Err(Refusal::ReopenNeeded);
@@ -233,8 +228,7 @@ impl<D: Disk> Store<D> {
             self.index.links(),
             self.index.places(),
             id,
-            time,
-            pin,
+            as_of,
         )?;
         Ok(found)
     }
@@ -243,12 +237,12 @@ impl<D: Disk> Store<D> {
     pub fn replacements(
         &mut self,
         id: Sctid,
-        time: EffectiveTime,
-        pin: u32,
+        as_of: AsOf,
     ) -> Result<Vec<Row>, Refusal>
-        requires { pin ≤ self.old.history.imports }
-        ensures answer { IsRowsQuery result (λ rows. rows.items) (replacements id time) pin
-            D.is_honest D.moments D.failures D.bytes_read D.other_calls self.old self.new }
+        requires { as_of.pin ≤ self.old.history.imports }
+        ensures answer { IsRowsQuery result (λ rows. rows.items) (replacements id as_of.date)
+            as_of.pin D.is_honest D.moments D.failures D.bytes_read D.other_calls self.old
+            self.new }
     {
         if self.needs_reopen {
             return Err(Refusal::ReopenNeeded);
@@ -265,8 +259,7 @@ impl<D: Disk> Store<D> {
             self.index.places(),
             &mut reader,
             id,
-            time,
-            pin,
+            as_of,
         );
         self.answered(read)
     }

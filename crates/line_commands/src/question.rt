@@ -10,7 +10,7 @@ pub enum Question<'a> {
     Get {
         kind: Kind,
         id: u128,
-        time: EffectiveTime,
+        date: EffectiveTime,
     },
     /// All versions of a component.
     History {
@@ -20,48 +20,48 @@ pub enum Question<'a> {
     /// The concepts with an "is a" relationship to a concept on a date.
     Children {
         concept: Sctid,
-        time: EffectiveTime,
+        date: EffectiveTime,
     },
     /// The concepts that one or more "is a" relationships lead to from a concept on a date.
     Ancestors {
         concept: Sctid,
-        time: EffectiveTime,
+        date: EffectiveTime,
     },
     /// The concepts from which one or more "is a" relationships lead to a concept on a date.
     Descendants {
         concept: Sctid,
-        time: EffectiveTime,
+        date: EffectiveTime,
     },
     /// The descriptions whose terms begin with a prefix on a date.
     Terms {
         prefix: &'a str,
-        time: EffectiveTime,
+        date: EffectiveTime,
         limit: u32,
     },
     /// The descriptions whose terms begin with a prefix on a date, by identifier,
     /// from the one after `after`.
     Search {
         prefix: &'a str,
-        time: EffectiveTime,
+        date: EffectiveTime,
         after: Option<u128>,
         limit: u32,
     },
     /// The active associations of a component on a date: what replaces it, or may replace it.
     Replaced {
         id: Sctid,
-        time: EffectiveTime,
+        date: EffectiveTime,
     },
     /// The active associations on a date whose target is a component: what it replaces, or may
     /// replace.
     Replaces {
         id: Sctid,
-        time: EffectiveTime,
+        date: EffectiveTime,
     },
     /// The rows of a kind that are about a component on a date.
     About {
         kind: Kind,
         id: Sctid,
-        time: EffectiveTime,
+        date: EffectiveTime,
     },
     /// All versions of the components of a kind that were ever about a component.
     Timeline {
@@ -72,7 +72,7 @@ pub enum Question<'a> {
     /// `after`.
     Page {
         kind: Kind,
-        time: EffectiveTime,
+        date: EffectiveTime,
         after: Option<u128>,
         limit: u32,
     },
@@ -81,7 +81,7 @@ pub enum Question<'a> {
     Delta {
         kind: Kind,
         from: EffectiveTime,
-        time: EffectiveTime,
+        date: EffectiveTime,
         after: Option<u128>,
         limit: u32,
     },
@@ -89,7 +89,7 @@ pub enum Question<'a> {
     /// `after`.
     Members {
         refset: Sctid,
-        time: EffectiveTime,
+        date: EffectiveTime,
         after: Option<u128>,
         limit: u32,
     },
@@ -97,7 +97,7 @@ pub enum Question<'a> {
     /// the component after `after`.
     Values {
         refset: Sctid,
-        time: EffectiveTime,
+        date: EffectiveTime,
         after: Option<u64>,
         limit: u32,
     },
@@ -105,7 +105,7 @@ pub enum Question<'a> {
     /// set, each with its members.
     Called {
         concept: Sctid,
-        time: EffectiveTime,
+        date: EffectiveTime,
         refset: Sctid,
     },
     /// The effective times of all rows.

@@ -23,10 +23,10 @@ fn concept_and_date(text: &[u8]) -> Option<(Sctid, EffectiveTime)>
         ((c t : ℕ) → IsConcept c → IsTime t → text.now ≢ decimal c ++ 32 ∷ decimal t)
         (λ x. IsConcept x.0 × IsTime x.1 × (text.now ≡ decimal x.0 ++ 32 ∷ decimal x.1)) }
 {
-    let (concept, time) = cut(text)?;
+    let (concept, day) = cut(text)?;
     let concept = sctid_of(concept, Class::Concept)?;
-    let time = date(time)?;
-    Some((concept, time))
+    let date = date(day)?;
+    Some((concept, date))
 }
 
 /// A component and a date.
@@ -35,20 +35,20 @@ fn component_and_date(text: &[u8]) -> Option<(Sctid, EffectiveTime)>
         ((n t : ℕ) → IsComponent n → IsTime t → text.now ≢ decimal n ++ 32 ∷ decimal t)
         (λ x. IsComponent x.0 × IsTime x.1 × (text.now ≡ decimal x.0 ++ 32 ∷ decimal x.1)) }
 {
-    let (id, time) = cut(text)?;
+    let (id, day) = cut(text)?;
     let id = component(id)?;
-    let time = date(time)?;
-    Some((id, time))
+    let date = date(day)?;
+    Some((id, date))
 }
 
 fn get(text: &[u8]) -> Option<Question<'_>>
     ensures { IsQuestionReadAs (codes "GET") (Some text.now) result }
 {
-    let (letter, id, time) = cut_twice(text)?;
+    let (letter, id, day) = cut_twice(text)?;
     let kind = kind(letter)?;
     let id = identifier(kind, id)?;
-    let time = date(time)?;
-    Some(Question::Get { kind, id, time })
+    let date = date(day)?;
+    Some(Question::Get { kind, id, date })
 }
 
 fn history(text: &[u8]) -> Option<Question<'_>>
@@ -63,34 +63,34 @@ fn history(text: &[u8]) -> Option<Question<'_>>
 fn children(text: &[u8]) -> Option<Question<'_>>
     ensures { IsQuestionReadAs (codes "CHILDREN") (Some text.now) result }
 {
-    let (concept, time) = concept_and_date(text)?;
-    Some(Question::Children { concept, time })
+    let (concept, date) = concept_and_date(text)?;
+    Some(Question::Children { concept, date })
 }
 
 fn ancestors(text: &[u8]) -> Option<Question<'_>>
     ensures { IsQuestionReadAs (codes "ANCESTORS") (Some text.now) result }
 {
-    let (concept, time) = concept_and_date(text)?;
-    Some(Question::Ancestors { concept, time })
+    let (concept, date) = concept_and_date(text)?;
+    Some(Question::Ancestors { concept, date })
 }
 
 fn descendants(text: &[u8]) -> Option<Question<'_>>
     ensures { IsQuestionReadAs (codes "DESCENDANTS") (Some text.now) result }
 {
-    let (concept, time) = concept_and_date(text)?;
-    Some(Question::Descendants { concept, time })
+    let (concept, date) = concept_and_date(text)?;
+    Some(Question::Descendants { concept, date })
 }
 
 fn terms(text: &[u8]) -> Option<Question<'_>>
     ensures { IsQuestionReadAs (codes "TERMS") (Some text.now) result }
 {
-    let (time, most, rest) = cut_twice(text)?;
-    let time = date(time)?;
+    let (day, most, rest) = cut_twice(text)?;
+    let date = date(day)?;
     let limit = limit(most, MOST_ROWS)?;
     let prefix = prefix(rest)?;
     Some(Question::Terms {
         prefix,
-        time,
+        date,
         limit,
     })
 }
@@ -98,15 +98,15 @@ fn terms(text: &[u8]) -> Option<Question<'_>>
 fn search(text: &[u8]) -> Option<Question<'_>>
     ensures { IsQuestionReadAs (codes "SEARCH") (Some text.now) result }
 {
-    let (time, from, rest) = cut_twice(text)?;
+    let (day, from, rest) = cut_twice(text)?;
     let (most, rest) = cut(rest)?;
-    let time = date(time)?;
+    let date = date(day)?;
     let after = after(Kind::Description, from)?;
     let limit = limit(most, MOST_ROWS)?;
     let prefix = prefix(rest)?;
     Some(Question::Search {
         prefix,
-        time,
+        date,
         after,
         limit,
     })
@@ -115,25 +115,25 @@ fn search(text: &[u8]) -> Option<Question<'_>>
 fn replaced(text: &[u8]) -> Option<Question<'_>>
     ensures { IsQuestionReadAs (codes "REPLACED") (Some text.now) result }
 {
-    let (id, time) = component_and_date(text)?;
-    Some(Question::Replaced { id, time })
+    let (id, date) = component_and_date(text)?;
+    Some(Question::Replaced { id, date })
 }
 
 fn replaces(text: &[u8]) -> Option<Question<'_>>
     ensures { IsQuestionReadAs (codes "REPLACES") (Some text.now) result }
 {
-    let (id, time) = component_and_date(text)?;
-    Some(Question::Replaces { id, time })
+    let (id, date) = component_and_date(text)?;
+    Some(Question::Replaces { id, date })
 }
 
 fn about(text: &[u8]) -> Option<Question<'_>>
     ensures { IsQuestionReadAs (codes "ABOUT") (Some text.now) result }
 {
-    let (letter, id, time) = cut_twice(text)?;
+    let (letter, id, day) = cut_twice(text)?;
     let kind = kind(letter)?;
     let id = subject(kind, id)?;
-    let time = date(time)?;
-    Some(Question::About { kind, id, time })
+    let date = date(day)?;
+    Some(Question::About { kind, id, date })
 }
 
 fn timeline(text: &[u8]) -> Option<Question<'_>>
@@ -148,15 +148,15 @@ fn timeline(text: &[u8]) -> Option<Question<'_>>
 fn page(text: &[u8]) -> Option<Question<'_>>
     ensures { IsQuestionReadAs (codes "PAGE") (Some text.now) result }
 {
-    let (letter, time, rest) = cut_twice(text)?;
+    let (letter, day, rest) = cut_twice(text)?;
     let (from, count) = cut(rest)?;
     let kind = kind(letter)?;
-    let time = date(time)?;
+    let date = date(day)?;
     let after = after(kind, from)?;
     let limit = limit(count, MOST_ROWS)?;
     Some(Question::Page {
         kind,
-        time,
+        date,
         after,
         limit,
     })
@@ -166,16 +166,16 @@ fn delta(text: &[u8]) -> Option<Question<'_>>
     ensures { IsQuestionReadAs (codes "DELTA") (Some text.now) result }
 {
     let (letter, from, rest) = cut_twice(text)?;
-    let (time, last, count) = cut_twice(rest)?;
+    let (day, last, count) = cut_twice(rest)?;
     let kind = kind(letter)?;
     let from = date(from)?;
-    let time = date(time)?;
+    let date = date(day)?;
     let after = after(kind, last)?;
     let limit = limit(count, MOST_ROWS)?;
     Some(Question::Delta {
         kind,
         from,
-        time,
+        date,
         after,
         limit,
     })
@@ -184,14 +184,14 @@ fn delta(text: &[u8]) -> Option<Question<'_>>
 fn members(text: &[u8]) -> Option<Question<'_>>
     ensures { IsQuestionReadAs (codes "MEMBERS") (Some text.now) result }
 {
-    let (refset, time, from, count) = cut_thrice(text)?;
+    let (refset, day, from, count) = cut_thrice(text)?;
     let refset = sctid_of(refset, Class::Concept)?;
-    let time = date(time)?;
+    let date = date(day)?;
     let after = after(Kind::Member, from)?;
     let limit = limit(count, MOST_ROWS)?;
     Some(Question::Members {
         refset,
-        time,
+        date,
         after,
         limit,
     })
@@ -200,14 +200,14 @@ fn members(text: &[u8]) -> Option<Question<'_>>
 fn values(text: &[u8]) -> Option<Question<'_>>
     ensures { IsQuestionReadAs (codes "VALUES") (Some text.now) result }
 {
-    let (set, time, from, count) = cut_thrice(text)?;
+    let (set, day, from, count) = cut_thrice(text)?;
     let refset = sctid_of(set, Class::Concept)?;
-    let time = date(time)?;
+    let date = date(day)?;
     let after = component_after(from)?;
     let limit = limit(count, MOST_ROWS)?;
     Some(Question::Values {
         refset,
-        time,
+        date,
         after,
         limit,
     })
@@ -216,13 +216,13 @@ fn values(text: &[u8]) -> Option<Question<'_>>
 fn called(text: &[u8]) -> Option<Question<'_>>
     ensures { IsQuestionReadAs (codes "CALLED") (Some text.now) result }
 {
-    let (named, time, language) = cut_twice(text)?;
+    let (named, day, language) = cut_twice(text)?;
     let concept = sctid_of(named, Class::Concept)?;
-    let time = date(time)?;
+    let date = date(day)?;
     let refset = sctid_of(language, Class::Concept)?;
     Some(Question::Called {
         concept,
-        time,
+        date,
         refset,
     })
 }

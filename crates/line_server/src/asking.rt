@@ -18,7 +18,7 @@ use crate::refsets::{answer_called, answer_members, answer_values};
 use crate::refusal::LineRefusal;
 use crate::reply::Reply;
 use disk_model::Disk;
-use history_store::Store;
+use history_store::{AsOf, Store};
 use line_commands::Question;
 use std::alloc::Global;
 
@@ -35,58 +35,58 @@ pub(crate) fn ask<D: Disk>(
         (question_of question.now) pin store.old store.new }
 {
     match *question {
-        Question::Get { kind, id, time } => answer_get(alloc, kind, id, time, pin, store),
+        Question::Get { kind, id, date } => answer_get(alloc, kind, id, AsOf { date, pin }, store),
         Question::History { kind, id } => answer_history(alloc, kind, id, pin, store),
-        Question::Children { concept, time } => answer_children(alloc, concept, time, pin, store),
-        Question::Ancestors { concept, time } => answer_ancestors(alloc, concept, time, pin, store),
-        Question::Descendants { concept, time } => {
-            answer_descendants(alloc, concept, time, pin, store)
+        Question::Children { concept, date } => answer_children(alloc, concept, AsOf { date, pin }, store),
+        Question::Ancestors { concept, date } => answer_ancestors(alloc, concept, AsOf { date, pin }, store),
+        Question::Descendants { concept, date } => {
+            answer_descendants(alloc, concept, AsOf { date, pin }, store)
         }
         Question::Terms {
             prefix,
-            time,
+            date,
             limit,
-        } => answer_terms(alloc, prefix, time, limit, pin, store),
+        } => answer_terms(alloc, prefix, AsOf { date, pin }, limit, store),
         Question::Search {
             prefix,
-            time,
+            date,
             after,
             limit,
-        } => answer_search(alloc, prefix, time, after, limit, pin, store),
-        Question::Replaced { id, time } => answer_replaced(alloc, id, time, pin, store),
-        Question::Replaces { id, time } => answer_replaces(alloc, id, time, pin, store),
-        Question::About { kind, id, time } => answer_about(alloc, kind, id, time, pin, store),
+        } => answer_search(alloc, prefix, AsOf { date, pin }, after, limit, store),
+        Question::Replaced { id, date } => answer_replaced(alloc, id, AsOf { date, pin }, store),
+        Question::Replaces { id, date } => answer_replaces(alloc, id, AsOf { date, pin }, store),
+        Question::About { kind, id, date } => answer_about(alloc, kind, id, AsOf { date, pin }, store),
         Question::Timeline { kind, id } => answer_timeline(alloc, kind, id, pin, store),
         Question::Page {
             kind,
-            time,
+            date,
             after,
             limit,
-        } => answer_page(alloc, kind, time, after, limit, pin, store),
+        } => answer_page(alloc, kind, AsOf { date, pin }, after, limit, store),
         Question::Delta {
             kind,
             from,
-            time,
+            date,
             after,
             limit,
-        } => answer_delta(alloc, kind, from, time, after, limit, pin, store),
+        } => answer_delta(alloc, kind, from, AsOf { date, pin }, after, limit, store),
         Question::Members {
             refset,
-            time,
+            date,
             after,
             limit,
-        } => answer_members(alloc, refset, time, after, limit, pin, store),
+        } => answer_members(alloc, refset, AsOf { date, pin }, after, limit, store),
         Question::Values {
             refset,
-            time,
+            date,
             after,
             limit,
-        } => answer_values(alloc, refset, time, after, limit, pin, store),
+        } => answer_values(alloc, refset, AsOf { date, pin }, after, limit, store),
         Question::Called {
             concept,
-            time,
+            date,
             refset,
-        } => answer_called(alloc, concept, time, refset, pin, store),
+        } => answer_called(alloc, concept, AsOf { date, pin }, refset, store),
         Question::Dates => answer_dates(alloc, pin, store),
         Question::Digest => answer_digest(alloc, pin, store),
         Question::Receipt { number } => answer_receipt(alloc, number, pin, store),

@@ -10,7 +10,7 @@ use crate::refusal::LineRefusal;
 use crate::reply::Reply;
 use crate::wording::{reply_dates, reply_digest, reply_ids, reply_rows};
 use disk_model::Disk;
-use history_store::Store;
+use history_store::{AsOf, Store};
 use rf2_rows::{EffectiveTime, Kind, Sctid};
 use std::alloc::Global;
 use store_digest::digest;
@@ -19,15 +19,14 @@ use store_digest::digest;
 pub(crate) fn answer_ancestors<D: Disk>(
     alloc: Global,
     concept: Sctid,
-    time: EffectiveTime,
-    pin: u32,
+    as_of: AsOf,
     store: &mut Store<D>,
 ) -> Result<Reply, LineRefusal>
-    requires { pin ≤ store.old.history.imports }
+    requires { as_of.pin ≤ store.old.history.imports }
     ensures { IsQueried result (device_view D.is_honest D.moments D.failures D.bytes_read)
-        (Ancestors concept time) pin store.old store.new }
+        (Ancestors concept as_of.date) as_of.pin store.old store.new }
 {
-    let found = store.ancestors(concept, time, pin)?;
+    let found = store.ancestors(concept, as_of)?;
     Ok(reply_ids(alloc, &found)?)
 }
 
@@ -35,15 +34,14 @@ pub(crate) fn answer_ancestors<D: Disk>(
 pub(crate) fn answer_descendants<D: Disk>(
     alloc: Global,
     concept: Sctid,
-    time: EffectiveTime,
-    pin: u32,
+    as_of: AsOf,
     store: &mut Store<D>,
 ) -> Result<Reply, LineRefusal>
-    requires { pin ≤ store.old.history.imports }
+    requires { as_of.pin ≤ store.old.history.imports }
     ensures { IsQueried result (device_view D.is_honest D.moments D.failures D.bytes_read)
-        (Descendants concept time) pin store.old store.new }
+        (Descendants concept as_of.date) as_of.pin store.old store.new }
 {
-    let found = store.descendants(concept, time, pin)?;
+    let found = store.descendants(concept, as_of)?;
     Ok(reply_ids(alloc, &found)?)
 }
 
@@ -51,15 +49,14 @@ pub(crate) fn answer_descendants<D: Disk>(
 pub(crate) fn answer_replaces<D: Disk>(
     alloc: Global,
     id: Sctid,
-    time: EffectiveTime,
-    pin: u32,
+    as_of: AsOf,
     store: &mut Store<D>,
 ) -> Result<Reply, LineRefusal>
-    requires { pin ≤ store.old.history.imports }
+    requires { as_of.pin ≤ store.old.history.imports }
     ensures { IsQueried result (device_view D.is_honest D.moments D.failures D.bytes_read)
-        (Replaces id time) pin store.old store.new }
+        (Replaces id as_of.date) as_of.pin store.old store.new }
 {
-    let found = store.replaces(id, time, pin)?;
+    let found = store.replaces(id, as_of)?;
     Ok(reply_rows(alloc, &found)?)
 }
 
@@ -84,17 +81,16 @@ pub(crate) fn answer_delta<D: Disk>(
     alloc: Global,
     kind: Kind,
     from: EffectiveTime,
-    time: EffectiveTime,
+    as_of: AsOf,
     after: Option<u128>,
     limit: u32,
-    pin: u32,
     store: &mut Store<D>,
 ) -> Result<Reply, LineRefusal>
-    requires { pin ≤ store.old.history.imports }
+    requires { as_of.pin ≤ store.old.history.imports }
     ensures { IsQueried result (device_view D.is_honest D.moments D.failures D.bytes_read)
-        (Delta kind from time after limit) pin store.old store.new }
+        (Delta kind from as_of.date after limit) as_of.pin store.old store.new }
 {
-    let found = store.delta(kind, from, time, after, limit, pin)?;
+    let found = store.delta(kind, from, as_of, after, limit)?;
     Ok(reply_rows(alloc, &found)?)
 }
 

@@ -10,8 +10,8 @@ use crate::refusal::LineRefusal;
 use crate::reply::Reply;
 use crate::wording::{reply_ids, reply_receipt, reply_rows};
 use disk_model::Disk;
-use history_store::Store;
-use rf2_rows::{EffectiveTime, Kind, Sctid};
+use history_store::{AsOf, Store};
+use rf2_rows::{Kind, Sctid};
 use std::alloc::Global;
 
 /// What a component looked like on a date.
@@ -19,16 +19,15 @@ pub(crate) fn answer_get<D: Disk>(
     alloc: Global,
     kind: Kind,
     id: u128,
-    time: EffectiveTime,
-    pin: u32,
+    as_of: AsOf,
     store: &mut Store<D>,
 ) -> Result<Reply, LineRefusal>
-    requires { pin ≤ store.old.history.imports }
+    requires { as_of.pin ≤ store.old.history.imports }
     ensures { IsQueried result
-        (device_view D.is_honest D.moments D.failures D.bytes_read) (Get kind id time) pin
-        store.old store.new }
+        (device_view D.is_honest D.moments D.failures D.bytes_read) (Get kind id as_of.date)
+        as_of.pin store.old store.new }
 {
-    let found = store.get(kind, id, time, pin)?;
+    let found = store.get(kind, id, as_of)?;
     Ok(reply_rows(alloc, found.as_slice())?)
 }
 
@@ -53,15 +52,14 @@ pub(crate) fn answer_history<D: Disk>(
 pub(crate) fn answer_children<D: Disk>(
     alloc: Global,
     concept: Sctid,
-    time: EffectiveTime,
-    pin: u32,
+    as_of: AsOf,
     store: &mut Store<D>,
 ) -> Result<Reply, LineRefusal>
-    requires { pin ≤ store.old.history.imports }
+    requires { as_of.pin ≤ store.old.history.imports }
     ensures { IsQueried result (device_view D.is_honest D.moments D.failures D.bytes_read)
-        (Children concept time) pin store.old store.new }
+        (Children concept as_of.date) as_of.pin store.old store.new }
 {
-    let found = store.children(concept, time, pin)?;
+    let found = store.children(concept, as_of)?;
     Ok(reply_ids(alloc, &found)?)
 }
 
@@ -69,16 +67,15 @@ pub(crate) fn answer_children<D: Disk>(
 pub(crate) fn answer_terms<D: Disk>(
     alloc: Global,
     prefix: &str,
-    time: EffectiveTime,
+    as_of: AsOf,
     limit: u32,
-    pin: u32,
     store: &mut Store<D>,
 ) -> Result<Reply, LineRefusal>
-    requires { pin ≤ store.old.history.imports }
+    requires { as_of.pin ≤ store.old.history.imports }
     ensures { IsQueried result (device_view D.is_honest D.moments D.failures D.bytes_read)
-        (Terms prefix.now time limit) pin store.old store.new }
+        (Terms prefix.now as_of.date limit) as_of.pin store.old store.new }
 {
-    let found = store.terms(prefix, time, limit, pin)?;
+    let found = store.terms(prefix, as_of, limit)?;
     Ok(reply_rows(alloc, &found)?)
 }
 
@@ -86,17 +83,16 @@ pub(crate) fn answer_terms<D: Disk>(
 pub(crate) fn answer_search<D: Disk>(
     alloc: Global,
     prefix: &str,
-    time: EffectiveTime,
+    as_of: AsOf,
     after: Option<u128>,
     limit: u32,
-    pin: u32,
     store: &mut Store<D>,
 ) -> Result<Reply, LineRefusal>
-    requires { pin ≤ store.old.history.imports }
+    requires { as_of.pin ≤ store.old.history.imports }
     ensures { IsQueried result (device_view D.is_honest D.moments D.failures D.bytes_read)
-        (Search prefix.now time after limit) pin store.old store.new }
+        (Search prefix.now as_of.date after limit) as_of.pin store.old store.new }
 {
-    let found = store.search(prefix, time, after, limit, pin)?;
+    let found = store.search(prefix, as_of, after, limit)?;
     Ok(reply_rows(alloc, &found)?)
 }
 
@@ -104,16 +100,15 @@ pub(crate) fn answer_search<D: Disk>(
 pub(crate) fn answer_replaced<D: Disk>(
     alloc: Global,
     id: Sctid,
-    time: EffectiveTime,
-    pin: u32,
+    as_of: AsOf,
     store: &mut Store<D>,
 ) -> Result<Reply, LineRefusal>
-    requires { pin ≤ store.old.history.imports }
+    requires { as_of.pin ≤ store.old.history.imports }
     ensures { IsQueried result
-        (device_view D.is_honest D.moments D.failures D.bytes_read) (Replaced id time) pin
-        store.old store.new }
+        (device_view D.is_honest D.moments D.failures D.bytes_read) (Replaced id as_of.date)
+        as_of.pin store.old store.new }
 {
-    let found = store.replacements(id, time, pin)?;
+    let found = store.replacements(id, as_of)?;
     Ok(reply_rows(alloc, &found)?)
 }
 
@@ -122,16 +117,15 @@ pub(crate) fn answer_about<D: Disk>(
     alloc: Global,
     kind: Kind,
     id: Sctid,
-    time: EffectiveTime,
-    pin: u32,
+    as_of: AsOf,
     store: &mut Store<D>,
 ) -> Result<Reply, LineRefusal>
-    requires { pin ≤ store.old.history.imports }
+    requires { as_of.pin ≤ store.old.history.imports }
     ensures { IsQueried result
-        (device_view D.is_honest D.moments D.failures D.bytes_read) (About kind id time)
-        pin store.old store.new }
+        (device_view D.is_honest D.moments D.failures D.bytes_read) (About kind id as_of.date)
+        as_of.pin store.old store.new }
 {
-    let found = store.about(kind, id, time, pin)?;
+    let found = store.about(kind, id, as_of)?;
     Ok(reply_rows(alloc, &found)?)
 }
 
@@ -139,17 +133,16 @@ pub(crate) fn answer_about<D: Disk>(
 pub(crate) fn answer_page<D: Disk>(
     alloc: Global,
     kind: Kind,
-    time: EffectiveTime,
+    as_of: AsOf,
     after: Option<u128>,
     limit: u32,
-    pin: u32,
     store: &mut Store<D>,
 ) -> Result<Reply, LineRefusal>
-    requires { pin ≤ store.old.history.imports }
+    requires { as_of.pin ≤ store.old.history.imports }
     ensures { IsQueried result (device_view D.is_honest D.moments D.failures D.bytes_read)
-        (Page kind time after limit) pin store.old store.new }
+        (Page kind as_of.date after limit) as_of.pin store.old store.new }
 {
-    let found = store.page(kind, time, after, limit, pin)?;
+    let found = store.page(kind, as_of, after, limit)?;
     Ok(reply_rows(alloc, &found)?)
 }
 

@@ -9,25 +9,24 @@ use crate::refusal::LineRefusal;
 use crate::reply::Reply;
 use crate::wording::reply_rows;
 use disk_model::Disk;
-use history_store::Store;
-use rf2_rows::{EffectiveTime, Sctid};
+use history_store::{AsOf, Store};
+use rf2_rows::Sctid;
 use std::alloc::Global;
 
 /// The members of a reference set on a date, by identifier.
 pub(crate) fn answer_members<D: Disk>(
     alloc: Global,
     refset: Sctid,
-    time: EffectiveTime,
+    as_of: AsOf,
     after: Option<u128>,
     limit: u32,
-    pin: u32,
     store: &mut Store<D>,
 ) -> Result<Reply, LineRefusal>
-    requires { pin ≤ store.old.history.imports }
+    requires { as_of.pin ≤ store.old.history.imports }
     ensures { IsQueried result (device_view D.is_honest D.moments D.failures D.bytes_read)
-        (Members refset time after limit) pin store.old store.new }
+        (Members refset as_of.date after limit) as_of.pin store.old store.new }
 {
-    let found = store.members(refset, time, after, limit, pin)?;
+    let found = store.members(refset, as_of, after, limit)?;
     Ok(reply_rows(alloc, &found)?)
 }
 
@@ -35,17 +34,16 @@ pub(crate) fn answer_members<D: Disk>(
 pub(crate) fn answer_values<D: Disk>(
     alloc: Global,
     refset: Sctid,
-    time: EffectiveTime,
+    as_of: AsOf,
     after: Option<u64>,
     limit: u32,
-    pin: u32,
     store: &mut Store<D>,
 ) -> Result<Reply, LineRefusal>
-    requires { pin ≤ store.old.history.imports }
+    requires { as_of.pin ≤ store.old.history.imports }
     ensures { IsQueried result (device_view D.is_honest D.moments D.failures D.bytes_read)
-        (Values refset time after limit) pin store.old store.new }
+        (Values refset as_of.date after limit) as_of.pin store.old store.new }
 {
-    let found = store.values(refset, time, after, limit, pin)?;
+    let found = store.values(refset, as_of, after, limit)?;
     Ok(reply_rows(alloc, &found)?)
 }
 
@@ -53,15 +51,14 @@ pub(crate) fn answer_values<D: Disk>(
 pub(crate) fn answer_called<D: Disk>(
     alloc: Global,
     concept: Sctid,
-    time: EffectiveTime,
+    as_of: AsOf,
     refset: Sctid,
-    pin: u32,
     store: &mut Store<D>,
 ) -> Result<Reply, LineRefusal>
-    requires { pin ≤ store.old.history.imports }
+    requires { as_of.pin ≤ store.old.history.imports }
     ensures { IsQueried result (device_view D.is_honest D.moments D.failures D.bytes_read)
-        (Called concept time refset) pin store.old store.new }
+        (Called concept as_of.date refset) as_of.pin store.old store.new }
 {
-    let found = store.called(concept, time, refset, pin)?;
+    let found = store.called(concept, as_of, refset)?;
     Ok(reply_rows(alloc, &found)?)
 }

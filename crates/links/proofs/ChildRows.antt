@@ -16,14 +16,16 @@ use Rattle.history_model.specs.Queries.{snapshot, is_child_of, says_is_a, is_a, 
 use Rattle.history_model.proofs.InOrder.{same_ascending, Has-put_all_cases, Has-put_all_new, IsAscending-in_order}
 use Rattle.history_model.proofs.Filtered.{both, Has-filter, Has-filter_from, Has-map, Has-map_from}
 use Rattle.segment.specs.Standing.{places_of}
+use Rattle.as_of_index.specs.declared.as_of.AsOf.{AsOf}
 use Rattle.as_of_index.specs.Places.{ArePlaces}
 use Rattle.as_of_index.specs.Private.Postings.{numbered}
 use Rattle.as_of_index.proofs.Numbered.{stands_there, place_of_row}
 use Rattle.as_of_index.proofs.Among.{looked_up}
-use Rattle.as_of_index.proofs.Current.{standing_row, one_row, shown, current_where}
+use Rattle.as_of_index.proofs.Current.{standing_row, one_row, current_where}
 use Rattle.links.specs.Edges.{Edges}
 use Rattle.links.specs.Laws.{EachPosted}
 use Rattle.as_of_index.specs.Private.Once.{IsThere}
+use Rattle.as_of_index.specs.Current.{rows_seen}
 use Rattle.links.specs.Private.{links_in, AreSources}
 use Rattle.links.proofs.Posted.{link_stands, link_of_child}
 
@@ -46,14 +48,14 @@ dest_of c d row e f = says_dest c d row.body (both row.active (says_is_a c row.b
 pub number_there : (ids : List ℕ) (id : ℕ) → IsThere nat_cmp ids id → Has ids id
 number_there ids id w = subst (λ m. Has ids m) (sym (ranked id w.0 Equal (sym w.2))) w.1
 
-module _ (lists : List (List StampedRow)) (are : ArePlaces (map places_of lists)) (edges : List Edges) (posts : EachPosted lists edges) (concept date pin : ℕ) where
+module _ (lists : List (List StampedRow)) (are : ArePlaces (map places_of lists)) (edges : List Edges) (posts : EachPosted lists edges) (concept : ℕ) (as_of : AsOf) where
   abbrev at_date : List RowValue
-  at_date = snapshot (shown lists are date pin) date
+  at_date = snapshot (rows_seen as_of lists) as_of.date
 
   abbrev sources : List ℕ
   sources = map (λ (row : RowValue). source_of row.body) (filter (is_child_of concept) at_date)
 
-  module _ (ids : List ℕ) (a : AreSources lists date pin concept (numbered 0 (links_in edges)) ids) where
+  module _ (ids : List ℕ) (a : AreSources lists as_of concept (numbered 0 (links_in edges)) ids) where
     to_children : (id : ℕ) → Has ids id → Has sources id
     to_children id h =
         let w = a.1.only id (a.2.only id h) in
@@ -64,7 +66,7 @@ module _ (lists : List (List StampedRow)) (are : ArePlaces (map places_of lists)
         let stands = stands_there lists x.0 x.1.row post.0 at post.1 w.3.row_there.0 in
         let same : s ≡ post.0 = one_row lists are x.0 x.0 at at s post.0 w.3.row_there.1.1 stands refl in
         let child : is_child_of concept s.row ≡ true = subst (λ (z : StampedRow). is_child_of concept z.row ≡ true) (sym same) (subst (λ d. is_child_of d post.0.row ≡ true) w.2 post.2.says) in
-        let there = Has-filter_from (is_child_of concept) at_date s.row (looked_up at.key.kind at.key.id date (shown lists are date pin) s.row w.3.row_there.1.2) child in
+        let there = Has-filter_from (is_child_of concept) at_date s.row (looked_up at.key.kind at.key.id as_of.date (rows_seen as_of lists) s.row w.3.row_there.1.2) child in
         let id_is : source_of s.row.body ≡ id = ap (λ (z : StampedRow). source_of z.row.body) same ∙ post.2.source_is ∙ w.3.answer_is in
         subst (λ k. Has sources k) id_is (Has-map_from (λ (row : RowValue). source_of row.body) (filter (is_child_of concept) at_date) s.row there)
 
@@ -73,7 +75,7 @@ module _ (lists : List (List StampedRow)) (are : ArePlaces (map places_of lists)
         let m = Has-map (λ (row : RowValue). source_of row.body) (filter (is_child_of concept) at_date) id h in
         let row = m.0 in
         let f = Has-filter (is_child_of concept) at_date row m.1 in
-        let g = link_of_child lists edges posts concept date pin row f.0 f.1 in
+        let g = link_of_child lists edges posts concept as_of row f.0 f.1 in
         let n = g.x.0 in
         let l = g.x.1 in
         let post = link_stands lists edges posts g.x g.there in
@@ -81,12 +83,12 @@ module _ (lists : List (List StampedRow)) (are : ArePlaces (map places_of lists)
         let p = place_of_row lists n l.row post.0 post.1 in
         let stands = stands_there lists n l.row post.0 p.0 post.1 p.1 in
         let key_is : p.0.key ≡ key_of row = (standing_row lists are n p.0 post.0 stands).1 ∙ ap (λ (z : StampedRow). key_of z.row) (sym own) ∙ ap key_of g.same in
-        let now = current_where lists are date pin n p.0 post.0 row stands f.0 key_is in
+        let now = current_where lists are as_of n p.0 post.0 row stands f.0 key_is in
         let dest : l.destination ≡ concept = dest_of l.destination concept post.0.row post.2.says (subst (λ (z : RowValue). is_child_of concept z ≡ true) now.0 f.1) in
         let id_is : l.source ≡ id = sym post.2.source_is ∙ ap (λ (z : RowValue). source_of z.body) (sym now.0) ∙ m.2 in
         subst (λ k. Has ids k) id_is (number_there ids l.source (a.2.there l.source (a.1.taken g.x l.source g.there dest (record { at = p.0; row_there = (p.1, now.1); answer_is = refl }))))
 
-    pub children_from_sources : ids ≡ children concept date (shown lists are date pin)
+    pub children_from_sources : ids ≡ children concept as_of.date (rows_seen as_of lists)
     unfolding children
     children_from_sources = same_ascending nat_cmp_total ids (in_order nat_cmp sources) a.2.ascending (IsAscending-in_order nat_cmp_total sources)
         (λ id h. Has-put_all_new nat_cmp sources [] id (λ y there tie. sym (ranked id y Equal (sym tie))) (to_children id h))

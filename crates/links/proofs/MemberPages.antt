@@ -17,12 +17,14 @@ use Rattle.history_model.specs.Lists.{listed}
 use Rattle.history_model.specs.Queries.{members, members_above, members_about}
 use Rattle.history_model.proofs.Snapshots.{IsAscending-listed, IsAscending-rows_at}
 use Rattle.segment.specs.Standing.{places_of, StandsAt}
+use Rattle.as_of_index.specs.declared.as_of.AsOf.{AsOf}
 use Rattle.as_of_index.specs.declared.chosen.Chosen.{Chosen}
 use Rattle.as_of_index.specs.Places.{ArePlaces}
 use Rattle.as_of_index.specs.Chosen.{StandAtAll}
 use Rattle.as_of_index.specs.Private.Chosen.{chosen_cmp}
 use Rattle.as_of_index.specs.Private.Postings.{numbered}
-use Rattle.as_of_index.proofs.Current.{standing_row, shown}
+use Rattle.as_of_index.proofs.Current.{standing_row}
+use Rattle.as_of_index.specs.Current.{rows_seen}
 use Rattle.links.specs.declared.member_search.Wanted.TheVariants as wanted
 use Rattle.links.specs.Edges.{Edges}
 use Rattle.links.specs.Private.Memberships.{memberships_in, AreMembers, AreEnough}
@@ -71,33 +73,33 @@ ids_rise (x ∷ xs) up = (
 same_id : (j k : Chosen) → chosen_cmp j k ≡ Equal → j.at.key.id ≡ k.at.key.id
 same_id j k e = ranked j.at.key.id k.at.key.id Equal (sym e)
 
-module _ (lists : List (List StampedRow)) (are : ArePlaces (map places_of lists)) (edges : List Edges) (posts : EachPosted lists edges) (refset date pin : ℕ) where
+module _ (lists : List (List StampedRow)) (are : ArePlaces (map places_of lists)) (edges : List Edges) (posts : EachPosted lists edges) (refset : ℕ) (as_of : AsOf) where
   by_rows_id : (j k : Chosen) (s t : StampedRow) → StandsAt lists j.segment j.at s → StandsAt lists k.segment k.at t → chosen_cmp j k ≡ Less → by_id s.row t.row ≡ Less
   by_rows_id j k s t v w less =
       let id_s : s.row.id ≡ j.at.key.id = ap (λ (q : Key). q.id) (sym (standing_row lists are j.segment j.at s v).1) in
       let id_t : t.row.id ≡ k.at.key.id = ap (λ (q : Key). q.id) (sym (standing_row lists are k.segment k.at t w).1) in
       (λ i. nat_cmp (id_s i) (id_t i)) ∙ less
 
-  shown_up : IsAscending row_cmp (shown lists are date pin)
-  shown_up = IsAscending-rows_at pin (listed lists) (IsAscending-listed lists)
+  shown_up : IsAscending row_cmp (rows_seen as_of lists)
+  shown_up = IsAscending-rows_at as_of.pin (listed lists) (IsAscending-listed lists)
 
-  pub page_from_chosen : (after : Option ℕ) (limit : ℕ) (kept : List Chosen) → AreEnough chosen_cmp (λ last. wanted.Above after last) limit lists refset date pin (numbered 0 (memberships_in edges)) kept
-      → (rows : List StampedRow) × StandAtAll lists (take limit kept) rows × (map (λ (s : StampedRow). s.row) rows ≡ members refset date after limit (shown lists are date pin))
+  pub page_from_chosen : (after : Option ℕ) (limit : ℕ) (kept : List Chosen) → AreEnough chosen_cmp (λ last. wanted.Above after last) limit lists refset as_of (numbered 0 (memberships_in edges)) kept
+      → (rows : List StampedRow) × StandAtAll lists (take limit kept) rows × (map (λ (s : StampedRow). s.row) rows ≡ members refset as_of.date after limit (rows_seen as_of lists))
   unfolding members
   page_from_chosen after limit kept a =
       let last = a.0 in
-      let now = shown lists are date pin in
-      let w = members_from_chosen lists are edges posts refset date pin (wanted.Above after last) chosen_cmp same_id kept a.1 (members_up_to last refset date after now) (members_up_to_all refset date after last now)
-      by_id ids_total (members_up_to_ascend refset date after last now shown_up) (λ j k s t g h. by_rows_id j k s t) in
-      let rising = ids_rise (members_above refset date after now) (members_ascend refset date after now shown_up) in (
+      let now = rows_seen as_of lists in
+      let w = members_from_chosen lists are edges posts refset as_of (wanted.Above after last) chosen_cmp same_id kept a.1 (members_up_to last refset as_of.date after now) (members_up_to_all refset as_of.date after last now)
+      by_id ids_total (members_up_to_ascend refset as_of.date after last now shown_up) (λ j k s t g h. by_rows_id j k s t) in
+      let rising = ids_rise (members_above refset as_of.date after now) (members_ascend refset as_of.date after now shown_up) in (
         take limit w.0,
         stand_take lists kept w.0 limit w.1,
         sym (take-map (λ (s : StampedRow). s.row) limit w.0) ∙ ap (take limit) w.2
-            ∙ sym (take_up_to (λ (row : RowValue). row.id) last limit (members_above refset date after now) rising (enough_rows lists last limit kept w.0 (members_up_to last refset date after now) w.1 w.2 a.2)),
+            ∙ sym (take_up_to (λ (row : RowValue). row.id) last limit (members_above refset as_of.date after now) rising (enough_rows lists last limit kept w.0 (members_up_to last refset as_of.date after now) w.1 w.2 a.2)),
       )
 
-  pub about_from_members : (id : ℕ) (kept : List Chosen) → AreMembers chosen_cmp lists (record { refset = refset; wanted = wanted.About id; time = date; pin = pin }) (numbered 0 (memberships_in edges)) kept
-      → (rows : List StampedRow) × StandAtAll lists kept rows × (map (λ (s : StampedRow). s.row) rows ≡ members_about refset id date (shown lists are date pin))
+  pub about_from_members : (id : ℕ) (kept : List Chosen) → AreMembers chosen_cmp lists (record { refset = refset; wanted = wanted.About id; as_of = as_of }) (numbered 0 (memberships_in edges)) kept
+      → (rows : List StampedRow) × StandAtAll lists kept rows × (map (λ (s : StampedRow). s.row) rows ≡ members_about refset id as_of.date (rows_seen as_of lists))
   about_from_members id kept a =
-      members_from_chosen lists are edges posts refset date pin (wanted.About id) chosen_cmp same_id kept a (members_about refset id date (shown lists are date pin)) (about_are_all refset id date (shown lists are date pin))
-      by_id ids_total (about_members_ascend refset id date (shown lists are date pin) shown_up) (λ j k s t g h. by_rows_id j k s t)
+      members_from_chosen lists are edges posts refset as_of (wanted.About id) chosen_cmp same_id kept a (members_about refset id as_of.date (rows_seen as_of lists)) (about_are_all refset id as_of.date (rows_seen as_of lists))
+      by_id ids_total (about_members_ascend refset id as_of.date (rows_seen as_of lists) shown_up) (λ j k s t g h. by_rows_id j k s t)

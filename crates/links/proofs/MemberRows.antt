@@ -17,14 +17,16 @@ use Rattle.history_model.specs.Queries.{get, snapshot, component_of, member_comp
 use Rattle.history_model.proofs.InOrder.{same_ascending}
 use Rattle.history_model.proofs.Snapshots.{current_from_snapshot, Has-listed_cases, Has-rows_at_cases}
 use Rattle.segment.specs.Standing.{places_of, StandsAt}
+use Rattle.as_of_index.specs.declared.as_of.AsOf.{AsOf}
 use Rattle.as_of_index.specs.declared.chosen.Chosen.{Chosen}
 use Rattle.as_of_index.specs.Places.{ArePlaces}
 use Rattle.as_of_index.specs.Chosen.{StandAtAll}
 use Rattle.as_of_index.specs.Private.Postings.{numbered}
 use Rattle.as_of_index.proofs.Among.{looked_up}
 use Rattle.as_of_index.proofs.Numbered.{stands_there, place_of_row}
-use Rattle.as_of_index.proofs.Current.{standing_row, one_row, shown, current_where, AllCurrent, rows_for, stand_for, row_for, for_row, ascending_rows_for}
+use Rattle.as_of_index.proofs.Current.{standing_row, one_row, current_where, AllCurrent, rows_for, stand_for, row_for, for_row, ascending_rows_for}
 use Rattle.as_of_index.proofs.Pushing.{numbers_of_row}
+use Rattle.as_of_index.specs.Current.{rows_seen}
 use Rattle.links.specs.declared.membership.Membership.{Membership}
 use Rattle.links.specs.declared.member_search.Asked.{Asked}
 use Rattle.links.specs.declared.member_search.Wanted.{Wanted}
@@ -46,15 +48,15 @@ refset_in (body.Member m) = m.refset
 pub member_kind : (refset : ℕ) (b : Body) → is_member_of refset b ≡ true → kind_of_body b ≡ kinds.Member
 member_kind refset b e = ap (λ (x : Body). kind_of_body x) (member_body refset b e).1
 
-module _ (lists : List (List StampedRow)) (are : ArePlaces (map places_of lists)) (edges : List Edges) (posts : EachPosted lists edges) (refset date pin : ℕ) (w : Wanted) where
+module _ (lists : List (List StampedRow)) (are : ArePlaces (map places_of lists)) (edges : List Edges) (posts : EachPosted lists edges) (refset : ℕ) (as_of : AsOf) (w : Wanted) where
   abbrev asked : Asked
-  asked = record { refset = refset; wanted = w; time = date; pin = pin }
+  asked = record { refset = refset; wanted = w; as_of = as_of }
 
   -- the row of one that is chosen
   pub record IsMemberAt (k : Chosen) : Type 0 where
     pub s : StampedRow
     pub stands : StandsAt lists k.segment k.at s
-    pub found : get k.at.key.kind k.at.key.id date (shown lists are date pin) ≡ Some s.row
+    pub found : get k.at.key.kind k.at.key.id as_of.date (rows_seen as_of lists) ≡ Some s.row
     pub kind_is : k.at.key.kind ≡ kinds.Member
     pub wanted_so : wanted_row refset w s.row ≡ true
     pub refset_is : k.refset ≡ refset
@@ -86,11 +88,11 @@ module _ (lists : List (List StampedRow)) (are : ArePlaces (map places_of lists)
     pub member_kept : (k : Chosen) → Has kept k → IsMemberAt k
     member_kept k h = let v = a.1.only k (a.2.only k h) in member_at v.0 k v.1 v.2
 
-    each_current : AllCurrent lists date pin kept
+    each_current : AllCurrent lists as_of kept
     each_current k h = let v = member_kept k h in (v.s, v.stands, v.found)
 
     abbrev found_rows : List RowValue
-    found_rows = map (λ (s : StampedRow). s.row) (rows_for lists date pin kept each_current)
+    found_rows = map (λ (s : StampedRow). s.row) (rows_for lists as_of kept each_current)
 
     key_at : (k : Chosen) (s : StampedRow) → StandsAt lists k.segment k.at s → k.at.key ≡ key_of s.row
     key_at k s v = (standing_row lists are k.segment k.at s v).1
@@ -102,23 +104,23 @@ module _ (lists : List (List StampedRow)) (are : ArePlaces (map places_of lists)
     pub component_at : (k : Chosen) (s : StampedRow) → Has kept k → StandsAt lists k.segment k.at s → component_of s.row ≡ k.target
     component_at k s h v = subst (λ (z : StampedRow). component_of z.row ≡ k.target) (own_row k s h v) (member_kept k h).component_is
 
-    module _ (answer : List RowValue) (is_all : (row : RowValue) → (Has answer row → Has (snapshot (shown lists are date pin) date) row × (wanted_row refset w row ≡ true)) × (Has (snapshot (shown lists are date pin) date) row × (wanted_row refset w row ≡ true) → Has answer row))
+    module _ (answer : List RowValue) (is_all : (row : RowValue) → (Has answer row → Has (snapshot (rows_seen as_of lists) as_of.date) row × (wanted_row refset w row ≡ true)) × (Has (snapshot (rows_seen as_of lists) as_of.date) row × (wanted_row refset w row ≡ true) → Has answer row))
         (order : RowValue → RowValue → Ordering) (total : IsTotalOrder order) (up : IsAscending order answer)
         (rank_is : (j k : Chosen) (s t : StampedRow) → Has kept j → Has kept k → StandsAt lists j.segment j.at s → StandsAt lists k.segment k.at t → cmp j k ≡ Less → order s.row t.row ≡ Less) where
       to_answer : (row : RowValue) → Has found_rows row → Has answer row
       to_answer row h =
-          let x = row_for lists date pin kept each_current row h in
+          let x = row_for lists as_of kept each_current row h in
           let v = member_kept x.k x.there in
           subst (λ z. Has answer z) x.row_is
           ((is_all x.s.row).1 (
-            looked_up x.k.at.key.kind x.k.at.key.id date (shown lists are date pin) x.s.row x.found,
+            looked_up x.k.at.key.kind x.k.at.key.id as_of.date (rows_seen as_of lists) x.s.row x.found,
             subst (λ (z : StampedRow). wanted_row refset w z.row ≡ true) (own_row x.k x.s x.there x.stands) v.wanted_so,
           ))
 
       from_answer : (row : RowValue) → Has answer row → Has found_rows row
       from_answer row h =
           let v = (is_all row).0 h in
-          let known = Has-rows_at_cases pin (listed lists) row (current_from_snapshot (shown lists are date pin) date row v.0).known in
+          let known = Has-rows_at_cases as_of.pin (listed lists) row (current_from_snapshot (rows_seen as_of lists) as_of.date row v.0).known in
           let s = known.stamped_row in
           let numbers = numbers_of_row lists s (Has-listed_cases lists s known.known) in
           let n = numbers.0 in
@@ -127,7 +129,7 @@ module _ (lists : List (List StampedRow)) (are : ArePlaces (map places_of lists)
           let at = place.0 in
           let stands = stands_there lists n i s at numbers.2 place.1 in
           let key_is : at.key ≡ key_of row = (standing_row lists are n at s stands).1 ∙ ap key_of known.same in
-          let now = current_where lists are date pin n at s row stands v.0 key_is in
+          let now = current_where lists are as_of n at s row stands v.0 key_is in
           let own : wanted_row refset w s.row ≡ true = ap (wanted_row refset w) known.same ∙ v.1 in
           let member = member_body refset s.row.body (wanted_member refset w s.row own) in
           let m : Membership = membership member.0 s.row.active i in
@@ -143,17 +145,17 @@ module _ (lists : List (List StampedRow)) (are : ArePlaces (map places_of lists)
           } in
           let t = a.2.there (member_place n m at) (a.1.taken (n, m) (member_place n m at) there gives) in
           let j = t.0 in
-          let u = for_row lists date pin kept each_current j t.1 in
+          let u = for_row lists as_of kept each_current j t.1 in
           let kinds_are : j.at.key.kind ≡ at.key.kind = (member_kept j t.1).kind_is ∙ sym kind_is in
           let ids_are : j.at.key.id ≡ at.key.id = sym (ties (member_place n m at) j t.2) in
-          let both_found = sym u.2 ∙ (λ i. get (kinds_are i) (ids_are i) date (shown lists are date pin)) ∙ now.1.2 in
+          let both_found = sym u.2 ∙ (λ i. get (kinds_are i) (ids_are i) as_of.date (rows_seen as_of lists)) ∙ now.1.2 in
           let one : u.0.row ≡ now.1.0.row = cc in
           let same : u.0.row ≡ row = one ∙ ap (λ (z : StampedRow). z.row) (one_row lists are n n at at now.1.0 s now.1.1 stands refl) ∙ known.same in
           subst (λ z. Has found_rows z) same u.3
 
       pub members_from_chosen : (rows : List StampedRow) × StandAtAll lists kept rows × (map (λ (s : StampedRow). s.row) rows ≡ answer)
       members_from_chosen = (
-        rows_for lists date pin kept each_current,
-        stand_for lists date pin kept each_current,
-        same_ascending total found_rows answer (ascending_rows_for lists date pin order cmp kept each_current rank_is a.2.ascending) up to_answer from_answer,
+        rows_for lists as_of kept each_current,
+        stand_for lists as_of kept each_current,
+        same_ascending total found_rows answer (ascending_rows_for lists as_of order cmp kept each_current rank_is a.2.ascending) up to_answer from_answer,
       )

@@ -8,14 +8,14 @@ use Rattle.rf2_values.specs.declared.row.Kind.{Kind}
 use Rattle.rf2_values.specs.Row.{RowValue, kind_of}
 use Rattle.history_model.specs.declared.stamped.StampedRow.{StampedRow}
 use Rattle.history_model.specs.InOrder.{Has}
-use Rattle.history_model.specs.History.{rows_at}
-use Rattle.history_model.specs.Lists.{listed}
 use Rattle.history_model.specs.Queries.{subject_of, is_a, is_child_of, says_is_a, source_of, is_replacement_of, refers_to, is_replaced_by, refset_of, target_of, referenced_of, snapshot}
 use Rattle.history_model.proofs.Filtered.{both}
+use Rattle.as_of_index.specs.declared.as_of.AsOf.{AsOf}
 use Rattle.as_of_index.specs.Places.{item_at}
 use Rattle.as_of_index.specs.Postings.{posted_all, AllPosted}
 use Rattle.as_of_index.specs.Private.Postings.{numbered}
 use Rattle.as_of_index.proofs.Pushing.{stands, posting_there, IsPostedAs, posted_as, posted_push}
+use Rattle.as_of_index.specs.Current.{rows_seen}
 use Rattle.links.specs.declared.postings.Link.{Link}
 use Rattle.links.specs.declared.postings.Reference.{Reference}
 use Rattle.links.specs.declared.postings.Target.{Target}
@@ -211,13 +211,13 @@ all_reference d row i e =
     let r = all_reference_body d i row.body w.1 in
     (r.0, subst (λ b. Has (if b then reference_of_body row.body i else []) r.0) (sym w.0) r.1, r.2)
 
-pub link_of_child : (lists : List (List StampedRow)) (edges : List Edges) → EachPosted lists edges → (concept date pin : ℕ) (row : RowValue) → Has (snapshot (rows_at pin (listed lists)) date) row → is_child_of concept row ≡ true → IsPostedAs (λ (l : Link). l.row) lists (links_in edges) row
-link_of_child lists edges a concept date pin row h e =
-    posted_as posted_link (λ (l : Link). l.row) (is_child_of concept) (all_link concept) lists (links_in edges) date pin (links_posted lists edges a) row h e
+pub link_of_child : (lists : List (List StampedRow)) (edges : List Edges) → EachPosted lists edges → (concept : ℕ) (as_of : AsOf) (row : RowValue) → Has (snapshot (rows_seen as_of lists) as_of.date) row → is_child_of concept row ≡ true → IsPostedAs (λ (l : Link). l.row) lists (links_in edges) row
+link_of_child lists edges a concept as_of row h e =
+    posted_as posted_link (λ (l : Link). l.row) (is_child_of concept) (all_link concept) lists (links_in edges) as_of (links_posted lists edges a) row h e
 
-pub reference_of_replacement : (lists : List (List StampedRow)) (edges : List Edges) → EachPosted lists edges → (id date pin : ℕ) (row : RowValue) → Has (snapshot (rows_at pin (listed lists)) date) row → is_replacement_of id row ≡ true → IsPostedAs (λ (r : Reference). r.row) lists (references_in edges) row
-reference_of_replacement lists edges a id date pin row h e =
-    posted_as posted_reference (λ (r : Reference). r.row) (is_replacement_of id) (all_reference id) lists (references_in edges) date pin (references_posted lists edges a) row h e
+pub reference_of_replacement : (lists : List (List StampedRow)) (edges : List Edges) → EachPosted lists edges → (id : ℕ) (as_of : AsOf) (row : RowValue) → Has (snapshot (rows_seen as_of lists) as_of.date) row → is_replacement_of id row ≡ true → IsPostedAs (λ (r : Reference). r.row) lists (references_in edges) row
+reference_of_replacement lists edges a id as_of row h e =
+    posted_as posted_reference (λ (r : Reference). r.row) (is_replacement_of id) (all_reference id) lists (references_in edges) as_of (references_posted lists edges a) row h e
 
 subject_there : (row : RowValue) (i : ℕ) (id : ℕ) → row.active ≡ true → subject_of row ≡ Some id → Has (posted_subject row i) (record { subject = id; kind = kind_of row; row = i })
 subject_there row i id active subject =

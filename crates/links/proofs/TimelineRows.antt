@@ -14,7 +14,7 @@ use Rattle.rf2_values.specs.Row.{RowValue, kind_of}
 use Rattle.rf2_values.specs.Key.{kind_place}
 use Rattle.history_model.specs.declared.stamped.StampedRow.{StampedRow}
 use Rattle.history_model.specs.InOrder.{Has, IsAscending}
-use Rattle.history_model.specs.History.{row_cmp}
+use Rattle.history_model.specs.History.{row_cmp, rows_at}
 use Rattle.history_model.specs.Lists.{listed}
 use Rattle.history_model.specs.Queries.{is_version_of, versions, subject_of, was_about, timeline}
 use Rattle.history_model.proofs.InOrder.{same_ascending, Has-all, all_from_has, Has-append_cases}
@@ -29,7 +29,7 @@ use Rattle.as_of_index.specs.Places.{ArePlaces}
 use Rattle.as_of_index.specs.Private.Postings.{numbered}
 use Rattle.as_of_index.proofs.Standing.{are_lists}
 use Rattle.as_of_index.proofs.Numbered.{stands_there, place_of_row, Has-flat_map, Has-flat_map_from}
-use Rattle.as_of_index.proofs.Current.{standing_row, shown}
+use Rattle.as_of_index.proofs.Current.{standing_row}
 use Rattle.as_of_index.proofs.Pushing.{numbers_of_row}
 use Rattle.links.specs.declared.postings.Subject.{Subject}
 use Rattle.links.specs.Edges.{Edges, subject_rank}
@@ -99,7 +99,7 @@ module _ (kind : Kind) (rows : List RowValue) (up : IsAscending row_cmp rows) wh
 
 module _ (lists : List (List StampedRow)) (are : ArePlaces (map places_of lists)) (edges : List Edges) (posts : EachPosted lists edges) (kind : Kind) (d pin : ℕ) where
   abbrev rows : List RowValue
-  rows = shown lists are 0 pin
+  rows = rows_at pin (listed lists)
 
   rows_up : IsAscending row_cmp rows
   rows_up = IsAscending-rows_at pin (listed lists) (IsAscending-listed lists)

@@ -17,12 +17,14 @@ use Rattle.history_model.proofs.InOrder.{Has-all, all_from_has}
 use Rattle.history_model.proofs.Filtered.{Has-map}
 use Rattle.history_model.proofs.Snapshots.{first_half, IsAscending-listed, IsAscending-rows_at}
 use Rattle.segment.specs.Standing.{places_of, StandsAt}
+use Rattle.as_of_index.specs.declared.as_of.AsOf.{AsOf}
 use Rattle.as_of_index.specs.declared.chosen.Chosen.{Chosen}
 use Rattle.as_of_index.specs.Places.{ArePlaces}
 use Rattle.as_of_index.specs.Chosen.{StandAtAll}
 use Rattle.as_of_index.specs.Private.Chosen.{ranked_cmp}
 use Rattle.as_of_index.specs.Private.Postings.{numbered}
-use Rattle.as_of_index.proofs.Current.{standing_row, shown}
+use Rattle.as_of_index.proofs.Current.{standing_row}
+use Rattle.as_of_index.specs.Current.{rows_seen}
 use Rattle.links.specs.declared.member_search.Wanted.TheVariants as wanted
 use Rattle.links.specs.Edges.{Edges}
 use Rattle.links.specs.Private.Memberships.{memberships_in, AreMembers, IsCutAt}
@@ -75,16 +77,16 @@ components_rise (x ∷ xs) up = (
   components_rise xs up.1,
 )
 
-module _ (lists : List (List StampedRow)) (are : ArePlaces (map places_of lists)) (edges : List Edges) (posts : EachPosted lists edges) (refset date pin : ℕ) (after last : Option ℕ) (kept : List Chosen)
-    (a : AreMembers ranked_cmp lists (record { refset = refset; wanted = wanted.Values after last; time = date; pin = pin }) (numbered 0 (memberships_in edges)) kept) where
+module _ (lists : List (List StampedRow)) (are : ArePlaces (map places_of lists)) (edges : List Edges) (posts : EachPosted lists edges) (refset : ℕ) (as_of : AsOf) (after last : Option ℕ) (kept : List Chosen)
+    (a : AreMembers ranked_cmp lists (record { refset = refset; wanted = wanted.Values after last; as_of = as_of }) (numbered 0 (memberships_in edges)) kept) where
   pub kept_rise : IsNonDecreasingBy (λ (k : Chosen). k.target) kept
-  kept_rise = targets_rise refset kept a.2.ascending (λ k h. (member_kept lists are edges posts refset date pin (wanted.Values after last) ranked_cmp one_id kept a k h).refset_is)
+  kept_rise = targets_rise refset kept a.2.ascending (λ k h. (member_kept lists are edges posts refset as_of (wanted.Values after last) ranked_cmp one_id kept a k h).refset_is)
 
   own_component : (k : Chosen) (s : StampedRow) → Has kept k → StandsAt lists k.segment k.at s → component_of s.row ≡ k.target
-  own_component = component_at lists are edges posts refset date pin (wanted.Values after last) ranked_cmp one_id kept a
+  own_component = component_at lists are edges posts refset as_of (wanted.Values after last) ranked_cmp one_id kept a
 
   own_refset : (k : Chosen) → Has kept k → k.refset ≡ refset
-  own_refset k h = (member_kept lists are edges posts refset date pin (wanted.Values after last) ranked_cmp one_id kept a k h).refset_is
+  own_refset k h = (member_kept lists are edges posts refset as_of (wanted.Values after last) ranked_cmp one_id kept a k h).refset_is
 
   ranks : (j k : Chosen) (s t : StampedRow) → Has kept j → Has kept k → StandsAt lists j.segment j.at s → StandsAt lists k.segment k.at t → ranked_cmp j k ≡ Less → value_cmp s.row t.row ≡ Less
   ranks j k s t g h v w less =
@@ -97,22 +99,22 @@ module _ (lists : List (List StampedRow)) (are : ArePlaces (map places_of lists)
       (λ i. ordering_then (nat_cmp (component_s i) (component_t i)) (nat_cmp (id_s i) (id_t i)))
       ∙ sym (ap (λ o. ordering_then o (ordering_then (nat_cmp j.target k.target) (nat_cmp j.at.key.id k.at.key.id))) tie) ∙ less
 
-  shown_up : IsAscending row_cmp (shown lists are date pin)
-  shown_up = IsAscending-rows_at pin (listed lists) (IsAscending-listed lists)
+  shown_up : IsAscending row_cmp (rows_seen as_of lists)
+  shown_up = IsAscending-rows_at as_of.pin (listed lists) (IsAscending-listed lists)
 
   pub values_from_chosen : (limit count : ℕ) → (last ≡ None) ⊎ (limit ≤ length kept) → IsCutAt limit (map {B = ℕ} (λ (k : Chosen). k.target) kept) count
-      → (rows : List StampedRow) × StandAtAll lists (take count kept) rows × (map (λ (s : StampedRow). s.row) rows ≡ values refset date after limit (shown lists are date pin))
+      → (rows : List StampedRow) × StandAtAll lists (take count kept) rows × (map (λ (s : StampedRow). s.row) rows ≡ values refset as_of.date after limit (rows_seen as_of lists))
   unfolding values
   values_from_chosen limit count enough cut =
-      let now = shown lists are date pin in
-      let answer = values_up_to last refset date after now in
-      let w = members_from_chosen lists are edges posts refset date pin (wanted.Values after last) ranked_cmp one_id kept a answer (values_up_to_all refset date after last now shown_up)
-      value_cmp values_total (values_up_to_ascend refset date after last now) ranks in
+      let now = rows_seen as_of lists in
+      let answer = values_up_to last refset as_of.date after now in
+      let w = members_from_chosen lists are edges posts refset as_of (wanted.Values after last) ranked_cmp one_id kept a answer (values_up_to_all refset as_of.date after last now shown_up)
+      value_cmp values_total (values_up_to_ascend refset as_of.date after last now) ranks in
       let numbers = numbers_are lists kept w.0 w.1 own_component ∙ ap (λ (rows : List RowValue). map component_of rows) w.2 in
       let cut_rows : IsCutAt limit (map component_of answer) count = subst (λ ds. IsCutAt limit ds count) numbers cut in
-      let rising = components_rise (values_above refset date after now) (values_ascend refset date after now) in (
+      let rising = components_rise (values_above refset as_of.date after now) (values_ascend refset as_of.date after now) in (
         take count w.0,
         stand_take lists kept w.0 count w.1,
         sym (take-map (λ (s : StampedRow). s.row) count w.0) ∙ ap (take count) w.2
-            ∙ sym (cut_up_to component_of last limit count (values_above refset date after now) rising (enough_rows lists last limit kept w.0 answer w.1 w.2 enough) cut_rows),
+            ∙ sym (cut_up_to component_of last limit count (values_above refset as_of.date after now) rising (enough_rows lists last limit kept w.0 answer w.1 w.2 enough) cut_rows),
       )

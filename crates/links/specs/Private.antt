@@ -17,6 +17,7 @@ use Rattle.history_model.specs.Queries.{is_a, destination_of}
 use Rattle.history_model.specs.declared.stamped.StampedRow.{StampedRow}
 use Rattle.history_model.specs.InOrder.{Has}
 use Rattle.segment.specs.declared.place.RowPlace.{RowPlace}
+use Rattle.as_of_index.specs.declared.as_of.AsOf.{AsOf}
 use Rattle.as_of_index.specs.declared.chosen.Chosen.{Chosen}
 use Rattle.as_of_index.specs.Private.Chosen.{chosen, chosen_cmp, ranked_cmp}
 use Rattle.as_of_index.specs.Private.Once.{AreOnce}
@@ -57,70 +58,70 @@ pub record AreTaken {X Y : Type 0} (Gives : ℕ → X → Y → Type 0) (of : X 
 
 -- a posting of list n whose row is current gives its answer, which its place tells
 pub record GivesAnswer {X Y : Type 0} (row : X → ℕ) (answer : ℕ → X → RowPlace → Y)
-    (lists : List (List StampedRow)) (date pin n : ℕ) (x : X) (y : Y) : Type 0 where
+    (lists : List (List StampedRow)) (as_of : AsOf) (n : ℕ) (x : X) (y : Y) : Type 0 where
   pub at : RowPlace
-  pub row_there : IsPlaceOfRow lists n (row x) at × IsCurrentAt lists date pin n at
+  pub row_there : IsPlaceOfRow lists n (row x) at × IsCurrentAt lists as_of n at
   pub answer_is : answer n x at ≡ y
 
 -- a link that is current gives its source
-abbrev pub GivesSource : List (List StampedRow) → ℕ → ℕ → ℕ → Link → ℕ → Type 0
+abbrev pub GivesSource : List (List StampedRow) → AsOf → ℕ → Link → ℕ → Type 0
 GivesSource = GivesAnswer (λ l. l.row) (λ n l at. l.source)
 
-abbrev pub AreSourcesTaken : List (List StampedRow) → ℕ → ℕ → ℕ → List (ℕ × Link) → List ℕ → Type 0
-AreSourcesTaken lists date pin = AreTaken (GivesSource lists date pin) (λ l. l.destination)
+abbrev pub AreSourcesTaken : List (List StampedRow) → AsOf → ℕ → List (ℕ × Link) → List ℕ → Type 0
+AreSourcesTaken lists as_of = AreTaken (GivesSource lists as_of) (λ l. l.destination)
 
-abbrev pub AreSources : List (List StampedRow) → ℕ → ℕ → ℕ → List (ℕ × Link) → List ℕ → Type 0
-AreSources lists date pin d xs ids =
-    (all : List ℕ) × AreSourcesTaken lists date pin d xs all × AreOnce nat_cmp all ids
+abbrev pub AreSources : List (List StampedRow) → AsOf → ℕ → List (ℕ × Link) → List ℕ → Type 0
+AreSources lists as_of d xs ids =
+    (all : List ℕ) × AreSourcesTaken lists as_of d xs all × AreOnce nat_cmp all ids
 
 -- what is to be read for a reference of list n: its place, with refset and target, by which the
 -- answer is ordered
 abbrev pub ranked : ℕ → Reference → RowPlace → Chosen
 ranked n r at = record { segment = n; at = at; refset = r.refset; target = r.target }
 
-abbrev pub GivesRanked : List (List StampedRow) → ℕ → ℕ → ℕ → Reference → Chosen → Type 0
+abbrev pub GivesRanked : List (List StampedRow) → AsOf → ℕ → Reference → Chosen → Type 0
 GivesRanked = GivesAnswer (λ r. r.row) ranked
 
-abbrev pub AreRankedTaken : List (List StampedRow) → ℕ → ℕ → ℕ → List (ℕ × Reference) → List Chosen
+abbrev pub AreRankedTaken : List (List StampedRow) → AsOf → ℕ → List (ℕ × Reference) → List Chosen
     → Type 0
-AreRankedTaken lists date pin = AreTaken (GivesRanked lists date pin) (λ r. r.referenced)
+AreRankedTaken lists as_of = AreTaken (GivesRanked lists as_of) (λ r. r.referenced)
 
-abbrev pub AreRanked : List (List StampedRow) → ℕ → ℕ → ℕ → List (ℕ × Reference) → List Chosen
+abbrev pub AreRanked : List (List StampedRow) → AsOf → ℕ → List (ℕ × Reference) → List Chosen
     → Type 0
-AreRanked lists date pin d xs kept =
-    (all : List Chosen) × AreRankedTaken lists date pin d xs all × AreOnce ranked_cmp all kept
+AreRanked lists as_of d xs kept =
+    (all : List Chosen) × AreRankedTaken lists as_of d xs all × AreOnce ranked_cmp all kept
 
 -- what is to be read for a target of list n: its place, with refset and what the association refers
 -- to, by which the answer is ordered
 abbrev pub ranked_back : ℕ → Target → RowPlace → Chosen
 ranked_back n t at = record { segment = n; at = at; refset = t.refset; target = t.referenced }
 
-abbrev pub GivesRankedBack : List (List StampedRow) → ℕ → ℕ → ℕ → Target → Chosen → Type 0
+abbrev pub GivesRankedBack : List (List StampedRow) → AsOf → ℕ → Target → Chosen → Type 0
 GivesRankedBack = GivesAnswer (λ t. t.row) ranked_back
 
-abbrev pub AreReplacedTaken : List (List StampedRow) → ℕ → ℕ → ℕ → List (ℕ × Target)
+abbrev pub AreReplacedTaken : List (List StampedRow) → AsOf → ℕ → List (ℕ × Target)
     → List Chosen → Type 0
-AreReplacedTaken lists date pin = AreTaken (GivesRankedBack lists date pin) (λ t. t.target)
+AreReplacedTaken lists as_of = AreTaken (GivesRankedBack lists as_of) (λ t. t.target)
 
-abbrev pub AreReplaced : List (List StampedRow) → ℕ → ℕ → ℕ → List (ℕ × Target) → List Chosen
+abbrev pub AreReplaced : List (List StampedRow) → AsOf → ℕ → List (ℕ × Target) → List Chosen
     → Type 0
-AreReplaced lists date pin target xs kept =
-    (all : List Chosen) × AreReplacedTaken lists date pin target xs all
+AreReplaced lists as_of target xs kept =
+    (all : List Chosen) × AreReplacedTaken lists as_of target xs all
     × AreOnce ranked_cmp all kept
 
 -- a subject whose row is current gives what is to be read
-abbrev pub GivesRow : List (List StampedRow) → ℕ → ℕ → ℕ → Subject → Chosen → Type 0
+abbrev pub GivesRow : List (List StampedRow) → AsOf → ℕ → Subject → Chosen → Type 0
 GivesRow = GivesAnswer (λ x. x.row) (λ n x at. chosen n at)
 
-abbrev pub AreRowsTaken : List (List StampedRow) → Kind → ℕ → ℕ → ℕ → List (ℕ × Subject)
+abbrev pub AreRowsTaken : List (List StampedRow) → Kind → AsOf → ℕ → List (ℕ × Subject)
     → List Chosen → Type 0
-AreRowsTaken lists kind date pin d =
-    AreTaken (GivesRow lists date pin) (λ x. subject_rank x.subject x.kind) (subject_rank d kind)
+AreRowsTaken lists kind as_of d =
+    AreTaken (GivesRow lists as_of) (λ x. subject_rank x.subject x.kind) (subject_rank d kind)
 
-abbrev pub AreRows : List (List StampedRow) → Kind → ℕ → ℕ → ℕ → List (ℕ × Subject) → List Chosen
+abbrev pub AreRows : List (List StampedRow) → Kind → AsOf → ℕ → List (ℕ × Subject) → List Chosen
     → Type 0
-AreRows lists kind date pin d xs kept =
-    (all : List Chosen) × AreRowsTaken lists kind date pin d xs all × AreOnce chosen_cmp all kept
+AreRows lists kind as_of d xs kept =
+    (all : List Chosen) × AreRowsTaken lists kind as_of d xs all × AreOnce chosen_cmp all kept
 
 -- a subject whose row the pin shows gives the id of the row's component
 pub record GivesId (lists : List (List StampedRow)) (pin n : ℕ) (x : Subject) (id : ℕ)

@@ -2,8 +2,7 @@
 
 ghost use Rattle.std.specs.Prelude.{◌≡◌, List, IfOk, IfErr};
 ghost use Rattle.history_model.specs.declared.stamped.StampedRow.{StampedRow};
-ghost use Rattle.history_model.specs.History.{rows_at};
-ghost use Rattle.history_model.specs.Lists.{listed};
+ghost use Rattle.as_of_index.specs.Current.{rows_seen};
 ghost use Rattle.history_model.specs.Hierarchy.{AreDescendants};
 ghost use Rattle.as_of_index.specs.Places.{Lists};
 ghost use Rattle.fault_counts.specs.declared.fault.ReadFault.TheVariants as readfault;
@@ -12,8 +11,8 @@ ghost use Rattle.links.specs.Laws.{EachPosted};
 use crate::Links;
 use crate::hierarchy::children_of;
 use crate::reaching::{Steps, reached};
-use as_of_index::{Index, ReadFault};
-use rf2_values::{EffectiveTime, Sctid};
+use as_of_index::{AsOf, Index, ReadFault};
+use rf2_values::Sctid;
 use std::alloc::Global;
 
 /// From each concept to its children, at a date and a pin.
@@ -21,16 +20,14 @@ use std::alloc::Global;
 struct Downwards<'a> {
     links: &'a Links,
     index: &'a Index,
-    time: EffectiveTime,
-    pin: u32,
+    as_of: AsOf,
 }
 
 impl Steps for Downwards<'_> {
     ghost use Rattle.std.specs.Prelude.{◌≡◌, ℕ, List, ⊤};
     ghost use Rattle.std.proofs.Common.{refl, ◌∙◌};
     ghost use Rattle.history_model.specs.declared.stamped.StampedRow.{StampedRow};
-    ghost use Rattle.history_model.specs.History.{rows_at};
-    ghost use Rattle.history_model.specs.Lists.{listed};
+    ghost use Rattle.as_of_index.specs.Current.{rows_seen};
     ghost use Rattle.history_model.specs.Queries.{children};
     ghost use Rattle.as_of_index.specs.Places.{Lists};
     ghost use Rattle.fault_counts.specs.declared.fault.ReadFault.TheVariants as readfault;
@@ -38,7 +35,8 @@ impl Steps for Downwards<'_> {
 
     ghost leads = { λ d next. (lists : List (List StampedRow)) × Lists d.index.now lists
         × EachPosted lists d.links.now
-        × ((concept : ℕ) → next concept ≡ children concept d.time (rows_at d.pin (listed lists))) };
+        × ((concept : ℕ) → next concept
+        ≡ children concept d.as_of.date (rows_seen d.as_of lists)) };
 
     ghost stays = { λ a b. b ≡ a };
 
@@ -59,7 +57,7 @@ impl Steps for Downwards<'_> {
     ghost fails_by_memory = { λ d. refl };
 
     fn next(&mut self, alloc: Global, concept: u64) -> Result<Vec<u64>, ReadFault> {
-        let found = children_of(alloc, self.links, self.index, concept, self.time, self.pin)?;
+        let found = children_of(alloc, self.links, self.index, concept, &self.as_of)?;
         Ok(found)
     }
 }
@@ -72,19 +70,17 @@ pub fn descendants(
     links: &Links,
     index: &Index,
     concept: Sctid,
-    time: EffectiveTime,
-    pin: u32,
+    as_of: AsOf,
 ) -> Result<Vec<u64>, ReadFault>
     ensures found { (lists : List (List StampedRow)) → Lists index.now lists
         → EachPosted lists links.now → IfOk result (λ ids.
-        AreDescendants concept time (rows_at pin (listed lists)) ids.items) }
+        AreDescendants concept as_of.date (rows_seen as_of lists) ids.items) }
     ensures fails { IfErr result (λ e. e ≡ readfault.OutOfMemory) }
 {
     let mut steps = Downwards {
         links,
         index,
-        time,
-        pin,
+        as_of,
     };
     reached(alloc, &mut steps, concept.value())
 }

@@ -5,8 +5,7 @@ ghost use Rattle.std.specs.List.Sorted.{IsNonDecreasingBy};
 ghost use Rattle.std.specs.Ordering.{nat_cmp};
 ghost use Rattle.history_model.specs.declared.stamped.StampedRow.{StampedRow};
 ghost use Rattle.history_model.specs.InOrder.{Has};
-ghost use Rattle.history_model.specs.History.{rows_at};
-ghost use Rattle.history_model.specs.Lists.{listed};
+ghost use Rattle.as_of_index.specs.Current.{rows_seen};
 ghost use Rattle.history_model.specs.Queries.{children};
 ghost use Rattle.as_of_index.specs.Places.{Lists};
 ghost use Rattle.as_of_index.specs.Private.Postings.{numbered};
@@ -16,8 +15,8 @@ ghost use Rattle.links.specs.Private.{links_in, GivesSource, Takes, AreSources};
 
 use crate::Links;
 use crate::postings::{Link, Sealed};
-use as_of_index::Index;
-use rf2_values::{EffectiveTime, Sctid};
+use as_of_index::{AsOf, Index};
+use rf2_values::Sctid;
 use std::alloc::{AllocError, Global};
 
 /// The links to a destination.
@@ -37,14 +36,13 @@ fn add_sources(
     links: &[Link],
     segment: usize,
     index: &Index,
-    time: EffectiveTime,
-    pin: u32,
+    as_of: &AsOf,
 ) -> Result<(), AllocError>
     ensures { OnOk result ((lists : List (List StampedRow)) → Lists index.now lists
-        → Takes (GivesSource lists time pin segment) links.now ids.old.items ids.new.items) }
+        → Takes (GivesSource lists as_of.now segment) links.now ids.old.items ids.new.items) }
 {
     for link in links {
-        if let Some(_at) = index.current_at(segment, link.row, time, pin) {
+        if let Some(_at) = index.current_at(segment, link.row, *as_of) {
             ids.push(link.source)?;
         }
     }
@@ -65,16 +63,15 @@ fn sources(
     links: &[Sealed],
     index: &Index,
     destination: u64,
-    time: EffectiveTime,
-    pin: u32,
+    as_of: &AsOf,
 ) -> Result<Vec<u64>, AllocError>
     ensures { IfOk result (λ ids. (lists : List (List StampedRow)) → Lists index.now lists
-        → AreSources lists time pin destination (numbered 0 (links_in links.now)) ids.items) }
+        → AreSources lists as_of.now destination (numbered 0 (links_in links.now)) ids.items) }
 {
     let mut ids = Vec::new(alloc);
     for (segment, list) in links.iter().enumerate() {
         let those = links_to(list.links(), destination);
-        add_sources(&mut ids, those, segment, index, time, pin)?;
+        add_sources(&mut ids, those, segment, index, as_of)?;
     }
     sort_once(&mut ids);
     Ok(ids)
@@ -86,16 +83,15 @@ pub(crate) fn children_of(
     links: &Links,
     index: &Index,
     concept: u64,
-    time: EffectiveTime,
-    pin: u32,
+    as_of: &AsOf,
 ) -> Result<Vec<u64>, AllocError>
     ensures found { IfOk result (λ ids. (lists : List (List StampedRow)) → Lists index.now lists
         → EachPosted lists links.now
-        → ids.items ≡ children concept time (rows_at pin (listed lists))) }
+        → ids.items ≡ children concept as_of.now.date (rows_seen as_of.now lists)) }
 {
     // Its contract says that no key is listed twice.
     let _listed = index.lists();
-    sources(alloc, links.as_slice(), index, concept, time, pin)
+    sources(alloc, links.as_slice(), index, concept, as_of)
 }
 
 /// The distinct sources of active "is a" relationships to the concept at the date, ascending, of
@@ -106,14 +102,13 @@ pub fn children(
     links: &Links,
     index: &Index,
     concept: Sctid,
-    time: EffectiveTime,
-    pin: u32,
+    as_of: AsOf,
 ) -> Result<Vec<u64>, AllocError>
     // Whatever lists of rows they are that the index lists the places of, and the links are the
     // postings of.
     ensures found { IfOk result (λ ids. (lists : List (List StampedRow)) → Lists index.now lists
         → EachPosted lists links.now
-        → ids.items ≡ children concept time (rows_at pin (listed lists))) }
+        → ids.items ≡ children concept as_of.date (rows_seen as_of lists)) }
 {
-    children_of(alloc, links, index, concept.value(), time, pin)
+    children_of(alloc, links, index, concept.value(), &as_of)
 }

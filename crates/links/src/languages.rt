@@ -5,8 +5,7 @@ ghost use Rattle.std.specs.Prelude.{OnOk};
 ghost use Rattle.std.specs.List.{sum_by};
 ghost use Rattle.rf2_values.specs.Key.{key_of};
 ghost use Rattle.history_model.specs.declared.stamped.StampedRow.{StampedRow};
-ghost use Rattle.history_model.specs.History.{rows_at};
-ghost use Rattle.history_model.specs.Lists.{listed};
+ghost use Rattle.as_of_index.specs.Current.{rows_seen};
 ghost use Rattle.history_model.specs.Queries.{called};
 ghost use Rattle.as_of_index.specs.Places.{Lists};
 ghost use Rattle.as_of_index.specs.Private.Postings.{numbered};
@@ -20,8 +19,8 @@ use crate::member_pages::members_by_id;
 use crate::member_search::{Asked, Wanted};
 use crate::postings::Sealed;
 use crate::subjects::chosen_all;
-use as_of_index::{Chosen, Index, ReadFault, RowReader, read_all};
-use rf2_values::{EffectiveTime, Kind, Row, Sctid};
+use as_of_index::{AsOf, Chosen, Index, ReadFault, RowReader, read_all};
+use rf2_values::{Kind, Row, Sctid};
 use std::alloc::{AllocError, Global};
 
 /// Adds a place and others behind it, if there are any of these.
@@ -44,11 +43,10 @@ fn named(
     index: &Index,
     descriptions: &[Chosen],
     refset: u64,
-    time: EffectiveTime,
-    pin: u32,
+    as_of: &AsOf,
 ) -> Result<Vec<Chosen>, AllocError>
     ensures { IfOk result (λ kept. (lists : List (List StampedRow)) → Lists index.now lists
-        → AreNamed lists refset time pin (numbered 0 (memberships_in links.now))
+        → AreNamed lists refset as_of.now (numbered 0 (memberships_in links.now))
         descriptions.now kept.items) }
 {
     let mut kept = Vec::new(alloc);
@@ -56,8 +54,7 @@ fn named(
         let asked = Asked {
             refset,
             wanted: Wanted::About(k.at.key.id),
-            time,
-            pin,
+            as_of: *as_of,
         };
         let those = members_by_id(alloc, links, index, &asked)?;
         push_with(&mut kept, *k, those.as_slice())?;
@@ -76,18 +73,17 @@ pub fn called<R: RowReader>(
     index: &Index,
     reader: &mut R,
     concept: Sctid,
-    time: EffectiveTime,
+    as_of: AsOf,
     refset: Sctid,
-    pin: u32,
 ) -> Result<Vec<Row>, ReadFault>
     ensures found { R.is_honest reader.old → Lists index.now (R.lists reader.old)
         → EachPosted (R.lists reader.old) links.now
         → IfOk result (λ rows.
-        rows.items ≡ called concept time refset (rows_at pin (listed (R.lists reader.old)))) }
+        rows.items ≡ called concept as_of.date refset (rows_seen as_of (R.lists reader.old))) }
     // Whatever was read, the keys are those of these descriptions and members.
     ensures keys { Lists index.now (R.lists reader.old) → EachPosted (R.lists reader.old) links.now
         → IfOk result (λ rows. map key_of rows.items ≡ map key_of
-        (called concept time refset (rows_at pin (listed (R.lists reader.old))))) }
+        (called concept as_of.date refset (rows_seen as_of (R.lists reader.old)))) }
     ensures undamaged { R.is_honest reader.old → Lists index.now (R.lists reader.old)
         → EachPosted (R.lists reader.old) links.now
         → IfErr result (λ e. e ≢ readfault.Damaged) }
@@ -99,7 +95,7 @@ pub fn called<R: RowReader>(
     ensures work_always { Lists index.now (R.lists reader.old)
         → EachPosted (R.lists reader.old) links.now
         → R.work reader.new ≤ R.work reader.old + sum_by R.cost
-        (called concept time refset (rows_at pin (listed (R.lists reader.old)))) }
+        (called concept as_of.date refset (rows_seen as_of (R.lists reader.old))) }
     ensures lists { R.lists reader.new ≡ R.lists reader.old }
     ensures honesty { R.is_honest reader.old → R.is_honest reader.new }
     ensures stays { R.stays reader.old reader.new }
@@ -111,15 +107,14 @@ pub fn called<R: RowReader>(
     let _listed = index.lists();
     let links = links.as_slice();
     let concept = concept.value();
-    let descriptions = chosen_all(alloc, links, index, Kind::Description, concept, time, pin)?;
+    let descriptions = chosen_all(alloc, links, index, Kind::Description, concept, &as_of)?;
     let kept = named(
         alloc,
         links,
         index,
         descriptions.as_slice(),
         refset.value(),
-        time,
-        pin,
+        &as_of,
     )?;
     read_all(alloc, reader, kept.as_slice())
 }

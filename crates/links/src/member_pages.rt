@@ -4,8 +4,7 @@ ghost use Rattle.std.specs.Prelude.{◌≡◌, ◌≢◌, ◌+◌, ◌≤◌, Li
 ghost use Rattle.std.specs.List.{sum_by};
 ghost use Rattle.rf2_values.specs.Key.{key_of};
 ghost use Rattle.history_model.specs.declared.stamped.StampedRow.{StampedRow};
-ghost use Rattle.history_model.specs.History.{rows_at};
-ghost use Rattle.history_model.specs.Lists.{listed};
+ghost use Rattle.as_of_index.specs.Current.{rows_seen};
 ghost use Rattle.history_model.specs.Queries.{members};
 ghost use Rattle.as_of_index.specs.Places.{Lists};
 ghost use Rattle.as_of_index.specs.Private.Chosen.{chosen_cmp};
@@ -20,8 +19,8 @@ use crate::Links;
 use crate::member_search::{Asked, Wanted, between, find_members, high_rank, is_above, low_rank};
 use crate::postings::Sealed;
 use crate::subjects::sort_once;
-use as_of_index::{Chosen, Index, ReadFault, RowReader, read_all};
-use rf2_values::{EffectiveTime, Row, Sctid};
+use as_of_index::{AsOf, Chosen, Index, ReadFault, RowReader, read_all};
+use rf2_values::{Row, Sctid};
 use std::alloc::{AllocError, Global};
 
 /// The places of the current members that are asked for, by id.
@@ -71,20 +70,18 @@ fn enough_by_id(
     links: &[Sealed],
     index: &Index,
     refset: u64,
-    time: EffectiveTime,
+    as_of: &AsOf,
     after: Option<u128>,
     limit: u32,
-    pin: u32,
 ) -> Result<Vec<Chosen>, AllocError>
     ensures { IfOk result (λ kept. (lists : List (List StampedRow)) → Lists index.now lists
-        → AreEnough chosen_cmp (λ last. Above after last) limit lists refset time pin
+        → AreEnough chosen_cmp (λ last. Above after last) limit lists refset as_of.now
         (numbered 0 (memberships_in links.now)) kept.items) }
 {
     let all = Asked {
         refset,
         wanted: Wanted::Above(after, None),
-        time,
-        pin,
+        as_of: *as_of,
     };
     let ids = posted_ids(alloc, links, index, &all, after)?;
     let mut count = limit as usize;
@@ -95,8 +92,7 @@ fn enough_by_id(
         let asked = Asked {
             refset,
             wanted: Wanted::Above(after, Some(*last)),
-            time,
-            pin,
+            as_of: *as_of,
         };
         let kept = members_by_id(alloc, links, index, &asked)?;
         if limit as usize <= kept.len() {
@@ -117,19 +113,18 @@ pub fn members<R: RowReader>(
     index: &Index,
     reader: &mut R,
     refset: Sctid,
-    time: EffectiveTime,
+    as_of: AsOf,
     after: Option<u128>,
     limit: u32,
-    pin: u32,
 ) -> Result<Vec<Row>, ReadFault>
     ensures found { R.is_honest reader.old → Lists index.now (R.lists reader.old)
         → EachPosted (R.lists reader.old) links.now
         → IfOk result (λ rows.
-        rows.items ≡ members refset time after limit (rows_at pin (listed (R.lists reader.old)))) }
+        rows.items ≡ members refset as_of.date after limit (rows_seen as_of (R.lists reader.old))) }
     // Whatever was read, the keys are those of these members.
     ensures keys { Lists index.now (R.lists reader.old) → EachPosted (R.lists reader.old) links.now
         → IfOk result (λ rows. map key_of rows.items ≡ map key_of
-        (members refset time after limit (rows_at pin (listed (R.lists reader.old))))) }
+        (members refset as_of.date after limit (rows_seen as_of (R.lists reader.old)))) }
     ensures undamaged { R.is_honest reader.old → Lists index.now (R.lists reader.old)
         → EachPosted (R.lists reader.old) links.now
         → IfErr result (λ e. e ≢ readfault.Damaged) }
@@ -141,7 +136,7 @@ pub fn members<R: RowReader>(
     ensures work_always { Lists index.now (R.lists reader.old)
         → EachPosted (R.lists reader.old) links.now
         → R.work reader.new ≤ R.work reader.old + sum_by R.cost
-        (members refset time after limit (rows_at pin (listed (R.lists reader.old)))) }
+        (members refset as_of.date after limit (rows_seen as_of (R.lists reader.old))) }
     ensures lists { R.lists reader.new ≡ R.lists reader.old }
     ensures honesty { R.is_honest reader.old → R.is_honest reader.new }
     ensures stays { R.stays reader.old reader.new }
@@ -152,7 +147,7 @@ pub fn members<R: RowReader>(
     // Its contract says that no key is listed twice.
     let _listed = index.lists();
     let links = links.as_slice();
-    let mut kept = enough_by_id(alloc, links, index, refset.value(), time, after, limit, pin)?;
+    let mut kept = enough_by_id(alloc, links, index, refset.value(), &as_of, after, limit)?;
     kept.truncate(limit as usize);
     read_all(alloc, reader, kept.as_slice())
 }

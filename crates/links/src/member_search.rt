@@ -17,8 +17,7 @@ ghost use Rattle.links.specs.Private.Memberships.{GivesMember, AreGiven, members
 
 use crate::membership::{Membership, rank, rank_of};
 use crate::postings::Sealed;
-use as_of_index::{Chosen, Index};
-use rf2_values::EffectiveTime;
+use as_of_index::{AsOf, Chosen, Index};
 use segment::RowPlace;
 use std::alloc::{AllocError, Global};
 
@@ -35,13 +34,12 @@ pub(crate) enum Wanted {
     About(u128),
 }
 
-/// Which members are asked for: of this reference set, at this date, of the imports up to the pin.
+/// Which members are asked for: of this reference set, as of this.
 #[derive(Clone, Copy)]
 pub(crate) struct Asked {
     pub(crate) refset: u64,
     pub(crate) wanted: Wanted,
-    pub(crate) time: EffectiveTime,
-    pub(crate) pin: u32,
+    pub(crate) as_of: AsOf,
 }
 
 /// Whether a number is above another, if one is given.
@@ -137,7 +135,7 @@ pub(crate) fn between(list: &[Membership], low: u128, high: u128) -> &[Membershi
 fn wanted_at(m: &Membership, segment: usize, index: &Index, asked: &Asked) -> Option<RowPlace>
     ensures { (lists : List (List StampedRow)) → Lists index.now lists → (at : RowPlace)
         → (result ≡ Some at) ↔ (IsPlaceOfRow lists segment m.now.row at
-        × IsCurrentAt lists asked.now.time asked.now.pin segment at
+        × IsCurrentAt lists asked.now.as_of segment at
         × (is_wanted asked.now.refset asked.now.wanted m.now at.key.id ≡ true)) }
 {
     let Some(id) = index.id_at(segment, m.row) else {
@@ -146,7 +144,7 @@ fn wanted_at(m: &Membership, segment: usize, index: &Index, asked: &Asked) -> Op
     if !is_wanted(asked, m, id) {
         return None;
     }
-    index.current_at(segment, m.row, asked.time, asked.pin)
+    index.current_at(segment, m.row, asked.as_of)
 }
 
 /// What is to be read: its place, with the reference set and the component that it refers to.

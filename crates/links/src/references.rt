@@ -7,8 +7,7 @@ ghost use Rattle.std.specs.Ordering.{eq_by_cmp};
 ghost use Rattle.rf2_values.specs.Key.{key_of};
 ghost use Rattle.history_model.specs.declared.stamped.StampedRow.{StampedRow};
 ghost use Rattle.history_model.specs.InOrder.{Has};
-ghost use Rattle.history_model.specs.History.{rows_at};
-ghost use Rattle.history_model.specs.Lists.{listed};
+ghost use Rattle.as_of_index.specs.Current.{rows_seen};
 ghost use Rattle.history_model.specs.Queries.{replacements};
 ghost use Rattle.as_of_index.specs.Places.{Lists};
 ghost use Rattle.as_of_index.specs.Private.Chosen.{ranked_cmp};
@@ -21,8 +20,8 @@ ghost use Rattle.links.specs.Private.{references_in, ranked, GivesRanked, Takes,
 
 use crate::Links;
 use crate::postings::{Reference, Sealed};
-use as_of_index::{Chosen, Index, ReadFault, RowReader, read_all};
-use rf2_values::{EffectiveTime, Row, Sctid};
+use as_of_index::{AsOf, Chosen, Index, ReadFault, RowReader, read_all};
+use rf2_values::{Row, Sctid};
 use segment::RowPlace;
 use std::alloc::{AllocError, Global};
 use std::cmp::Ordering;
@@ -76,15 +75,14 @@ fn add_references(
     references: &[Reference],
     segment: usize,
     index: &Index,
-    time: EffectiveTime,
-    pin: u32,
+    as_of: &AsOf,
 ) -> Result<(), AllocError>
     ensures { OnOk result ((lists : List (List StampedRow)) → Lists index.now lists
-        → Takes (GivesRanked lists time pin segment) references.now kept.old.items
+        → Takes (GivesRanked lists as_of.now segment) references.now kept.old.items
         kept.new.items) }
 {
     for r in references {
-        if let Some(at) = index.current_at(segment, r.row, time, pin) {
+        if let Some(at) = index.current_at(segment, r.row, *as_of) {
             kept.push(chosen(segment, r, at))?;
         }
     }
@@ -97,16 +95,15 @@ fn chosen_all(
     links: &[Sealed],
     index: &Index,
     referenced: u64,
-    time: EffectiveTime,
-    pin: u32,
+    as_of: &AsOf,
 ) -> Result<Vec<Chosen>, AllocError>
     ensures { IfOk result (λ kept. (lists : List (List StampedRow)) → Lists index.now lists
-        → AreRanked lists time pin referenced (numbered 0 (references_in links.now)) kept.items) }
+        → AreRanked lists as_of.now referenced (numbered 0 (references_in links.now)) kept.items) }
 {
     let mut kept = Vec::new(alloc);
     for (segment, list) in links.iter().enumerate() {
         let those = references_to(list.references(), referenced);
-        add_references(&mut kept, those, segment, index, time, pin)?;
+        add_references(&mut kept, those, segment, index, as_of)?;
     }
     sort_once(&mut kept);
     Ok(kept)
@@ -120,17 +117,16 @@ pub fn replacements<R: RowReader>(
     index: &Index,
     reader: &mut R,
     component: Sctid,
-    time: EffectiveTime,
-    pin: u32,
+    as_of: AsOf,
 ) -> Result<Vec<Row>, ReadFault>
     ensures found { R.is_honest reader.old → Lists index.now (R.lists reader.old)
         → EachPosted (R.lists reader.old) links.now
         → IfOk result (λ rows.
-        rows.items ≡ replacements component time (rows_at pin (listed (R.lists reader.old)))) }
+        rows.items ≡ replacements component as_of.date (rows_seen as_of (R.lists reader.old))) }
     // Whatever was read, the keys are those of these associations.
     ensures keys { Lists index.now (R.lists reader.old) → EachPosted (R.lists reader.old) links.now
         → IfOk result (λ rows. map key_of rows.items ≡ map key_of
-        (replacements component time (rows_at pin (listed (R.lists reader.old))))) }
+        (replacements component as_of.date (rows_seen as_of (R.lists reader.old)))) }
     ensures undamaged { R.is_honest reader.old → Lists index.now (R.lists reader.old)
         → EachPosted (R.lists reader.old) links.now
         → IfErr result (λ e. e ≢ readfault.Damaged) }
@@ -142,7 +138,7 @@ pub fn replacements<R: RowReader>(
     ensures work_always { Lists index.now (R.lists reader.old)
         → EachPosted (R.lists reader.old) links.now
         → R.work reader.new ≤ R.work reader.old + sum_by R.cost
-        (replacements component time (rows_at pin (listed (R.lists reader.old)))) }
+        (replacements component as_of.date (rows_seen as_of (R.lists reader.old))) }
     ensures lists { R.lists reader.new ≡ R.lists reader.old }
     ensures honesty { R.is_honest reader.old → R.is_honest reader.new }
     ensures stays { R.stays reader.old reader.new }
@@ -152,6 +148,6 @@ pub fn replacements<R: RowReader>(
 {
     // Its contract says that no key is listed twice.
     let _listed = index.lists();
-    let kept = chosen_all(alloc, links.as_slice(), index, component.value(), time, pin)?;
+    let kept = chosen_all(alloc, links.as_slice(), index, component.value(), &as_of)?;
     read_all(alloc, reader, kept.as_slice())
 }

@@ -6,8 +6,7 @@ ghost use Rattle.std.specs.List.Sorted.{IsNonDecreasingBy};
 ghost use Rattle.rf2_values.specs.Key.{key_of};
 ghost use Rattle.history_model.specs.declared.stamped.StampedRow.{StampedRow};
 ghost use Rattle.history_model.specs.InOrder.{Has};
-ghost use Rattle.history_model.specs.History.{rows_at};
-ghost use Rattle.history_model.specs.Lists.{listed};
+ghost use Rattle.as_of_index.specs.Current.{rows_seen};
 ghost use Rattle.history_model.specs.Queries.{replaces};
 ghost use Rattle.as_of_index.specs.Places.{Lists};
 ghost use Rattle.as_of_index.specs.Private.Postings.{numbered};
@@ -19,8 +18,8 @@ ghost use Rattle.links.specs.Private.{targets_in, ranked_back, GivesRankedBack, 
 use crate::Links;
 use crate::postings::{Sealed, Target};
 use crate::references::sort_once;
-use as_of_index::{Chosen, Index, ReadFault, RowReader, read_all};
-use rf2_values::{EffectiveTime, Row, Sctid};
+use as_of_index::{AsOf, Chosen, Index, ReadFault, RowReader, read_all};
+use rf2_values::{Row, Sctid};
 use segment::RowPlace;
 use std::alloc::{AllocError, Global};
 
@@ -53,15 +52,14 @@ fn add_replaced(
     targets: &[Target],
     segment: usize,
     index: &Index,
-    time: EffectiveTime,
-    pin: u32,
+    as_of: &AsOf,
 ) -> Result<(), AllocError>
     ensures { OnOk result ((lists : List (List StampedRow)) → Lists index.now lists
-        → Takes (GivesRankedBack lists time pin segment) targets.now kept.old.items
+        → Takes (GivesRankedBack lists as_of.now segment) targets.now kept.old.items
         kept.new.items) }
 {
     for t in targets {
-        if let Some(at) = index.current_at(segment, t.row, time, pin) {
+        if let Some(at) = index.current_at(segment, t.row, *as_of) {
             kept.push(chosen(segment, t, at))?;
         }
     }
@@ -74,16 +72,15 @@ fn chosen_all(
     links: &[Sealed],
     index: &Index,
     target: u64,
-    time: EffectiveTime,
-    pin: u32,
+    as_of: &AsOf,
 ) -> Result<Vec<Chosen>, AllocError>
     ensures { IfOk result (λ kept. (lists : List (List StampedRow)) → Lists index.now lists
-        → AreReplaced lists time pin target (numbered 0 (targets_in links.now)) kept.items) }
+        → AreReplaced lists as_of.now target (numbered 0 (targets_in links.now)) kept.items) }
 {
     let mut kept = Vec::new(alloc);
     for (segment, list) in links.iter().enumerate() {
         let those = targets_to(list.targets(), target);
-        add_replaced(&mut kept, those, segment, index, time, pin)?;
+        add_replaced(&mut kept, those, segment, index, as_of)?;
     }
     sort_once(&mut kept);
     Ok(kept)
@@ -98,17 +95,16 @@ pub fn replaces<R: RowReader>(
     index: &Index,
     reader: &mut R,
     component: Sctid,
-    time: EffectiveTime,
-    pin: u32,
+    as_of: AsOf,
 ) -> Result<Vec<Row>, ReadFault>
     ensures found { R.is_honest reader.old → Lists index.now (R.lists reader.old)
         → EachPosted (R.lists reader.old) links.now
         → IfOk result (λ rows.
-        rows.items ≡ replaces component time (rows_at pin (listed (R.lists reader.old)))) }
+        rows.items ≡ replaces component as_of.date (rows_seen as_of (R.lists reader.old))) }
     // Whatever was read, the keys are those of these associations.
     ensures keys { Lists index.now (R.lists reader.old) → EachPosted (R.lists reader.old) links.now
         → IfOk result (λ rows. map key_of rows.items ≡ map key_of
-        (replaces component time (rows_at pin (listed (R.lists reader.old))))) }
+        (replaces component as_of.date (rows_seen as_of (R.lists reader.old)))) }
     ensures undamaged { R.is_honest reader.old → Lists index.now (R.lists reader.old)
         → EachPosted (R.lists reader.old) links.now
         → IfErr result (λ e. e ≢ readfault.Damaged) }
@@ -120,7 +116,7 @@ pub fn replaces<R: RowReader>(
     ensures work_always { Lists index.now (R.lists reader.old)
         → EachPosted (R.lists reader.old) links.now
         → R.work reader.new ≤ R.work reader.old + sum_by R.cost
-        (replaces component time (rows_at pin (listed (R.lists reader.old)))) }
+        (replaces component as_of.date (rows_seen as_of (R.lists reader.old))) }
     ensures lists { R.lists reader.new ≡ R.lists reader.old }
     ensures honesty { R.is_honest reader.old → R.is_honest reader.new }
     ensures stays { R.stays reader.old reader.new }
@@ -130,6 +126,6 @@ pub fn replaces<R: RowReader>(
 {
     // Its contract says that no key is listed twice.
     let _listed = index.lists();
-    let kept = chosen_all(alloc, links.as_slice(), index, component.value(), time, pin)?;
+    let kept = chosen_all(alloc, links.as_slice(), index, component.value(), &as_of)?;
     read_all(alloc, reader, kept.as_slice())
 }

@@ -8,8 +8,7 @@ ghost use Rattle.std.specs.Ordering.{eq_by_cmp};
 ghost use Rattle.rf2_values.specs.Key.{key_of};
 ghost use Rattle.history_model.specs.declared.stamped.StampedRow.{StampedRow};
 ghost use Rattle.history_model.specs.InOrder.{Has};
-ghost use Rattle.history_model.specs.History.{rows_at};
-ghost use Rattle.history_model.specs.Lists.{listed};
+ghost use Rattle.as_of_index.specs.Current.{rows_seen};
 ghost use Rattle.history_model.specs.Queries.{about};
 ghost use Rattle.as_of_index.specs.Places.{Lists};
 ghost use Rattle.as_of_index.specs.Private.Chosen.{chosen, chosen_cmp};
@@ -23,8 +22,8 @@ ghost use Rattle.links.specs.Private.{subjects_in, GivesRow, Takes, AreRows};
 
 use crate::Links;
 use crate::postings::{Sealed, Subject};
-use as_of_index::{Chosen, Index, ReadFault, RowReader, read_all};
-use rf2_values::{EffectiveTime, Kind, Row, Sctid};
+use as_of_index::{AsOf, Chosen, Index, ReadFault, RowReader, read_all};
+use rf2_values::{Kind, Row, Sctid};
 use segment::RowPlace;
 use std::alloc::{AllocError, Global};
 use std::cmp::Ordering;
@@ -93,14 +92,13 @@ fn add_current(
     subjects: &[Subject],
     segment: usize,
     index: &Index,
-    time: EffectiveTime,
-    pin: u32,
+    as_of: &AsOf,
 ) -> Result<(), AllocError>
     ensures { OnOk result ((lists : List (List StampedRow)) → Lists index.now lists
-        → Takes (GivesRow lists time pin segment) subjects.now kept.old.items kept.new.items) }
+        → Takes (GivesRow lists as_of.now segment) subjects.now kept.old.items kept.new.items) }
 {
     for x in subjects {
-        if let Some(at) = index.current_at(segment, x.row, time, pin) {
+        if let Some(at) = index.current_at(segment, x.row, *as_of) {
             kept.push(chosen(segment, at))?;
         }
     }
@@ -114,16 +112,15 @@ pub(crate) fn chosen_all(
     index: &Index,
     kind: Kind,
     id: u64,
-    time: EffectiveTime,
-    pin: u32,
+    as_of: &AsOf,
 ) -> Result<Vec<Chosen>, AllocError>
     ensures { IfOk result (λ kept. (lists : List (List StampedRow)) → Lists index.now lists
-        → AreRows lists kind time pin id (numbered 0 (subjects_in links.now)) kept.items) }
+        → AreRows lists kind as_of.now id (numbered 0 (subjects_in links.now)) kept.items) }
 {
     let mut kept = Vec::new(alloc);
     for (segment, list) in links.iter().enumerate() {
         let those = subjects_of(list.subjects(), id, kind);
-        add_current(&mut kept, those, segment, index, time, pin)?;
+        add_current(&mut kept, those, segment, index, as_of)?;
     }
     sort_once(&mut kept);
     Ok(kept)
@@ -137,17 +134,16 @@ pub(crate) fn about_of<R: RowReader>(
     reader: &mut R,
     kind: Kind,
     id: u64,
-    time: EffectiveTime,
-    pin: u32,
+    as_of: &AsOf,
 ) -> Result<Vec<Row>, ReadFault>
     ensures found { R.is_honest reader.old → Lists index.now (R.lists reader.old)
         → EachPosted (R.lists reader.old) links.now
         → IfOk result (λ rows.
-        rows.items ≡ about kind id time (rows_at pin (listed (R.lists reader.old)))) }
+        rows.items ≡ about kind id as_of.now.date (rows_seen as_of.now (R.lists reader.old))) }
     // Whatever was read, the keys are those of the rows about the component.
     ensures keys { Lists index.now (R.lists reader.old) → EachPosted (R.lists reader.old) links.now
         → IfOk result (λ rows. map key_of rows.items
-        ≡ map key_of (about kind id time (rows_at pin (listed (R.lists reader.old))))) }
+        ≡ map key_of (about kind id as_of.now.date (rows_seen as_of.now (R.lists reader.old)))) }
     ensures undamaged { R.is_honest reader.old → Lists index.now (R.lists reader.old)
         → EachPosted (R.lists reader.old) links.now
         → IfErr result (λ e. e ≢ readfault.Damaged) }
@@ -159,7 +155,7 @@ pub(crate) fn about_of<R: RowReader>(
     ensures work_always { Lists index.now (R.lists reader.old)
         → EachPosted (R.lists reader.old) links.now
         → R.work reader.new ≤ R.work reader.old + sum_by R.cost
-        (about kind id time (rows_at pin (listed (R.lists reader.old)))) }
+        (about kind id as_of.now.date (rows_seen as_of.now (R.lists reader.old))) }
     ensures lists { R.lists reader.new ≡ R.lists reader.old }
     ensures honesty { R.is_honest reader.old → R.is_honest reader.new }
     ensures stays { R.stays reader.old reader.new }
@@ -169,7 +165,7 @@ pub(crate) fn about_of<R: RowReader>(
 {
     // Its contract says that no key is listed twice.
     let _listed = index.lists();
-    let kept = chosen_all(alloc, links.as_slice(), index, kind, id, time, pin)?;
+    let kept = chosen_all(alloc, links.as_slice(), index, kind, id, as_of)?;
     read_all(alloc, reader, kept.as_slice())
 }
 
@@ -183,17 +179,16 @@ pub fn about<R: RowReader>(
     reader: &mut R,
     kind: Kind,
     id: Sctid,
-    time: EffectiveTime,
-    pin: u32,
+    as_of: AsOf,
 ) -> Result<Vec<Row>, ReadFault>
     ensures found { R.is_honest reader.old → Lists index.now (R.lists reader.old)
         → EachPosted (R.lists reader.old) links.now
         → IfOk result (λ rows.
-        rows.items ≡ about kind id time (rows_at pin (listed (R.lists reader.old)))) }
+        rows.items ≡ about kind id as_of.date (rows_seen as_of (R.lists reader.old))) }
     // Whatever was read, the keys are those of the rows about the component.
     ensures keys { Lists index.now (R.lists reader.old) → EachPosted (R.lists reader.old) links.now
         → IfOk result (λ rows. map key_of rows.items
-        ≡ map key_of (about kind id time (rows_at pin (listed (R.lists reader.old))))) }
+        ≡ map key_of (about kind id as_of.date (rows_seen as_of (R.lists reader.old)))) }
     ensures undamaged { R.is_honest reader.old → Lists index.now (R.lists reader.old)
         → EachPosted (R.lists reader.old) links.now
         → IfErr result (λ e. e ≢ readfault.Damaged) }
@@ -205,7 +200,7 @@ pub fn about<R: RowReader>(
     ensures work_always { Lists index.now (R.lists reader.old)
         → EachPosted (R.lists reader.old) links.now
         → R.work reader.new ≤ R.work reader.old + sum_by R.cost
-        (about kind id time (rows_at pin (listed (R.lists reader.old)))) }
+        (about kind id as_of.date (rows_seen as_of (R.lists reader.old))) }
     ensures lists { R.lists reader.new ≡ R.lists reader.old }
     ensures honesty { R.is_honest reader.old → R.is_honest reader.new }
     ensures stays { R.stays reader.old reader.new }
@@ -213,5 +208,5 @@ pub fn about<R: RowReader>(
         (R.disk_faults reader.old) (R.disk_faults reader.new) }
     ensures damages { Counts CountsDamage result (R.damages reader.old) (R.damages reader.new) }
 {
-    about_of(alloc, links, index, reader, kind, id.value(), time, pin)
+    about_of(alloc, links, index, reader, kind, id.value(), &as_of)
 }

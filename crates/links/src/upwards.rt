@@ -3,8 +3,7 @@
 ghost use Rattle.std.specs.Prelude.{◌≡◌, ◌≢◌, ◌+◌, ◌≤◌, ◌∷◌, ℕ, List, map, true, false};
 ghost use Rattle.std.specs.Prelude.{IfOk, IfErr, MatchOption};
 ghost use Rattle.std.specs.List.{filter, sum_by};
-ghost use Rattle.history_model.specs.History.{rows_at};
-ghost use Rattle.history_model.specs.Lists.{listed};
+ghost use Rattle.as_of_index.specs.Current.{rows_seen};
 ghost use Rattle.history_model.specs.Queries.{about, parents, destination_of};
 ghost use Rattle.history_model.specs.Hierarchy.{AreAncestors};
 ghost use Rattle.rf2_values.specs.declared.row.Kind.TheVariants as kinds;
@@ -18,9 +17,9 @@ use crate::Links;
 use crate::hierarchy::sort_once;
 use crate::reaching::{Steps, reached};
 use crate::subjects::about_of;
-use as_of_index::{Index, ReadFault, RowReader};
+use as_of_index::{AsOf, Index, ReadFault, RowReader};
 use history_model::IS_A;
-use rf2_values::{Body, EffectiveTime, Kind, Row, Sctid};
+use rf2_values::{Body, Kind, Row, Sctid};
 use std::alloc::{AllocError, Global};
 
 /// The destination of an "is a" relationship.
@@ -55,20 +54,20 @@ fn parents_of<R: RowReader>(
     index: &Index,
     reader: &mut R,
     concept: u64,
-    time: EffectiveTime,
-    pin: u32,
+    as_of: &AsOf,
 ) -> Result<Vec<u64>, ReadFault>
     ensures found { R.is_honest reader.old → Lists index.now (R.lists reader.old)
         → EachPosted (R.lists reader.old) links.now
         → IfOk result (λ ids.
-        ids.items ≡ parents concept time (rows_at pin (listed (R.lists reader.old)))) }
+        ids.items ≡ parents concept as_of.now.date (rows_seen as_of.now (R.lists reader.old))) }
     ensures undamaged { R.is_honest reader.old → Lists index.now (R.lists reader.old)
         → EachPosted (R.lists reader.old) links.now
         → IfErr result (λ e. e ≢ readfault.Damaged) }
     ensures work_always { Lists index.now (R.lists reader.old)
         → EachPosted (R.lists reader.old) links.now
         → R.work reader.new ≤ R.work reader.old + sum_by R.cost
-        (about kinds.Relationship concept time (rows_at pin (listed (R.lists reader.old)))) }
+        (about kinds.Relationship concept as_of.now.date (rows_seen as_of.now
+        (R.lists reader.old))) }
     ensures lists { R.lists reader.new ≡ R.lists reader.old }
     ensures honesty { R.is_honest reader.old → R.is_honest reader.new }
     ensures stays { R.stays reader.old reader.new }
@@ -83,8 +82,7 @@ fn parents_of<R: RowReader>(
         reader,
         Kind::Relationship,
         concept,
-        time,
-        pin,
+        as_of,
     )?;
     let mut ids = parents_in(alloc, rows.as_slice())?;
     sort_once(&mut ids);
@@ -97,16 +95,14 @@ struct Upwards<'a, R: RowReader> {
     links: &'a Links,
     index: &'a Index,
     reader: &'a mut R,
-    time: EffectiveTime,
-    pin: u32,
+    as_of: AsOf,
 }
 
 impl<R: RowReader> Steps for Upwards<'_, R> {
     ghost use Rattle.std.specs.Prelude.{◌≡◌, ◌≢◌, ℕ, List};
     ghost use Rattle.std.specs.List.{sum_by};
     ghost use Rattle.std.proofs.Common.{refl, ◌∙◌};
-    ghost use Rattle.history_model.specs.History.{rows_at};
-    ghost use Rattle.history_model.specs.Lists.{listed};
+    ghost use Rattle.as_of_index.specs.Current.{rows_seen};
     ghost use Rattle.history_model.specs.Queries.{parents, about};
     ghost use Rattle.rf2_values.specs.declared.row.Kind.TheVariants as kinds;
     ghost use Rattle.as_of_index.specs.Places.{Lists};
@@ -117,7 +113,7 @@ impl<R: RowReader> Steps for Upwards<'_, R> {
     ghost leads = { λ u next. R.is_honest u.reader.now × Lists u.index.now (R.lists u.reader.now)
         × EachPosted (R.lists u.reader.now) u.links.now
         × ((concept : ℕ) → next concept
-        ≡ parents concept u.time (rows_at u.pin (listed (R.lists u.reader.now)))) };
+        ≡ parents concept u.as_of.date (rows_seen u.as_of (R.lists u.reader.now))) };
 
     ghost stays = { λ a b. R.stays a.reader.now b.reader.now
         × (R.lists b.reader.now ≡ R.lists a.reader.now)
@@ -132,7 +128,7 @@ impl<R: RowReader> Steps for Upwards<'_, R> {
     ghost costs = { λ u cost. Lists u.index.now (R.lists u.reader.now)
         × EachPosted (R.lists u.reader.now) u.links.now
         × ((concept : ℕ) → cost concept ≡ sum_by R.cost (about kinds.Relationship concept
-        u.time (rows_at u.pin (listed (R.lists u.reader.now))))) };
+        u.as_of.date (rows_seen u.as_of (R.lists u.reader.now)))) };
 
     ghost disk_faults = { λ u. R.disk_faults u.reader.now };
 
@@ -156,8 +152,7 @@ impl<R: RowReader> Steps for Upwards<'_, R> {
             self.index,
             self.reader,
             concept,
-            self.time,
-            self.pin,
+            &self.as_of,
         )
     }
 }
@@ -171,13 +166,12 @@ pub fn ancestors<R: RowReader>(
     index: &Index,
     reader: &mut R,
     concept: Sctid,
-    time: EffectiveTime,
-    pin: u32,
+    as_of: AsOf,
 ) -> Result<Vec<u64>, ReadFault>
     ensures found { R.is_honest reader.old → Lists index.now (R.lists reader.old)
         → EachPosted (R.lists reader.old) links.now
-        → IfOk result (λ ids. AreAncestors concept time
-        (rows_at pin (listed (R.lists reader.old))) ids.items) }
+        → IfOk result (λ ids. AreAncestors concept as_of.date
+        (rows_seen as_of (R.lists reader.old)) ids.items) }
     ensures undamaged { R.is_honest reader.old → Lists index.now (R.lists reader.old)
         → EachPosted (R.lists reader.old) links.now
         → IfErr result (λ e. e ≢ readfault.Damaged) }
@@ -186,15 +180,15 @@ pub fn ancestors<R: RowReader>(
     ensures work { Lists index.now (R.lists reader.old)
         → EachPosted (R.lists reader.old) links.now → IfOk result (λ ids.
         R.work reader.new ≤ R.work reader.old + sum_by (λ c. sum_by R.cost
-        (about kinds.Relationship c time (rows_at pin (listed (R.lists reader.old)))))
+        (about kinds.Relationship c as_of.date (rows_seen as_of (R.lists reader.old))))
         (concept ∷ ids.items)) }
     // Whatever it answers, an honest reader has read no more than the relationships take of which
     // the concept is the source, or one that is to be found.
     ensures work_always { R.is_honest reader.old → Lists index.now (R.lists reader.old)
         → EachPosted (R.lists reader.old) links.now → (ids : List ℕ)
-        → AreAncestors concept time (rows_at pin (listed (R.lists reader.old))) ids
+        → AreAncestors concept as_of.date (rows_seen as_of (R.lists reader.old)) ids
         → R.work reader.new ≤ R.work reader.old + sum_by (λ c. sum_by R.cost
-        (about kinds.Relationship c time (rows_at pin (listed (R.lists reader.old)))))
+        (about kinds.Relationship c as_of.date (rows_seen as_of (R.lists reader.old))))
         (concept ∷ ids) }
     ensures lists { R.lists reader.new ≡ R.lists reader.old }
     ensures honesty { R.is_honest reader.old → R.is_honest reader.new }
@@ -207,8 +201,7 @@ pub fn ancestors<R: RowReader>(
         links,
         index,
         reader,
-        time,
-        pin,
+        as_of,
     };
     reached(alloc, &mut steps, concept.value())
 }

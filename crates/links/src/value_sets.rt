@@ -5,8 +5,7 @@ ghost use Rattle.std.specs.List.{sum_by};
 ghost use Rattle.std.specs.List.Sorted.{IsNonDecreasingBy};
 ghost use Rattle.rf2_values.specs.Key.{key_of};
 ghost use Rattle.history_model.specs.declared.stamped.StampedRow.{StampedRow};
-ghost use Rattle.history_model.specs.History.{rows_at};
-ghost use Rattle.history_model.specs.Lists.{listed};
+ghost use Rattle.as_of_index.specs.Current.{rows_seen};
 ghost use Rattle.history_model.specs.Queries.{values};
 ghost use Rattle.as_of_index.specs.Places.{Lists};
 ghost use Rattle.as_of_index.specs.Private.Chosen.{ranked_cmp};
@@ -22,8 +21,8 @@ use crate::Links;
 use crate::member_search::{Asked, Wanted, between, find_members, high_rank, low_rank};
 use crate::postings::Sealed;
 use crate::references::sort_once;
-use as_of_index::{Chosen, Index, ReadFault, RowReader, read_all};
-use rf2_values::{EffectiveTime, Row, Sctid};
+use as_of_index::{AsOf, Chosen, Index, ReadFault, RowReader, read_all};
+use rf2_values::{Row, Sctid};
 use std::alloc::{AllocError, Global};
 
 /// The places of the current members that are asked for, by the component that they refer to.
@@ -67,20 +66,18 @@ fn enough_by_component(
     links: &[Sealed],
     index: &Index,
     refset: u64,
-    time: EffectiveTime,
+    as_of: &AsOf,
     after: Option<u64>,
     limit: u32,
-    pin: u32,
 ) -> Result<Vec<Chosen>, AllocError>
     ensures { IfOk result (λ kept. (lists : List (List StampedRow)) → Lists index.now lists
-        → AreEnough ranked_cmp (λ last. Values after last) limit lists refset time pin
+        → AreEnough ranked_cmp (λ last. Values after last) limit lists refset as_of.now
         (numbered 0 (memberships_in links.now)) kept.items) }
 {
     let all = Asked {
         refset,
         wanted: Wanted::Values(after, None),
-        time,
-        pin,
+        as_of: *as_of,
     };
     let mut count = limit as usize;
     for _ in 0..16 {
@@ -90,8 +87,7 @@ fn enough_by_component(
         let asked = Asked {
             refset,
             wanted: Wanted::Values(after, Some(last)),
-            time,
-            pin,
+            as_of: *as_of,
         };
         let kept = members_by_component(alloc, links, index, &asked)?;
         if limit as usize <= kept.len() {
@@ -130,19 +126,18 @@ pub fn values<R: RowReader>(
     index: &Index,
     reader: &mut R,
     refset: Sctid,
-    time: EffectiveTime,
+    as_of: AsOf,
     after: Option<u64>,
     limit: u32,
-    pin: u32,
 ) -> Result<Vec<Row>, ReadFault>
     ensures found { R.is_honest reader.old → Lists index.now (R.lists reader.old)
         → EachPosted (R.lists reader.old) links.now
         → IfOk result (λ rows.
-        rows.items ≡ values refset time after limit (rows_at pin (listed (R.lists reader.old)))) }
+        rows.items ≡ values refset as_of.date after limit (rows_seen as_of (R.lists reader.old))) }
     // Whatever was read, the keys are those of these members.
     ensures keys { Lists index.now (R.lists reader.old) → EachPosted (R.lists reader.old) links.now
         → IfOk result (λ rows. map key_of rows.items ≡ map key_of
-        (values refset time after limit (rows_at pin (listed (R.lists reader.old))))) }
+        (values refset as_of.date after limit (rows_seen as_of (R.lists reader.old)))) }
     ensures undamaged { R.is_honest reader.old → Lists index.now (R.lists reader.old)
         → EachPosted (R.lists reader.old) links.now
         → IfErr result (λ e. e ≢ readfault.Damaged) }
@@ -154,7 +149,7 @@ pub fn values<R: RowReader>(
     ensures work_always { Lists index.now (R.lists reader.old)
         → EachPosted (R.lists reader.old) links.now
         → R.work reader.new ≤ R.work reader.old + sum_by R.cost
-        (values refset time after limit (rows_at pin (listed (R.lists reader.old)))) }
+        (values refset as_of.date after limit (rows_seen as_of (R.lists reader.old))) }
     ensures lists { R.lists reader.new ≡ R.lists reader.old }
     ensures honesty { R.is_honest reader.old → R.is_honest reader.new }
     ensures stays { R.stays reader.old reader.new }
@@ -166,7 +161,7 @@ pub fn values<R: RowReader>(
     let _listed = index.lists();
     let links = links.as_slice();
     let refset = refset.value();
-    let mut kept = enough_by_component(alloc, links, index, refset, time, after, limit, pin)?;
+    let mut kept = enough_by_component(alloc, links, index, refset, &as_of, after, limit)?;
     let count = count_with_ties(kept.as_slice(), limit);
     kept.truncate(count);
     read_all(alloc, reader, kept.as_slice())

@@ -23,6 +23,7 @@ use Rattle.segment.specs.Standing.{places_of}
 use Rattle.as_of_index.specs.Places.{item_at, place_cmp, ArePlaces, Lists}
 use Rattle.as_of_index.specs.Current.{IsPlaceOfRow, IsCurrentAt}
 use Rattle.as_of_index.specs.Private.Chosen.{chosen, chosen_cmp}
+use Rattle.term_prefix.specs.declared.search.Search.{Search}
 use Rattle.term_prefix.specs.declared.search.Bounds.{Bounds}
 use Rattle.term_prefix.specs.declared.search.Candidate.TheVariants as candidates
 use Rattle.term_prefix.specs.Private.{chosen_at, IsFull, IsTaken, Counts, AreKept, SaysTaken, SaysCandidate, IsOfDescription, AreBounds}
@@ -57,41 +58,41 @@ taken_id limit ys j id up h e = elim (taken_or_above chosen_total limit ys j up 
   | inr r ↦ inr (r.0, λ i k. subst (λ n. i.at.key.id < n) e (lower i j (r.1 i k)))
 ]
 
-module _ (lists : List (List StampedRow)) (date : ℕ) (after : Option ℕ) (limit pin : ℕ) where
-  pub kept_more : (seen kept : List Chosen) (k : Chosen) → AreKept lists date after limit pin seen kept → Counts lists date after pin k × SaysTaken limit kept k.at.key.id false → AreKept lists date after limit pin (seen ++ k ∷ []) (take limit (put chosen_cmp k kept))
+module _ (lists : List (List StampedRow)) (search : Search) where
+  pub kept_more : (seen kept : List Chosen) (k : Chosen) → AreKept lists search seen kept → Counts lists search k × SaysTaken search.limit kept k.at.key.id false → AreKept lists search (seen ++ k ∷ []) (take search.limit (put chosen_cmp k kept))
   kept_more seen kept k a w =
       let up = IsAscending-put chosen_total k kept a.ascending in
       record {
-        ascending = IsAscending-take chosen_cmp (put chosen_cmp k kept) limit up;
-        few = few limit (put chosen_cmp k kept);
+        ascending = IsAscending-take chosen_cmp (put chosen_cmp k kept) search.limit up;
+        few = few search.limit (put chosen_cmp k kept);
         all = λ m h now. elim (Has-append_cases seen (k ∷ []) m h) [
           | inl l ↦ elim (a.all m l now) [
-            | inl t ↦ taken_id limit (put chosen_cmp k kept) t.0 m.at.key.id up (Has-put_old chosen_cmp k kept t.0 t.1) t.2
+            | inl t ↦ taken_id search.limit (put chosen_cmp k kept) t.0 m.at.key.id up (Has-put_old chosen_cmp k kept t.0 t.1) t.2
             | inr b ↦ inr (
-              still_full limit k kept b.0,
-              λ i there. elim (Has-put_cases chosen_cmp k kept i (Has-take limit (put chosen_cmp k kept) i there)) [
+              still_full search.limit k kept b.0,
+              λ i there. elim (Has-put_cases chosen_cmp k kept i (Has-take search.limit (put chosen_cmp k kept) i there)) [
                 | inl e ↦ subst (λ (x : Chosen). x.at.key.id < m.at.key.id) e (let j = w.1 b.0 in let low = b.1 j.0 j.1 in let high = j.2 in omega arith)
                 | inr old ↦ b.1 i old
               ],
             )
           ]
           | inr r ↦ elim r [
-            | inl e ↦ subst (λ (x : Chosen). IsTaken limit (take limit (put chosen_cmp k kept)) x.at.key.id) e (itself up)
+            | inl e ↦ subst (λ (x : Chosen). IsTaken search.limit (take search.limit (put chosen_cmp k kept)) x.at.key.id) e (itself up)
             | inr f ↦ absurd f
           ]
         ];
-        only = λ m h. elim (Has-put_cases chosen_cmp k kept m (Has-take limit (put chosen_cmp k kept) m h)) [
-          | inl e ↦ subst (λ (x : Chosen). Has (seen ++ k ∷ []) x × Counts lists date after pin x) e (Has-append_right seen (k ∷ []) k (inl refl), w.0)
+        only = λ m h. elim (Has-put_cases chosen_cmp k kept m (Has-take search.limit (put chosen_cmp k kept) m h)) [
+          | inl e ↦ subst (λ (x : Chosen). Has (seen ++ k ∷ []) x × Counts lists search x) e (Has-append_right seen (k ∷ []) k (inl refl), w.0)
           | inr old ↦ (let o = a.only m old in (Has-append_left seen (k ∷ []) m o.0, o.1))
         ];
       } where
-        itself : IsAscending chosen_cmp (put chosen_cmp k kept) → IsTaken limit (take limit (put chosen_cmp k kept)) k.at.key.id
+        itself : IsAscending chosen_cmp (put chosen_cmp k kept) → IsTaken search.limit (take search.limit (put chosen_cmp k kept)) k.at.key.id
         itself up = elim (Has-put_new chosen_cmp k kept) [
-          | inl h ↦ taken_id limit (put chosen_cmp k kept) k k.at.key.id up h refl
-          | inr y ↦ taken_id limit (put chosen_cmp k kept) y.0 k.at.key.id up (Has-put_old chosen_cmp k kept y.0 y.1) (sym (ranked k.at.key.id y.0.at.key.id Equal (sym y.2)))
+          | inl h ↦ taken_id search.limit (put chosen_cmp k kept) k k.at.key.id up h refl
+          | inr y ↦ taken_id search.limit (put chosen_cmp k kept) y.0 k.at.key.id up (Has-put_old chosen_cmp k kept y.0 y.1) (sym (ranked k.at.key.id y.0.at.key.id Equal (sym y.2)))
         ]
 
-  pub kept_other : (seen kept : List Chosen) (k : Chosen) → AreKept lists date after limit pin seen kept → IsTaken limit kept k.at.key.id ⊎ (Counts lists date after pin k → ⊥) → AreKept lists date after limit pin (seen ++ k ∷ []) kept
+  pub kept_other : (seen kept : List Chosen) (k : Chosen) → AreKept lists search seen kept → IsTaken search.limit kept k.at.key.id ⊎ (Counts lists search k → ⊥) → AreKept lists search (seen ++ k ∷ []) kept
   kept_other seen kept k a w = record {
     ascending = a.ascending;
     few = a.few;
@@ -99,8 +100,8 @@ module _ (lists : List (List StampedRow)) (date : ℕ) (after : Option ℕ) (lim
       | inl l ↦ a.all m l now
       | inr r ↦ elim r [
         | inl e ↦ elim w [
-          | inl t ↦ subst (λ (x : Chosen). IsTaken limit kept x.at.key.id) e t
-          | inr no_more ↦ absurd (no_more (subst (λ (x : Chosen). Counts lists date after pin x) (sym e) now))
+          | inl t ↦ subst (λ (x : Chosen). IsTaken search.limit kept x.at.key.id) e t
+          | inr no_more ↦ absurd (no_more (subst (λ (x : Chosen). Counts lists search x) (sym e) now))
         ]
         | inr f ↦ absurd f
       ]
@@ -108,7 +109,7 @@ module _ (lists : List (List StampedRow)) (date : ℕ) (after : Option ℕ) (lim
     only = λ m h. let o = a.only m h in (Has-append_left seen (k ∷ []) m o.0, o.1);
   }
 
-  pub kept_same : (seen others kept : List Chosen) → ((k : Chosen) → Has seen k → Has others k) → ((k : Chosen) → Has others k → Has seen k) → AreKept lists date after limit pin seen kept → AreKept lists date after limit pin others kept
+  pub kept_same : (seen others kept : List Chosen) → ((k : Chosen) → Has seen k → Has others k) → ((k : Chosen) → Has others k → Has seen k) → AreKept lists search seen kept → AreKept lists search others kept
   kept_same seen others kept f g a = record {
     ascending = a.ascending;
     few = a.few;
@@ -117,11 +118,11 @@ module _ (lists : List (List StampedRow)) (date : ℕ) (after : Option ℕ) (lim
   }
 
 -- the terms of a list, in whatever order they are met
-pub terms_same : (lists : List (List StampedRow)) (date : ℕ) (after : Option ℕ) (limit pin n : ℕ) (seen kept : List Chosen) (ts others : List Term) → IsPermutation ts others
-    → AreKept lists date after limit pin (seen ++ flat_map (λ (t : Term). chosen_at lists n t.row) others) kept
-    → AreKept lists date after limit pin (seen ++ flat_map (λ (t : Term). chosen_at lists n t.row) ts) kept
-terms_same lists date after limit pin n seen kept ts others same are =
-    kept_same lists date after limit pin (seen ++ those others) (seen ++ those ts) kept (moved others ts same) (moved ts others (IsPermutation-sym ts others same)) are where
+pub terms_same : (lists : List (List StampedRow)) (search : Search) (n : ℕ) (seen kept : List Chosen) (ts others : List Term) → IsPermutation ts others
+    → AreKept lists search (seen ++ flat_map (λ (t : Term). chosen_at lists n t.row) others) kept
+    → AreKept lists search (seen ++ flat_map (λ (t : Term). chosen_at lists n t.row) ts) kept
+terms_same lists search n seen kept ts others same are =
+    kept_same lists search (seen ++ those others) (seen ++ those ts) kept (moved others ts same) (moved ts others (IsPermutation-sym ts others same)) are where
       those : List Term → List Chosen
       those = flat_map (λ (t : Term). chosen_at lists n t.row)
 
@@ -256,31 +257,31 @@ full_taken limit kept id full = elim (same_id id kept) [
 
 -- ---- one row more, which has a place or none
 
-module _ (lists : List (List StampedRow)) (date : ℕ) (after : Option ℕ) (limit pin n i : ℕ) where
+module _ (lists : List (List StampedRow)) (search : Search) (n i : ℕ) where
   abbrev chosen_of : Option RowPlace → List Chosen
   chosen_of o = map (chosen n) (option_to_list o)
 
   -- it is kept
-  pub row_kept : (seen kept : List Chosen) (at : RowPlace) → AreKept lists date after limit pin seen kept → SaysCandidate lists date after limit pin kept n i (candidates.Wanted at) → AreKept lists date after limit pin (seen ++ chosen_at lists n i) (take limit (put chosen_cmp (chosen n at) kept))
+  pub row_kept : (seen kept : List Chosen) (at : RowPlace) → AreKept lists search seen kept → SaysCandidate lists search kept n i (candidates.Wanted at) → AreKept lists search (seen ++ chosen_at lists n i) (take search.limit (put chosen_cmp (chosen n at) kept))
   row_kept seen kept at a w =
-      subst (λ ks. AreKept lists date after limit pin (seen ++ ks) (take limit (put chosen_cmp (chosen n at) kept))) (sym (ap chosen_of w.0))
-      (kept_more lists date after limit pin seen kept (chosen n at) a (w.1, w.2))
+      subst (λ ks. AreKept lists search (seen ++ ks) (take search.limit (put chosen_cmp (chosen n at) kept))) (sym (ap chosen_of w.0))
+      (kept_more lists search seen kept (chosen n at) a (w.1, w.2))
 
   -- it isn't
-  row_left : (seen kept : List Chosen) → AreKept lists date after limit pin seen kept → ((at : RowPlace) → IsPlaceOfRow lists n i at → IsTaken limit kept at.key.id ⊎ (Counts lists date after pin (chosen n at) → ⊥)) → AreKept lists date after limit pin (seen ++ chosen_at lists n i) kept
+  row_left : (seen kept : List Chosen) → AreKept lists search seen kept → ((at : RowPlace) → IsPlaceOfRow lists n i at → IsTaken search.limit kept at.key.id ⊎ (Counts lists search (chosen n at) → ⊥)) → AreKept lists search (seen ++ chosen_at lists n i) kept
   row_left seen kept a w =
-      elim (item_at (map places_of lists) n i) as (λ o. item_at (map places_of lists) n i ≡ o → AreKept lists date after limit pin (seen ++ chosen_of o) kept) [
-        | None ↦ λ e. subst (λ ks. AreKept lists date after limit pin ks kept) (sym (append-nil seen)) a
-        | Some at ↦ λ e. kept_other lists date after limit pin seen kept (chosen n at) a (w at e)
+      elim (item_at (map places_of lists) n i) as (λ o. item_at (map places_of lists) n i ≡ o → AreKept lists search (seen ++ chosen_of o) kept) [
+        | None ↦ λ e. subst (λ ks. AreKept lists search ks kept) (sym (append-nil seen)) a
+        | Some at ↦ λ e. kept_other lists search seen kept (chosen n at) a (w at e)
       ] refl
 
-  pub low_left : (seen kept : List Chosen) → AreKept lists date after limit pin seen kept → ((at : RowPlace) → IsPlaceOfRow lists n i at → is_above after at.key.id ≡ false) → AreKept lists date after limit pin (seen ++ chosen_at lists n i) kept
+  pub low_left : (seen kept : List Chosen) → AreKept lists search seen kept → ((at : RowPlace) → IsPlaceOfRow lists n i at → is_above search.after at.key.id ≡ false) → AreKept lists search (seen ++ chosen_at lists n i) kept
   low_left seen kept a low = row_left seen kept a (λ at place. inr (λ counts. absurd (let yes = counts.above in let no = low at place in cc)))
 
-  pub high_left : (seen kept : List Chosen) → AreKept lists date after limit pin seen kept → ((at : RowPlace) → IsPlaceOfRow lists n i at → IsFull limit kept at.key.id) → AreKept lists date after limit pin (seen ++ chosen_at lists n i) kept
-  high_left seen kept a high = row_left seen kept a (λ at place. inl (full_taken limit kept at.key.id (high at place)))
+  pub high_left : (seen kept : List Chosen) → AreKept lists search seen kept → ((at : RowPlace) → IsPlaceOfRow lists n i at → IsFull search.limit kept at.key.id) → AreKept lists search (seen ++ chosen_at lists n i) kept
+  high_left seen kept a high = row_left seen kept a (λ at place. inl (full_taken search.limit kept at.key.id (high at place)))
 
-  pub old_left : (seen kept : List Chosen) → AreKept lists date after limit pin seen kept → ((at : RowPlace) → IsPlaceOfRow lists n i at → Counts lists date after pin (chosen n at) → ⊥) → AreKept lists date after limit pin (seen ++ chosen_at lists n i) kept
+  pub old_left : (seen kept : List Chosen) → AreKept lists search seen kept → ((at : RowPlace) → IsPlaceOfRow lists n i at → Counts lists search (chosen n at) → ⊥) → AreKept lists search (seen ++ chosen_at lists n i) kept
   old_left seen kept a old = row_left seen kept a (λ at place. inr (old at place))
 
 -- ---- one of a list more
@@ -301,7 +302,7 @@ pieces_more seen f ts i d lt =
 some_is : {X : Type 0} (x y : X) → Some x ≡ Some y → x ≡ y
 some_is x y e = cc
 
-module _ (lists : List (List StampedRow)) (date : ℕ) (after : Option ℕ) (limit pin : ℕ) (kept : List Chosen) (n i : ℕ) where
+module _ (lists : List (List StampedRow)) (search : Search) (kept : List Chosen) (n i : ℕ) where
   one_place : (p q : RowPlace) → IsPlaceOfRow lists n i p → IsPlaceOfRow lists n i q → p ≡ q
   one_place p q e f = some_is p q (sym e ∙ f)
 
@@ -310,31 +311,31 @@ module _ (lists : List (List StampedRow)) (date : ℕ) (after : Option ℕ) (lim
   place_of_id id None e = absurd (cc)
   place_of_id id (Some at) e = (at, refl, some_is id at.key.id e)
 
-  pub says_none : None ≡ option_map (λ (p : RowPlace). p.key.id) (item_at (map places_of lists) n i) → SaysCandidate lists date after limit pin kept n i candidates.Old
+  pub says_none : None ≡ option_map (λ (p : RowPlace). p.key.id) (item_at (map places_of lists) n i) → SaysCandidate lists search kept n i candidates.Old
   says_none none at place counts = absurd (let ids = none ∙ ap (option_map (λ (p : RowPlace). p.key.id)) place in cc)
 
   module _ (id : ℕ) (id_is : Some id ≡ option_map (λ (p : RowPlace). p.key.id) (item_at (map places_of lists) n i)) where
-    pub says_low : is_above after id ≡ false → SaysCandidate lists date after limit pin kept n i candidates.Low
-    says_low low = let w = place_of_id id (item_at (map places_of lists) n i) id_is in (w.0, w.1, subst (λ m. is_above after m ≡ false) w.2 low)
+    pub says_low : is_above search.after id ≡ false → SaysCandidate lists search kept n i candidates.Low
+    says_low low = let w = place_of_id id (item_at (map places_of lists) n i) id_is in (w.0, w.1, subst (λ m. is_above search.after m ≡ false) w.2 low)
 
-    pub says_high : IsFull limit kept id → SaysCandidate lists date after limit pin kept n i candidates.High
-    says_high full = let w = place_of_id id (item_at (map places_of lists) n i) id_is in (w.0, w.1, subst (λ m. IsFull limit kept m) w.2 full)
+    pub says_high : IsFull search.limit kept id → SaysCandidate lists search kept n i candidates.High
+    says_high full = let w = place_of_id id (item_at (map places_of lists) n i) id_is in (w.0, w.1, subst (λ m. IsFull search.limit kept m) w.2 full)
 
-    pub says_wanted : (at : RowPlace) → is_above after id ≡ true → SaysTaken limit kept id false → IsPlaceOfRow lists n i at × IsCurrentAt lists date pin n at → SaysCandidate lists date after limit pin kept n i (candidates.Wanted at)
+    pub says_wanted : (at : RowPlace) → is_above search.after id ≡ true → SaysTaken search.limit kept id false → IsPlaceOfRow lists n i at × IsCurrentAt lists search.as_of n at → SaysCandidate lists search kept n i (candidates.Wanted at)
     says_wanted at above room w =
         let p = place_of_id id (item_at (map places_of lists) n i) id_is in
         let same : id ≡ at.key.id = p.2 ∙ ap (λ (q : RowPlace). q.key.id) (one_place p.0 at p.1 w.0) in
-        (w.0, record { above = subst (λ m. is_above after m ≡ true) same above; current = w.1 }, subst (λ m. SaysTaken limit kept m false) same room)
+        (w.0, record { above = subst (λ m. is_above search.after m ≡ true) same above; current = w.1 }, subst (λ m. SaysTaken search.limit kept m false) same room)
 
-  pub says_old : ((at : RowPlace) → IsPlaceOfRow lists n i at × IsCurrentAt lists date pin n at → ⊥) → SaysCandidate lists date after limit pin kept n i candidates.Old
+  pub says_old : ((at : RowPlace) → IsPlaceOfRow lists n i at × IsCurrentAt lists search.as_of n at → ⊥) → SaysCandidate lists search kept n i candidates.Old
   says_old none at place counts = none at (place, counts.current)
 
   -- what is said of its place is said of each
-  pub each_low : SaysCandidate lists date after limit pin kept n i candidates.Low → (at : RowPlace) → IsPlaceOfRow lists n i at → is_above after at.key.id ≡ false
-  each_low w at place = subst (λ (p : RowPlace). is_above after p.key.id ≡ false) (one_place w.0 at w.1 place) w.2
+  pub each_low : SaysCandidate lists search kept n i candidates.Low → (at : RowPlace) → IsPlaceOfRow lists n i at → is_above search.after at.key.id ≡ false
+  each_low w at place = subst (λ (p : RowPlace). is_above search.after p.key.id ≡ false) (one_place w.0 at w.1 place) w.2
 
-  pub each_high : SaysCandidate lists date after limit pin kept n i candidates.High → (at : RowPlace) → IsPlaceOfRow lists n i at → IsFull limit kept at.key.id
-  each_high w at place = subst (λ (p : RowPlace). IsFull limit kept p.key.id) (one_place w.0 at w.1 place) w.2
+  pub each_high : SaysCandidate lists search kept n i candidates.High → (at : RowPlace) → IsPlaceOfRow lists n i at → IsFull search.limit kept at.key.id
+  each_high w at place = subst (λ (p : RowPlace). IsFull search.limit kept p.key.id) (one_place w.0 at w.1 place) w.2
 
 -- ---- what is known of the rows behind and before one
 
@@ -418,16 +419,16 @@ module _ (lists : List (List StampedRow)) (are : ArePlaces (map places_of lists)
   }
 
 -- a row that is to be kept
-pub wanted_row : {A B : Type 0} (r : Result A B) (kept new : List Chosen) (date : ℕ) (after : Option ℕ) (limit pin n i : ℕ) (index : List (List RowPlace)) (b : Bounds) (at : RowPlace) → ArePlaces index
-    → ((lists : List (List StampedRow)) → Lists index lists → IsAscending chosen_cmp kept → SaysCandidate lists date after limit pin kept n i (candidates.Wanted at))
-    → OnOk r (IsAscending chosen_cmp kept → length kept ≤ limit → new ≡ take limit (put chosen_cmp (chosen n at) kept))
-    → OnOk r ((lists : List (List StampedRow)) → Lists index lists → IsOfDescription lists n i → (seen : List Chosen) → AreKept lists date after limit pin seen kept → AreBounds lists after limit kept n b
-    → AreKept lists date after limit pin (seen ++ chosen_at lists n i) new × AreBounds lists after limit new n b)
-wanted_row (Err e) kept new date after limit pin n i index b at are says is = tt
-wanted_row (Ok x) kept new date after limit pin n i index b at are says is = λ lists listed_so described seen start bounds.
+pub wanted_row : {A B : Type 0} (r : Result A B) (kept new : List Chosen) (search : Search) (n i : ℕ) (index : List (List RowPlace)) (b : Bounds) (at : RowPlace) → ArePlaces index
+    → ((lists : List (List StampedRow)) → Lists index lists → IsAscending chosen_cmp kept → SaysCandidate lists search kept n i (candidates.Wanted at))
+    → OnOk r (IsAscending chosen_cmp kept → length kept ≤ search.limit → new ≡ take search.limit (put chosen_cmp (chosen n at) kept))
+    → OnOk r ((lists : List (List StampedRow)) → Lists index lists → IsOfDescription lists n i → (seen : List Chosen) → AreKept lists search seen kept → AreBounds lists search.after search.limit kept n b
+    → AreKept lists search (seen ++ chosen_at lists n i) new × AreBounds lists search.after search.limit new n b)
+wanted_row (Err e) kept new search n i index b at are says is = tt
+wanted_row (Ok x) kept new search n i index b at are says is = λ lists listed_so described seen start bounds.
     let w = says lists listed_so start.ascending in
     let new_is = is start.ascending start.few in
     let own : ArePlaces (map places_of lists) = subst (λ (l : List (List RowPlace)). ArePlaces l) listed_so are in (
-      subst (λ ks. AreKept lists date after limit pin (seen ++ chosen_at lists n i) ks) (sym new_is) (row_kept lists date after limit pin n i seen kept at start w),
-      subst (λ ks. AreBounds lists after limit ks n b) (sym new_is) (kept_bounds lists own after limit n kept b (chosen n at) bounds w.2),
+      subst (λ ks. AreKept lists search (seen ++ chosen_at lists n i) ks) (sym new_is) (row_kept lists search n i seen kept at start w),
+      subst (λ ks. AreBounds lists search.after search.limit ks n b) (sym new_is) (kept_bounds lists own search.after search.limit n kept b (chosen n at) bounds w.2),
     )

@@ -8,14 +8,14 @@ use Rattle.std.proofs.lemmas.List.{length-append}
 use Rattle.std.proofs.lemmas.List.Sorted.{length_permutation}
 use Rattle.history_model.specs.declared.stamped.StampedRow.{StampedRow}
 use Rattle.history_model.specs.InOrder.{Has}
+use Rattle.as_of_index.specs.declared.as_of.AsOf.{AsOf}
 use Rattle.as_of_index.specs.Places.{item_at}
 use Rattle.as_of_index.specs.Postings.{posted_all}
 use Rattle.as_of_index.specs.Private.Postings.{numbered}
-use Rattle.history_model.specs.History.{rows_at}
-use Rattle.history_model.specs.Lists.{listed}
 use Rattle.history_model.specs.Queries.{snapshot, is_above, is_term, is_term_above, begins_with, folded}
 use Rattle.history_model.proofs.Filtered.{both}
 use Rattle.as_of_index.proofs.Pushing.{stands, IsPostedAs, posted_as, all_more, all_set, all_removed}
+use Rattle.as_of_index.specs.Current.{rows_seen}
 use Rattle.term_prefix.specs.Terms.{TermAt}
 use Rattle.term_prefix.specs.Pushed.{term_of_body, posted_term, ArePosted, PostedTermsAreFew, PostedTermsMore, PostedTermsMerged}
 
@@ -72,9 +72,9 @@ row_posted prefix after row i e =
     let t = body_posted prefix i row.body w.1 in
     (t.0, subst (λ b. Has (if b then term_of_body row.body i else []) t.0) (sym w.0) t.1, t.2)
 
-pub term_of_description : (lists : List (List StampedRow)) (terms : List (List TermAt)) → ArePosted lists terms → (prefix : List ℕ) (date : ℕ) (after : Option ℕ) (pin : ℕ) (row : RowValue) → Has (snapshot (rows_at pin (listed lists)) date) row → is_term_above prefix after row ≡ true → IsPostedAs (λ (t : TermAt). t.row) lists terms row
-term_of_description lists terms a prefix date after pin row h e =
-    posted_as posted_term (λ (t : TermAt). t.row) (is_term_above prefix after) (row_posted prefix after) lists terms date pin a row h e
+pub term_of_description : (lists : List (List StampedRow)) (terms : List (List TermAt)) → ArePosted lists terms → (prefix : List ℕ) (as_of : AsOf) (after : Option ℕ) (row : RowValue) → Has (snapshot (rows_seen as_of lists) as_of.date) row → is_term_above prefix after row ≡ true → IsPostedAs (λ (t : TermAt). t.row) lists terms row
+term_of_description lists terms a prefix as_of after row h e =
+    posted_as posted_term (λ (t : TermAt). t.row) (is_term_above prefix after) (row_posted prefix after) lists terms as_of a row h e
 
 -- ---- how many there are
 

@@ -22,6 +22,7 @@ use Rattle.history_model.proofs.Filtered.{both, Has-filter, Has-filter_from, Has
 use Rattle.history_model.proofs.Keys.{rows_total}
 use Rattle.segment.specs.declared.place.RowPlace.{RowPlace}
 use Rattle.as_of_index.specs.declared.chosen.Chosen.{Chosen}
+use Rattle.term_prefix.specs.declared.search.Search.{Search}
 use Rattle.term_prefix.specs.declared.text.Term.{Term}
 use Rattle.segment.specs.Standing.{places_of, StandsAt}
 use Rattle.as_of_index.specs.Places.{ArePlaces}
@@ -29,7 +30,7 @@ use Rattle.segment.proofs.Posting.{says}
 use Rattle.as_of_index.specs.Chosen.{StandAtAll}
 use Rattle.as_of_index.specs.Private.Chosen.{chosen, chosen_cmp}
 use Rattle.as_of_index.specs.Places.{item_at}
-use Rattle.as_of_index.specs.Current.{IsPlaceOfRow}
+use Rattle.as_of_index.specs.Current.{rows_seen, IsPlaceOfRow}
 use Rattle.as_of_index.specs.Private.Postings.{numbered}
 use Rattle.term_prefix.specs.Terms.{TermAt}
 use Rattle.term_prefix.specs.Pushed.{ArePosted}
@@ -39,7 +40,7 @@ use Rattle.as_of_index.proofs.Numbered.{stands_there, place_of_row, Has-flat_map
 use Rattle.as_of_index.proofs.Paging.{less_from}
 use Rattle.as_of_index.proofs.Among.{looked_up}
 use Rattle.as_of_index.proofs.First.{same_first}
-use Rattle.as_of_index.proofs.Current.{standing_row, one_row, shown, shown_ascends, current_where, AllCurrent, rows_for, stand_for, length-rows_for, row_for, for_row, ascending_rows_for}
+use Rattle.as_of_index.proofs.Current.{standing_row, one_row, shown_ascends, current_where, AllCurrent, rows_for, stand_for, length-rows_for, row_for, for_row, ascending_rows_for}
 
 abbrev in_list : ℕ → List TermAt → List (ℕ × TermAt)
 in_list n ts = map (λ (t : TermAt). (n, t)) ts
@@ -191,7 +192,7 @@ first_id a b e f lt =
     ap (λ r. ordering_then r (ordering_then (nat_cmp a.id b.id) (nat_cmp a.time b.time))) (subst (λ k. nat_cmp (kind_place (kind_of a)) (kind_place k) ≡ Equal) (e ∙ sym f) (tied_itself nat_cmp_total (kind_place (kind_of a))))
     ∙ ap (λ r. ordering_then r (nat_cmp a.time b.time)) (less_from a.id b.id lt)
 
-module _ (lists : List (List StampedRow)) (are : ArePlaces (map places_of lists)) (terms : List (List TermAt)) (posts : ArePosted lists terms) (prefix : List ℕ) (date : ℕ) (after : Option ℕ) (limit pin : ℕ) where
+module _ (lists : List (List StampedRow)) (are : ArePlaces (map places_of lists)) (terms : List (List TermAt)) (posts : ArePosted lists terms) (prefix : List ℕ) (search : Search) where
   -- what is posted of a place that begins so
   record IsPosted (k : Chosen) : Type 0 where
     x : ℕ × TermAt
@@ -216,8 +217,8 @@ module _ (lists : List (List StampedRow)) (are : ArePlaces (map places_of lists)
         says = p.2;
       }
 
-  module _ (kept : List Chosen) (a : AreKept lists date after limit pin (begun lists (folded prefix) (numbered 0 terms)) kept) where
-    each_current : AllCurrent lists date pin kept
+  module _ (kept : List Chosen) (a : AreKept lists search (begun lists (folded prefix) (numbered 0 terms)) kept) where
+    each_current : AllCurrent lists search.as_of kept
     each_current k h = (a.only k h).1.current
 
     -- the row of a place that is kept
@@ -231,10 +232,10 @@ module _ (lists : List (List StampedRow)) (are : ArePlaces (map places_of lists)
     id_at n p s w = ap (λ (k : Key). k.id) (standing_row lists are n p s w).1
 
     abbrev found_rows : List RowValue
-    found_rows = map (λ (s : StampedRow). s.row) (rows_for lists date pin kept each_current)
+    found_rows = map (λ (s : StampedRow). s.row) (rows_for lists search.as_of kept each_current)
 
     rows_ascend : IsAscending row_cmp found_rows
-    rows_ascend = ascending_rows_for lists date pin row_cmp chosen_cmp kept each_current
+    rows_ascend = ascending_rows_for lists search.as_of row_cmp chosen_cmp kept each_current
         (λ j k s t g h v w less.
         let low = ranked j.at.key.id k.at.key.id Less (sym less) in
         let m = id_at j.segment j.at s v in
@@ -243,24 +244,24 @@ module _ (lists : List (List StampedRow)) (are : ArePlaces (map places_of lists)
         a.ascending
 
     abbrev wanted : List RowValue
-    wanted = filter (is_term_above prefix after) (snapshot (shown lists are date pin) date)
+    wanted = filter (is_term_above prefix search.after) (snapshot (rows_seen search.as_of lists) search.as_of.date)
 
     to_wanted : (row : RowValue) → Has found_rows row → Has wanted row
     to_wanted row h =
-        let r = row_for lists date pin kept each_current row h in
+        let r = row_for lists search.as_of kept each_current row h in
         let p = posted_of r.k (a.only r.k r.there).0 in
         let same : p.s ≡ r.s = one_row lists are r.k.segment r.k.segment r.k.at r.k.at p.s r.s p.stands r.stands refl in
         let active : r.s.row.active ≡ true = subst (λ (z : StampedRow). z.row.active ≡ true) same p.says.active in
         let begins_so : begins_with prefix r.s.row.body ≡ true = subst (λ (z : StampedRow). begins_with prefix z.row.body ≡ true) same (begins_from prefix p.x.1.folded p.s.row.body p.says.folded_is p.begins_so) in
-        let above : is_above after r.s.row.id ≡ true = subst (λ id. is_above after id ≡ true) (id_at r.k.segment r.k.at r.s r.stands) (a.only r.k r.there).1.above in
+        let above : is_above search.after r.s.row.id ≡ true = subst (λ id. is_above search.after id ≡ true) (id_at r.k.segment r.k.at r.s r.stands) (a.only r.k r.there).1.above in
         subst (λ z. Has wanted z) r.row_is
-        (Has-filter_from (is_term_above prefix after) (snapshot (shown lists are date pin) date) r.s.row (looked_up r.k.at.key.kind r.k.at.key.id date (shown lists are date pin) r.s.row r.found) (rw (active, begins_so, above) refl))
+        (Has-filter_from (is_term_above prefix search.after) (snapshot (rows_seen search.as_of lists) search.as_of.date) r.s.row (looked_up r.k.at.key.kind r.k.at.key.id search.as_of.date (rows_seen search.as_of lists) r.s.row r.found) (rw (active, begins_so, above) refl))
 
-    from_wanted : (row : RowValue) → Has wanted row → Has found_rows row ⊎ ((limit ≤ length found_rows) × ((y : RowValue) → Has found_rows y → row_cmp y row ≡ Less))
+    from_wanted : (row : RowValue) → Has wanted row → Has found_rows row ⊎ ((search.limit ≤ length found_rows) × ((y : RowValue) → Has found_rows y → row_cmp y row ≡ Less))
     from_wanted row h =
-        let f = Has-filter (is_term_above prefix after) (snapshot (shown lists are date pin) date) row h in
-        let u = both (is_term prefix row) (is_above after row.id) f.1 in
-        let g = term_of_description lists terms posts prefix date after pin row f.0 f.1 in
+        let f = Has-filter (is_term_above prefix search.after) (snapshot (rows_seen search.as_of lists) search.as_of.date) row h in
+        let u = both (is_term prefix row) (is_above search.after row.id) f.1 in
+        let g = term_of_description lists terms posts prefix search.as_of search.after row f.0 f.1 in
         let n = g.x.0 in
         let term = g.x.1 in
         let post = term_stands lists terms posts g.x g.there in
@@ -269,35 +270,35 @@ module _ (lists : List (List StampedRow)) (are : ArePlaces (map places_of lists)
         let at = p.0 in
         let stands = stands_there lists n term.row post.0 at post.1 p.1 in
         let key_is : at.key ≡ key_of row = (standing_row lists are n at post.0 stands).1 ∙ ap (λ (z : StampedRow). key_of z.row) (sym own) ∙ ap key_of g.same in
-        let now = current_where lists are date pin n at post.0 row stands f.0 key_is in
+        let now = current_where lists are search.as_of n at post.0 row stands f.0 key_is in
         let body_begins = (both row.active (begins_with prefix row.body) u.0).1 in
         let begins_so : begins (folded prefix) term ≡ true = begins_to prefix term.folded post.0.row.body post.2.folded_is (subst (λ (z : RowValue). begins_with prefix z.body ≡ true) now.0 body_begins) in
         let kind : kind_of row ≡ kinds.Description = ap kind_of now.0 ∙ described term.folded post.0.row post.0.row.body refl post.2.folded_is in
         let id_is : at.key.id ≡ row.id = ap (λ (k : Key). k.id) key_is in
-        elim (a.all (chosen n at) (begun-at lists (folded prefix) (numbered 0 terms) g.x at g.there begins_so p.1) (record { above = subst (λ id. is_above after id ≡ true) (sym id_is) u.1; current = now.1 })) [
+        elim (a.all (chosen n at) (begun-at lists (folded prefix) (numbered 0 terms) g.x at g.there begins_so p.1) (record { above = subst (λ id. is_above search.after id ≡ true) (sym id_is) u.1; current = now.1 })) [
           | inl j ↦ inl (
-              let w = for_row lists date pin kept each_current j.0 j.1 in
+              let w = for_row lists search.as_of kept each_current j.0 j.1 in
               let keys = (standing_row lists are j.0.segment j.0.at w.0 w.1).1 in
               let kinds_are : j.0.at.key.kind ≡ at.key.kind = ap (λ (k : Key). k.kind) keys ∙ kept_kind j.0 w.0 j.1 w.1 ∙ sym kind ∙ ap (λ (k : Key). k.kind) (sym key_is) in
-              let both_found = sym w.2 ∙ (λ i. get (kinds_are i) (j.2 i) date (shown lists are date pin)) ∙ now.1.2 in
+              let both_found = sym w.2 ∙ (λ i. get (kinds_are i) (j.2 i) search.as_of.date (rows_seen search.as_of lists)) ∙ now.1.2 in
               let one : w.0.row ≡ now.1.0.row = cc in
               let same : w.0.row ≡ row = one ∙ ap (λ (z : StampedRow). z.row) (one_row lists are n n at at now.1.0 post.0 now.1.1 stands refl) ∙ sym now.0 in
               subst (λ z. Has found_rows z) same w.3)
           | inr b ↦ inr (
-            (let e = length-rows_for lists date pin kept each_current in let le = b.0 in omega arith),
+            (let e = length-rows_for lists search.as_of kept each_current in let le = b.0 in omega arith),
             λ y there.
-                let r = row_for lists date pin kept each_current y there in
+                let r = row_for lists search.as_of kept each_current y there in
                 let low = b.1 r.k r.there in
                 let m = id_at r.k.segment r.k.at r.s r.stands in
                 subst (λ z. row_cmp z row ≡ Less) r.row_is (first_id r.s.row row (kept_kind r.k r.s r.there r.stands) kind (omega arith)),
           )
         ]
 
-    pub terms_from_kept : (rows : List StampedRow) × StandAtAll lists kept rows × (map (λ (s : StampedRow). s.row) rows ≡ search_terms prefix date after limit (shown lists are date pin))
+    pub terms_from_kept : (rows : List StampedRow) × StandAtAll lists kept rows × (map (λ (s : StampedRow). s.row) rows ≡ search_terms prefix search.as_of.date search.after search.limit (rows_seen search.as_of lists))
     unfolding search_terms terms_above
     terms_from_kept = (
-      rows_for lists date pin kept each_current,
-      stand_for lists date pin kept each_current,
-      same_first rows_total limit found_rows wanted rows_ascend (IsAscending-filter (is_term_above prefix after) row_cmp (snapshot (shown lists are date pin) date) (shown_ascends lists are date pin))
-          (let e = length-rows_for lists date pin kept each_current in let le = a.few in omega arith) to_wanted from_wanted,
+      rows_for lists search.as_of kept each_current,
+      stand_for lists search.as_of kept each_current,
+      same_first rows_total search.limit found_rows wanted rows_ascend (IsAscending-filter (is_term_above prefix search.after) row_cmp (snapshot (rows_seen search.as_of lists) search.as_of.date) (shown_ascends lists are search.as_of))
+          (let e = length-rows_for lists search.as_of kept each_current in let le = a.few in omega arith) to_wanted from_wanted,
     )

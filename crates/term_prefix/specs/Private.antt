@@ -21,6 +21,7 @@ use Rattle.as_of_index.specs.Numbers.{TwoLists, number_in_both}
 use Rattle.term_prefix.specs.declared.search.Bounds.{Bounds}
 use Rattle.term_prefix.specs.declared.search.Candidate.{Candidate}
 use Rattle.term_prefix.specs.declared.search.Candidate.TheVariants as candidates
+use Rattle.term_prefix.specs.declared.search.Search.{Search}
 use Rattle.term_prefix.specs.declared.text.Term.{Term}
 use Rattle.term_prefix.specs.declared.merging.Next.{Next}
 use Rattle.term_prefix.specs.declared.merging.Next.TheVariants as next
@@ -60,23 +61,22 @@ SaysTaken limit kept id true = IsFull limit kept id
 SaysTaken limit kept id false = limit ≤ length kept → (j : Chosen) × Has kept j × (id < j.at.key.id)
 
 -- the id is above, if one is given, and the place is current
-pub record Counts (lists : List (List StampedRow)) (date : ℕ) (after : Option ℕ) (pin : ℕ)
-    (k : Chosen) : Type 0 where
-  pub above : is_above after k.at.key.id ≡ true
-  pub current : IsCurrentAt lists date pin k.segment k.at
+pub record Counts (lists : List (List StampedRow)) (search : Search) (k : Chosen) : Type 0 where
+  pub above : is_above search.after k.at.key.id ≡ true
+  pub current : IsCurrentAt lists search.as_of k.segment k.at
 
 -- what is answered of row i of list n: its place, if it counts and there is room for it, or else
 -- why it is not to be kept
-abbrev pub SaysCandidate : List (List StampedRow) → ℕ → Option ℕ → ℕ → ℕ → List Chosen → ℕ → ℕ
-    → Candidate → Type 0
-SaysCandidate lists date after limit pin kept n i (candidates.Wanted at) = IsPlaceOfRow lists n i at
-    × Counts lists date after pin (chosen n at) × SaysTaken limit kept at.key.id false
-SaysCandidate lists date after limit pin kept n i candidates.Low = (at : RowPlace)
-    × IsPlaceOfRow lists n i at × (is_above after at.key.id ≡ false)
-SaysCandidate lists date after limit pin kept n i candidates.High = (at : RowPlace)
-    × IsPlaceOfRow lists n i at × IsFull limit kept at.key.id
-SaysCandidate lists date after limit pin kept n i candidates.Old = (at : RowPlace)
-    → IsPlaceOfRow lists n i at → Counts lists date after pin (chosen n at) → ⊥
+abbrev pub SaysCandidate : List (List StampedRow) → Search → List Chosen → ℕ → ℕ → Candidate
+    → Type 0
+SaysCandidate lists search kept n i (candidates.Wanted at) = IsPlaceOfRow lists n i at
+    × Counts lists search (chosen n at) × SaysTaken search.limit kept at.key.id false
+SaysCandidate lists search kept n i candidates.Low = (at : RowPlace) × IsPlaceOfRow lists n i at
+    × (is_above search.after at.key.id ≡ false)
+SaysCandidate lists search kept n i candidates.High = (at : RowPlace) × IsPlaceOfRow lists n i at
+    × IsFull search.limit kept at.key.id
+SaysCandidate lists search kept n i candidates.Old = (at : RowPlace) → IsPlaceOfRow lists n i at
+    → Counts lists search (chosen n at) → ⊥
 
 -- row i of list n, if there is one, is a description's
 abbrev pub IsOfDescription : List (List StampedRow) → ℕ → ℕ → Type 0
@@ -101,13 +101,13 @@ pub record AreBounds (lists : List (List StampedRow)) (after : Option ℕ) (limi
       → is_behind b.end i ≡ true → IsFull limit kept at.key.id
 
 -- of those that count, the first by id, as many as may be
-pub record AreKept (lists : List (List StampedRow)) (date : ℕ) (after : Option ℕ) (limit pin : ℕ)
-    (seen kept : List Chosen) : Type 0 where
+pub record AreKept (lists : List (List StampedRow)) (search : Search) (seen kept : List Chosen)
+    : Type 0 where
   pub ascending : IsAscending chosen_cmp kept
-  pub few : length kept ≤ limit
-  pub all : (k : Chosen) → Has seen k → Counts lists date after pin k
-      → IsTaken limit kept k.at.key.id
-  pub only : (k : Chosen) → Has kept k → Has seen k × Counts lists date after pin k
+  pub few : length kept ≤ search.limit
+  pub all : (k : Chosen) → Has seen k → Counts lists search k
+      → IsTaken search.limit kept k.at.key.id
+  pub only : (k : Chosen) → Has kept k → Has seen k × Counts lists search k
 
 -- a term was added, its folding at the end of the text
 pub record AddsTerm (text : List ℕ) (ts : List Term) (folded : List ℕ) (row : ℕ)

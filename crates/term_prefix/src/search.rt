@@ -9,8 +9,7 @@ ghost use Rattle.history_model.specs.declared.stamped.StampedRow.{StampedRow};
 ghost use Rattle.history_model.specs.InOrder.{IsAscending, put};
 ghost use Rattle.history_model.specs.Private.{IsPlace};
 ghost use Rattle.history_model.specs.Queries.{is_above, search_terms};
-ghost use Rattle.history_model.specs.History.{rows_at};
-ghost use Rattle.history_model.specs.Lists.{listed};
+ghost use Rattle.as_of_index.specs.Current.{rows_seen};
 ghost use Rattle.as_of_index.specs.Places.{Lists};
 ghost use Rattle.fault_counts.specs.Counting.{Counts, CountsDiskFault, CountsDamage};
 ghost use Rattle.as_of_index.specs.Private.Chosen.{chosen, chosen_cmp};
@@ -23,18 +22,17 @@ ghost use Rattle.term_prefix.specs.Private.{IsOfDescription, AreOfDescriptions, 
 use crate::Terms;
 use crate::sealed::Sealed;
 use crate::text::Term;
-use as_of_index::{Chosen, Index, ReadFault, RowReader, read_all};
+use as_of_index::{AsOf, Chosen, Index, ReadFault, RowReader, read_all};
 use caseless::default_case_fold_str;
-use rf2_values::{EffectiveTime, Row};
+use rf2_values::Row;
 use segment::RowPlace;
 use std::alloc::{AllocError, Global};
 
-/// What a search asks for beside the text: active descriptions at this date, of the imports up to
-/// the pin, with an id above `after` if that is given, the first so many by id.
+/// What a search asks for beside the text: active descriptions as of this, with an id above `after`
+/// if that is given, the first so many by id.
 #[derive(Clone, Copy)]
 pub struct Search {
-    pub time: EffectiveTime,
-    pub pin: u32,
+    pub as_of: AsOf,
     pub after: Option<u128>,
     pub limit: u32,
 }
@@ -127,8 +125,7 @@ fn is_above(after: Option<u128>, id: u128) -> bool
 fn judge(kept: &[Chosen], segment: usize, number: u32, index: &Index, search: &Search) -> Candidate
     ensures { (lists : List (List StampedRow)) → Lists index.now lists
         → IsAscending chosen_cmp kept.now
-        → SaysCandidate lists search.now.time search.now.after search.now.limit search.now.pin
-        kept.now segment number result }
+        → SaysCandidate lists search.now kept.now segment number result }
 {
     let Some(id) = index.id_at(segment, number) else {
         return Candidate::Old;
@@ -139,7 +136,7 @@ fn judge(kept: &[Chosen], segment: usize, number: u32, index: &Index, search: &S
     if is_taken(kept, search.limit, id) {
         return Candidate::High;
     }
-    match index.current_at(segment, number, search.time, search.pin) {
+    match index.current_at(segment, number, search.as_of) {
         Some(at) => Candidate::Wanted(at),
         None => Candidate::Old,
     }
@@ -168,10 +165,9 @@ fn keep_row(
     ensures { OnOk result ((lists : List (List StampedRow)) → Lists index.now lists
         → IsOfDescription lists segment number
         → (seen : List Chosen)
-        → AreKept lists search.now.time search.now.after search.now.limit search.now.pin
-        seen kept.old.items
+        → AreKept lists search.now seen kept.old.items
         → AreBounds lists search.now.after search.now.limit kept.old.items segment bounds.old
-        → AreKept lists search.now.time search.now.after search.now.limit search.now.pin
+        → AreKept lists search.now
         (seen ++ chosen_at lists segment number) kept.new.items
         × AreBounds lists search.now.after search.now.limit kept.new.items segment bounds.new) }
 {
@@ -209,9 +205,8 @@ fn keep_current(
     ensures { OnOk result ((lists : List (List StampedRow)) → Lists index.now lists
         → AreOfDescriptions lists segment terms.now
         → (seen : List Chosen)
-        → AreKept lists search.now.time search.now.after search.now.limit search.now.pin
-        seen kept.old.items
-        → AreKept lists search.now.time search.now.after search.now.limit search.now.pin
+        → AreKept lists search.now seen kept.old.items
+        → AreKept lists search.now
         (seen ++ flat_map (λ t. chosen_at lists segment t.row) terms.now) kept.new.items) }
 {
     let mut bounds = Bounds {
@@ -254,9 +249,8 @@ fn keep_candidates(
     ensures { OnOk result ((lists : List (List StampedRow)) → Lists index.now lists
         → AreOfDescriptions lists segment terms.now
         → (seen : List Chosen)
-        → AreKept lists search.now.time search.now.after search.now.limit search.now.pin
-        seen kept.old.items
-        → AreKept lists search.now.time search.now.after search.now.limit search.now.pin
+        → AreKept lists search.now seen kept.old.items
+        → AreKept lists search.now
         (seen ++ flat_map (λ t. chosen_at lists segment t.row) terms.now) kept.new.items) }
 {
     if !are_few(terms.len(), search.limit) {
@@ -276,9 +270,7 @@ fn keep_all(
 ) -> Result<Vec<Chosen>, AllocError>
     ensures { IfOk result (λ kept. (rows : List (List StampedRow)) → Lists index.now rows
         → ArePosted rows lists.now
-        → AreKept rows search.now.time search.now.after search.now.limit search.now.pin
-        (begun rows prefix.now (numbered 0 lists.now))
-        kept.items) }
+        → AreKept rows search.now (begun rows prefix.now (numbered 0 lists.now)) kept.items) }
 {
     let mut kept = Vec::new(alloc);
     for (segment, list) in lists.iter().enumerate() {
@@ -304,13 +296,13 @@ pub fn find<R: RowReader>(
     ensures found { R.is_honest reader.old → Lists index.now (R.lists reader.old)
         → ArePosted (R.lists reader.old) terms.now
         → IfOk result (λ rows. rows.items ≡ search_terms prefix.now
-        search.now.time search.now.after search.now.limit
-        (rows_at search.now.pin (listed (R.lists reader.old)))) }
+        search.now.as_of.date search.now.after search.now.limit
+        (rows_seen search.now.as_of (R.lists reader.old))) }
     // Whatever was read, the keys are those of the rows that are to be found.
     ensures keys { Lists index.now (R.lists reader.old) → ArePosted (R.lists reader.old) terms.now
         → IfOk result (λ rows. map key_of rows.items ≡ map key_of (search_terms prefix.now
-        search.now.time search.now.after search.now.limit
-        (rows_at search.now.pin (listed (R.lists reader.old))))) }
+        search.now.as_of.date search.now.after search.now.limit
+        (rows_seen search.now.as_of (R.lists reader.old)))) }
     ensures undamaged { R.is_honest reader.old → Lists index.now (R.lists reader.old)
         → ArePosted (R.lists reader.old) terms.now → IfErr result (λ e. e ≢ readfault.Damaged) }
     // No more is read than the rows that it answers take, each read once.
@@ -321,8 +313,8 @@ pub fn find<R: RowReader>(
     ensures work_always { Lists index.now (R.lists reader.old)
         → ArePosted (R.lists reader.old) terms.now
         → R.work reader.new ≤ R.work reader.old + sum_by R.cost
-        (search_terms prefix.now search.now.time search.now.after search.now.limit
-        (rows_at search.now.pin (listed (R.lists reader.old)))) }
+        (search_terms prefix.now search.now.as_of.date search.now.after search.now.limit
+        (rows_seen search.now.as_of (R.lists reader.old))) }
     ensures lists { R.lists reader.new ≡ R.lists reader.old }
     ensures honesty { R.is_honest reader.old → R.is_honest reader.new }
     ensures stays { R.stays reader.old reader.new }

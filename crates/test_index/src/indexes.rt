@@ -3,7 +3,7 @@
 use crate::lists::{add, alone, index_of, reader_of};
 use crate::rows::{day, row};
 use crate::versions::{VERSIONS, version, versions};
-use as_of_index::{Chosen, Index, MAX_LISTS, PlaceList, ReadFault, RowReader, laws, read_all};
+use as_of_index::{AsOf, Chosen, Index, MAX_LISTS, PlaceList, ReadFault, RowReader, laws, read_all};
 use history_model::StampedRow;
 use index_support::{may_add, may_list};
 use rf2_values::Kind;
@@ -80,8 +80,12 @@ fn street(alloc: Global) -> Result<Vec<StampedRow>, Fail> {
 
 /// The place of the concept's later version, in a list of its own.
 fn chosen(index: &Index) -> Result<Chosen, Fail> {
+    let as_of = AsOf {
+        date: day(20_210_131)?,
+        pin: 3,
+    };
     let (segment, at) = index
-        .place_at(Kind::Concept, 1_000_004, day(20_210_131)?, 3)
+        .place_at(Kind::Concept, 1_000_004, as_of)
         .ok_or("no place")?;
     Ok(Chosen {
         segment,

@@ -4,7 +4,7 @@ ghost use Rattle.std.specs.Prelude.{◌≤◌};
 
 use crate::lists::{alone, index_of};
 use crate::rows::{LAST_DAY, ROOT, child, day, numbered};
-use as_of_index::{Index, MAX_LISTS};
+use as_of_index::{AsOf, Index, MAX_LISTS};
 use history_model::StampedRow;
 use links::{Links, Postings, children};
 use rf2_values::{Kind, Sctid};
@@ -35,7 +35,11 @@ fn links_of(alloc: Global, lists: &[Vec<StampedRow>]) -> Result<Links, Fail> {
 /// The children of the root at the last day.
 fn children_of_root(alloc: Global, links: &Links, index: &Index) -> Result<Vec<u64>, Fail> {
     let root = Sctid::of(ROOT).ok_or("no SCTID")?;
-    Ok(children(alloc, links, index, root, day(LAST_DAY)?, 1)?)
+    let as_of = AsOf {
+        date: day(LAST_DAY)?,
+        pin: 1,
+    };
+    Ok(children(alloc, links, index, root, as_of)?)
 }
 
 const THREE: [u64; 3] = [1_000_004, 2_000_001, 3_000_005];

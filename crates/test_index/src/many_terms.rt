@@ -2,7 +2,7 @@
 
 use crate::lists::{alone, index_of, reader_of};
 use crate::rows::{LAST_DAY, day, description, numbered};
-use as_of_index::MAX_LISTS;
+use as_of_index::{AsOf, MAX_LISTS};
 use history_model::StampedRow;
 use rf2_values::Kind;
 use std::alloc::Global;
@@ -38,11 +38,14 @@ fn ids_found(
     prefix: &str,
 ) -> Result<Vec<u128>, Fail> {
     let index = index_of(alloc, lists)?;
+    let as_of = AsOf {
+        date: day(LAST_DAY)?,
+        pin: 9,
+    };
     let asked = Search {
-        time: day(LAST_DAY)?,
+        as_of,
         after: None,
         limit: 100,
-        pin: 9,
     };
     let found = find(alloc, terms, &index, &mut reader_of(lists), prefix, &asked)?;
     Ok(found.iter().map(|row| row.id).collect(alloc)?)

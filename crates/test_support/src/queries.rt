@@ -1,13 +1,13 @@
 //! The questions, as lines. A pin above the number of imports, a number of an import that
 //! there isn't, and one that isn't a date or an identifier, are mistakes of the test.
 
-ghost use Rattle.std.specs.Prelude.{◌≤◌};
+ghost use Rattle.std.specs.Prelude.{◌≤◌, IfOk};
 
 use crate::example::Example;
 use crate::releases::MISUSED;
 use crate::text::{line_of, lines_of, lines_of_days};
 use disk_model::MemDisk;
-use history_store::{ImportReceipt, Refusal, Store};
+use history_store::{AsOf, ImportReceipt, Refusal, Store};
 use rf2_rows::{EffectiveTime, Kind, Row, Sctid};
 use store_digest::digest;
 
@@ -21,6 +21,17 @@ fn clamp_pin(store: &Store<MemDisk>, pin: u32) -> u32
 /// The date that a number is.
 fn date_of(number: u32) -> Result<EffectiveTime, Refusal> {
     EffectiveTime::of(number).ok_or(MISUSED)
+}
+
+/// What a question is asked as of.
+fn as_of(store: &Store<MemDisk>, date: u32, pin: u32) -> Result<AsOf, Refusal>
+    ensures { IfOk result (λ as_of. as_of.pin ≤ store.now.history.imports) }
+{
+    if pin > store.imports() {
+        return Err(MISUSED);
+    }
+    let date = date_of(date)?;
+    Ok(AsOf { date, pin })
 }
 
 /// The identifier that a number is.
@@ -53,10 +64,8 @@ impl Example {
         date: u32,
         pin: u32,
     ) -> Result<Option<Row>, Refusal> {
-        let time = date_of(date)?;
-        self.check_pin(pin)?;
-        let pin = clamp_pin(&self.store, pin);
-        self.store.get(kind, id, time, pin)
+        let as_of = as_of(&self.store, date, pin)?;
+        self.store.get(kind, id, as_of)
     }
 
     /// The line of the component's row at the date; no bytes where there is none.
@@ -88,10 +97,8 @@ impl Example {
         limit: u32,
         pin: u32,
     ) -> Result<Vec<u8>, Refusal> {
-        let time = date_of(date)?;
-        self.check_pin(pin)?;
-        let pin = clamp_pin(&self.store, pin);
-        let rows = self.store.page(kind, time, after, limit, pin)?;
+        let as_of = as_of(&self.store, date, pin)?;
+        let rows = self.store.page(kind, as_of, after, limit)?;
         Ok(lines_of(self.alloc, &rows)?)
     }
 
@@ -103,10 +110,8 @@ impl Example {
         limit: u32,
         pin: u32,
     ) -> Result<Vec<u8>, Refusal> {
-        let time = date_of(date)?;
-        self.check_pin(pin)?;
-        let pin = clamp_pin(&self.store, pin);
-        let rows = self.store.terms(prefix, time, limit, pin)?;
+        let as_of = as_of(&self.store, date, pin)?;
+        let rows = self.store.terms(prefix, as_of, limit)?;
         Ok(lines_of(self.alloc, &rows)?)
     }
 
@@ -119,61 +124,53 @@ impl Example {
         limit: u32,
         pin: u32,
     ) -> Result<Vec<u8>, Refusal> {
-        let time = date_of(date)?;
-        self.check_pin(pin)?;
-        let pin = clamp_pin(&self.store, pin);
-        let rows = self.store.search(prefix, time, after, limit, pin)?;
+        let as_of = as_of(&self.store, date, pin)?;
+        let rows = self.store.search(prefix, as_of, after, limit)?;
         Ok(lines_of(self.alloc, &rows)?)
     }
 
     /// The lines of the rows of a kind that are about a component, each with an LF.
     pub fn about(&mut self, kind: Kind, id: u64, date: u32, pin: u32) -> Result<Vec<u8>, Refusal> {
-        let (id, time) = (id_of(id)?, date_of(date)?);
-        self.check_pin(pin)?;
-        let pin = clamp_pin(&self.store, pin);
-        let rows = self.store.about(kind, id, time, pin)?;
+        let id = id_of(id)?;
+        let as_of = as_of(&self.store, date, pin)?;
+        let rows = self.store.about(kind, id, as_of)?;
         Ok(lines_of(self.alloc, &rows)?)
     }
 
     /// The identifiers of a concept's children.
     pub fn children(&mut self, id: u64, date: u32, pin: u32) -> Result<Vec<u64>, Refusal> {
-        let (id, time) = (id_of(id)?, date_of(date)?);
-        self.check_pin(pin)?;
-        let pin = clamp_pin(&self.store, pin);
-        self.store.children(id, time, pin)
+        let id = id_of(id)?;
+        let as_of = as_of(&self.store, date, pin)?;
+        self.store.children(id, as_of)
     }
 
     /// The identifiers of all concepts below a concept.
     pub fn descendants(&mut self, id: u64, date: u32, pin: u32) -> Result<Vec<u64>, Refusal> {
-        let (id, time) = (id_of(id)?, date_of(date)?);
-        self.check_pin(pin)?;
-        let pin = clamp_pin(&self.store, pin);
-        self.store.descendants(id, time, pin)
+        let id = id_of(id)?;
+        let as_of = as_of(&self.store, date, pin)?;
+        self.store.descendants(id, as_of)
     }
 
     /// The identifiers of all concepts above a concept.
     pub fn ancestors(&mut self, id: u64, date: u32, pin: u32) -> Result<Vec<u64>, Refusal> {
-        let (id, time) = (id_of(id)?, date_of(date)?);
-        self.check_pin(pin)?;
-        let pin = clamp_pin(&self.store, pin);
-        self.store.ancestors(id, time, pin)
+        let id = id_of(id)?;
+        let as_of = as_of(&self.store, date, pin)?;
+        self.store.ancestors(id, as_of)
     }
 
     /// The lines of a component's associations, each with an LF.
     pub fn replacements(&mut self, id: u64, date: u32, pin: u32) -> Result<Vec<u8>, Refusal> {
-        let (id, time) = (id_of(id)?, date_of(date)?);
-        self.check_pin(pin)?;
-        let pin = clamp_pin(&self.store, pin);
-        let rows = self.store.replacements(id, time, pin)?;
+        let id = id_of(id)?;
+        let as_of = as_of(&self.store, date, pin)?;
+        let rows = self.store.replacements(id, as_of)?;
         Ok(lines_of(self.alloc, &rows)?)
     }
 
     /// The lines of the associations of which a component is the target, each with an LF.
     pub fn replaces(&mut self, id: u64, date: u32, pin: u32) -> Result<Vec<u8>, Refusal> {
-        let (id, time) = (id_of(id)?, date_of(date)?);
-        self.check_pin(pin)?;
-        let pin = clamp_pin(&self.store, pin);
-        let rows = self.store.replaces(id, time, pin)?;
+        let id = id_of(id)?;
+        let as_of = as_of(&self.store, date, pin)?;
+        let rows = self.store.replaces(id, as_of)?;
         Ok(lines_of(self.alloc, &rows)?)
     }
 
@@ -198,10 +195,9 @@ impl Example {
         limit: u32,
         pin: u32,
     ) -> Result<Vec<u8>, Refusal> {
-        let (from, time) = (date_of(from)?, date_of(date)?);
-        self.check_pin(pin)?;
-        let pin = clamp_pin(&self.store, pin);
-        let rows = self.store.delta(kind, from, time, after, limit, pin)?;
+        let from = date_of(from)?;
+        let as_of = as_of(&self.store, date, pin)?;
+        let rows = self.store.delta(kind, from, as_of, after, limit)?;
         Ok(lines_of(self.alloc, &rows)?)
     }
 
@@ -214,10 +210,9 @@ impl Example {
         limit: u32,
         pin: u32,
     ) -> Result<Vec<u8>, Refusal> {
-        let (refset, time) = (id_of(refset)?, date_of(date)?);
-        self.check_pin(pin)?;
-        let pin = clamp_pin(&self.store, pin);
-        let rows = self.store.members(refset, time, after, limit, pin)?;
+        let refset = id_of(refset)?;
+        let as_of = as_of(&self.store, date, pin)?;
+        let rows = self.store.members(refset, as_of, after, limit)?;
         Ok(lines_of(self.alloc, &rows)?)
     }
 
@@ -231,10 +226,9 @@ impl Example {
         limit: u32,
         pin: u32,
     ) -> Result<Vec<u8>, Refusal> {
-        let (refset, time) = (id_of(refset)?, date_of(date)?);
-        self.check_pin(pin)?;
-        let pin = clamp_pin(&self.store, pin);
-        let rows = self.store.values(refset, time, after, limit, pin)?;
+        let refset = id_of(refset)?;
+        let as_of = as_of(&self.store, date, pin)?;
+        let rows = self.store.values(refset, as_of, after, limit)?;
         Ok(lines_of(self.alloc, &rows)?)
     }
 
@@ -247,11 +241,10 @@ impl Example {
         refset: u64,
         pin: u32,
     ) -> Result<Vec<u8>, Refusal> {
-        let (concept, time) = (id_of(concept)?, date_of(date)?);
+        let concept = id_of(concept)?;
         let refset = id_of(refset)?;
-        self.check_pin(pin)?;
-        let pin = clamp_pin(&self.store, pin);
-        let rows = self.store.called(concept, time, refset, pin)?;
+        let as_of = as_of(&self.store, date, pin)?;
+        let rows = self.store.called(concept, as_of, refset)?;
         Ok(lines_of(self.alloc, &rows)?)
     }
 

@@ -11,6 +11,7 @@ use Rattle.rf2_values.specs.Key.{kind_place, key_cmp}
 use Rattle.history_model.specs.InOrder.{Has, ShareNone}
 use Rattle.history_model.specs.Queries.{is_above}
 use Rattle.segment.specs.declared.place.RowPlace.{RowPlace}
+use Rattle.as_of_index.specs.declared.as_of.AsOf.{AsOf}
 use Rattle.as_of_index.specs.declared.search.Start.{Start}
 use Rattle.as_of_index.specs.declared.search.Start.TheVariants as start
 use Rattle.as_of_index.specs.Places.{place_cmp, least_by, greatest_by}
@@ -31,37 +32,38 @@ abbrev pub is_of : Kind → ℕ → RowPlace → Bool
 is_of kind id p = kind_place p.key.kind == kind_place kind && p.key.id == id
 
 -- a version of the component up to the date, which the pin shows
-abbrev pub is_candidate : Kind → ℕ → ℕ → ℕ → RowPlace → Bool
-is_candidate kind id date pin p = is_of kind id p && nat_le p.key.time date && nat_le p.import pin
+abbrev pub is_candidate : Kind → ℕ → AsOf → RowPlace → Bool
+is_candidate kind id as_of p =
+    is_of kind id p && nat_le p.key.time as_of.date && nat_le p.import as_of.pin
 
 -- the date and the pin show what stands there
-abbrev pub is_shown : ℕ → ℕ → RowPlace → Bool
-is_shown date pin p = nat_le p.key.time date && nat_le p.import pin
+abbrev pub is_shown : AsOf → RowPlace → Bool
+is_shown as_of p = nat_le p.key.time as_of.date && nat_le p.import as_of.pin
 
 -- not all of the places are of later times, nor are all of later imports
-abbrev pub may_show : ℕ → ℕ → List RowPlace → Bool
-may_show date pin places =
-    nat_le (least_by (λ p. p.key.time) places) date && nat_le (least_by (λ p. p.import) places) pin
+abbrev pub may_show : AsOf → List RowPlace → Bool
+may_show as_of places = nat_le (least_by (λ p. p.key.time) places) as_of.date
+    && nat_le (least_by (λ p. p.import) places) as_of.pin
 
 -- the places, or none of them where all are of later times, or all of later imports
-abbrev pub shown_part : ℕ → ℕ → List RowPlace → List RowPlace
-shown_part date pin places = if may_show date pin places then places else []
+abbrev pub shown_part : AsOf → List RowPlace → List RowPlace
+shown_part as_of places = if may_show as_of places then places else []
 
 -- the date and the pin show what stands there, and it is later than `from`, if that is given
-abbrev pub is_changed : Option ℕ → ℕ → ℕ → RowPlace → Bool
-is_changed from date pin p = is_shown date pin p && is_above from p.key.time
+abbrev pub is_changed : Option ℕ → AsOf → RowPlace → Bool
+is_changed from as_of p = is_shown as_of p && is_above from p.key.time
 
 -- nor are all up to `from`, if that is given
-abbrev pub may_change : Option ℕ → ℕ → ℕ → List RowPlace → Bool
-may_change from date pin places =
-    may_show date pin places && is_above from (greatest_by (λ p. p.key.time) places)
+abbrev pub may_change : Option ℕ → AsOf → List RowPlace → Bool
+may_change from as_of places =
+    may_show as_of places && is_above from (greatest_by (λ p. p.key.time) places)
 
 -- the places, or none of them where none can be changed
-abbrev pub changed_part : Option ℕ → ℕ → ℕ → List RowPlace → List RowPlace
-changed_part from date pin places = if may_change from date pin places then places else []
+abbrev pub changed_part : Option ℕ → AsOf → List RowPlace → List RowPlace
+changed_part from as_of places = if may_change from as_of places then places else []
 
-abbrev pub changed_parts : Option ℕ → ℕ → ℕ → List (List RowPlace) → List (List RowPlace)
-changed_parts from date pin lists = map (changed_part from date pin) lists
+abbrev pub changed_parts : Option ℕ → AsOf → List (List RowPlace) → List (List RowPlace)
+changed_parts from as_of lists = map (changed_part from as_of) lists
 
 -- whether a search that begins here passes over the key
 abbrev pub is_before : Start → RowPlace → Bool
@@ -107,28 +109,28 @@ number_in None n = None
 number_in (Some x) n = elim (x.0 == n) [ true ↦ Some x.1 | false ↦ None ]
 
 -- of these, the latest one that is a candidate
-pub record IsLatestOf (kind : Kind) (id date pin : ℕ) {X : Type 0} (place : X → RowPlace)
+pub record IsLatestOf (kind : Kind) (id : ℕ) (as_of : AsOf) {X : Type 0} (place : X → RowPlace)
     (xs : List X) (b : X) : Type 0 where
   pub there : Has xs b
-  pub passes : is_candidate kind id date pin (place b) ≡ true
-  pub latest : (x : X) → Has xs x → is_candidate kind id date pin (place x) ≡ true
+  pub passes : is_candidate kind id as_of (place b) ≡ true
+  pub latest : (x : X) → Has xs x → is_candidate kind id as_of (place x) ≡ true
       → (place x).key.time ≤ (place b).key.time
 
-unfoldable pub IsPick : Kind → ℕ → ℕ → ℕ → {X : Type 0} → (X → RowPlace) → List X → Option X
+unfoldable pub IsPick : Kind → ℕ → AsOf → {X : Type 0} → (X → RowPlace) → List X → Option X
     → Type 0
-IsPick kind id date pin place xs None =
-    (x : _) → Has xs x → is_candidate kind id date pin (place x) ≡ true → ⊥
-IsPick kind id date pin place xs (Some b) = IsLatestOf kind id date pin place xs b
+IsPick kind id as_of place xs None =
+    (x : _) → Has xs x → is_candidate kind id as_of (place x) ≡ true → ⊥
+IsPick kind id as_of place xs (Some b) = IsLatestOf kind id as_of place xs b
 
 -- the latest of these that is a candidate, where that one is later than `from`, if that is given;
 -- where there is none, no candidate is
-unfoldable pub IsPickFrom : Kind → ℕ → Option ℕ → ℕ → ℕ → {X : Type 0} → (X → RowPlace) → List X
+unfoldable pub IsPickFrom : Kind → ℕ → Option ℕ → AsOf → {X : Type 0} → (X → RowPlace) → List X
     → Option X → Type 0
-IsPickFrom kind id from date pin place xs None =
-    (x : _) → Has xs x → is_candidate kind id date pin (place x) ≡ true
+IsPickFrom kind id from as_of place xs None =
+    (x : _) → Has xs x → is_candidate kind id as_of (place x) ≡ true
     → is_above from (place x).key.time ≡ true → ⊥
-IsPickFrom kind id from date pin place xs (Some b) =
-    IsLatestOf kind id date pin place xs b × (is_above from (place b).key.time ≡ true)
+IsPickFrom kind id from as_of place xs (Some b) =
+    IsLatestOf kind id as_of place xs b × (is_above from (place b).key.time ≡ true)
 
 -- the place, if it is later than `from`
 abbrev pub later_than : Option ℕ → Option RowPlace → Option RowPlace
@@ -179,18 +181,18 @@ IsNextId kind after xs None = (x : ℕ × RowPlace) → Has xs x → is_kind_abo
 IsNextId kind after xs (Some id) = IsLeastId kind after xs id
 
 -- the id of a place of the kind above `after`, with no place between that is changed
-pub record IsFirstChanged (kind : Kind) (after from : Option ℕ) (date pin : ℕ)
+pub record IsFirstChanged (kind : Kind) (after from : Option ℕ) (as_of : AsOf)
     (xs : List (ℕ × RowPlace)) (id : ℕ) : Type 0 where
   pub above : is_above after id ≡ true
   pub there : (x : ℕ × RowPlace) × Has xs x × (is_of kind id x.1 ≡ true)
   pub first : (x : ℕ × RowPlace) → Has xs x → is_kind_above kind after x.1 ≡ true
-      → is_changed from date pin x.1 ≡ true → id ≤ x.1.key.id
+      → is_changed from as_of x.1 ≡ true → id ≤ x.1.key.id
 
-unfoldable pub IsNextChanged : Kind → Option ℕ → Option ℕ → ℕ → ℕ → List (ℕ × RowPlace) → Option ℕ
+unfoldable pub IsNextChanged : Kind → Option ℕ → Option ℕ → AsOf → List (ℕ × RowPlace) → Option ℕ
     → Type 0
-IsNextChanged kind after from date pin xs None = (x : ℕ × RowPlace) → Has xs x
-    → is_kind_above kind after x.1 ≡ true → is_changed from date pin x.1 ≡ true → ⊥
-IsNextChanged kind after from date pin xs (Some id) = IsFirstChanged kind after from date pin xs id
+IsNextChanged kind after from as_of xs None = (x : ℕ × RowPlace) → Has xs x
+    → is_kind_above kind after x.1 ≡ true → is_changed from as_of x.1 ≡ true → ⊥
+IsNextChanged kind after from as_of xs (Some id) = IsFirstChanged kind after from as_of xs id
 
 -- the id of a place of the kind
 abbrev pub id_of_kind : Kind → Option RowPlace → Option ℕ

@@ -8,6 +8,7 @@ use Rattle.history_model.specs.declared.stamped.StampedRow.{StampedRow}
 use Rattle.history_model.specs.InOrder.{Has}
 use Rattle.history_model.specs.Queries.{is_above}
 use Rattle.segment.specs.declared.place.RowPlace.{RowPlace}
+use Rattle.as_of_index.specs.declared.as_of.AsOf.{AsOf}
 use Rattle.as_of_index.specs.declared.chosen.Chosen.{Chosen}
 use Rattle.as_of_index.specs.Private.Chosen.{chosen_cmp}
 use Rattle.as_of_index.specs.Private.Once.{AreOnce}
@@ -59,7 +60,7 @@ member_place n m at = record { segment = n; at = at; refset = m.refset; target =
 pub record GivesMember (lists : List (List StampedRow)) (asked : Asked) (n : ℕ) (m : Membership)
     (k : Chosen) : Type 0 where
   pub at : RowPlace
-  pub row_there : IsPlaceOfRow lists n m.row at × IsCurrentAt lists asked.time asked.pin n at
+  pub row_there : IsPlaceOfRow lists n m.row at × IsCurrentAt lists asked.as_of n at
   pub wanted_so : is_wanted asked.refset asked.wanted m at.key.id ≡ true
   pub answer_is : member_place n m at ≡ k
 
@@ -79,10 +80,9 @@ AreMembers cmp lists asked xs kept =
 -- the places of the members up to some last one, each once, in an order: all that are asked for, or
 -- so many that the first ones up to the limit are among them
 abbrev pub AreEnough : (Chosen → Chosen → Ordering) → (Option ℕ → Wanted) → ℕ
-    → List (List StampedRow) → ℕ → ℕ → ℕ → List (ℕ × Membership) → List Chosen → Type 0
-AreEnough cmp upto limit lists refset date pin xs kept = (last : Option ℕ)
-    × AreMembers cmp lists
-    (record { refset = refset; wanted = upto last; time = date; pin = pin }) xs kept
+    → List (List StampedRow) → ℕ → AsOf → List (ℕ × Membership) → List Chosen → Type 0
+AreEnough cmp upto limit lists refset as_of xs kept = (last : Option ℕ)
+    × AreMembers cmp lists (record { refset = refset; wanted = upto last; as_of = as_of }) xs kept
     × ((last ≡ None) ⊎ (limit ≤ length kept))
 
 -- how many of the numbers are below one
@@ -100,15 +100,15 @@ abbrev pub with_members : Chosen → List Chosen → List Chosen
 with_members k [] = []
 with_members k (other ∷ others) = k ∷ other ∷ others
 
--- the members of a reference set that refer to a description, at a date and a pin
-abbrev pub asked_about : ℕ → ℕ → ℕ → Chosen → Asked
-asked_about refset date pin k =
-    record { refset = refset; wanted = wanted.About k.at.key.id; time = date; pin = pin }
+-- the members of a reference set that refer to a description
+abbrev pub asked_about : ℕ → AsOf → Chosen → Asked
+asked_about refset as_of k =
+    record { refset = refset; wanted = wanted.About k.at.key.id; as_of = as_of }
 
 -- the places of the descriptions that have members, each with the places of its members behind it
-abbrev pub AreNamed : List (List StampedRow) → ℕ → ℕ → ℕ → List (ℕ × Membership) → List Chosen
+abbrev pub AreNamed : List (List StampedRow) → ℕ → AsOf → List (ℕ × Membership) → List Chosen
     → List Chosen → Type 0
-AreNamed lists refset date pin xs [] kept = kept ≡ []
-AreNamed lists refset date pin xs (k ∷ ks) kept = (those : List Chosen) × (rest : List Chosen)
-    × AreMembers chosen_cmp lists (asked_about refset date pin k) xs those
-    × (kept ≡ with_members k those ++ rest) × AreNamed lists refset date pin xs ks rest
+AreNamed lists refset as_of xs [] kept = kept ≡ []
+AreNamed lists refset as_of xs (k ∷ ks) kept = (those : List Chosen) × (rest : List Chosen)
+    × AreMembers chosen_cmp lists (asked_about refset as_of k) xs those
+    × (kept ≡ with_members k those ++ rest) × AreNamed lists refset as_of xs ks rest

@@ -11,9 +11,9 @@ loop-list-preserved c =
     let a = c.args in
     let i = c.loop-list.list-index in
     let part = c.changed_part.result.now in
-    let parts = changed_parts a.from a.time a.pin a.lists.now in
-    let is = part_at a.from a.time a.pin a.lists.now i c.list-item.result part c.loop-list-test.true c.list-item.is c.changed_part.ensures.part in
-    let more = take_more parts i part (part_within a.from a.time a.pin a.lists.now i c.loop-list-test.true) ∙ ap (λ (x : List RowPlace). take i parts ++ x ∷ []) (sym is) in
+    let parts = changed_parts a.from a.as_of.now a.lists.now in
+    let is = part_at a.from a.as_of.now a.lists.now i c.list-item.result part c.loop-list-test.true c.list-item.is c.changed_part.ensures.part in
+    let more = take_more parts i part (part_within a.from a.as_of.now a.lists.now i c.loop-list-test.true) ∙ ap (λ (x : List RowPlace). take i parts ++ x ∷ []) (sym is) in
     let added = passed_push a.start.now (take i parts) c.loop-list.cursors.items part c.place.result c.loop-list.invariant
     c.place.ensures.within (c.place.ensures.split c.changed_part.ensures.ascending) in
     rw (c.in_ok-push.ensures.items, more) added

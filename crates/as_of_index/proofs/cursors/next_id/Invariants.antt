@@ -5,6 +5,6 @@ use Rattle.as_of_index.proofs.cursors.next_id.Given as goal
 
 abbrev pub invariant-loop-segment : goal.invariant-loop-segment
 invariant-loop-segment l = record {
-  passed : ArePassed (Components l.kind l.fn.after) (changed_parts l.from l.time l.pin l.lists) l.cursors.items;
-  next : IsNextChanged l.kind l.fn.after l.from l.time l.pin (all_places 0 (take l.segment l.lists)) l.best;
+  passed : ArePassed (Components l.kind l.fn.after) (changed_parts l.from l.as_of l.lists) l.cursors.items;
+  next : IsNextChanged l.kind l.fn.after l.from l.as_of (all_places 0 (take l.segment l.lists)) l.best;
 }

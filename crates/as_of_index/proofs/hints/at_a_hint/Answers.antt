@@ -8,5 +8,5 @@ returns c =
     let a = c.args in
     let within : c.in_ok-segment.segment < length a.lists.now = (let less = c.if-segment-lists.false in omega arith) in
     let found = c.in_ok-p.ensures in
-    picks_exact a.kind a.id a.time a.pin a.lists.now c.in_ok-segment.segment c.index-lists-segment.result c.in_ok-p.p within c.index-lists-segment.is
+    picks_exact a.kind a.id a.as_of.now a.lists.now c.in_ok-segment.segment c.index-lists-segment.result c.in_ok-p.p within c.index-lists-segment.is
     (subst (λ ps. Has ps c.in_ok-p.p) c.places-places.ensures.places found.0) found.1 found.2 found.3

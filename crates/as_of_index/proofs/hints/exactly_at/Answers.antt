@@ -8,5 +8,5 @@ returns-in-Some c = (
   has_got c.args.list.now c.args.number c.in-Some.p.now c.in-Some.ensures,
   sym c.is_of.ensures ∙ c.if-is_of.true,
   (let e = c.if-eq.ensures in grind (arith, nat_tests, e)),
-  c.if-p-pin.true,
+  c.if-p-as_of.true,
 )

@@ -3,4 +3,4 @@ use Rattle.as_of_index.specs.Private.Search.{all_places, IsPick}
 use Rattle.as_of_index.proofs.several.latest.Given as goal
 
 abbrev pub invariant-loop-segment : goal.invariant-loop-segment
-invariant-loop-segment l = IsPick l.kind l.id l.time l.pin (λ x. x.1) (all_places 0 (take l.segment l.lists)) l.best
+invariant-loop-segment l = IsPick l.kind l.id l.as_of (λ x. x.1) (all_places 0 (take l.segment l.lists)) l.best

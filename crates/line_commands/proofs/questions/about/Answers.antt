@@ -10,8 +10,8 @@ returns-in_err-kind c = none_read _ _ c.from_residual-in_err-kind.result c.from_
 pub returns-in_err-id : goal.returns-in_err-id
 returns-in_err-id c = none_read _ _ c.from_residual-in_err-id.result c.from_residual-in_err-id.ensures (λ question s. about_no_id _ _ _ _ c.in_ok-letter.ensures.0 c.in_ok-letter.ensures.1 c.in_ok-letter.ensures.2 question c.in_ok-kind.kind c.in_ok-kind.ensures c.in_err-id.ensures s)
 
-pub returns-in_err-time : goal.returns-in_err-time
-returns-in_err-time c = none_read _ _ c.from_residual-in_err-time.result c.from_residual-in_err-time.ensures (λ question s. about_no_time _ _ _ _ c.in_ok-letter.ensures.0 c.in_ok-letter.ensures.1 c.in_ok-letter.ensures.2 question c.in_err-time.ensures s)
+pub returns-in_err-date : goal.returns-in_err-date
+returns-in_err-date c = none_read _ _ c.from_residual-in_err-date.result c.from_residual-in_err-date.ensures (λ question s. about_no_time _ _ _ _ c.in_ok-letter.ensures.0 c.in_ok-letter.ensures.1 c.in_ok-letter.ensures.2 question c.in_err-date.ensures s)
 
 pub returns : goal.returns
-returns c = about_found _ _ _ _ c.in_ok-kind.kind c.in_ok-id.id c.in_ok-time.time c.in_ok-letter.ensures.2 c.in_ok-kind.ensures c.in_ok-id.ensures.0 c.in_ok-id.ensures.1 c.in_ok-time.ensures.0 c.in_ok-time.ensures.1
+returns c = about_found _ _ _ _ c.in_ok-kind.kind c.in_ok-id.id c.in_ok-date.date c.in_ok-letter.ensures.2 c.in_ok-kind.ensures c.in_ok-id.ensures.0 c.in_ok-id.ensures.1 c.in_ok-date.ensures.0 c.in_ok-date.ensures.1

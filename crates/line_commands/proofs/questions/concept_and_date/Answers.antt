@@ -8,5 +8,5 @@ returns-in_err-concept c = no_cuts _ _ c.from_residual.result c.from_residual.en
 pub returns-in_err-concept-2 : goal.returns-in_err-concept-2
 returns-in_err-concept-2 c = no_cuts _ _ c.from_residual-in_err-concept-2.result c.from_residual-in_err-concept-2.ensures (no_concept c.args.text.now _ _ c.in_ok-concept.ensures.0 c.in_ok-concept.ensures.1 c.in_err-concept-2.ensures)
 
-pub returns-in_err-time : goal.returns-in_err-time
-returns-in_err-time c = no_cuts _ _ c.from_residual-in_err-time.result c.from_residual-in_err-time.ensures (no_concept_date c.args.text.now _ _ c.in_ok-concept.ensures.0 c.in_ok-concept.ensures.1 c.in_err-time.ensures)
+pub returns-in_err-date : goal.returns-in_err-date
+returns-in_err-date c = no_cuts _ _ c.from_residual-in_err-date.result c.from_residual-in_err-date.ensures (no_concept_date c.args.text.now _ _ c.in_ok-concept.ensures.0 c.in_ok-concept.ensures.1 c.in_err-date.ensures)

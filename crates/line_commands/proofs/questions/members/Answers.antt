@@ -10,8 +10,8 @@ returns-in_err-refset c = none_read _ _ c.from_residual.result c.from_residual.e
 pub returns-in_err-refset-2 : goal.returns-in_err-refset-2
 returns-in_err-refset-2 c = none_read _ _ c.from_residual-in_err-refset-2.result c.from_residual-in_err-refset-2.ensures (λ question s. refset_no_concept (SpellsAfter kinds.Member) c.args.text.now (members_form c.args.text.now question s) _ _ _ _ c.in_ok-refset.ensures.0 c.in_ok-refset.ensures.1 c.in_ok-refset.ensures.2 c.in_ok-refset.ensures.3 c.in_err-refset-2.ensures)
 
-pub returns-in_err-time : goal.returns-in_err-time
-returns-in_err-time c = none_read _ _ c.from_residual-in_err-time.result c.from_residual-in_err-time.ensures (λ question s. refset_no_time (SpellsAfter kinds.Member) c.args.text.now (members_form c.args.text.now question s) _ _ _ _ c.in_ok-refset.ensures.0 c.in_ok-refset.ensures.1 c.in_ok-refset.ensures.2 c.in_ok-refset.ensures.3 c.in_err-time.ensures)
+pub returns-in_err-date : goal.returns-in_err-date
+returns-in_err-date c = none_read _ _ c.from_residual-in_err-date.result c.from_residual-in_err-date.ensures (λ question s. refset_no_time (SpellsAfter kinds.Member) c.args.text.now (members_form c.args.text.now question s) _ _ _ _ c.in_ok-refset.ensures.0 c.in_ok-refset.ensures.1 c.in_ok-refset.ensures.2 c.in_ok-refset.ensures.3 c.in_err-date.ensures)
 
 pub returns-in_err-after : goal.returns-in_err-after
 returns-in_err-after c = none_read _ _ c.from_residual-in_err-after.result c.from_residual-in_err-after.ensures (λ question s. refset_no_after (SpellsAfter kinds.Member) c.args.text.now (members_form c.args.text.now question s) _ _ _ _ c.in_ok-refset.ensures.0 c.in_ok-refset.ensures.1 c.in_ok-refset.ensures.2 c.in_ok-refset.ensures.3 c.in_err-after.ensures)
@@ -20,4 +20,4 @@ pub returns-in_err-limit : goal.returns-in_err-limit
 returns-in_err-limit c = none_read _ _ c.from_residual-in_err-limit.result c.from_residual-in_err-limit.ensures (λ question s. refset_no_limit (SpellsAfter kinds.Member) c.args.text.now (members_form c.args.text.now question s) _ _ _ _ c.in_ok-refset.ensures.0 c.in_ok-refset.ensures.1 c.in_ok-refset.ensures.2 c.in_ok-refset.ensures.3 c.in_err-limit.ensures)
 
 pub returns : goal.returns
-returns c = members_found _ _ _ _ _ c.in_ok-refset-2.refset c.in_ok-time.time c.in_ok-after.after c.in_ok-limit.limit c.in_ok-refset.ensures.3 c.in_ok-refset-2.ensures.0 c.in_ok-refset-2.ensures.1 c.in_ok-time.ensures.0 c.in_ok-time.ensures.1 c.in_ok-after.ensures c.in_ok-limit.ensures.0 c.in_ok-limit.ensures.1 c.in_ok-limit.ensures.2
+returns c = members_found _ _ _ _ _ c.in_ok-refset-2.refset c.in_ok-date.date c.in_ok-after.after c.in_ok-limit.limit c.in_ok-refset.ensures.3 c.in_ok-refset-2.ensures.0 c.in_ok-refset-2.ensures.1 c.in_ok-date.ensures.0 c.in_ok-date.ensures.1 c.in_ok-after.ensures c.in_ok-limit.ensures.0 c.in_ok-limit.ensures.1 c.in_ok-limit.ensures.2

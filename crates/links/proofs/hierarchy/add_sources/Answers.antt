@@ -7,7 +7,7 @@ use Rattle.links.proofs.hierarchy.add_sources.Goals as goal
 use Rattle.links.proofs.hierarchy.add_sources.Goals.{in-Some+in_ok-push, in_default}
 
 pub loop-link-init : goal.loop-link-init
-loop-link-init c = λ lists listed_so. takes_nothing (GivesSource lists c.args.time c.args.pin c.args.segment) c.args.ids.now.items
+loop-link-init c = λ lists listed_so. takes_nothing (GivesSource lists c.args.as_of.now c.args.segment) c.args.ids.now.items
 
 pub loop-link-preserved : goal.loop-link-preserved
 loop-link-preserved c = λ lists listed_so.
@@ -17,7 +17,7 @@ loop-link-preserved c = λ lists listed_so.
     let x = get_or a.links.now i first in
     let now = c.current_at.ensures lists listed_so in
     let so_far = c.loop-link.invariant lists listed_so in
-    let gives = GivesSource lists a.time a.pin a.segment in
+    let gives = GivesSource lists a.as_of.now a.segment in
     rw (take_more a.links.now i first c.loop-link-test.true) (elim c.match-current_at.branch [
       | in-Some+in_ok-push w ↦
           let at = w.in-Some._at in
@@ -35,4 +35,4 @@ loop-link-preserved c = λ lists listed_so.
 pub returns : goal.returns
 returns c = λ lists listed_so.
     let a = c.args in
-    subst (λ xs. Takes (GivesSource lists a.time a.pin a.segment) xs a.ids.now.items c.loop-link.ids.items) (take_all c.loop-link.link-index a.links.now c.loop-link-test.false) (c.loop-link.invariant lists listed_so)
+    subst (λ xs. Takes (GivesSource lists a.as_of.now a.segment) xs a.ids.now.items c.loop-link.ids.items) (take_all c.loop-link.link-index a.links.now c.loop-link-test.false) (c.loop-link.invariant lists listed_so)

@@ -6,4 +6,4 @@ use Rattle.links.specs.Private.{links_in, AreSourcesTaken}
 use Rattle.links.proofs.hierarchy.sources.Given as goal
 
 abbrev pub invariant-loop-segment : goal.invariant-loop-segment
-invariant-loop-segment l = (lists : List (List StampedRow)) → Lists l.index lists → AreSourcesTaken lists l.time l.pin l.destination (numbered 0 (links_in (take l.segment l.links))) l.ids.items
+invariant-loop-segment l = (lists : List (List StampedRow)) → Lists l.index lists → AreSourcesTaken lists l.as_of l.destination (numbered 0 (links_in (take l.segment l.links))) l.ids.items

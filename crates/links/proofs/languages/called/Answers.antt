@@ -13,9 +13,9 @@ returns-clause-found g c = λ honest listed_so posts.
     let lists = g.R.RowReader.lists a.reader.now in
     let are = rw listed_so at c.lists-listed.ensures.places in
     let descriptions = rw (c.as_slice-links.ensures, c.value-concept.ensures.value) at (c.in_ok-descriptions.ensures lists listed_so) in
-    let about = about_from_chosen lists are a.links.now posts kinds.Description a.concept a.time a.pin c.in_ok-descriptions.descriptions.items descriptions in
+    let about = about_from_chosen lists are a.links.now posts kinds.Description a.concept a.as_of c.in_ok-descriptions.descriptions.items descriptions in
     let kept = rw (c.as_slice-links.ensures, c.as_slice.ensures.value, c.value.ensures.value) at (c.in_ok-kept.ensures lists listed_so) in
-    let w = called_from_chosen lists are a.links.now posts a.refset a.time a.pin a.concept c.in_ok-descriptions.descriptions.items about c.in_ok-kept.kept.items kept in
+    let w = called_from_chosen lists are a.links.now posts a.refset a.as_of a.concept c.in_ok-descriptions.descriptions.items about c.in_ok-kept.kept.items kept in
     subst (λ xs. IfOk c.read_all.result (λ f. f.items ≡ xs)) w.2 (c.read_all.ensures.found honest w.0 (subst (λ ks. StandAtAll lists ks w.0) (sym c.as_slice-2.ensures.value) w.1))
 
 pub returns-clause-keys : goal.returns-clause-keys
@@ -24,9 +24,9 @@ returns-clause-keys g c = λ listed_so posts.
     let lists = g.R.RowReader.lists a.reader.now in
     let are = rw listed_so at c.lists-listed.ensures.places in
     let descriptions = rw (c.as_slice-links.ensures, c.value-concept.ensures.value) at (c.in_ok-descriptions.ensures lists listed_so) in
-    let about = about_from_chosen lists are a.links.now posts kinds.Description a.concept a.time a.pin c.in_ok-descriptions.descriptions.items descriptions in
+    let about = about_from_chosen lists are a.links.now posts kinds.Description a.concept a.as_of c.in_ok-descriptions.descriptions.items descriptions in
     let kept = rw (c.as_slice-links.ensures, c.as_slice.ensures.value, c.value.ensures.value) at (c.in_ok-kept.ensures lists listed_so) in
-    let w = called_from_chosen lists are a.links.now posts a.refset a.time a.pin a.concept c.in_ok-descriptions.descriptions.items about c.in_ok-kept.kept.items kept in
+    let w = called_from_chosen lists are a.links.now posts a.refset a.as_of a.concept c.in_ok-descriptions.descriptions.items about c.in_ok-kept.kept.items kept in
     subst (λ xs. IfOk c.read_all.result (λ f. map key_of f.items ≡ map key_of xs)) w.2 (c.read_all.ensures.keys w.0 (subst (λ ks. StandAtAll lists ks w.0) (sym c.as_slice-2.ensures.value) w.1))
 
 pub returns-clause-undamaged : goal.returns-clause-undamaged
@@ -35,9 +35,9 @@ returns-clause-undamaged g c = λ honest listed_so posts.
     let lists = g.R.RowReader.lists a.reader.now in
     let are = rw listed_so at c.lists-listed.ensures.places in
     let descriptions = rw (c.as_slice-links.ensures, c.value-concept.ensures.value) at (c.in_ok-descriptions.ensures lists listed_so) in
-    let about = about_from_chosen lists are a.links.now posts kinds.Description a.concept a.time a.pin c.in_ok-descriptions.descriptions.items descriptions in
+    let about = about_from_chosen lists are a.links.now posts kinds.Description a.concept a.as_of c.in_ok-descriptions.descriptions.items descriptions in
     let kept = rw (c.as_slice-links.ensures, c.as_slice.ensures.value, c.value.ensures.value) at (c.in_ok-kept.ensures lists listed_so) in
-    let w = called_from_chosen lists are a.links.now posts a.refset a.time a.pin a.concept c.in_ok-descriptions.descriptions.items about c.in_ok-kept.kept.items kept in
+    let w = called_from_chosen lists are a.links.now posts a.refset a.as_of a.concept c.in_ok-descriptions.descriptions.items about c.in_ok-kept.kept.items kept in
     c.read_all.ensures.undamaged honest w.0 (subst (λ ks. StandAtAll lists ks w.0) (sym c.as_slice-2.ensures.value) w.1)
 
 pub returns-clause-work_always : goal.returns-clause-work_always
@@ -46,7 +46,7 @@ returns-clause-work_always g c = λ listed_so posts.
     let lists = g.R.RowReader.lists a.reader.now in
     let are = rw listed_so at c.lists-listed.ensures.places in
     let descriptions = rw (c.as_slice-links.ensures, c.value-concept.ensures.value) at (c.in_ok-descriptions.ensures lists listed_so) in
-    let about = about_from_chosen lists are a.links.now posts kinds.Description a.concept a.time a.pin c.in_ok-descriptions.descriptions.items descriptions in
+    let about = about_from_chosen lists are a.links.now posts kinds.Description a.concept a.as_of c.in_ok-descriptions.descriptions.items descriptions in
     let kept = rw (c.as_slice-links.ensures, c.as_slice.ensures.value, c.value.ensures.value) at (c.in_ok-kept.ensures lists listed_so) in
-    let w = called_from_chosen lists are a.links.now posts a.refset a.time a.pin a.concept c.in_ok-descriptions.descriptions.items about c.in_ok-kept.kept.items kept in
+    let w = called_from_chosen lists are a.links.now posts a.refset a.as_of a.concept c.in_ok-descriptions.descriptions.items about c.in_ok-kept.kept.items kept in
     subst (λ xs. g.R.RowReader.work c.read_all.new.reader ≤ g.R.RowReader.work a.reader.now + sum_by g.R.RowReader.cost xs) w.2 (c.read_all.ensures.work_always w.0 (subst (λ ks. StandAtAll lists ks w.0) (sym c.as_slice-2.ensures.value) w.1))

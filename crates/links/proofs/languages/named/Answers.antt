@@ -20,11 +20,11 @@ loop-k-preserved c = λ lists listed_so.
     let those = c.in_ok-those.those.items in
     let one_more : take (i + 1) ks ≡ take i ks ++ k ∷ [] = take_more ks i k c.loop-k-test.true ∙ ap (λ (x : Chosen). take i ks ++ x ∷ []) (sym c.k-item.is) in
     let pushed : c.push_with.new.kept.items ≡ kept ++ with_members k those = c.in_ok-push_with.ensures ∙ ap (λ ys. kept ++ with_members k ys) c.as_slice.ensures.value in
-    subst (λ js. AreNamed lists a.refset a.time a.pin xs js c.push_with.new.kept.items) (sym one_more)
-    (subst (λ ys. AreNamed lists a.refset a.time a.pin xs (take i ks ++ k ∷ []) ys) (sym pushed)
-    (named_push lists a.refset a.time a.pin xs (take i ks) k kept those (c.loop-k.invariant lists listed_so) (c.in_ok-those.ensures lists listed_so)))
+    subst (λ js. AreNamed lists a.refset a.as_of.now xs js c.push_with.new.kept.items) (sym one_more)
+    (subst (λ ys. AreNamed lists a.refset a.as_of.now xs (take i ks ++ k ∷ []) ys) (sym pushed)
+    (named_push lists a.refset a.as_of.now xs (take i ks) k kept those (c.loop-k.invariant lists listed_so) (c.in_ok-those.ensures lists listed_so)))
 
 pub returns : goal.returns
 returns c = λ lists listed_so.
     let a = c.args in
-    subst (λ ks. AreNamed lists a.refset a.time a.pin (numbered 0 (memberships_in a.links.now)) ks c.loop-k.kept.items) (take_all c.loop-k.k-index a.descriptions.now c.loop-k-test.false) (c.loop-k.invariant lists listed_so)
+    subst (λ ks. AreNamed lists a.refset a.as_of.now (numbered 0 (memberships_in a.links.now)) ks c.loop-k.kept.items) (take_all c.loop-k.k-index a.descriptions.now c.loop-k-test.false) (c.loop-k.invariant lists listed_so)

@@ -6,4 +6,4 @@ use Rattle.links.specs.Private.Memberships.{memberships_in, AreNamed}
 use Rattle.links.proofs.languages.named.Given as goal
 
 abbrev pub invariant-loop-k : goal.invariant-loop-k
-invariant-loop-k l = (lists : List (List StampedRow)) → Lists l.index lists → AreNamed lists l.refset l.time l.pin (numbered 0 (memberships_in l.links)) (take l.k-index l.descriptions) l.kept.items
+invariant-loop-k l = (lists : List (List StampedRow)) → Lists l.index lists → AreNamed lists l.refset l.as_of (numbered 0 (memberships_in l.links)) (take l.k-index l.descriptions) l.kept.items

@@ -8,7 +8,7 @@ use Rattle.links.proofs.references.add_references.Goals as goal
 use Rattle.links.proofs.references.add_references.Goals.{in-Some+in_ok-push, in_default}
 
 pub loop-r-init : goal.loop-r-init
-loop-r-init c = λ lists listed_so. takes_nothing (GivesRanked lists c.args.time c.args.pin c.args.segment) c.args.kept.now.items
+loop-r-init c = λ lists listed_so. takes_nothing (GivesRanked lists c.args.as_of.now c.args.segment) c.args.kept.now.items
 
 pub loop-r-preserved : goal.loop-r-preserved
 loop-r-preserved c = λ lists listed_so.
@@ -18,7 +18,7 @@ loop-r-preserved c = λ lists listed_so.
     let x = get_or a.references.now i first in
     let now = c.current_at.ensures lists listed_so in
     let so_far = c.loop-r.invariant lists listed_so in
-    let gives = GivesRanked lists a.time a.pin a.segment in
+    let gives = GivesRanked lists a.as_of.now a.segment in
     rw (take_more a.references.now i first c.loop-r-test.true) (elim c.match-current_at.branch [
       | in-Some+in_ok-push w ↦
           let at = w.in-Some.at in
@@ -39,4 +39,4 @@ loop-r-preserved c = λ lists listed_so.
 pub returns : goal.returns
 returns c = λ lists listed_so.
     let a = c.args in
-    subst (λ xs. Takes (GivesRanked lists a.time a.pin a.segment) xs a.kept.now.items c.loop-r.kept.items) (take_all c.loop-r.r-index a.references.now c.loop-r-test.false) (c.loop-r.invariant lists listed_so)
+    subst (λ xs. Takes (GivesRanked lists a.as_of.now a.segment) xs a.kept.now.items c.loop-r.kept.items) (take_all c.loop-r.r-index a.references.now c.loop-r-test.false) (c.loop-r.invariant lists listed_so)

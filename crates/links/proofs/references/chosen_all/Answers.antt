@@ -10,7 +10,7 @@ use Rattle.links.proofs.references.chosen_all.Goals as goal
 pub loop-segment-init : goal.loop-segment-init
 loop-segment-init c = λ lists listed_so.
     let a = c.args in
-    rw c.new-kept.ensures.items (none_taken (GivesRanked lists a.time a.pin) (λ (x : Reference). x.referenced) a.referenced)
+    rw c.new-kept.ensures.items (none_taken (GivesRanked lists a.as_of.now) (λ (x : Reference). x.referenced) a.referenced)
 
 pub loop-segment-preserved : goal.loop-segment-preserved
 loop-segment-preserved c = λ lists listed_so.
@@ -20,11 +20,11 @@ loop-segment-preserved c = λ lists listed_so.
     let so_far = c.loop-segment.invariant lists listed_so in
     let which = rw c.references.ensures.references at (c.references_to-those.ensures (rw c.references.ensures.references c.references.ensures.rising)) in
     rw (numbered-more (λ (e : Edges). e.references) a.links.now i list c.loop-segment-test.true c.index-links-segment.is)
-    (more_taken (GivesRanked lists a.time a.pin) (λ (x : Reference). x.referenced) a.referenced i (numbered 0 (references_in (take i a.links.now))) list.references c.references_to-those.result.now c.loop-segment.kept.items c.add_references.new.kept.items
+    (more_taken (GivesRanked lists a.as_of.now) (λ (x : Reference). x.referenced) a.referenced i (numbered 0 (references_in (take i a.links.now))) list.references c.references_to-those.result.now c.loop-segment.kept.items c.add_references.new.kept.items
     so_far which (c.in_ok-add_references.ensures lists listed_so))
 
 pub returns : goal.returns
 returns c = λ lists listed_so.
     let a = c.args in
     let all = c.loop-segment.kept.items in
-    (all, subst (λ xs. AreRankedTaken lists a.time a.pin a.referenced (numbered 0 (references_in xs)) all) (take_all c.loop-segment.segment a.links.now c.loop-segment-test.false) (c.loop-segment.invariant lists listed_so), c.sort_once.ensures)
+    (all, subst (λ xs. AreRankedTaken lists a.as_of.now a.referenced (numbered 0 (references_in xs)) all) (take_all c.loop-segment.segment a.links.now c.loop-segment-test.false) (c.loop-segment.invariant lists listed_so), c.sort_once.ensures)

@@ -6,4 +6,4 @@ use Rattle.links.specs.Private.{references_in, AreRankedTaken}
 use Rattle.links.proofs.references.chosen_all.Given as goal
 
 abbrev pub invariant-loop-segment : goal.invariant-loop-segment
-invariant-loop-segment l = (lists : List (List StampedRow)) → Lists l.index lists → AreRankedTaken lists l.time l.pin l.referenced (numbered 0 (references_in (take l.segment l.links))) l.kept.items
+invariant-loop-segment l = (lists : List (List StampedRow)) → Lists l.index lists → AreRankedTaken lists l.as_of l.referenced (numbered 0 (references_in (take l.segment l.links))) l.kept.items

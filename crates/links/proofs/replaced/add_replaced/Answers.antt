@@ -8,7 +8,7 @@ use Rattle.links.proofs.replaced.add_replaced.Goals as goal
 use Rattle.links.proofs.replaced.add_replaced.Goals.{in-Some+in_ok-push, in_default}
 
 pub loop-t-init : goal.loop-t-init
-loop-t-init c = λ lists listed_so. takes_nothing (GivesRankedBack lists c.args.time c.args.pin c.args.segment) c.args.kept.now.items
+loop-t-init c = λ lists listed_so. takes_nothing (GivesRankedBack lists c.args.as_of.now c.args.segment) c.args.kept.now.items
 
 pub loop-t-preserved : goal.loop-t-preserved
 loop-t-preserved c = λ lists listed_so.
@@ -18,7 +18,7 @@ loop-t-preserved c = λ lists listed_so.
     let x = get_or a.targets.now i first in
     let now = c.current_at.ensures lists listed_so in
     let so_far = c.loop-t.invariant lists listed_so in
-    let gives = GivesRankedBack lists a.time a.pin a.segment in
+    let gives = GivesRankedBack lists a.as_of.now a.segment in
     rw (take_more a.targets.now i first c.loop-t-test.true) (elim c.match-current_at.branch [
       | in-Some+in_ok-push w ↦
           let at = w.in-Some.at in
@@ -39,4 +39,4 @@ loop-t-preserved c = λ lists listed_so.
 pub returns : goal.returns
 returns c = λ lists listed_so.
     let a = c.args in
-    subst (λ xs. Takes (GivesRankedBack lists a.time a.pin a.segment) xs a.kept.now.items c.loop-t.kept.items) (take_all c.loop-t.t-index a.targets.now c.loop-t-test.false) (c.loop-t.invariant lists listed_so)
+    subst (λ xs. Takes (GivesRankedBack lists a.as_of.now a.segment) xs a.kept.now.items c.loop-t.kept.items) (take_all c.loop-t.t-index a.targets.now c.loop-t-test.false) (c.loop-t.invariant lists listed_so)

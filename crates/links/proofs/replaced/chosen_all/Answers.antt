@@ -10,7 +10,7 @@ use Rattle.links.proofs.replaced.chosen_all.Goals as goal
 pub loop-segment-init : goal.loop-segment-init
 loop-segment-init c = λ lists listed_so.
     let a = c.args in
-    rw c.new-kept.ensures.items (none_taken (GivesRankedBack lists a.time a.pin) (λ (x : Target). x.target) a.target)
+    rw c.new-kept.ensures.items (none_taken (GivesRankedBack lists a.as_of.now) (λ (x : Target). x.target) a.target)
 
 pub loop-segment-preserved : goal.loop-segment-preserved
 loop-segment-preserved c = λ lists listed_so.
@@ -20,11 +20,11 @@ loop-segment-preserved c = λ lists listed_so.
     let so_far = c.loop-segment.invariant lists listed_so in
     let which = rw c.targets.ensures.targets at (c.targets_to-those.ensures (rw c.targets.ensures.targets c.targets.ensures.rising)) in
     rw (numbered-more (λ (e : Edges). e.targets) a.links.now i list c.loop-segment-test.true c.index-links-segment.is)
-    (more_taken (GivesRankedBack lists a.time a.pin) (λ (x : Target). x.target) a.target i (numbered 0 (targets_in (take i a.links.now))) list.targets c.targets_to-those.result.now c.loop-segment.kept.items c.add_replaced.new.kept.items
+    (more_taken (GivesRankedBack lists a.as_of.now) (λ (x : Target). x.target) a.target i (numbered 0 (targets_in (take i a.links.now))) list.targets c.targets_to-those.result.now c.loop-segment.kept.items c.add_replaced.new.kept.items
     so_far which (c.in_ok-add_replaced.ensures lists listed_so))
 
 pub returns : goal.returns
 returns c = λ lists listed_so.
     let a = c.args in
     let all = c.loop-segment.kept.items in
-    (all, subst (λ xs. AreReplacedTaken lists a.time a.pin a.target (numbered 0 (targets_in xs)) all) (take_all c.loop-segment.segment a.links.now c.loop-segment-test.false) (c.loop-segment.invariant lists listed_so), c.sort_once.ensures)
+    (all, subst (λ xs. AreReplacedTaken lists a.as_of.now a.target (numbered 0 (targets_in xs)) all) (take_all c.loop-segment.segment a.links.now c.loop-segment-test.false) (c.loop-segment.invariant lists listed_so), c.sort_once.ensures)

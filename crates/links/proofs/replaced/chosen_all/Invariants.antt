@@ -6,4 +6,4 @@ use Rattle.links.specs.Private.{targets_in, AreReplacedTaken}
 use Rattle.links.proofs.replaced.chosen_all.Given as goal
 
 abbrev pub invariant-loop-segment : goal.invariant-loop-segment
-invariant-loop-segment l = (lists : List (List StampedRow)) → Lists l.index lists → AreReplacedTaken lists l.time l.pin l.target (numbered 0 (targets_in (take l.segment l.links))) l.kept.items
+invariant-loop-segment l = (lists : List (List StampedRow)) → Lists l.index lists → AreReplacedTaken lists l.as_of l.target (numbered 0 (targets_in (take l.segment l.links))) l.kept.items

@@ -11,7 +11,7 @@ returns-clause-found g c = λ honest listed_so posts.
     let lists = g.R.RowReader.lists a.reader.now in
     let are = rw listed_so at c.lists-listed.ensures.places in
     let kept = rw c.as_slice.ensures at (c.in_ok-kept.ensures lists listed_so) in
-    let w = about_from_chosen lists are a.links.now posts a.kind a.id a.time a.pin c.in_ok-kept.kept.items kept in
+    let w = about_from_chosen lists are a.links.now posts a.kind a.id a.as_of.now c.in_ok-kept.kept.items kept in
     subst (λ xs. IfOk c.read_all.result (λ f. f.items ≡ xs)) w.2 (c.read_all.ensures.found honest w.0 (subst (λ ks. StandAtAll lists ks w.0) (sym c.as_slice-2.ensures.value) w.1))
 
 pub returns-clause-keys : goal.returns-clause-keys
@@ -20,7 +20,7 @@ returns-clause-keys g c = λ listed_so posts.
     let lists = g.R.RowReader.lists a.reader.now in
     let are = rw listed_so at c.lists-listed.ensures.places in
     let kept = rw c.as_slice.ensures at (c.in_ok-kept.ensures lists listed_so) in
-    let w = about_from_chosen lists are a.links.now posts a.kind a.id a.time a.pin c.in_ok-kept.kept.items kept in
+    let w = about_from_chosen lists are a.links.now posts a.kind a.id a.as_of.now c.in_ok-kept.kept.items kept in
     subst (λ xs. IfOk c.read_all.result (λ f. map key_of f.items ≡ map key_of xs)) w.2 (c.read_all.ensures.keys w.0 (subst (λ ks. StandAtAll lists ks w.0) (sym c.as_slice-2.ensures.value) w.1))
 
 pub returns-clause-undamaged : goal.returns-clause-undamaged
@@ -29,7 +29,7 @@ returns-clause-undamaged g c = λ honest listed_so posts.
     let lists = g.R.RowReader.lists a.reader.now in
     let are = rw listed_so at c.lists-listed.ensures.places in
     let kept = rw c.as_slice.ensures at (c.in_ok-kept.ensures lists listed_so) in
-    let w = about_from_chosen lists are a.links.now posts a.kind a.id a.time a.pin c.in_ok-kept.kept.items kept in
+    let w = about_from_chosen lists are a.links.now posts a.kind a.id a.as_of.now c.in_ok-kept.kept.items kept in
     c.read_all.ensures.undamaged honest w.0 (subst (λ ks. StandAtAll lists ks w.0) (sym c.as_slice-2.ensures.value) w.1)
 
 pub returns-clause-work_always : goal.returns-clause-work_always
@@ -38,5 +38,5 @@ returns-clause-work_always g c = λ listed_so posts.
     let lists = g.R.RowReader.lists a.reader.now in
     let are = rw listed_so at c.lists-listed.ensures.places in
     let kept = rw c.as_slice.ensures at (c.in_ok-kept.ensures lists listed_so) in
-    let w = about_from_chosen lists are a.links.now posts a.kind a.id a.time a.pin c.in_ok-kept.kept.items kept in
+    let w = about_from_chosen lists are a.links.now posts a.kind a.id a.as_of.now c.in_ok-kept.kept.items kept in
     subst (λ xs. g.R.RowReader.work c.read_all.new.reader ≤ g.R.RowReader.work a.reader.now + sum_by g.R.RowReader.cost xs) w.2 (c.read_all.ensures.work_always w.0 (subst (λ ks. StandAtAll lists ks w.0) (sym c.as_slice-2.ensures.value) w.1))

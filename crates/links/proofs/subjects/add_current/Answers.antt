@@ -10,7 +10,7 @@ use Rattle.links.proofs.subjects.add_current.Goals as goal
 use Rattle.links.proofs.subjects.add_current.Goals.{in-Some+in_ok-push, in_default}
 
 pub loop-x-init : goal.loop-x-init
-loop-x-init c = λ lists listed_so. takes_nothing (GivesRow lists c.args.time c.args.pin c.args.segment) c.args.kept.now.items
+loop-x-init c = λ lists listed_so. takes_nothing (GivesRow lists c.args.as_of.now c.args.segment) c.args.kept.now.items
 
 pub loop-x-preserved : goal.loop-x-preserved
 loop-x-preserved c = λ lists listed_so.
@@ -20,7 +20,7 @@ loop-x-preserved c = λ lists listed_so.
     let x = get_or a.subjects.now i first in
     let now = c.current_at.ensures lists listed_so in
     let so_far = c.loop-x.invariant lists listed_so in
-    let gives = GivesRow lists a.time a.pin a.segment in
+    let gives = GivesRow lists a.as_of.now a.segment in
     rw (take_more a.subjects.now i first c.loop-x-test.true) (elim c.match-current_at.branch [
       | in-Some+in_ok-push w ↦
           let at = w.in-Some.at in
@@ -41,4 +41,4 @@ loop-x-preserved c = λ lists listed_so.
 pub returns : goal.returns
 returns c = λ lists listed_so.
     let a = c.args in
-    subst (λ xs. Takes (GivesRow lists a.time a.pin a.segment) xs a.kept.now.items c.loop-x.kept.items) (take_all c.loop-x.x-index a.subjects.now c.loop-x-test.false) (c.loop-x.invariant lists listed_so)
+    subst (λ xs. Takes (GivesRow lists a.as_of.now a.segment) xs a.kept.now.items c.loop-x.kept.items) (take_all c.loop-x.x-index a.subjects.now c.loop-x-test.false) (c.loop-x.invariant lists listed_so)

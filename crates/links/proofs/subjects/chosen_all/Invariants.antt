@@ -6,4 +6,4 @@ use Rattle.links.specs.Private.{subjects_in, AreRowsTaken}
 use Rattle.links.proofs.subjects.chosen_all.Given as goal
 
 abbrev pub invariant-loop-segment : goal.invariant-loop-segment
-invariant-loop-segment l = (lists : List (List StampedRow)) → Lists l.index lists → AreRowsTaken lists l.kind l.time l.pin l.id (numbered 0 (subjects_in (take l.segment l.links))) l.kept.items
+invariant-loop-segment l = (lists : List (List StampedRow)) → Lists l.index lists → AreRowsTaken lists l.kind l.as_of l.id (numbered 0 (subjects_in (take l.segment l.links))) l.kept.items

@@ -1,16 +1,15 @@
 use Rattle.std.proofs.Common.{rules, ◌≤◌, ◌+◌, ◌∷◌, ℕ, List, refl, sym, subst, IfOk}
 use Rattle.std.specs.List.{sum_by}
 use Rattle.rf2_values.specs.declared.row.Kind.TheVariants as kinds
-use Rattle.history_model.specs.History.{rows_at}
-use Rattle.history_model.specs.Lists.{listed}
 use Rattle.history_model.specs.Queries.{about, parents}
 use Rattle.history_model.specs.Hierarchy.{AreReached}
 use Rattle.links.proofs.upwards.ancestors.Goals as goal
+use Rattle.as_of_index.specs.Current.{rows_seen}
 
 pub returns-clause-work : goal.returns-clause-work
 returns-clause-work g c = λ listed_so posted.
     let a = c.args in
-    let cost : ℕ → ℕ = λ n. sum_by g.R.RowReader.cost (about kinds.Relationship n a.time (rows_at a.pin (listed (g.R.RowReader.lists a.reader.now)))) in
+    let cost : ℕ → ℕ = λ n. sum_by g.R.RowReader.cost (about kinds.Relationship n a.as_of.date (rows_seen a.as_of (g.R.RowReader.lists a.reader.now))) in
     let w : IfOk c.reached.result (λ ids. g.R.RowReader.work c.reached.new.steps.reader.now ≤ g.R.RowReader.work a.reader.now + sum_by cost (a.concept ∷ ids.items)) =
     subst (λ n. IfOk c.reached.result (λ ids. g.R.RowReader.work c.reached.new.steps.reader.now ≤ g.R.RowReader.work a.reader.now + sum_by cost (n ∷ ids.items))) c.value.ensures.value
     (c.reached.ensures.work cost (listed_so, posted, λ n. refl)) in
@@ -19,9 +18,9 @@ returns-clause-work g c = λ listed_so posted.
 pub returns-clause-work_always : goal.returns-clause-work_always
 returns-clause-work_always g c = λ honest listed_so posted ids are.
     let a = c.args in
-    let rows = rows_at a.pin (listed (g.R.RowReader.lists a.reader.now)) in
-    let cost : ℕ → ℕ = λ n. sum_by g.R.RowReader.cost (about kinds.Relationship n a.time rows) in
-    let next : ℕ → List ℕ = λ n. parents n a.time rows in
+    let rows = rows_seen a.as_of (g.R.RowReader.lists a.reader.now) in
+    let cost : ℕ → ℕ = λ n. sum_by g.R.RowReader.cost (about kinds.Relationship n a.as_of.date rows) in
+    let next : ℕ → List ℕ = λ n. parents n a.as_of.date rows in
     let w : g.R.RowReader.work c.reached.new.steps.reader.now ≤ g.R.RowReader.work a.reader.now + sum_by cost (a.concept ∷ ids) =
     subst (λ n. g.R.RowReader.work c.reached.new.steps.reader.now ≤ g.R.RowReader.work a.reader.now + sum_by cost (n ∷ ids)) c.value.ensures.value
     (c.reached.ensures.work_always cost (listed_so, posted, λ n. refl) next (honest, listed_so, posted, λ n. refl) ids

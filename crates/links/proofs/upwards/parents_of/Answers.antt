@@ -1,11 +1,10 @@
-use Rattle.history_model.specs.History.{rows_at}
-use Rattle.history_model.specs.Lists.{listed}
 use Rattle.links.proofs.ParentRows.{parents_from_about}
 use Rattle.links.proofs.upwards.parents_of.Goals as goal
+use Rattle.as_of_index.specs.Current.{rows_seen}
 
 pub returns-clause-found : goal.returns-clause-found
 returns-clause-found g c = λ honest listed_so posted.
     let a = c.args in
-    let rows = rows_at a.pin (listed (g.R.RowReader.lists a.reader.now)) in
-    parents_from_about a.concept a.time rows c.sort_once.new.ids.items
+    let rows = rows_seen a.as_of.now (g.R.RowReader.lists a.reader.now) in
+    parents_from_about a.concept a.as_of.now.date rows c.sort_once.new.ids.items
     (rw (c.in_ok-ids.ensures, c.as_slice.ensures.value, c.in_ok-rows.ensures.found honest listed_so posted) at c.sort_once.ensures)

@@ -13,11 +13,11 @@ returns-in-Some-current_at c = λ lists listed_so up.
     let id_is = c.in-Some.ensures ∙ ap (λ (index : List (List RowPlace)). option_map (λ (p : RowPlace). p.key.id) (item_at index a.segment a.number)) listed_so in
     let room = subst (λ b. SaysTaken a.search.now.limit a.kept.now c.in-Some.id b) c.if-is_taken.false (c.is_taken.ensures up) in
     let at = c.in-Some-current_at.at in
-    says_wanted lists a.search.now.time a.search.now.after a.search.now.limit a.search.now.pin a.kept.now a.segment a.number c.in-Some.id id_is at (sym c.is_above.ensures ∙ c.if-not-is_above.false) room ((c.current_at.ensures lists listed_so at).0 c.in-Some-current_at.is)
+    says_wanted lists a.search.now a.kept.now a.segment a.number c.in-Some.id id_is at (sym c.is_above.ensures ∙ c.if-not-is_above.false) room ((c.current_at.ensures lists listed_so at).0 c.in-Some-current_at.is)
 
 pub returns-in-None : goal.returns-in-None
 returns-in-None c = λ lists listed_so up.
     let a = c.args in
-    says_old lists a.search.now.time a.search.now.after a.search.now.limit a.search.now.pin a.kept.now a.segment a.number (λ at w. absurd (
+    says_old lists a.search.now a.kept.now a.segment a.number (λ at w. absurd (
     let found : ◌≡◌ {A = Option RowPlace} None (Some at) = sym c.in-None.is ∙ (c.current_at.ensures lists listed_so at).1 w in
     cc))

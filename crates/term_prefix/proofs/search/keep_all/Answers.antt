@@ -19,9 +19,9 @@ loop-segment-preserved c = λ rows listed_so posts.
     let step = c.in_ok-keep_candidates.ensures rows listed_so described (begun rows a.prefix.now before) (c.loop-segment.invariant rows listed_so posts) in
     let same = begun_more rows a.prefix.now before i list those c.candidates-those.ensures in
     rw (terms-more a.lists.now i list c.loop-segment-test.true c.index-lists-segment.is)
-    (kept_same rows a.search.now.time a.search.now.after a.search.now.limit a.search.now.pin (begun rows a.prefix.now before ++ flat_map (λ (t : Term). chosen_at rows i t.row) those) (begun rows a.prefix.now (before ++ map (λ t. (i, t)) list)) new (λ k. (same k).0) (λ k. (same k).1) step)
+    (kept_same rows a.search.now (begun rows a.prefix.now before ++ flat_map (λ (t : Term). chosen_at rows i t.row) those) (begun rows a.prefix.now (before ++ map (λ t. (i, t)) list)) new (λ k. (same k).0) (λ k. (same k).1) step)
 
 pub returns : goal.returns
 returns c = λ rows listed_so posts.
     let a = c.args in
-    subst (λ xs. AreKept rows a.search.now.time a.search.now.after a.search.now.limit a.search.now.pin (begun rows a.prefix.now (numbered 0 xs)) c.loop-segment.kept.items) (take_all c.loop-segment.segment a.lists.now c.loop-segment-test.false) (c.loop-segment.invariant rows listed_so posts)
+    subst (λ xs. AreKept rows a.search.now (begun rows a.prefix.now (numbered 0 xs)) c.loop-segment.kept.items) (take_all c.loop-segment.segment a.lists.now c.loop-segment-test.false) (c.loop-segment.invariant rows listed_so posts)

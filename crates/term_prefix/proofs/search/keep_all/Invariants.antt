@@ -7,4 +7,4 @@ use Rattle.term_prefix.specs.Private.{AreKept, begun}
 use Rattle.term_prefix.proofs.search.keep_all.Given as goal
 
 abbrev pub invariant-loop-segment : goal.invariant-loop-segment
-invariant-loop-segment l = (rows : List (List StampedRow)) → Lists l.index rows → ArePosted rows l.lists → AreKept rows l.search.time l.search.after l.search.limit l.search.pin (begun rows l.prefix (numbered 0 (take l.segment l.lists))) l.kept.items
+invariant-loop-segment l = (rows : List (List StampedRow)) → Lists l.index rows → ArePosted rows l.lists → AreKept rows l.search (begun rows l.prefix (numbered 0 (take l.segment l.lists))) l.kept.items

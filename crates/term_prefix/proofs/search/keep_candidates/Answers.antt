@@ -11,5 +11,5 @@ returns c =
     let sorted = c.as_slice.result.now in
     let same = subst (λ (ts : List Term). IsPermutation a.terms.now ts) (sym c.as_slice.ensures.value) c.in_ok-sorted.ensures.permutation in
     ok_so c.keep_current-2.result _ _ (λ keeps lists listed_so described seen start.
-    terms_same lists a.search.now.time a.search.now.after a.search.now.limit a.search.now.pin a.segment seen c.keep_current-2.new.kept.items a.terms.now sorted same
+    terms_same lists a.search.now a.segment seen c.keep_current-2.new.kept.items a.terms.now sorted same
     (keeps lists listed_so (λ t there. described t (Has-permuted a.terms.now sorted same t there)) seen start)) c.keep_current-2.ensures

@@ -8,7 +8,7 @@ use Rattle.term_prefix.proofs.search.keep_current.Goals as goal
 pub loop-term-init : goal.loop-term-init
 loop-term-init c = λ lists listed_so described seen start.
     let a = c.args in
-    (subst (λ ks. AreKept lists a.search.now.time a.search.now.after a.search.now.limit a.search.now.pin ks a.kept.now.items) (sym (append-nil seen)) start, no_bounds lists a.search.now.after a.search.now.limit a.segment a.kept.now.items)
+    (subst (λ ks. AreKept lists a.search.now ks a.kept.now.items) (sym (append-nil seen)) start, no_bounds lists a.search.now.after a.search.now.limit a.segment a.kept.now.items)
 
 pub loop-term-preserved : goal.loop-term-preserved
 loop-term-preserved c = λ lists listed_so described seen start.
@@ -24,4 +24,4 @@ loop-term-preserved c = λ lists listed_so described seen start.
 pub returns : goal.returns
 returns c = λ lists listed_so described seen start.
     let a = c.args in
-    subst (λ ts. AreKept lists a.search.now.time a.search.now.after a.search.now.limit a.search.now.pin (seen ++ flat_map (λ (t : Term). chosen_at lists a.segment t.row) ts) c.loop-term.kept.items) (take_all c.loop-term.term-index a.terms.now c.loop-term-test.false) (c.loop-term.invariant lists listed_so described seen start).0
+    subst (λ ts. AreKept lists a.search.now (seen ++ flat_map (λ (t : Term). chosen_at lists a.segment t.row) ts) c.loop-term.kept.items) (take_all c.loop-term.term-index a.terms.now c.loop-term-test.false) (c.loop-term.invariant lists listed_so described seen start).0

@@ -8,4 +8,4 @@ use Rattle.term_prefix.specs.Private.{chosen_at, AreOfDescriptions, AreBounds, A
 use Rattle.term_prefix.proofs.search.keep_current.Given as goal
 
 abbrev pub invariant-loop-term : goal.invariant-loop-term
-invariant-loop-term l = (lists : List (List StampedRow)) → Lists l.index lists → AreOfDescriptions lists l.segment l.terms → (seen : List Chosen) → AreKept lists l.search.time l.search.after l.search.limit l.search.pin seen l.fn.kept.items → AreKept lists l.search.time l.search.after l.search.limit l.search.pin (seen ++ flat_map (λ (t : Term). chosen_at lists l.segment t.row) (take l.term-index l.terms)) l.kept.items × AreBounds lists l.search.after l.search.limit l.kept.items l.segment l.bounds
+invariant-loop-term l = (lists : List (List StampedRow)) → Lists l.index lists → AreOfDescriptions lists l.segment l.terms → (seen : List Chosen) → AreKept lists l.search seen l.fn.kept.items → AreKept lists l.search (seen ++ flat_map (λ (t : Term). chosen_at lists l.segment t.row) (take l.term-index l.terms)) l.kept.items × AreBounds lists l.search.after l.search.limit l.kept.items l.segment l.bounds

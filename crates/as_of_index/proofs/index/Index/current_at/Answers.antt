@@ -12,7 +12,7 @@ returns-then-is_current_near c = λ lists listed_so at.
     let there : IsPlaceOfRow lists a.segment a.number own = subst (λ index. item_at index a.segment a.number ≡ Some own) listed_so (sym c.in-Some.ensures) in (
       λ e.
           let same : own ≡ at = cc in
-          subst (λ (p : RowPlace). IsPlaceOfRow lists a.segment a.number p × IsCurrentAt lists a.time a.pin a.segment p) same (there, (c.is_current_near.ensures lists listed_so).0 c.if-is_current_near.true),
+          subst (λ (p : RowPlace). IsPlaceOfRow lists a.segment a.number p × IsCurrentAt lists a.as_of a.segment p) same (there, (c.is_current_near.ensures lists listed_so).0 c.if-is_current_near.true),
       λ k. sym there ∙ k.0,
     )
 
@@ -25,7 +25,7 @@ returns-else-is_current_near c = λ lists listed_so at.
       λ k. absurd (
           let both = sym there ∙ k.0 in
           let same : at ≡ own = cc in
-          let t = (c.is_current_near.ensures lists listed_so).1 (subst (λ (p : RowPlace). IsCurrentAt lists a.time a.pin a.segment p) same k.1) in
+          let t = (c.is_current_near.ensures lists listed_so).1 (subst (λ (p : RowPlace). IsCurrentAt lists a.as_of a.segment p) same k.1) in
           let f = c.if-is_current_near.false in
           cc),
     )

@@ -29,7 +29,7 @@ returns-then-not-is_early c = λ lists listed_so.
     let are = rw listed_so at c.lists-listed.ensures.places in (
       λ h. absurd (cc),
       λ k. absurd (
-          let e = current_is_early lists are a.time a.pin a.segment a.at.now k in
+          let e = current_is_early lists are a.as_of.now a.segment a.at.now k in
           let t = c.is_early.ensures.1 e in
           let u = c.if-not-is_early.true in
           cc),

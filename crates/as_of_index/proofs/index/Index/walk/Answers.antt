@@ -8,41 +8,40 @@ use Rattle.segment.specs.Standing.{StandsAt}
 use Rattle.as_of_index.specs.declared.search.Start.TheVariants.{Components}
 use Rattle.as_of_index.specs.Private.Search.{changed_parts, ArePassed}
 use Rattle.as_of_index.specs.Private.Walk.{walked}
-use Rattle.history_model.specs.History.{rows_at}
-use Rattle.history_model.specs.Lists.{listed}
 use Rattle.as_of_index.proofs.Standing.{are_lists, change_from_pick}
 use Rattle.as_of_index.proofs.Walking.{id_above, versions_ahead, others_ahead}
 use Rattle.as_of_index.proofs.Paging.{walk_more, walk_cost, walk_same, walk_done, walk_full, fewer_left}
 use Rattle.rf2_values.specs.Key.{key_of}
 use Rattle.as_of_index.proofs.SameKeys.{key_there, keys_push, same_count}
 use Rattle.as_of_index.proofs.index.Index.walk.Goals as goal
+use Rattle.as_of_index.specs.Current.{rows_seen}
 
 pub latest_on-requires : goal.latest_on-requires
 latest_on-requires g c =
     let a = c.args in
-    let above = id_above a.kind c.loop-lists.last a.from a.time a.pin _ c.in-Some.id c.in-Some.ensures.next in
-    let ahead = versions_ahead a.kind c.in-Some.id (changed_parts a.from a.time a.pin c.as_slice-lists.result.now) c.next_id.new.cursors.items c.loop-lists.last above c.in-Some.ensures.passed in
+    let above = id_above a.kind c.loop-lists.last a.from a.as_of.now _ c.in-Some.id c.in-Some.ensures.next in
+    let ahead = versions_ahead a.kind c.in-Some.id (changed_parts a.from a.as_of.now c.as_slice-lists.result.now) c.next_id.new.cursors.items c.loop-lists.last above c.in-Some.ensures.passed in
     rw c.deref.ensures.value ahead
 
 pub returns-in_err-found-in-Some-clause-undamaged : goal.returns-in_err-found-in-Some-clause-undamaged
 returns-in_err-found-in-Some-clause-undamaged g c = λ honest listed_so.
-    let w = change_from_pick c.args.kind c.in-Some.id c.args.from c.args.time c.args.pin (g.R.RowReader.lists c.args.reader.now) (are_lists (g.R.RowReader.lists c.args.reader.now) (rw (c.self.view_is, listed_so) at c.self.invariant.places)) (Some (c.in-Some-latest_on.segment, c.in-Some-latest_on.at)) (rw (c.as_slice-lists.ensures.value, c.self.view_is, listed_so) at c.in-Some-latest_on.ensures) in
+    let w = change_from_pick c.args.kind c.in-Some.id c.args.from c.args.as_of.now (g.R.RowReader.lists c.args.reader.now) (are_lists (g.R.RowReader.lists c.args.reader.now) (rw (c.self.view_is, listed_so) at c.self.invariant.places)) (Some (c.in-Some-latest_on.segment, c.in-Some-latest_on.at)) (rw (c.as_slice-lists.ensures.value, c.self.view_is, listed_so) at c.in-Some-latest_on.ensures) in
     let stands = subst (λ ls. StandsAt ls c.in-Some-latest_on.segment c.in-Some-latest_on.at w.0) (sym (c.loop-lists.invariant.lists)) w.1 in
     let k = c.in_err-found-in-Some.ensures.undamaged (c.loop-lists.invariant.honesty honest) w.0 stands in
     search rules
 
 pub loop-lists-smaller-in_ok-push-in-Some : goal.loop-lists-smaller-in_ok-push-in-Some
-loop-lists-smaller-in_ok-push-in-Some g c = fewer_left c.args.kind c.loop-lists.last c.args.from c.args.time c.args.pin c.in-Some.id _ (rw (c.as_slice-lists.ensures.value, c.self.view_is) at c.in-Some.ensures.next)
+loop-lists-smaller-in_ok-push-in-Some g c = fewer_left c.args.kind c.loop-lists.last c.args.from c.args.as_of.now c.in-Some.id _ (rw (c.as_slice-lists.ensures.value, c.self.view_is) at c.in-Some.ensures.next)
 
 pub loop-lists-smaller : goal.loop-lists-smaller
-loop-lists-smaller g c = fewer_left c.args.kind c.loop-lists.last c.args.from c.args.time c.args.pin c.in-Some.id _ (rw (c.as_slice-lists.ensures.value, c.self.view_is) at c.in-Some.ensures.next)
+loop-lists-smaller g c = fewer_left c.args.kind c.loop-lists.last c.args.from c.args.as_of.now c.in-Some.id _ (rw (c.as_slice-lists.ensures.value, c.self.view_is) at c.in-Some.ensures.next)
 
 pub loop-lists-preserved-in_ok-push-in-Some : goal.loop-lists-preserved-in_ok-push-in-Some
 loop-lists-preserved-in_ok-push-in-Some g c =
     let a = c.args in
-    let above = id_above a.kind c.loop-lists.last a.from a.time a.pin _ c.in-Some.id c.in-Some.ensures.next in
-    let passed : ArePassed (Components a.kind c.loop-lists.last) (changed_parts a.from a.time a.pin c.args.self.now) c.next_id.new.cursors.items = rw (c.as_slice-lists.ensures.value, c.self.view_is) at c.in-Some.ensures.passed in
-    let ahead = others_ahead a.kind c.in-Some.id (changed_parts a.from a.time a.pin c.args.self.now) c.next_id.new.cursors.items c.loop-lists.last above passed in
+    let above = id_above a.kind c.loop-lists.last a.from a.as_of.now _ c.in-Some.id c.in-Some.ensures.next in
+    let passed : ArePassed (Components a.kind c.loop-lists.last) (changed_parts a.from a.as_of.now c.args.self.now) c.next_id.new.cursors.items = rw (c.as_slice-lists.ensures.value, c.self.view_is) at c.in-Some.ensures.passed in
+    let ahead = others_ahead a.kind c.in-Some.id (changed_parts a.from a.as_of.now c.args.self.now) c.next_id.new.cursors.items c.loop-lists.last above passed in
     let so_far = c.loop-lists.invariant in
     let found = c.in_ok-found-in-Some in
     record {
@@ -52,32 +51,32 @@ loop-lists-preserved-in_ok-push-in-Some g c =
       work = (let least = so_far.work in let more = found.ensures.work in rw (c.in_ok-push-in-Some.ensures.items, sum_by_push g.R.RowReader.cost c.loop-lists.rows.items found.found.row) (omega arith));
       work_always = λ listed_so.
           let f = g.R.RowReader.cost in
-          let w = change_from_pick c.args.kind c.in-Some.id c.args.from c.args.time c.args.pin (g.R.RowReader.lists c.args.reader.now) (are_lists (g.R.RowReader.lists c.args.reader.now) (rw (c.self.view_is, listed_so) at c.self.invariant.places)) (Some (c.in-Some-latest_on.segment, c.in-Some-latest_on.at)) (rw (c.as_slice-lists.ensures.value, c.self.view_is, listed_so) at c.in-Some-latest_on.ensures) in
+          let w = change_from_pick c.args.kind c.in-Some.id c.args.from c.args.as_of.now (g.R.RowReader.lists c.args.reader.now) (are_lists (g.R.RowReader.lists c.args.reader.now) (rw (c.self.view_is, listed_so) at c.self.invariant.places)) (Some (c.in-Some-latest_on.segment, c.in-Some-latest_on.at)) (rw (c.as_slice-lists.ensures.value, c.self.view_is, listed_so) at c.in-Some-latest_on.ensures) in
           let stands = subst (λ ls. StandsAt ls c.in-Some-latest_on.segment c.in-Some-latest_on.at w.0) (sym (so_far.lists)) w.1 in
           let least = so_far.work_always listed_so in
           let more = found.ensures.work_always w.0 stands in
-          let sum = walk_cost a.kind a.from a.time a.pin (g.R.RowReader.lists a.reader.now) f c.loop-lists.last c.in-Some.id a.limit c.loop-lists.rows.items w.0.row found.found.row (omega arith) (rw (c.as_slice-lists.ensures.value, c.self.view_is, listed_so) at c.in-Some.ensures.next) w.2 w.3 in
+          let sum = walk_cost a.kind a.from a.as_of.now (g.R.RowReader.lists a.reader.now) f c.loop-lists.last c.in-Some.id a.limit c.loop-lists.rows.items w.0.row found.found.row (omega arith) (rw (c.as_slice-lists.ensures.value, c.self.view_is, listed_so) at c.in-Some.ensures.next) w.2 w.3 in
           rw c.in_ok-push-in-Some.ensures.items (omega arith);
       stays = g.met.R.RowReader.stays_on c.args.reader.now _ _ so_far.stays found.ensures.stays;
       lists = found.ensures.lists ∙ so_far.lists;
       disk_faults = found.ensures.disk_faults ∙ so_far.disk_faults;
       damages = found.ensures.damages ∙ so_far.damages;
       rows = λ honest listed_so.
-          let w = change_from_pick c.args.kind c.in-Some.id c.args.from c.args.time c.args.pin (g.R.RowReader.lists c.args.reader.now) (are_lists (g.R.RowReader.lists c.args.reader.now) (rw (c.self.view_is, listed_so) at c.self.invariant.places)) (Some (c.in-Some-latest_on.segment, c.in-Some-latest_on.at)) (rw (c.as_slice-lists.ensures.value, c.self.view_is, listed_so) at c.in-Some-latest_on.ensures) in
+          let w = change_from_pick c.args.kind c.in-Some.id c.args.from c.args.as_of.now (g.R.RowReader.lists c.args.reader.now) (are_lists (g.R.RowReader.lists c.args.reader.now) (rw (c.self.view_is, listed_so) at c.self.invariant.places)) (Some (c.in-Some-latest_on.segment, c.in-Some-latest_on.at)) (rw (c.as_slice-lists.ensures.value, c.self.view_is, listed_so) at c.in-Some-latest_on.ensures) in
           let stands = subst (λ ls. StandsAt ls c.in-Some-latest_on.segment c.in-Some-latest_on.at w.0) (sym (so_far.lists)) w.1 in
           let same = found.ensures.found (so_far.honesty honest) w.0 stands in
           rw c.in_ok-push-in-Some.ensures.items
-          (walk_more a.kind a.from a.time a.pin (g.R.RowReader.lists a.reader.now) c.loop-lists.last c.in-Some.id a.limit c.loop-lists.rows.items _ found.found.row (omega arith)
+          (walk_more a.kind a.from a.as_of.now (g.R.RowReader.lists a.reader.now) c.loop-lists.last c.in-Some.id a.limit c.loop-lists.rows.items _ found.found.row (omega arith)
           (rw (c.as_slice-lists.ensures.value, c.self.view_is, listed_so) at c.in-Some.ensures.next) (w.2 ∙ ap (λ (s : StampedRow). Some s.row) (sym same)) (subst (λ (s : StampedRow). is_above a.from s.row.time ≡ true) (sym same) w.3) (so_far.rows honest listed_so));
       keys = λ listed_so.
           let lists = g.R.RowReader.lists a.reader.now in
-          let w = change_from_pick a.kind c.in-Some.id a.from a.time a.pin lists (are_lists lists (rw (c.self.view_is, listed_so) at c.self.invariant.places)) (Some (c.in-Some-latest_on.segment, c.in-Some-latest_on.at)) (rw (c.as_slice-lists.ensures.value, c.self.view_is, listed_so) at c.in-Some-latest_on.ensures) in
+          let w = change_from_pick a.kind c.in-Some.id a.from a.as_of.now lists (are_lists lists (rw (c.self.view_is, listed_so) at c.self.invariant.places)) (Some (c.in-Some-latest_on.segment, c.in-Some-latest_on.at)) (rw (c.as_slice-lists.ensures.value, c.self.view_is, listed_so) at c.in-Some-latest_on.ensures) in
           let row = found.found.row in
           let k = so_far.keys listed_so in
           let count = same_count c.loop-lists.rows.items k.0 k.1 in (
             k.0 ++ w.0.row ∷ [],
             ap (map key_of) c.in_ok-push-in-Some.ensures.items ∙ keys_push c.loop-lists.rows.items k.0 row w.0.row k.1 (key_there lists c.in-Some-latest_on.segment c.in-Some-latest_on.at w.0 row w.1 found.ensures.keyed),
-            walk_more a.kind a.from a.time a.pin lists c.loop-lists.last c.in-Some.id a.limit k.0 _ w.0.row (omega arith)
+            walk_more a.kind a.from a.as_of.now lists c.loop-lists.last c.in-Some.id a.limit k.0 _ w.0.row (omega arith)
                 (rw (c.as_slice-lists.ensures.value, c.self.view_is, listed_so) at c.in-Some.ensures.next) w.2 w.3 k.2,
           );
     }
@@ -85,9 +84,9 @@ loop-lists-preserved-in_ok-push-in-Some g c =
 pub loop-lists-preserved : goal.loop-lists-preserved
 loop-lists-preserved g c =
     let a = c.args in
-    let above = id_above a.kind c.loop-lists.last a.from a.time a.pin _ c.in-Some.id c.in-Some.ensures.next in
-    let passed : ArePassed (Components a.kind c.loop-lists.last) (changed_parts a.from a.time a.pin c.args.self.now) c.next_id.new.cursors.items = rw (c.as_slice-lists.ensures.value, c.self.view_is) at c.in-Some.ensures.passed in
-    let ahead = others_ahead a.kind c.in-Some.id (changed_parts a.from a.time a.pin c.args.self.now) c.next_id.new.cursors.items c.loop-lists.last above passed in
+    let above = id_above a.kind c.loop-lists.last a.from a.as_of.now _ c.in-Some.id c.in-Some.ensures.next in
+    let passed : ArePassed (Components a.kind c.loop-lists.last) (changed_parts a.from a.as_of.now c.args.self.now) c.next_id.new.cursors.items = rw (c.as_slice-lists.ensures.value, c.self.view_is) at c.in-Some.ensures.passed in
+    let ahead = others_ahead a.kind c.in-Some.id (changed_parts a.from a.as_of.now c.args.self.now) c.next_id.new.cursors.items c.loop-lists.last above passed in
     let so_far = c.loop-lists.invariant in
     record {
       passed = ahead;
@@ -95,8 +94,8 @@ loop-lists-preserved g c =
       honesty = so_far.honesty;
       work = so_far.work;
       work_always = λ listed_so.
-          let same = walk_same a.kind a.from a.time a.pin (g.R.RowReader.lists a.reader.now) c.loop-lists.last c.in-Some.id (a.limit - length c.loop-lists.rows.items) [] _
-          (rw (c.as_slice-lists.ensures.value, c.self.view_is, listed_so) at c.in-Some.ensures.next) (change_from_pick c.args.kind c.in-Some.id c.args.from c.args.time c.args.pin (g.R.RowReader.lists c.args.reader.now) (are_lists (g.R.RowReader.lists c.args.reader.now) (rw (c.self.view_is, listed_so) at c.self.invariant.places)) None (rw (c.as_slice-lists.ensures.value, c.self.view_is, listed_so) at (rw c.in_default.is at c.latest_on.ensures))) refl in
+          let same = walk_same a.kind a.from a.as_of.now (g.R.RowReader.lists a.reader.now) c.loop-lists.last c.in-Some.id (a.limit - length c.loop-lists.rows.items) [] _
+          (rw (c.as_slice-lists.ensures.value, c.self.view_is, listed_so) at c.in-Some.ensures.next) (change_from_pick c.args.kind c.in-Some.id c.args.from c.args.as_of.now (g.R.RowReader.lists c.args.reader.now) (are_lists (g.R.RowReader.lists c.args.reader.now) (rw (c.self.view_is, listed_so) at c.self.invariant.places)) None (rw (c.as_slice-lists.ensures.value, c.self.view_is, listed_so) at (rw c.in_default.is at c.latest_on.ensures))) refl in
           let sum = ap (sum_by g.R.RowReader.cost) same in
           let least = so_far.work_always listed_so in
           omega arith;
@@ -105,47 +104,47 @@ loop-lists-preserved g c =
       disk_faults = so_far.disk_faults;
       damages = so_far.damages;
       rows = λ honest listed_so.
-          walk_same a.kind a.from a.time a.pin (g.R.RowReader.lists a.reader.now) c.loop-lists.last c.in-Some.id (a.limit - length c.loop-lists.rows.items) c.loop-lists.rows.items _
-          (rw (c.as_slice-lists.ensures.value, c.self.view_is, listed_so) at c.in-Some.ensures.next) (change_from_pick c.args.kind c.in-Some.id c.args.from c.args.time c.args.pin (g.R.RowReader.lists c.args.reader.now) (are_lists (g.R.RowReader.lists c.args.reader.now) (rw (c.self.view_is, listed_so) at c.self.invariant.places)) None (rw (c.as_slice-lists.ensures.value, c.self.view_is, listed_so) at (rw c.in_default.is at c.latest_on.ensures))) (so_far.rows honest listed_so);
+          walk_same a.kind a.from a.as_of.now (g.R.RowReader.lists a.reader.now) c.loop-lists.last c.in-Some.id (a.limit - length c.loop-lists.rows.items) c.loop-lists.rows.items _
+          (rw (c.as_slice-lists.ensures.value, c.self.view_is, listed_so) at c.in-Some.ensures.next) (change_from_pick c.args.kind c.in-Some.id c.args.from c.args.as_of.now (g.R.RowReader.lists c.args.reader.now) (are_lists (g.R.RowReader.lists c.args.reader.now) (rw (c.self.view_is, listed_so) at c.self.invariant.places)) None (rw (c.as_slice-lists.ensures.value, c.self.view_is, listed_so) at (rw c.in_default.is at c.latest_on.ensures))) (so_far.rows honest listed_so);
       keys = λ listed_so.
           let k = so_far.keys listed_so in (
             k.0,
             k.1,
-            walk_same a.kind a.from a.time a.pin (g.R.RowReader.lists a.reader.now) c.loop-lists.last c.in-Some.id (a.limit - length k.0) k.0 _
-                (rw (c.as_slice-lists.ensures.value, c.self.view_is, listed_so) at c.in-Some.ensures.next) (change_from_pick c.args.kind c.in-Some.id c.args.from c.args.time c.args.pin (g.R.RowReader.lists c.args.reader.now) (are_lists (g.R.RowReader.lists c.args.reader.now) (rw (c.self.view_is, listed_so) at c.self.invariant.places)) None (rw (c.as_slice-lists.ensures.value, c.self.view_is, listed_so) at (rw c.in_default.is at c.latest_on.ensures))) k.2,
+            walk_same a.kind a.from a.as_of.now (g.R.RowReader.lists a.reader.now) c.loop-lists.last c.in-Some.id (a.limit - length k.0) k.0 _
+                (rw (c.as_slice-lists.ensures.value, c.self.view_is, listed_so) at c.in-Some.ensures.next) (change_from_pick c.args.kind c.in-Some.id c.args.from c.args.as_of.now (g.R.RowReader.lists c.args.reader.now) (are_lists (g.R.RowReader.lists c.args.reader.now) (rw (c.self.view_is, listed_so) at c.self.invariant.places)) None (rw (c.as_slice-lists.ensures.value, c.self.view_is, listed_so) at (rw c.in_default.is at c.latest_on.ensures))) k.2,
           );
     }
 
 pub returns-in-None-clause-found : goal.returns-in-None-clause-found
 returns-in-None-clause-found g c = λ honest listed_so.
     let a = c.args in
-    walk_done a.kind a.from a.time a.pin (g.R.RowReader.lists a.reader.now) c.loop-lists.last _ c.loop-lists.rows.items _ (rw (c.as_slice-lists.ensures.value, c.self.view_is, listed_so) at c.in-None.ensures.next) (c.loop-lists.invariant.rows honest listed_so)
+    walk_done a.kind a.from a.as_of.now (g.R.RowReader.lists a.reader.now) c.loop-lists.last _ c.loop-lists.rows.items _ (rw (c.as_slice-lists.ensures.value, c.self.view_is, listed_so) at c.in-None.ensures.next) (c.loop-lists.invariant.rows honest listed_so)
 
 pub returns-clause-found : goal.returns-clause-found
 returns-clause-found g c = λ honest listed_so.
     let a = c.args in
-    walk_full a.kind a.from a.time a.pin (g.R.RowReader.lists a.reader.now) c.loop-lists.last a.limit c.loop-lists.rows.items _ (omega arith) (c.loop-lists.invariant.rows honest listed_so)
+    walk_full a.kind a.from a.as_of.now (g.R.RowReader.lists a.reader.now) c.loop-lists.last a.limit c.loop-lists.rows.items _ (omega arith) (c.loop-lists.invariant.rows honest listed_so)
 
 pub returns-in_err-found-in-Some-clause-work_always : goal.returns-in_err-found-in-Some-clause-work_always
 returns-in_err-found-in-Some-clause-work_always g c = λ listed_so.
     let a = c.args in
     let f = g.R.RowReader.cost in
-    let w = change_from_pick c.args.kind c.in-Some.id c.args.from c.args.time c.args.pin (g.R.RowReader.lists c.args.reader.now) (are_lists (g.R.RowReader.lists c.args.reader.now) (rw (c.self.view_is, listed_so) at c.self.invariant.places)) (Some (c.in-Some-latest_on.segment, c.in-Some-latest_on.at)) (rw (c.as_slice-lists.ensures.value, c.self.view_is, listed_so) at c.in-Some-latest_on.ensures) in
+    let w = change_from_pick c.args.kind c.in-Some.id c.args.from c.args.as_of.now (g.R.RowReader.lists c.args.reader.now) (are_lists (g.R.RowReader.lists c.args.reader.now) (rw (c.self.view_is, listed_so) at c.self.invariant.places)) (Some (c.in-Some-latest_on.segment, c.in-Some-latest_on.at)) (rw (c.as_slice-lists.ensures.value, c.self.view_is, listed_so) at c.in-Some-latest_on.ensures) in
     let stands = subst (λ ls. StandsAt ls c.in-Some-latest_on.segment c.in-Some-latest_on.at w.0) (sym (c.loop-lists.invariant.lists)) w.1 in
     let least = c.loop-lists.invariant.work_always listed_so in
     let more = c.in_err-found-in-Some.ensures.work_always w.0 stands in
-    let sum = walk_cost a.kind a.from a.time a.pin (g.R.RowReader.lists a.reader.now) f c.loop-lists.last c.in-Some.id a.limit c.loop-lists.rows.items w.0.row w.0.row (omega arith) (rw (c.as_slice-lists.ensures.value, c.self.view_is, listed_so) at c.in-Some.ensures.next) w.2 w.3 in
+    let sum = walk_cost a.kind a.from a.as_of.now (g.R.RowReader.lists a.reader.now) f c.loop-lists.last c.in-Some.id a.limit c.loop-lists.rows.items w.0.row w.0.row (omega arith) (rw (c.as_slice-lists.ensures.value, c.self.view_is, listed_so) at c.in-Some.ensures.next) w.2 w.3 in
     omega arith
 
 pub returns-in_err-push-in-Some-clause-work_always : goal.returns-in_err-push-in-Some-clause-work_always
 returns-in_err-push-in-Some-clause-work_always g c = λ listed_so.
     let a = c.args in
     let f = g.R.RowReader.cost in
-    let w = change_from_pick c.args.kind c.in-Some.id c.args.from c.args.time c.args.pin (g.R.RowReader.lists c.args.reader.now) (are_lists (g.R.RowReader.lists c.args.reader.now) (rw (c.self.view_is, listed_so) at c.self.invariant.places)) (Some (c.in-Some-latest_on.segment, c.in-Some-latest_on.at)) (rw (c.as_slice-lists.ensures.value, c.self.view_is, listed_so) at c.in-Some-latest_on.ensures) in
+    let w = change_from_pick c.args.kind c.in-Some.id c.args.from c.args.as_of.now (g.R.RowReader.lists c.args.reader.now) (are_lists (g.R.RowReader.lists c.args.reader.now) (rw (c.self.view_is, listed_so) at c.self.invariant.places)) (Some (c.in-Some-latest_on.segment, c.in-Some-latest_on.at)) (rw (c.as_slice-lists.ensures.value, c.self.view_is, listed_so) at c.in-Some-latest_on.ensures) in
     let stands = subst (λ ls. StandsAt ls c.in-Some-latest_on.segment c.in-Some-latest_on.at w.0) (sym (c.loop-lists.invariant.lists)) w.1 in
     let least = c.loop-lists.invariant.work_always listed_so in
     let more = c.in_ok-found-in-Some.ensures.work_always w.0 stands in
-    let sum = walk_cost a.kind a.from a.time a.pin (g.R.RowReader.lists a.reader.now) f c.loop-lists.last c.in-Some.id a.limit c.loop-lists.rows.items w.0.row w.0.row (omega arith) (rw (c.as_slice-lists.ensures.value, c.self.view_is, listed_so) at c.in-Some.ensures.next) w.2 w.3 in
+    let sum = walk_cost a.kind a.from a.as_of.now (g.R.RowReader.lists a.reader.now) f c.loop-lists.last c.in-Some.id a.limit c.loop-lists.rows.items w.0.row w.0.row (omega arith) (rw (c.as_slice-lists.ensures.value, c.self.view_is, listed_so) at c.in-Some.ensures.next) w.2 w.3 in
     omega arith
 
 pub returns-in-None-clause-work_always : goal.returns-in-None-clause-work_always
@@ -158,25 +157,25 @@ pub returns-in-None-clause-keys : goal.returns-in-None-clause-keys
 returns-in-None-clause-keys g c = λ listed_so.
     let a = c.args in
     let k = c.loop-lists.invariant.keys listed_so in
-    k.1 ∙ ap (map key_of) (walk_done a.kind a.from a.time a.pin (g.R.RowReader.lists a.reader.now) c.loop-lists.last _ k.0 _ (rw (c.as_slice-lists.ensures.value, c.self.view_is, listed_so) at c.in-None.ensures.next) k.2)
+    k.1 ∙ ap (map key_of) (walk_done a.kind a.from a.as_of.now (g.R.RowReader.lists a.reader.now) c.loop-lists.last _ k.0 _ (rw (c.as_slice-lists.ensures.value, c.self.view_is, listed_so) at c.in-None.ensures.next) k.2)
 
 pub returns-clause-keys : goal.returns-clause-keys
 returns-clause-keys g c = λ listed_so.
     let a = c.args in
     let k = c.loop-lists.invariant.keys listed_so in
     let count = same_count c.loop-lists.rows.items k.0 k.1 in
-    k.1 ∙ ap (map key_of) (walk_full a.kind a.from a.time a.pin (g.R.RowReader.lists a.reader.now) c.loop-lists.last a.limit k.0 _ (omega arith) k.2)
+    k.1 ∙ ap (map key_of) (walk_full a.kind a.from a.as_of.now (g.R.RowReader.lists a.reader.now) c.loop-lists.last a.limit k.0 _ (omega arith) k.2)
 
 pub loop-lists-init : goal.loop-lists-init
 loop-lists-init g c =
     let a = c.args in
     let f = g.R.RowReader.cost in
-    let shown = rows_at a.pin (listed (g.R.RowReader.lists a.reader.now)) in
+    let shown = rows_seen a.as_of.now (g.R.RowReader.lists a.reader.now) in
     let none : length c.new-rows.result.items ≡ 0 = ap length c.new-rows.ensures.items in
     let whole : a.limit - 0 ≡ a.limit = omega arith in
-    let first = ap (λ n. walked a.kind a.from a.time a.after n shown) whole in
+    let first = ap (λ n. walked a.kind a.from a.as_of.now.date a.after n shown) whole in
     let left : a.limit - length c.new-rows.result.items ≡ a.limit = ap (λ n. a.limit - n) none ∙ whole in
-    let same = ap (λ n. walked a.kind a.from a.time a.after n shown) left in
+    let same = ap (λ n. walked a.kind a.from a.as_of.now.date a.after n shown) left in
     let sum = ap (sum_by f) same in
     record {
       passed = rw (c.as_slice-lists.ensures.value, c.self.view_is) at c.in_ok-cursors.ensures;

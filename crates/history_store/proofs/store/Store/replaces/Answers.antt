@@ -19,7 +19,7 @@ returns g c = record {
       let r = c.new-reader.ensures in
       let e = c.replaces-read.ensures in
       let a = c.answered.ensures in
-      rows_answered g.D.Disk.is_honest g.D.Disk.moments g.D.Disk.failures g.D.Disk.bytes_read g.D.Disk.other_calls row_items (replaces c.args.id c.args.time) c.args.pin
+      rows_answered g.D.Disk.is_honest g.D.Disk.moments g.D.Disk.failures g.D.Disk.bytes_read g.D.Disk.other_calls row_items (replaces c.args.id c.args.as_of.date) c.args.as_of.pin
       (λ ls. Lists c.places.result.now ls × EachPosted ls c.links.result.now) _ c.answered.new.self c.self.inside.index c.new-reader.result.shown.now c.new-reader.result.entries.now
       c.new-reader.result.disk.now c.replaces-read.new.reader.disk.now c.new-reader.result.cache.now c.replaces-read.new.reader.cache.now c.replaces-read.result c.answered.result
       refl c.if-self.false r.disk r.cache r.entries r.shown
@@ -29,4 +29,4 @@ returns g c = record {
 }
 
 pub returns-then-self : goal.returns-then-self
-returns-then-self g c = record { answer = rw (← c.self.view_is) (closed_rows g.D.Disk.is_honest g.D.Disk.moments g.D.Disk.failures g.D.Disk.bytes_read g.D.Disk.other_calls row_items (replaces c.args.id c.args.time) c.args.pin _ c.if-self.true) }
+returns-then-self g c = record { answer = rw (← c.self.view_is) (closed_rows g.D.Disk.is_honest g.D.Disk.moments g.D.Disk.failures g.D.Disk.bytes_read g.D.Disk.other_calls row_items (replaces c.args.id c.args.as_of.date) c.args.as_of.pin _ c.if-self.true) }
