@@ -58,7 +58,7 @@ pub trait Disk {
             → IfOk result (λ n. n ≡ length (view self.old).moments.state.now) }
         ensures moments { (view self.old).is_honest
             → (view self.new).moments ≡ (view self.old).moments }
-        ensures calls { Calls (CountsEach result) Stays (RisesBy 1)
+        ensures meters { Calls (CountsEach result) Stays (RisesBy 1)
             (view self.old) (view self.new) };
 
     /// Fills the front of `into` with the bytes from the place `at` on, as far as they go, and
@@ -70,7 +70,7 @@ pub trait Disk {
         ensures bytes { (view self.old).is_honest → IfOk result
             (λ n. into.new
             ≡ take n (drop at (view self.old).moments.state.now) ++ drop n into.old) }
-        ensures reads { OnlyReads (CountsEach result) (RisesBy (length into.old))
+        ensures meters { OnlyReads (CountsEach result) (RisesBy (length into.old))
             (view self.old) (view self.new) };
 
     /// Writes over what is there from the place `at` on, and past the end, with zeros between the
@@ -83,7 +83,7 @@ pub trait Disk {
             (after_write (view self.old).moments.state at bytes.now)) }
         ensures failed { (view self.old).is_honest → OnErr result (Fails (view self.old).moments
             (after_write (view self.old).moments.state at bytes.now) (view self.new).moments) }
-        ensures calls { Calls (CountsEach result) Stays (RisesBy 1)
+        ensures meters { Calls (CountsEach result) Stays (RisesBy 1)
             (view self.old) (view self.new) };
 
     /// Cuts the device to a length in bytes, where it is longer. Until
@@ -94,7 +94,7 @@ pub trait Disk {
             (after_cut (view self.old).moments.state len)) }
         ensures failed { (view self.old).is_honest → OnErr result (Fails (view self.old).moments
             (after_cut (view self.old).moments.state len) (view self.new).moments) }
-        ensures calls { Calls (CountsEach result) Stays (RisesBy 1)
+        ensures meters { Calls (CountsEach result) Stays (RisesBy 1)
             (view self.old) (view self.new) };
 
     /// Waits until all that was written is on the device:
@@ -105,7 +105,7 @@ pub trait Disk {
             (settled (view self.old).moments.state.now)) }
         ensures failed { (view self.old).is_honest
             → OnErr result ((view self.new).moments ≡ (view self.old).moments) }
-        ensures calls { Calls (CountsEach result) Stays (RisesBy 1)
+        ensures meters { Calls (CountsEach result) Stays (RisesBy 1)
             (view self.old) (view self.new) };
 
     /// What a read gives is one of the images.
