@@ -70,9 +70,9 @@ loop-done-preserved g c =
     let long : length c.copy_part.new.into ≡ length c.loop-done.into = c.copy_part.auto.into in (
       long ∙ inv.0,
       omega (arith, inv.0, room),
-      (λ up. c.in_ok-count.ensures.honesty.0 (inv.2.0 up), λ down. inv.2.1 (c.in_ok-count.ensures.honesty.1 down)),
-      (λ honest. c.in_ok-count.ensures.moments (inv.2.0 honest) ∙ inv.3 honest),
-      c.in_ok-count.ensures.failures ∙ inv.4,
+      (λ up. c.in_ok-count.ensures.meters.honesty.0 (inv.2.0 up), λ down. inv.2.1 (c.in_ok-count.ensures.meters.honesty.1 down)),
+      (λ honest. c.in_ok-count.ensures.meters.moments (inv.2.0 honest) ∙ inv.3 honest),
+      c.in_ok-count.ensures.meters.failures ∙ inv.4,
       (λ honest agrees.
           let same : (g.D.Disk.view c.loop-done.disk).moments.state.now ≡ file = ap (λ (m : Moments). m.state.now) (inv.3 honest) in
           let kept = subst (AgreesWith c.loop-done.cache) (sym same) (inv.5 honest agrees).0 in
@@ -90,9 +90,9 @@ loop-done-preserved g c =
           )),
       looked_up_next c.args.from (length c.args.into.now) c.loop-done.done c.args.cache.now c.loop-done.cache c.read.new.self (g.D.Disk.view c.args.disk.now).bytes_read (g.D.Disk.view c.loop-done.disk).bytes_read (g.D.Disk.view c.read.new.disk).bytes_read inv.8 (omega (arith, inv.0, c.loop-done-test.true))
           (read_up (at / 4096) c.in_ok-count.count c.read.new.into c.loop-done.cache c.read.new.self (g.D.Disk.view c.loop-done.disk).bytes_read (g.D.Disk.view c.read.new.disk).bytes_read
-          (λ kept is. (c.in_ok-count.ensures.used kept is, ap (λ d. (g.D.Disk.view d).bytes_read) (c.in_ok-count.ensures.kept kept is).2)) c.in_ok-count.ensures.keeps c.in_ok-count.ensures.bytes_read)
+          (λ kept is. (c.in_ok-count.ensures.used kept is, ap (λ d. (g.D.Disk.view d).bytes_read) (c.in_ok-count.ensures.kept kept is).2)) c.in_ok-count.ensures.keeps c.in_ok-count.ensures.meters.bytes_read)
           c.min-taken.result (omega (arith, inv.0, c.min-taken.ensures)),
-      c.in_ok-count.ensures.other_calls ∙ inv.9,
+      c.in_ok-count.ensures.meters.other_calls ∙ inv.9,
     )
 
 pub returns-in_err-count-clause-looked_up : goal.returns-in_err-count-clause-looked_up
@@ -102,7 +102,7 @@ returns-in_err-count-clause-looked_up g c =
     let p = err_from_is_err_and c.from_residual.result c.from_residual.ensures.1 in
     rw p.1 (
     ended c.args.from (length c.args.into.now) c.loop-done.done c.args.cache.now c.loop-done.cache c.read.new.self (g.D.Disk.view c.args.disk.now).bytes_read (g.D.Disk.view c.loop-done.disk).bytes_read (g.D.Disk.view c.read.new.disk).bytes_read inv.8 (omega (arith, inv.0, c.loop-done-test.true))
-    (failed_up (at / 4096) c.loop-done.cache c.read.new.self (g.D.Disk.view c.loop-done.disk).bytes_read (g.D.Disk.view c.read.new.disk).bytes_read (λ kept is. let wrong = (c.in_err-count.ensures.kept kept is).0 in cc) c.in_err-count.ensures.unread c.in_err-count.ensures.bytes_read)
+    (failed_up (at / 4096) c.loop-done.cache c.read.new.self (g.D.Disk.view c.loop-done.disk).bytes_read (g.D.Disk.view c.read.new.disk).bytes_read (λ kept is. let wrong = (c.in_err-count.ensures.kept kept is).0 in cc) c.in_err-count.ensures.unread c.in_err-count.ensures.meters.bytes_read)
     p.0
     )
 
@@ -112,7 +112,7 @@ returns-then-count-skip-clause-looked_up g c =
     let at = c.args.from + c.loop-done.done in
     ended c.args.from (length c.args.into.now) c.loop-done.done c.args.cache.now c.loop-done.cache c.read.new.self (g.D.Disk.view c.args.disk.now).bytes_read (g.D.Disk.view c.loop-done.disk).bytes_read (g.D.Disk.view c.read.new.disk).bytes_read inv.8 (omega (arith, inv.0, c.loop-done-test.true))
     (read_up (at / 4096) c.in_ok-count.count c.read.new.into c.loop-done.cache c.read.new.self (g.D.Disk.view c.loop-done.disk).bytes_read (g.D.Disk.view c.read.new.disk).bytes_read
-    (λ kept is. (c.in_ok-count.ensures.used kept is, ap (λ d. (g.D.Disk.view d).bytes_read) (c.in_ok-count.ensures.kept kept is).2)) c.in_ok-count.ensures.keeps c.in_ok-count.ensures.bytes_read) _
+    (λ kept is. (c.in_ok-count.ensures.used kept is, ap (λ d. (g.D.Disk.view d).bytes_read) (c.in_ok-count.ensures.kept kept is).2)) c.in_ok-count.ensures.keeps c.in_ok-count.ensures.meters.bytes_read) _
 
 pub returns-clause-looked_up : goal.returns-clause-looked_up
 returns-clause-looked_up g c =
