@@ -16,6 +16,13 @@ M = r"(?:is_honest|moments|failures|bytes_read|other_calls)\b(?!_)"
 SINGLE = {"IsAcknowledged", "HandsBack", "SyncsOnce", "KeepsMoments", "ReadsThroughCache",
           "StepsThroughCache", "acknowledged_of"}
 BARE_AFTER = {"ap", "λ"}
+LAWS = ("OneReply", "NoneIsLater", "CheckForetells", "PinnedIsUndisturbed",
+        "PinnedReceiptIsUndisturbed")
+LOCAL = {"honest": "is_honest", "is_honest": "is_honest"}
+for name in MEMBERS[1:]:
+    LOCAL[name] = name
+    LOCAL[name + "_of"] = name
+GROUP = r"\((?:%s)(?: (?:%s))* : D → (?:Type 0|Moments|ℕ)\)" % ("|".join(sorted(LOCAL)), "|".join(sorted(LOCAL)))
 
 
 def end_of_group(text, i):
@@ -66,14 +73,15 @@ def word_before(text, i):
     return m.group(1).lstrip("({[") if m else ""
 
 
-def convert(text, head):
+def convert(text, head, member=".view"):
     """head: a regular expression of what a device's type is called, as `g\\.D\\.Disk`."""
     text = re.sub(r"\(device_view((?:\s+(?:%s)\.%s){4})\)" % (head, M),
                   lambda m: re.match(r"\s*(%s)\." % head, m.group(1)).group(1) + ".view", text)
     text = re.sub(r"device_view((?:\s+(?:%s)\.%s){4})" % (head, M),
                   lambda m: re.match(r"\s*(%s)\." % head, m.group(1)).group(1) + ".view", text)
     # runs of them, each a function
-    text = re.sub(r"(?<![\w.])(?P<h>%s)\.%s(?:\s+(?P=h)\.%s)+" % (head, M, M), r"\g<h>.view", text)
+    text = re.sub(r"(?<![\w.])(?P<h>%s)\.%s(?:\s+(?P=h)\.%s)+" % (head, M, M), r"\g<h>" + member, text)
+    text = re.sub(r"\b(%s) (\w+) (%s)\.is_honest\b" % ("|".join(LAWS), head), r"\1 \2 \3" + member, text)
     pattern = re.compile(r"(?<![\w.])(?P<h>%s)\.(?P<m>%s)" % (head, M))
     i = 0
     while True:
@@ -83,12 +91,12 @@ def convert(text, head):
         a = argument(text, m.end())
         before = word_before(text, m.start())
         if before in SINGLE:
-            new, end = m.group("h") + ".view", m.end()
+            new, end = m.group("h") + member, m.end()
             text = text[:m.start()] + new + text[end:]
             i = m.start() + len(new)
             continue
         if a is None or before in BARE_AFTER:
-            new = "(λ d. (%s.view d).%s)" % (m.group("h"), m.group("m"))
+            new = "(λ d. (%s%s d).%s)" % (m.group("h"), member, m.group("m"))
             text = text[:m.start()] + new + text[m.end():]
             i = m.start() + len(new)
             continue
@@ -96,7 +104,7 @@ def convert(text, head):
         space = re.match(r"\s*", arg).group()
         arg = arg[len(space):]
         start, end = m.start(), a[1]
-        core = "(%s.view%s%s).%s" % (m.group("h"), space, arg, m.group("m"))
+        core = "(%s%s%s%s).%s" % (m.group("h"), member, space, arg, m.group("m"))
         # brackets around it alone go
         if text[start - 1] == "(" and text[end:end + 1] == ")" \
                 and not re.search(r"[\w)\]}]$", text[:start - 1][-1:]):
@@ -118,6 +126,43 @@ def head_of(names):
     return "(?:%s)" % "|".join(sorted(names))
 
 
+def convert_local(text):
+    """Where functions of a device are parameters of a word, a lemma or a module."""
+    names = set()
+    for g in re.findall(GROUP, text):
+        names |= set(g[1:].split(" : ")[0].split())
+    if not names:
+        return text
+    text = re.sub(GROUP + r"(?:\s+" + GROUP + ")*", "(view : D → DiskView)", text)
+    one = "(?:%s)" % "|".join(sorted(names, key=len, reverse=True))
+    text = re.sub(r"(?<![\w.])%s(?: %s)+(?![\w.])" % (one, one), "view", text)
+    text = re.sub(r"\b(%s) %s(?![\w.])" % ("|".join(SINGLE), one), r"\1 view", text)
+    text = re.sub(r"\b(ap) (%s)(?![\w.])" % one,
+                  lambda m: "ap (λ d. (view d).%s)" % LOCAL[m.group(2)], text)
+    pattern = re.compile(r"(?<![\w.])(%s)(?![\w.-])(?!\s*[:=])" % one)
+    i = 0
+    while True:
+        m = pattern.search(text, i)
+        if not m:
+            return text
+        line = text[text.rfind("\n", 0, m.start()) + 1:m.start()]
+        a = argument(text, m.end())
+        if line.lstrip().startswith(("use ", "--")) or re.search(r"λ( \w+)*\s+$", line) or a is None \
+                or line.rstrip().endswith("pub"):
+            i = m.end()
+            if a is None or re.search(r"λ( \w+)*\s+$", line):
+                print("  left:", (line + text[m.start():m.end() + 20])[-70:])
+            continue
+        arg = text[m.end():a[1]]
+        space = re.match(r"\s*", arg).group()
+        core = "(view%s%s).%s" % (space, arg[len(space):], LOCAL[m.group(1)])
+        start, end = m.start(), a[1]
+        if text[start - 1] == "(" and text[end:end + 1] == ")" and text[end + 1:end + 2] != ".":
+            start, end = start - 1, end + 1
+        text = text[:start] + core + text[end:]
+        i = start + 5
+
+
 DEVICE_TYPES = [
     (r"\((\w+) : DeviceView (\w+)\)", r"(\1 : \2 → DiskView)"),
     (r"(→\s*)DeviceView (\w+)", r"\1(\2 → DiskView)"),
@@ -133,8 +178,8 @@ def antt(text, local):
     text = re.sub(r"use Rattle\.store_life\.specs\.DeviceView\.\{device_view\}\n", "", text)
     text = re.sub(r"(\(\s*|[→:]\s+)DeviceView (\w+)", r"\1(\2 → DiskView)", text)
     if local:
-        text = convert(text, r"(?:%s)" % local)
-    return text
+        text = convert(text, local, "")
+    return convert_local(text)
 
 
 def main():
@@ -170,6 +215,10 @@ def main():
             if re.search(r"\bview : DeviceView\b|DeviceView D", text):
                 local = "view"
             new = antt(text, local)
+            if "DiskView" in new and "View.{" not in new:
+                new = new.replace("use Rattle.disk_model.specs.Disk.{Moments}\n", "use Rattle.disk_model.specs.View.{DiskView}\n", 1) \
+                    if "{Moments}" in new and not re.search(r"\bMoments\b", new.replace("{Moments}", "")) \
+                    else re.sub(r"\n(use Rattle\.(?!std))", r"\nuse Rattle.disk_model.specs.View.{DiskView}\n\1", new, count=1)
             if new != text:
                 open(path, "w").write(new)
 

@@ -39,7 +39,7 @@ returns-in-Err-clause-exact g c honest =
     let lists = map g.B.SegmentBuilder.sealed c.loop-entry.segments.items in
     let e = c.in-Err.fault in
     let lt = c.loop-entry-test.true in
-    let now : List ℕ = (g.D.Disk.moments c.args.disk.now).state.now in
+    let now : List ℕ = (g.D.Disk.view c.args.disk.now).moments.state.now in
     let why = subst (IsNotReadAt e c.args.imports (get_or entries i none)) (same_now _ _ (inv.moments honest)) (c.in-Err.ensures.exact (inv.honesty.0 honest)) in
     let there : AreThere c.args.imports (take i entries) lists now = record { segments = inv.segments; numbered = inv.numbered; held = inv.held honest } in
     let count = segments_count (take i entries) lists inv.segments in
@@ -89,7 +89,7 @@ returns-then-not-branch-clause-exact g c honest =
     let ended = c.loop-entry-test.false in
     let whole : take i entries ≡ entries = take_all i entries (omega (arith, ended)) in
     let are = subst (λ (l : List Entry). AreSegments l lists) whole inv.segments in
-    let now : List ℕ = (g.D.Disk.moments c.args.disk.now).state.now in
+    let now : List ℕ = (g.D.Disk.view c.args.disk.now).moments.state.now in
     let held = subst (λ (l : List Entry). HoldsAll (pieces_of l lists) now) whole (inv.held honest) in
     let there : AreThere c.args.imports entries lists now = record { segments = are; numbered = inv.numbered; held = held } in
     record {
@@ -125,14 +125,14 @@ unfolding none
 returns-in-Err-clause-bytes_read g c =
     let entries = c.args.entries.now in
     let i = c.loop-entry.entry-index in
-    omega (arith, c.loop-entry.invariant.bytes_read, c.in-Err.ensures.bytes_read, bytes_up_to entries i none c.loop-entry-test.true)
+    omega (arith, c.loop-entry.invariant.bytes_read, c.in-Err.ensures.meters.bytes_read, bytes_up_to entries i none c.loop-entry-test.true)
 
 pub returns-in_err-push-clause-bytes_read : goal.returns-in_err-push-clause-bytes_read
 unfolding none
 returns-in_err-push-clause-bytes_read g c =
     let entries = c.args.entries.now in
     let i = c.loop-entry.entry-index in
-    omega (arith, c.loop-entry.invariant.bytes_read, c.in-Ok.ensures.bytes_read, bytes_up_to entries i none c.loop-entry-test.true)
+    omega (arith, c.loop-entry.invariant.bytes_read, c.in-Ok.ensures.meters.bytes_read, bytes_up_to entries i none c.loop-entry-test.true)
 
 pub returns-in_err-are_apart-clause-bytes_read : goal.returns-in_err-are_apart-clause-bytes_read
 returns-in_err-are_apart-clause-bytes_read g c =
@@ -159,4 +159,4 @@ returns-in-Err-clause-stops g c =
     let long = length-map c.loop-entry.segments.items g.B.SegmentBuilder.sealed in
     let front = length-take i entries in
     let number = c.len-number.ensures in
-    rw (c.in_segment.ensures) (stops_in c.in-Err.fault _ entries i none _ (g.D.Disk.bytes_read c.loop-entry.disk) _ _ _ lt (omega (arith, count, long, front, lt, number)) inv.bytes_read c.in-Err.ensures.bytes_read (omega (arith, inv.other_calls, c.in-Err.ensures.other_calls)))
+    rw (c.in_segment.ensures) (stops_in c.in-Err.fault _ entries i none _ (g.D.Disk.view c.loop-entry.disk).bytes_read _ _ _ lt (omega (arith, count, long, front, lt, number)) inv.bytes_read c.in-Err.ensures.meters.bytes_read (omega (arith, inv.other_calls, c.in-Err.ensures.meters.other_calls)))
