@@ -53,7 +53,7 @@ impl<D: Disk> Store<D> {
     ) -> Result<Vec<u64>, Refusal>
         requires { pin ≤ self.old.history.imports }
         ensures answer { IsAncestorsQuery result (λ ids. ids.items) id time pin
-            D.is_honest D.moments D.failures D.bytes_read D.other_calls self.old self.new }
+            D.view self.old self.new }
     {
         if self.needs_reopen {
             return Err(Refusal::ReopenNeeded);
@@ -86,7 +86,7 @@ impl<D: Disk> Store<D> {
     ) -> Result<Vec<Row>, Refusal>
         requires { pin ≤ self.old.history.imports }
         ensures answer { IsRowsQuery result (λ rows. rows.items) (replaces id time) pin
-            D.is_honest D.moments D.failures D.bytes_read D.other_calls self.old self.new }
+            D.view self.old self.new }
     {
         if self.needs_reopen {
             return Err(Refusal::ReopenNeeded);
@@ -114,7 +114,7 @@ impl<D: Disk> Store<D> {
     pub fn timeline(&mut self, kind: Kind, id: Sctid, pin: u32) -> Result<Vec<Row>, Refusal>
         requires { pin ≤ self.old.history.imports }
         ensures answer { IsRowsQuery result (λ rows. rows.items) (timeline kind id) pin
-            D.is_honest D.moments D.failures D.bytes_read D.other_calls self.old self.new }
+            D.view self.old self.new }
     {
         if self.needs_reopen {
             return Err(Refusal::ReopenNeeded);
@@ -150,7 +150,7 @@ impl<D: Disk> Store<D> {
     ) -> Result<Vec<Row>, Refusal>
         requires { pin ≤ self.old.history.imports }
         ensures answer { IsRowsQuery result (λ rows. rows.items) (delta kind from time after limit)
-            pin D.is_honest D.moments D.failures D.bytes_read D.other_calls self.old self.new }
+            pin D.view self.old self.new }
     {
         if self.needs_reopen {
             return Err(Refusal::ReopenNeeded);

@@ -26,7 +26,7 @@ impl<D: Disk> Store<D> {
     ) -> Result<Vec<Row>, Refusal>
         requires { pin ≤ self.old.history.imports }
         ensures answer { IsRowsQuery result (λ rows. rows.items) (members refset time after limit)
-            pin D.is_honest D.moments D.failures D.bytes_read D.other_calls self.old self.new }
+            pin D.view self.old self.new }
     {
         if self.needs_reopen {
             return Err(Refusal::ReopenNeeded);
@@ -64,7 +64,7 @@ impl<D: Disk> Store<D> {
     ) -> Result<Vec<Row>, Refusal>
         requires { pin ≤ self.old.history.imports }
         ensures answer { IsRowsQuery result (λ rows. rows.items) (values refset time after limit)
-            pin D.is_honest D.moments D.failures D.bytes_read D.other_calls self.old self.new }
+            pin D.view self.old self.new }
     {
         if self.needs_reopen {
             return Err(Refusal::ReopenNeeded);
@@ -101,7 +101,7 @@ impl<D: Disk> Store<D> {
     ) -> Result<Vec<Row>, Refusal>
         requires { pin ≤ self.old.history.imports }
         ensures answer { IsRowsQuery result (λ rows. rows.items) (called concept time refset)
-            pin D.is_honest D.moments D.failures D.bytes_read D.other_calls self.old self.new }
+            pin D.view self.old self.new }
     {
         if self.needs_reopen {
             return Err(Refusal::ReopenNeeded);

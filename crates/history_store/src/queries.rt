@@ -33,8 +33,8 @@ impl<D: Disk> Store<D> {
         ensures left { IsReadingOf result self.old self.new }
         ensures disk { self.new.disk ≡ self.old.disk }
         ensures cache { self.new.cache ≡ self.old.cache }
-        ensures acknowledged { D.is_honest self.old.disk → self.new.needs_reopen ≡ false
-            → IsAcknowledged D.moments self.new }
+        ensures acknowledged { (D.view self.old.disk).is_honest → self.new.needs_reopen ≡ false
+            → IsAcknowledged D.view self.new }
     {
         match read {
             Ok(found) => Ok(found),
@@ -58,7 +58,7 @@ impl<D: Disk> Store<D> {
         requires { pin ≤ self.old.history.imports }
         ensures answer { IsRowsQuery result option_to_list
             (λ rows. option_to_list (get kind id time rows)) pin
-            D.is_honest D.moments D.failures D.bytes_read D.other_calls self.old self.new }
+            D.view self.old self.new }
     {
         if self.needs_reopen {
             return Err(Refusal::ReopenNeeded);
@@ -77,7 +77,7 @@ impl<D: Disk> Store<D> {
     pub fn history(&mut self, kind: Kind, id: u128, pin: u32) -> Result<Vec<Row>, Refusal>
         requires { pin ≤ self.old.history.imports }
         ensures answer { IsRowsQuery result (λ rows. rows.items) (versions kind id) pin
-            D.is_honest D.moments D.failures D.bytes_read D.other_calls self.old self.new }
+            D.view self.old self.new }
     {
         if self.needs_reopen {
             return Err(Refusal::ReopenNeeded);
@@ -104,7 +104,7 @@ impl<D: Disk> Store<D> {
     ) -> Result<Vec<Row>, Refusal>
         requires { pin ≤ self.old.history.imports }
         ensures answer { IsRowsQuery result (λ rows. rows.items) (page kind time after limit) pin
-            D.is_honest D.moments D.failures D.bytes_read D.other_calls self.old self.new }
+            D.view self.old self.new }
     {
         if self.needs_reopen {
             return Err(Refusal::ReopenNeeded);
@@ -133,7 +133,7 @@ impl<D: Disk> Store<D> {
     ) -> Result<Vec<Row>, Refusal>
         requires { pin ≤ self.old.history.imports }
         ensures answer { IsRowsQuery result (λ rows. rows.items) (about kind id time) pin
-            D.is_honest D.moments D.failures D.bytes_read D.other_calls self.old self.new }
+            D.view self.old self.new }
     {
         if self.needs_reopen {
             return Err(Refusal::ReopenNeeded);
@@ -170,7 +170,7 @@ impl<D: Disk> Store<D> {
         requires { pin ≤ self.old.history.imports }
         ensures answer { IsRowsQuery result (λ rows. rows.items)
             (search_terms prefix.now time after limit) pin
-            D.is_honest D.moments D.failures D.bytes_read D.other_calls self.old self.new }
+            D.view self.old self.new }
     {
         if self.needs_reopen {
             return Err(Refusal::ReopenNeeded);
@@ -208,7 +208,7 @@ impl<D: Disk> Store<D> {
     ) -> Result<Vec<Row>, Refusal>
         requires { pin ≤ self.old.history.imports }
         ensures answer { IsRowsQuery result (λ rows. rows.items) (terms prefix.now time limit) pin
-            D.is_honest D.moments D.failures D.bytes_read D.other_calls self.old self.new }
+            D.view self.old self.new }
     {
         self.search(prefix, time, None, limit, pin)
     }
@@ -248,7 +248,7 @@ impl<D: Disk> Store<D> {
     ) -> Result<Vec<Row>, Refusal>
         requires { pin ≤ self.old.history.imports }
         ensures answer { IsRowsQuery result (λ rows. rows.items) (replacements id time) pin
-            D.is_honest D.moments D.failures D.bytes_read D.other_calls self.old self.new }
+            D.view self.old self.new }
     {
         if self.needs_reopen {
             return Err(Refusal::ReopenNeeded);

@@ -34,7 +34,7 @@ fn add_next<D: Disk>(
 ) -> Result<Option<Key>, Refusal>
     requires { pin ≤ store.old.history.imports }
     ensures added { IsNextAdded result after pin hasher.old hasher.new
-        D.is_honest D.moments D.failures D.bytes_read D.other_calls store.old store.new }
+        D.view store.old store.new }
 {
     let rows = store.rows_after(after, 1, pin)?;
     match rows.first() {
@@ -51,7 +51,7 @@ fn add_next<D: Disk>(
 pub fn digest<D: Disk>(alloc: Global, store: &mut Store<D>, pin: u32) -> Result<[u8; 32], Refusal>
     requires { pin ≤ store.old.history.imports }
     ensures answer { IsDigestQuery result pin
-        D.is_honest D.moments D.failures D.bytes_read D.other_calls store.old store.new }
+        D.view store.old store.new }
 {
     let mut hasher = Sha256::new();
     let mut last = None;
