@@ -5,6 +5,7 @@ ghost use Rattle.std.specs.Prelude.{List, length, take, None, IsNone, IfSome, If
 ghost use Rattle.std.specs.Prelude.{false, true};
 ghost use Rattle.std.specs.Int.{div_ceil};
 ghost use Rattle.disk_model.specs.Disk.{LeavesOnly};
+ghost use Rattle.disk_model.specs.View.{Calls, AtMost};
 ghost use Rattle.blocks.specs.Calls.{call_count};
 ghost use Rattle.blocks.specs.Extents.{byte_range};
 ghost use Rattle.blocks.specs.Outside.{SameOutside};
@@ -134,12 +135,8 @@ fn write_rows<D: Disk>(
         (D.view disk.old).moments.state.now (D.view disk.new).moments.state.now) }
     ensures calls { (D.view disk.old).is_honest → call_count (D.view disk.new).moments
         ≤ call_count (D.view disk.old).moments + div_ceil entry.rows 1000 }
-    ensures honesty { (D.view disk.old).is_honest ↔ (D.view disk.new).is_honest }
-    ensures failures { Counts result (D.view disk.old).failures (D.view disk.new).failures }
-    ensures bytes_read { (D.view disk.new).bytes_read
-        ≤ (D.view disk.old).bytes_read + (entry.bytes + 8192 * entry.rows) }
-    ensures other_calls { (D.view disk.new).other_calls
-        ≤ (D.view disk.old).other_calls + div_ceil entry.rows 1000 }
+    ensures meters { Calls (Counts result) (AtMost (entry.bytes + 8192 * entry.rows))
+        (AtMost (div_ceil entry.rows 1000)) (D.view disk.old) (D.view disk.new) }
     ensures capacity { cache.new.cap ≡ cache.old.cap }
 {
     let places = index.places().list(0);
@@ -186,12 +183,8 @@ fn write_and_list<D: Disk>(
         (D.view disk.old).moments.state.now (D.view disk.new).moments.state.now) }
     ensures calls { (D.view disk.old).is_honest → call_count (D.view disk.new).moments
         ≤ call_count (D.view disk.old).moments + (div_ceil entry.rows 1000 + 7) }
-    ensures honesty { (D.view disk.old).is_honest ↔ (D.view disk.new).is_honest }
-    ensures failures { Counts result (D.view disk.old).failures (D.view disk.new).failures }
-    ensures bytes_read { (D.view disk.new).bytes_read
-        ≤ (D.view disk.old).bytes_read + (entry.bytes + 8192 * entry.rows + 1) }
-    ensures other_calls { (D.view disk.new).other_calls
-        ≤ (D.view disk.old).other_calls + (div_ceil entry.rows 1000 + 7) }
+    ensures meters { Calls (Counts result) (AtMost (entry.bytes + 8192 * entry.rows + 1))
+        (AtMost (div_ceil entry.rows 1000 + 7)) (D.view disk.old) (D.view disk.new) }
     ensures capacity { cache.new.cap ≡ cache.old.cap }
 {
     write_rows(alloc, disk, cache, directory, index, entry)?;
@@ -225,16 +218,12 @@ impl<D: Disk> Store<D> {
         ensures closed { self.old.needs_reopen ≡ true → self.new ≡ self.old }
         ensures calls { (D.view self.old.disk).is_honest → call_count (D.view self.new.disk).moments
             ≤ call_count (D.view self.old.disk).moments + rewrite_calls self.old.catalog.entries }
+        ensures capacity { self.new.cache.cap ≡ self.old.cache.cap }
         // On every disk, and whatever it answers, it reads no more than this, and makes no other
         // call than reads and these.
-        ensures bytes_read { (D.view self.new.disk).bytes_read
-            ≤ (D.view self.old.disk).bytes_read + rewrite_cost self.old.catalog.entries }
-        ensures other_calls { (D.view self.new.disk).other_calls
-            ≤ (D.view self.old.disk).other_calls + rewrite_calls self.old.catalog.entries }
-        ensures honesty { (D.view self.old.disk).is_honest ↔ (D.view self.new.disk).is_honest }
-        ensures capacity { self.new.cache.cap ≡ self.old.cache.cap }
-        ensures failures { Counts result (D.view self.old.disk).failures
-            (D.view self.new.disk).failures }
+        ensures meters { Calls (Counts result) (AtMost (rewrite_cost self.old.catalog.entries))
+            (AtMost (rewrite_calls self.old.catalog.entries))
+            (D.view self.old.disk) (D.view self.new.disk) }
     {
         if self.needs_reopen {
             return Err(Refusal::ReopenNeeded);

@@ -3,6 +3,7 @@
 ghost use Rattle.std.specs.Prelude.{◌≡◌, ◌≢◌, ◌↔◌, ◌+◌, ◌≤◌, [], length, IfOk};
 ghost use Rattle.std.specs.Prelude.{IfErr, OnOk};
 ghost use Rattle.disk_model.specs.Disk.{LeavesOnly};
+ghost use Rattle.disk_model.specs.View.{Calls, Stays, AtMost};
 ghost use Rattle.blocks.specs.Calls.{MakesCalls};
 ghost use Rattle.blocks.specs.Outside.{StemsWithin};
 ghost use Rattle.blocks.specs.Slots.{slots_range};
@@ -75,10 +76,7 @@ pub(crate) fn start<D: Disk>(
         (StemsWithin (D.view disk.old).moments.state slots_range) }
     ensures calls { (D.view disk.old).is_honest
         → MakesCalls result 9 (D.view disk.old).moments (D.view disk.new).moments }
-    ensures honesty { (D.view disk.old).is_honest ↔ (D.view disk.new).is_honest }
-    ensures failures { Counts result (D.view disk.old).failures (D.view disk.new).failures }
-    ensures bytes_read { (D.view disk.new).bytes_read ≡ (D.view disk.old).bytes_read }
-    ensures other_calls { (D.view disk.new).other_calls ≤ (D.view disk.old).other_calls + 11 }
+    ensures meters { Calls (Counts result) Stays (AtMost 11) (D.view disk.old) (D.view disk.new) }
     ensures looked { IfErr result (λ e. e ≢ refusals.DiskFault
         → (D.view disk.new).other_calls ≤ (D.view disk.old).other_calls + 2) }
 {

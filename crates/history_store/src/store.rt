@@ -4,6 +4,7 @@ ghost use Rattle.std.specs.Prelude.{◌≡◌, ◌≢◌, ◌⊎◌, ◌↔◌, 
 ghost use Rattle.std.specs.List.{sum_by};
 ghost use Rattle.std.specs.Prelude.{IfOk, IfErr, OnOk, OnErr, true, false};
 ghost use Rattle.disk_model.specs.Disk.{IsImage, EachImage, LeavesOnly, raised_by};
+ghost use Rattle.disk_model.specs.View.{Calls, AtMost};
 
 use crate::checking::{Next, Ready};
 use crate::counting::{blocks_in_use, plain_count, row_count};
@@ -256,7 +257,6 @@ impl<D: Disk> Store<D> {
             → IsAcknowledged D.view self.new }
         ensures calls { (D.view self.old.disk).is_honest
             → MakesCalls result 6 (D.view self.old.disk).moments (D.view self.new.disk).moments }
-        ensures honesty { (D.view self.old.disk).is_honest ↔ (D.view self.new.disk).is_honest }
         ensures capacity { self.new.cache.cap ≡ self.old.cache.cap }
         ensures inside { (D.view self.old.disk).is_honest
             → LeavesOnly (D.view self.old.disk).moments (D.view self.new.disk).moments
@@ -264,12 +264,8 @@ impl<D: Disk> Store<D> {
         ensures forgets { OnOk result (ForgetsWritten
             (added_entries self.old.catalog self.new.catalog) self.old.cache self.new.cache) }
         ensures keeps { OnErr result (self.new.cache ≡ self.old.cache) }
-        ensures bytes_read { (D.view self.new.disk).bytes_read
-            ≤ (D.view self.old.disk).bytes_read + 1 }
-        ensures failures { Counts result (D.view self.old.disk).failures
-            (D.view self.new.disk).failures }
-        ensures other_calls { (D.view self.new.disk).other_calls
-            ≤ (D.view self.old.disk).other_calls + 6 }
+        ensures meters { Calls (Counts result) (AtMost 1) (AtMost 6)
+            (D.view self.old.disk) (D.view self.new.disk) }
     {
         match publish_directory(&mut self.disk, self.slot, &next) {
             Ok(slot) => {
@@ -306,7 +302,6 @@ impl<D: Disk> Store<D> {
             → IsAcknowledged D.view self.new }
         ensures calls { (D.view self.old.disk).is_honest
             → MakesCalls result 8 (D.view self.old.disk).moments (D.view self.new.disk).moments }
-        ensures honesty { (D.view self.old.disk).is_honest ↔ (D.view self.new.disk).is_honest }
         ensures capacity { self.new.cache.cap ≡ self.old.cache.cap }
         ensures inside { (D.view self.old.disk).is_honest
             → LeavesOnly (D.view self.old.disk).moments (D.view self.new.disk).moments
@@ -315,12 +310,8 @@ impl<D: Disk> Store<D> {
         ensures forgets { OnOk result (ForgetsWritten
             (added_entries self.old.catalog self.new.catalog) self.old.cache self.new.cache) }
         ensures keeps { OnErr result (self.new.cache ≡ self.old.cache) }
-        ensures bytes_read { (D.view self.new.disk).bytes_read
-            ≤ (D.view self.old.disk).bytes_read + 1 }
-        ensures failures { Counts result (D.view self.old.disk).failures
-            (D.view self.new.disk).failures }
-        ensures other_calls { (D.view self.new.disk).other_calls
-            ≤ (D.view self.old.disk).other_calls + 8 }
+        ensures meters { Calls (Counts result) (AtMost 1) (AtMost 8)
+            (D.view self.old.disk) (D.view self.new.disk) }
     {
         let Prepared {
             directory,

@@ -3,6 +3,7 @@
 ghost use Rattle.std.specs.Prelude.{◌≡◌, ◌≢◌, ◌⊎◌, ◌↔◌, ◌+◌, ◌≤◌, ◌∷◌, [], false, true};
 ghost use Rattle.std.specs.Prelude.{IfErr, OnOk, OnErr};
 ghost use Rattle.disk_model.specs.Disk.{LeavesOnly};
+ghost use Rattle.disk_model.specs.View.{Calls, AtMost};
 ghost use Rattle.directory.specs.declared.layout.Layout.TheVariants as layouts;
 
 use crate::preparing::in_version_three;
@@ -69,19 +70,14 @@ impl<D: Disk> Store<D> {
         ensures calls { (D.view self.old.disk).is_honest
             → MakesCalls result (upgrade_calls self.old.catalog.layout)
             (D.view self.old.disk).moments (D.view self.new.disk).moments }
-        // On every disk it looks at the gate of a slot, and reads nothing else.
-        ensures bytes_read { (D.view self.new.disk).bytes_read
-            ≤ (D.view self.old.disk).bytes_read + 1 }
-        // On every disk it makes no other call than that look and these; refused for any other
-        // reason than the device, none of these.
-        ensures other_calls { (D.view self.new.disk).other_calls
-            ≤ (D.view self.old.disk).other_calls + 6 }
         ensures uncalled { IfErr result (λ e. e ≢ refusals.DiskFault
             → (D.view self.new.disk).other_calls ≡ (D.view self.old.disk).other_calls) }
-        ensures honesty { (D.view self.old.disk).is_honest ↔ (D.view self.new.disk).is_honest }
         ensures capacity { self.new.cache.cap ≡ self.old.cache.cap }
-        ensures failures { Counts result (D.view self.old.disk).failures
-            (D.view self.new.disk).failures }
+        // On every disk it looks at the gate of a slot, and reads nothing else.
+        // On every disk it makes no other call than that look and these; refused for any other
+        // reason than the device, none of these.
+        ensures meters { Calls (Counts result) (AtMost 1) (AtMost 6)
+            (D.view self.old.disk) (D.view self.new.disk) }
     {
         if self.needs_reopen {
             return Err(Refusal::ReopenNeeded);

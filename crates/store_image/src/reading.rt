@@ -58,9 +58,8 @@ pub(crate) fn read_segments<D: Disk, B: SegmentBuilder>(
     ensures goes_on { raised_by (D.view disk.old).bytes_read 0 ≤ (D.view disk.new).bytes_read }
     // Whatever it answers, its reads are asked for no more bytes than the segments have.
     // Beside its reads it asks for the length alone, once for each segment.
-    ensures meters { Calls (CountsLoading result) (AtMost (bytes_listed entries.now)) (AtMost
-        (length entries.now))
-        (D.view disk.old) (D.view disk.new) }
+    ensures meters { Calls (CountsLoading result) (AtMost (bytes_listed entries.now))
+        (AtMost (length entries.now)) (D.view disk.old) (D.view disk.new) }
     // Of the segments behind a damaged one it asks for nothing.
     ensures stops { IfErr result
         (λ e. StopsIn e entries.now (D.view disk.old).bytes_read (D.view disk.new).bytes_read

@@ -106,7 +106,7 @@ returns-in_err-write_taken-clause-held g c slot was =
     let ahead = is_ahead d c.args.entry c.requires.anew c.requires.held.kept.listing in
     let p = err_from_is_err_and c.from_residual-in_err-write_taken.result c.from_residual-in_err-write_taken.ensures.1 in
     rw (p.1, p.2) (held_after (g.D.Disk.view c.loop-part.disk).is_honest (g.D.Disk.view c.write_taken.new.disk).is_honest (g.D.Disk.view c.loop-part.disk).moments.state (g.D.Disk.view c.write_taken.new.disk).moments.state c.loop-part.cache c.write_taken.new.cache slot d lists _ (inv.held slot was)
-    c.write_taken.ensures.honesty.1 (λ up on. c.write_taken.ensures.on_disk up slot d lists on ahead)
+    c.write_taken.ensures.meters.honesty.1 (λ up on. c.write_taken.ensures.on_disk up slot d lists on ahead)
     (λ up still. unless (Err c.in_err-write_taken.field-0.0) (AgreesWith c.write_taken.new.cache (g.D.Disk.view c.write_taken.new.disk).moments.state.now) (c.in_err-write_taken.ensures.agrees up ((inv.held slot was).agrees up refl)) still))
 
 pub returns-in_err-write_taken-clause-any_moment : goal.returns-in_err-write_taken-clause-any_moment
@@ -134,7 +134,7 @@ returns-in_err-write_taken-clause-other_calls g c =
     let o = only d c.args.entry c.requires.anew c.args.index.now kept in
     let count = its_count d c.args.entry c.requires.anew c.args.index.now kept c.places.result.now c.list-places.result.now c.places.ensures c.list-places.ensures o.rows o.lists_are in
     let end : c.div_ceil-part-end.result ≡ div_ceil c.args.entry.rows 1000 = c.div_ceil-part-end.ensures ∙ ap (λ n. div_ceil n 1000) count in
-    omega (arith, c.write_taken.ensures.other_calls, c.loop-part.invariant.other_calls, c.loop-part-test.true, end)
+    omega (arith, c.write_taken.ensures.meters.other_calls, c.loop-part.invariant.other_calls, c.loop-part-test.true, end)
 
 pub returns-in_err-write_taken-clause-bytes_read : goal.returns-in_err-write_taken-clause-bytes_read
 returns-in_err-write_taken-clause-bytes_read g c =
@@ -145,7 +145,7 @@ returns-in_err-write_taken-clause-bytes_read g c =
     let k = c.loop-part.part * 1000 in
     let cost = its_cost d c.args.entry c.requires.anew c.args.index.now kept c.places.result.now places c.places.ensures c.list-places.ensures o.rows o.lists_are in
     let part = ap cost_at (c.deref.ensures.value ∙ c.in_ok-taken.ensures ∙ ap (λ l. as_taken (take 1000 l)) (take_rest places k)) in
-    omega (arith, c.write_taken.ensures.bytes_read, c.loop-part.invariant.bytes_read, part, cost_on k 1000 places, cost_front (k + 1000) places, cost)
+    omega (arith, c.write_taken.ensures.meters.bytes_read, c.loop-part.invariant.bytes_read, part, cost_on k 1000 places, cost_front (k + 1000) places, cost)
 
 pub loop-part-preserved : goal.loop-part-preserved
 loop-part-preserved g c =

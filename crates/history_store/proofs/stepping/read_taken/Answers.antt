@@ -91,7 +91,7 @@ returns-in_err-row-clause-bytes_read g c =
     let taken = c.args.taken.now in
     let t = c.t-item.result in
     let more = take_more taken l.t-index t c.loop-t-test.true ∙ ap (λ (x : Taken). take l.t-index taken ++ x ∷ []) (sym c.t-item.is) in
-    omega (arith, l.invariant.bytes_read, c.in_err-row.ensures.bytes_read, ap cost_at more ∙ cost_push (take l.t-index taken) t, cost_take (l.t-index + 1) taken)
+    omega (arith, l.invariant.bytes_read, c.in_err-row.ensures.meters.bytes_read, ap cost_at more ∙ cost_push (take l.t-index taken) t, cost_take (l.t-index + 1) taken)
 
 pub returns-in_err-push-clause-bytes_read : goal.returns-in_err-push-clause-bytes_read
 returns-in_err-push-clause-bytes_read g c =
@@ -99,7 +99,7 @@ returns-in_err-push-clause-bytes_read g c =
     let taken = c.args.taken.now in
     let t = c.t-item.result in
     let more = take_more taken l.t-index t c.loop-t-test.true ∙ ap (λ (x : Taken). take l.t-index taken ++ x ∷ []) (sym c.t-item.is) in
-    omega (arith, l.invariant.bytes_read, c.in_ok-row.ensures.bytes_read, ap cost_at more ∙ cost_push (take l.t-index taken) t, cost_take (l.t-index + 1) taken)
+    omega (arith, l.invariant.bytes_read, c.in_ok-row.ensures.meters.bytes_read, ap cost_at more ∙ cost_push (take l.t-index taken) t, cost_take (l.t-index + 1) taken)
 
 pub returns-clause-bytes_read : goal.returns-clause-bytes_read
 returns-clause-bytes_read g c = omega (arith, c.loop-t.invariant.bytes_read, cost_take c.loop-t.t-index c.args.taken.now)

@@ -17,12 +17,12 @@ returns-in_err-bytes-clause-undamaged g c up agrees want read =
     rw (p.1, p.2) (c.in_err-bytes.ensures.found up agrees want read)
 
 pub returns-in_err-bytes-clause-any_moment : goal.returns-in_err-bytes-clause-any_moment
-returns-in_err-bytes-clause-any_moment g c up slot d lists on ahead = not_called _ _ slot d lists (c.read_part.ensures.moments up) on
+returns-in_err-bytes-clause-any_moment g c up slot d lists on ahead = not_called _ _ slot d lists (c.read_part.ensures.meters.moments up) on
 
 pub returns-in_err-bytes-clause-agrees : goal.returns-in_err-bytes-clause-agrees
 returns-in_err-bytes-clause-agrees g c up agrees =
     unless_given c.from_residual.result (AgreesWith c.read_part.new.cache (g.D.Disk.view c.read_part.new.disk).moments.state.now)
-    (agrees_still (g.D.Disk.view c.args.disk.now).moments (g.D.Disk.view c.read_part.new.disk).moments c.read_part.new.cache (c.read_part.ensures.moments up) (c.read_part.ensures.agrees up agrees))
+    (agrees_still (g.D.Disk.view c.args.disk.now).moments (g.D.Disk.view c.read_part.new.disk).moments c.read_part.new.cache (c.read_part.ensures.meters.moments up) (c.read_part.ensures.agrees up agrees))
 
 pub returns-in_err-bytes-clause-capacity : goal.returns-in_err-bytes-clause-capacity
 returns-in_err-bytes-clause-capacity g c = capacity_stays _ _ _ _ _ c.in_err-bytes.ensures.looked_up
@@ -58,8 +58,8 @@ pub returns-clause-looked_up : goal.returns-clause-looked_up
 returns-clause-looked_up g c =
     let mid = c.read_part.new.cache in
     let new = c.write_part.new.cache in
-    part_stepped c.write_part.result _ _ _ mid new _ _ _ c.in_ok-bytes.ensures.looked_up c.write_part.ensures.bytes_read
+    part_stepped c.write_part.result _ _ _ mid new _ _ _ c.in_ok-bytes.ensures.looked_up c.write_part.ensures.meters.bytes_read
     (subst (λ (e : Extent). OnOk c.write_part.result (Forgets (is_in e) mid new)) c.extent.ensures c.write_part.ensures.forgets) c.write_part.ensures.keeps
 
 pub returns-clause-bytes_read : goal.returns-clause-bytes_read
-returns-clause-bytes_read g c = omega (arith, c.in_ok-bytes.ensures.bytes_read, c.write_part.ensures.bytes_read)
+returns-clause-bytes_read g c = omega (arith, c.in_ok-bytes.ensures.meters.bytes_read, c.write_part.ensures.meters.bytes_read)

@@ -59,7 +59,7 @@ returns-in-Ok-clause-acknowledged g c =
     let new = c.step-stepped.new in
     let lent = held_lent (g.D.Disk.view s.disk).is_honest (g.D.Disk.view s.disk).moments.state s.cache s.slot s.directory s.index s.needs_reopen c.self.invariant.0 c.if-self.false in
     let held = held_back (g.D.Disk.view new.disk).is_honest (g.D.Disk.view new.disk).moments.state new.cache s.slot s.directory s.index _ s.needs_reopen (c.in-Ok.ensures.held s.slot lent) (sym c.if-self.false) in
-    rw (← c.self.view_is) (λ honest still. record { open_still = still; each = held_stands _ _ _ _ _ _ _ (subst (λ l. IsHeld (g.D.Disk.view new.disk).is_honest (g.D.Disk.view new.disk).moments.state new.cache s.slot s.directory l s.needs_reopen) (sym c.step-stepped.ensures.index) held) (c.step-stepped.ensures.honesty.0 honest) still })
+    rw (← c.self.view_is) (λ honest still. record { open_still = still; each = held_stands _ _ _ _ _ _ _ (subst (λ l. IsHeld (g.D.Disk.view new.disk).is_honest (g.D.Disk.view new.disk).moments.state new.cache s.slot s.directory l s.needs_reopen) (sym c.step-stepped.ensures.index) held) (c.step-stepped.ensures.meters.honesty.0 honest) still })
 
 pub returns-then-matches-clause-answer : goal.returns-then-matches-clause-answer
 returns-then-matches-clause-answer g c =
@@ -79,7 +79,7 @@ returns-else-matches-clause-acknowledged g c =
     let open_still = no_fault c.in-Err.refusal c.in-Err.ensures.step.0 other ∙ sym c.if-self.false in
     let lent = held_lent (g.D.Disk.view s.disk).is_honest (g.D.Disk.view s.disk).moments.state s.cache s.slot s.directory s.index s.needs_reopen c.self.invariant.0 c.if-self.false in
     let held = held_back (g.D.Disk.view new.disk).is_honest (g.D.Disk.view new.disk).moments.state new.cache s.slot s.directory s.index _ s.needs_reopen (c.in-Err.ensures.held s.slot lent) open_still in
-    rw (← c.self.view_is) (λ honest still. record { open_still = still; each = held_stands _ _ _ _ _ _ _ (subst (λ l. IsHeld (g.D.Disk.view new.disk).is_honest (g.D.Disk.view new.disk).moments.state new.cache s.slot s.directory l s.needs_reopen) (sym c.step-stepped.ensures.index) held) (c.step-stepped.ensures.honesty.0 honest) still })
+    rw (← c.self.view_is) (λ honest still. record { open_still = still; each = held_stands _ _ _ _ _ _ _ (subst (λ l. IsHeld (g.D.Disk.view new.disk).is_honest (g.D.Disk.view new.disk).moments.state new.cache s.slot s.directory l s.needs_reopen) (sym c.step-stepped.ensures.index) held) (c.step-stepped.ensures.meters.honesty.0 honest) still })
 
 pub returns-in-Ok-clause-elsewhere : goal.returns-in-Ok-clause-elsewhere
 returns-in-Ok-clause-elsewhere g c =
@@ -152,16 +152,16 @@ pub returns-in-Ok-clause-bytes_read : goal.returns-in-Ok-clause-bytes_read
 returns-in-Ok-clause-bytes_read g c =
     let s = c.self.inside in
     let new = c.step-stepped.new in
-    rw (← c.self.view_is) (subst (λ (o : Option MergeInProgress). (g.D.Disk.view new.disk).bytes_read ≤ (g.D.Disk.view s.disk).bytes_read + step_cost c.args.n (merge_of o)) c.in-Some.ensures.value c.step-stepped.ensures.bytes_read)
+    rw (← c.self.view_is) (subst (λ (o : Option MergeInProgress). (g.D.Disk.view new.disk).bytes_read ≤ (g.D.Disk.view s.disk).bytes_read + step_cost c.args.n (merge_of o)) c.in-Some.ensures.value c.step-stepped.ensures.meters.bytes_read)
 
 pub returns-then-matches-clause-bytes_read : goal.returns-then-matches-clause-bytes_read
 returns-then-matches-clause-bytes_read g c =
     let s = c.self.inside in
     let new = c.step-stepped.new in
-    rw (← c.self.view_is) (subst (λ (o : Option MergeInProgress). (g.D.Disk.view new.disk).bytes_read ≤ (g.D.Disk.view s.disk).bytes_read + step_cost c.args.n (merge_of o)) c.in-Some.ensures.value c.step-stepped.ensures.bytes_read)
+    rw (← c.self.view_is) (subst (λ (o : Option MergeInProgress). (g.D.Disk.view new.disk).bytes_read ≤ (g.D.Disk.view s.disk).bytes_read + step_cost c.args.n (merge_of o)) c.in-Some.ensures.value c.step-stepped.ensures.meters.bytes_read)
 
 pub returns-else-matches-clause-bytes_read : goal.returns-else-matches-clause-bytes_read
 returns-else-matches-clause-bytes_read g c =
     let s = c.self.inside in
     let new = c.step-stepped.new in
-    rw (← c.self.view_is) (subst (λ (o : Option MergeInProgress). (g.D.Disk.view new.disk).bytes_read ≤ (g.D.Disk.view s.disk).bytes_read + step_cost c.args.n (merge_of o)) c.in-Some.ensures.value c.step-stepped.ensures.bytes_read)
+    rw (← c.self.view_is) (subst (λ (o : Option MergeInProgress). (g.D.Disk.view new.disk).bytes_read ≤ (g.D.Disk.view s.disk).bytes_read + step_cost c.args.n (merge_of o)) c.in-Some.ensures.value c.step-stepped.ensures.meters.bytes_read)

@@ -70,5 +70,5 @@ returns-after-matches-clause-acknowledged g c =
           let new = c.write_and_list.new in
           let other : c.in-Err.refusal ≢ refusals.DiskFault = elim c.match-matches.branch [ in-DiskFault v ↦ absurd (let off = w.if-matches.false in let on = v.matches-is in cc) | in_default-matches v ↦ λ is. v.in_default-matches.not-DiskFault is ] in
           let held = held_back (g.D.Disk.view new.disk).is_honest (g.D.Disk.view new.disk).moments.state new.cache s.slot s.directory s.index _ s.needs_reopen c.in-Err.ensures.held (no_device c.in-Err.refusal c.in-Err.ensures.refused other ∙ sym c.if-self.false) in
-          rw (w.self-is, ← c.self.view_is) (λ honest still. record { open_still = still; each = held_stands _ _ _ _ _ _ _ held (c.in-Err.ensures.honesty.0 honest) still })
+          rw (w.self-is, ← c.self.view_is) (λ honest still. record { open_still = still; each = held_stands _ _ _ _ _ _ _ held (c.in-Err.ensures.meters.honesty.0 honest) still })
     ]
