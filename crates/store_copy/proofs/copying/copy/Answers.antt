@@ -11,7 +11,7 @@ use Rattle.store_copy.proofs.Listing.{segments_small}
 use Rattle.store_copy.proofs.copying.copy.Goals as goal
 
 pub returns-in_err-of-clause-any_moment : goal.returns-in_err-of-clause-any_moment
-returns-in_err-of-clause-any_moment g c = λ s t. stayed _ _ _ (c.check_empty.ensures.meters.moments t) (λ f image. inl image)
+returns-in_err-of-clause-any_moment g c = λ s t. stayed _ _ _ (c.check_empty.ensures.moments t) (λ f image. inl image)
 
 pub write_copy-requires-clause-small : goal.write_copy-requires-clause-small
 write_copy-requires-clause-small g c =
@@ -31,7 +31,7 @@ returns-in_err-write_copy-clause-any_moment g c = λ s t.
     let m0 = (g.T.Disk.view c.args.target.now).moments in
     let m1 = (g.T.Disk.view c.check_empty.new.disk).moments in
     let m2 = (g.T.Disk.view c.write_copy.new.target).moments in
-    let same = c.check_empty.ensures.meters.moments t in
+    let same = c.check_empty.ensures.moments t in
     let none = ap (λ (m : Moments). length m.state.now) same ∙ c.in_ok-check_empty.ensures.exact t in
     let has = c.in_ok-of.ensures.read s in
     let planned = c.in_ok-of.ensures.planned in
@@ -46,7 +46,7 @@ returns-clause-any_moment g c = λ s t.
     let m0 = (g.T.Disk.view c.args.target.now).moments in
     let m1 = (g.T.Disk.view c.check_empty.new.disk).moments in
     let m2 = (g.T.Disk.view c.write_copy.new.target).moments in
-    let same = c.check_empty.ensures.meters.moments t in
+    let same = c.check_empty.ensures.moments t in
     let none = ap (λ (m : Moments). length m.state.now) same ∙ c.in_ok-check_empty.ensures.exact t in
     let has = c.in_ok-of.ensures.read s in
     let planned = c.in_ok-of.ensures.planned in
@@ -58,7 +58,7 @@ pub returns-clause-copied : goal.returns-clause-copied
 returns-clause-copied g c = λ s t.
     let l = c.in_ok-of.field-0 in
     let file = (g.S.Disk.view c.args.source.now).moments.state.now in
-    let same = c.check_empty.ensures.meters.moments t in
+    let same = c.check_empty.ensures.moments t in
     let none = ap (λ (m : Moments). length m.state.now) same ∙ c.in_ok-check_empty.ensures.exact t in
     let has = c.in_ok-of.ensures.read s in
     let planned = c.in_ok-of.ensures.planned in

@@ -11,7 +11,7 @@ invariant_of-self g c =
     let r = c.new-reader.ensures in
     let now = c.about-read.new.reader in
     held_after g.D.Disk.view _ _ _ _ _ _ _ _ _ _ c.self.invariant.0 r.disk r.cache r.entries r.shown c.self.inside.merge now.disk.now now.cache.now now.entries.now now.shown.now c.self.invariant.1 c.about-read.ensures.stays.0
-    (g.met.D.Disk.now_is_image c.self.inside.disk) c.about-read.ensures.meters.honesty
+    (g.met.D.Disk.now_is_image c.self.inside.disk) c.about-read.ensures.honesty
 
 pub returns : goal.returns
 returns g c = record {

@@ -10,7 +10,7 @@ invariant_of-self g c =
     let now = c.list_contradictions-read.new.reader in
     let sound = lent_sound _ _ _ _ _ _ _ c.self.invariant.0 c.places.result.now c.new-reader.result.shown.now c.imports-pin.result c.places.ensures r.shown c.imports-pin.ensures in
     held_after g.D.Disk.view _ _ _ _ _ _ _ _ _ _ c.self.invariant.0 r.disk r.cache r.entries r.shown c.self.inside.merge now.disk.now now.cache.now now.entries.now now.shown.now c.self.invariant.1 c.list_contradictions-read.ensures.stays.0
-    (g.met.D.Disk.now_is_image c.self.inside.disk) (λ up. c.list_contradictions-read.ensures.meters.honesty up sound.0 sound.1)
+    (g.met.D.Disk.now_is_image c.self.inside.disk) (λ up. c.list_contradictions-read.ensures.honesty up sound.0 sound.1)
 
 pub returns : goal.returns
 returns g c = record {
