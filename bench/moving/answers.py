@@ -47,7 +47,7 @@ def main():
                     groups[name] = {"at": len(out), "fields": {}, "unfolding": set(), "params": {}, "comment": comment}
                     out.append(None)
                 g = groups[name]
-                g["fields"][field] = body.strip("\n").rstrip()
+                g["fields"][field] = body.rstrip()
                 if unfolding:
                     g["unfolding"].add(unfolding)
                 g["params"][field] = params.split()

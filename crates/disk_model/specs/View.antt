@@ -27,6 +27,10 @@ RisesBy n old new = new ≡ raised_by old n
 abbrev pub AtMost : ℕ → ℕ → ℕ → Type 0
 AtMost n old new = new ≤ old + n
 
+-- of a count nothing is said
+abbrev pub Unsaid : ℕ → ℕ → Type 0
+Unsaid old new = Unit {0}
+
 -- the device was read and nothing else, with these counts of failures and of bytes
 pub record OnlyReads (fails reads : ℕ → ℕ → Type 0) (old new : DiskView) : Type 0 where
   pub moments : old.is_honest → new.moments ≡ old.moments

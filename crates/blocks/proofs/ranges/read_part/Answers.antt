@@ -1,4 +1,4 @@
-use Rattle.std.proofs.Common.{◌≡◌, ◌+◌, ◌*◌, ◌≤◌, ◌++◌, take, drop, ◌/◌, ◌%◌, List, ℕ, length, refl, sym, ap, subst, ◌∙◌, arith}
+use Rattle.std.proofs.Common.{◌≡◌, ◌+◌, ◌*◌, ◌≤◌, ◌++◌, take, drop, ◌/◌, ◌%◌, List, ℕ, length, refl, sym, ap, subst, ◌∙◌, arith, rules}
 use Rattle.std.proofs.lemmas.Result.{err_from_is_err_and}
 use Rattle.disk_model.specs.Disk.{Moments}
 use Rattle.blocks.specs.Cache.{count_of, AgreesWith}
@@ -119,11 +119,29 @@ returns-clause-looked_up g c =
     let inv = c.loop-done.invariant in
     all_looked_up _ c.args.from (length c.args.into.now) c.loop-done.done c.args.cache.now c.loop-done.cache (g.D.Disk.view c.args.disk.now).bytes_read (g.D.Disk.view c.loop-done.disk).bytes_read (omega (arith, inv.0, inv.1, c.loop-done-test.false)) inv.8
 
-pub returns-in_err-count-clause-bytes_read : goal.returns-in_err-count-clause-bytes_read
-returns-in_err-count-clause-bytes_read g c = part_asks _ _ _ _ _ _ _ (returns-in_err-count-clause-looked_up g c)
+pub returns-in_err-count-clause-meters : goal.returns-in_err-count-clause-meters
+returns-in_err-count-clause-meters g c = record {
+  moments = search rules;
+  honesty = search rules;
+  failures = search rules;
+  bytes_read = part_asks _ _ _ _ _ _ _ (returns-in_err-count-clause-looked_up g c);
+  other_calls = search rules;
+}
 
-pub returns-then-count-skip-clause-bytes_read : goal.returns-then-count-skip-clause-bytes_read
-returns-then-count-skip-clause-bytes_read g c = part_asks _ _ _ _ _ _ _ (returns-then-count-skip-clause-looked_up g c)
+pub returns-then-count-skip-clause-meters : goal.returns-then-count-skip-clause-meters
+returns-then-count-skip-clause-meters g c = record {
+  moments = search rules;
+  honesty = search rules;
+  failures = search rules;
+  bytes_read = part_asks _ _ _ _ _ _ _ (returns-then-count-skip-clause-looked_up g c);
+  other_calls = search rules;
+}
 
-pub returns-clause-bytes_read : goal.returns-clause-bytes_read
-returns-clause-bytes_read g c = part_asks _ _ _ _ _ _ _ (returns-clause-looked_up g c)
+pub returns-clause-meters : goal.returns-clause-meters
+returns-clause-meters g c = record {
+  moments = search rules;
+  honesty = search rules;
+  failures = search rules;
+  bytes_read = part_asks _ _ _ _ _ _ _ (returns-clause-looked_up g c);
+  other_calls = search rules;
+}

@@ -1,6 +1,6 @@
 use Rattle.std.specs.Prelude.{Err}
 use Rattle.std.specs.Int.{div_ceil}
-use Rattle.std.proofs.Common.{◌≡◌, ◌+◌, ◌*◌, ◌∙◌, ◌∷◌, [], ℕ, List, length, take, drop, false, refl, sym, ap, subst, arith}
+use Rattle.std.proofs.Common.{◌≡◌, ◌+◌, ◌*◌, ◌∙◌, ◌∷◌, [], ℕ, List, length, take, drop, false, refl, sym, ap, subst, arith, rules}
 use Rattle.std.proofs.lemmas.List.{take_all, take_rest}
 use Rattle.std.proofs.lemmas.Result.{err_from_is_err_and}
 use Rattle.disk_model.proofs.MomentSteps.{joined}
@@ -49,22 +49,24 @@ returns-in_err-taken-clause-calls g c up =
     let end : c.div_ceil-part-end.result ≡ div_ceil c.args.entry.rows 1000 = c.div_ceil-part-end.ensures ∙ ap (λ n. div_ceil n 1000) count in
     omega (arith, c.loop-part.invariant.calls up, c.loop-part-test.true, end)
 
-pub returns-in_err-taken-clause-other_calls : goal.returns-in_err-taken-clause-other_calls
-returns-in_err-taken-clause-other_calls g c =
+pub returns-in_err-taken-clause-meters : goal.returns-in_err-taken-clause-meters
+returns-in_err-taken-clause-meters g c = record {
+  honesty = search rules;
+  failures = search rules;
+  bytes_read =
+    let d = c.args.directory.now in
+    let kept = c.requires.held.kept in
+    let o = only d c.args.entry c.requires.anew c.args.index.now kept in
+    let cost = its_cost d c.args.entry c.requires.anew c.args.index.now kept c.places.result.now c.list-places.result.now c.places.ensures c.list-places.ensures o.rows o.lists_are in
+    omega (arith, c.loop-part.invariant.bytes_read, cost_front (c.loop-part.part * 1000) c.list-places.result.now, cost);
+  other_calls =
     let d = c.args.directory.now in
     let kept = c.requires.held.kept in
     let o = only d c.args.entry c.requires.anew c.args.index.now kept in
     let count = its_count d c.args.entry c.requires.anew c.args.index.now kept c.places.result.now c.list-places.result.now c.places.ensures c.list-places.ensures o.rows o.lists_are in
     let end : c.div_ceil-part-end.result ≡ div_ceil c.args.entry.rows 1000 = c.div_ceil-part-end.ensures ∙ ap (λ n. div_ceil n 1000) count in
-    omega (arith, c.loop-part.invariant.other_calls, c.loop-part-test.true, end)
-
-pub returns-in_err-taken-clause-bytes_read : goal.returns-in_err-taken-clause-bytes_read
-returns-in_err-taken-clause-bytes_read g c =
-    let d = c.args.directory.now in
-    let kept = c.requires.held.kept in
-    let o = only d c.args.entry c.requires.anew c.args.index.now kept in
-    let cost = its_cost d c.args.entry c.requires.anew c.args.index.now kept c.places.result.now c.list-places.result.now c.places.ensures c.list-places.ensures o.rows o.lists_are in
-    omega (arith, c.loop-part.invariant.bytes_read, cost_front (c.loop-part.part * 1000) c.list-places.result.now, cost)
+    omega (arith, c.loop-part.invariant.other_calls, c.loop-part-test.true, end);
+}
 
 pub write_taken-requires-clause-ascending : goal.write_taken-requires-clause-ascending
 write_taken-requires-clause-ascending g c =
@@ -127,17 +129,11 @@ returns-in_err-write_taken-clause-calls g c up =
     let end : c.div_ceil-part-end.result ≡ div_ceil c.args.entry.rows 1000 = c.div_ceil-part-end.ensures ∙ ap (λ n. div_ceil n 1000) count in
     omega (arith, c.write_taken.ensures.calls (c.loop-part.invariant.honesty.0 up), c.loop-part.invariant.calls up, c.loop-part-test.true, end)
 
-pub returns-in_err-write_taken-clause-other_calls : goal.returns-in_err-write_taken-clause-other_calls
-returns-in_err-write_taken-clause-other_calls g c =
-    let d = c.args.directory.now in
-    let kept = c.requires.held.kept in
-    let o = only d c.args.entry c.requires.anew c.args.index.now kept in
-    let count = its_count d c.args.entry c.requires.anew c.args.index.now kept c.places.result.now c.list-places.result.now c.places.ensures c.list-places.ensures o.rows o.lists_are in
-    let end : c.div_ceil-part-end.result ≡ div_ceil c.args.entry.rows 1000 = c.div_ceil-part-end.ensures ∙ ap (λ n. div_ceil n 1000) count in
-    omega (arith, c.write_taken.ensures.meters.other_calls, c.loop-part.invariant.other_calls, c.loop-part-test.true, end)
-
-pub returns-in_err-write_taken-clause-bytes_read : goal.returns-in_err-write_taken-clause-bytes_read
-returns-in_err-write_taken-clause-bytes_read g c =
+pub returns-in_err-write_taken-clause-meters : goal.returns-in_err-write_taken-clause-meters
+returns-in_err-write_taken-clause-meters g c = record {
+  honesty = search rules;
+  failures = search rules;
+  bytes_read =
     let d = c.args.directory.now in
     let kept = c.requires.held.kept in
     let o = only d c.args.entry c.requires.anew c.args.index.now kept in
@@ -145,7 +141,15 @@ returns-in_err-write_taken-clause-bytes_read g c =
     let k = c.loop-part.part * 1000 in
     let cost = its_cost d c.args.entry c.requires.anew c.args.index.now kept c.places.result.now places c.places.ensures c.list-places.ensures o.rows o.lists_are in
     let part = ap cost_at (c.deref.ensures.value ∙ c.in_ok-taken.ensures ∙ ap (λ l. as_taken (take 1000 l)) (take_rest places k)) in
-    omega (arith, c.write_taken.ensures.meters.bytes_read, c.loop-part.invariant.bytes_read, part, cost_on k 1000 places, cost_front (k + 1000) places, cost)
+    omega (arith, c.write_taken.ensures.meters.bytes_read, c.loop-part.invariant.bytes_read, part, cost_on k 1000 places, cost_front (k + 1000) places, cost);
+  other_calls =
+    let d = c.args.directory.now in
+    let kept = c.requires.held.kept in
+    let o = only d c.args.entry c.requires.anew c.args.index.now kept in
+    let count = its_count d c.args.entry c.requires.anew c.args.index.now kept c.places.result.now c.list-places.result.now c.places.ensures c.list-places.ensures o.rows o.lists_are in
+    let end : c.div_ceil-part-end.result ≡ div_ceil c.args.entry.rows 1000 = c.div_ceil-part-end.ensures ∙ ap (λ n. div_ceil n 1000) count in
+    omega (arith, c.write_taken.ensures.meters.other_calls, c.loop-part.invariant.other_calls, c.loop-part-test.true, end);
+}
 
 pub loop-part-preserved : goal.loop-part-preserved
 loop-part-preserved g c =
@@ -203,19 +207,21 @@ returns-clause-calls g c up =
     let end : c.div_ceil-part-end.result ≡ div_ceil c.args.entry.rows 1000 = c.div_ceil-part-end.ensures ∙ ap (λ n. div_ceil n 1000) count in
     omega (arith, c.loop-part.invariant.calls up, c.loop-part.auto.part-end, end)
 
-pub returns-clause-other_calls : goal.returns-clause-other_calls
-returns-clause-other_calls g c =
+pub returns-clause-meters : goal.returns-clause-meters
+returns-clause-meters g c = record {
+  honesty = search rules;
+  failures = search rules;
+  bytes_read =
+    let d = c.args.directory.now in
+    let kept = c.requires.held.kept in
+    let o = only d c.args.entry c.requires.anew c.args.index.now kept in
+    let cost = its_cost d c.args.entry c.requires.anew c.args.index.now kept c.places.result.now c.list-places.result.now c.places.ensures c.list-places.ensures o.rows o.lists_are in
+    omega (arith, c.loop-part.invariant.bytes_read, cost_front (c.loop-part.part * 1000) c.list-places.result.now, cost);
+  other_calls =
     let d = c.args.directory.now in
     let kept = c.requires.held.kept in
     let o = only d c.args.entry c.requires.anew c.args.index.now kept in
     let count = its_count d c.args.entry c.requires.anew c.args.index.now kept c.places.result.now c.list-places.result.now c.places.ensures c.list-places.ensures o.rows o.lists_are in
     let end : c.div_ceil-part-end.result ≡ div_ceil c.args.entry.rows 1000 = c.div_ceil-part-end.ensures ∙ ap (λ n. div_ceil n 1000) count in
-    omega (arith, c.loop-part.invariant.other_calls, c.loop-part.auto.part-end, end)
-
-pub returns-clause-bytes_read : goal.returns-clause-bytes_read
-returns-clause-bytes_read g c =
-    let d = c.args.directory.now in
-    let kept = c.requires.held.kept in
-    let o = only d c.args.entry c.requires.anew c.args.index.now kept in
-    let cost = its_cost d c.args.entry c.requires.anew c.args.index.now kept c.places.result.now c.list-places.result.now c.places.ensures c.list-places.ensures o.rows o.lists_are in
-    omega (arith, c.loop-part.invariant.bytes_read, cost_front (c.loop-part.part * 1000) c.list-places.result.now, cost)
+    omega (arith, c.loop-part.invariant.other_calls, c.loop-part.auto.part-end, end);
+}

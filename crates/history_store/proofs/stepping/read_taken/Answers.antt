@@ -85,21 +85,39 @@ returns-in_err-row-clause-looked_up g c = some_more (is_listed c.args.entries.no
 pub returns-in_err-push-clause-looked_up : goal.returns-in_err-push-clause-looked_up
 returns-in_err-push-clause-looked_up g c = some_more (is_listed c.args.entries.now) c.args.cache.now c.loop-t.cache c.read_row.new.cache (g.D.Disk.view c.args.disk.now).bytes_read (g.D.Disk.view c.loop-t.disk).bytes_read (g.D.Disk.view c.read_row.new.disk).bytes_read c.loop-t.invariant.looked_up c.in_ok-row.ensures.looked_up
 
-pub returns-in_err-row-clause-bytes_read : goal.returns-in_err-row-clause-bytes_read
-returns-in_err-row-clause-bytes_read g c =
+pub returns-in_err-row-clause-meters : goal.returns-in_err-row-clause-meters
+returns-in_err-row-clause-meters g c = record {
+  moments = search rules;
+  honesty = search rules;
+  failures = search rules;
+  bytes_read =
     let l = c.loop-t in
     let taken = c.args.taken.now in
     let t = c.t-item.result in
     let more = take_more taken l.t-index t c.loop-t-test.true ∙ ap (λ (x : Taken). take l.t-index taken ++ x ∷ []) (sym c.t-item.is) in
-    omega (arith, l.invariant.bytes_read, c.in_err-row.ensures.meters.bytes_read, ap cost_at more ∙ cost_push (take l.t-index taken) t, cost_take (l.t-index + 1) taken)
+    omega (arith, l.invariant.bytes_read, c.in_err-row.ensures.meters.bytes_read, ap cost_at more ∙ cost_push (take l.t-index taken) t, cost_take (l.t-index + 1) taken);
+  other_calls = search rules;
+}
 
-pub returns-in_err-push-clause-bytes_read : goal.returns-in_err-push-clause-bytes_read
-returns-in_err-push-clause-bytes_read g c =
+pub returns-in_err-push-clause-meters : goal.returns-in_err-push-clause-meters
+returns-in_err-push-clause-meters g c = record {
+  moments = search rules;
+  honesty = search rules;
+  failures = search rules;
+  bytes_read =
     let l = c.loop-t in
     let taken = c.args.taken.now in
     let t = c.t-item.result in
     let more = take_more taken l.t-index t c.loop-t-test.true ∙ ap (λ (x : Taken). take l.t-index taken ++ x ∷ []) (sym c.t-item.is) in
-    omega (arith, l.invariant.bytes_read, c.in_ok-row.ensures.meters.bytes_read, ap cost_at more ∙ cost_push (take l.t-index taken) t, cost_take (l.t-index + 1) taken)
+    omega (arith, l.invariant.bytes_read, c.in_ok-row.ensures.meters.bytes_read, ap cost_at more ∙ cost_push (take l.t-index taken) t, cost_take (l.t-index + 1) taken);
+  other_calls = search rules;
+}
 
-pub returns-clause-bytes_read : goal.returns-clause-bytes_read
-returns-clause-bytes_read g c = omega (arith, c.loop-t.invariant.bytes_read, cost_take c.loop-t.t-index c.args.taken.now)
+pub returns-clause-meters : goal.returns-clause-meters
+returns-clause-meters g c = record {
+  moments = search rules;
+  honesty = search rules;
+  failures = search rules;
+  bytes_read = omega (arith, c.loop-t.invariant.bytes_read, cost_take c.loop-t.t-index c.args.taken.now);
+  other_calls = search rules;
+}

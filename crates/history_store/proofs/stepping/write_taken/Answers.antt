@@ -1,5 +1,5 @@
 use Rattle.std.specs.Prelude.{OnOk}
-use Rattle.std.proofs.Common.{inl, ◌∙◌, refl, sym, subst, arith}
+use Rattle.std.proofs.Common.{inl, ◌∙◌, refl, sym, subst, arith, rules}
 use Rattle.std.proofs.lemmas.Result.{err_from_is_err_and}
 use Rattle.disk_model.specs.Disk.{Moments, LeavesOnly}
 use Rattle.blocks.specs.declared.extent.Extent.{Extent}
@@ -61,5 +61,10 @@ returns-clause-looked_up g c =
     part_stepped c.write_part.result _ _ _ mid new _ _ _ c.in_ok-bytes.ensures.looked_up c.write_part.ensures.meters.bytes_read
     (subst (λ (e : Extent). OnOk c.write_part.result (Forgets (is_in e) mid new)) c.extent.ensures c.write_part.ensures.forgets) c.write_part.ensures.keeps
 
-pub returns-clause-bytes_read : goal.returns-clause-bytes_read
-returns-clause-bytes_read g c = omega (arith, c.in_ok-bytes.ensures.meters.bytes_read, c.write_part.ensures.meters.bytes_read)
+pub returns-clause-meters : goal.returns-clause-meters
+returns-clause-meters g c = record {
+  honesty = search rules;
+  failures = search rules;
+  bytes_read = omega (arith, c.in_ok-bytes.ensures.meters.bytes_read, c.write_part.ensures.meters.bytes_read);
+  other_calls = search rules;
+}

@@ -1,4 +1,4 @@
-use Rattle.std.proofs.Common.{◌≡◌, ℕ, ◌≤◌, List, length, refl, sym, ap, subst, ◌∙◌, arith}
+use Rattle.std.proofs.Common.{◌≡◌, ℕ, ◌≤◌, List, length, refl, sym, ap, subst, ◌∙◌, arith, rules}
 use Rattle.std.proofs.lemmas.Result.{err_from_is_err_and}
 use Rattle.disk_model.specs.Disk.{Moments}
 use Rattle.blocks.specs.declared.extent.Extent.{Extent}
@@ -89,23 +89,41 @@ returns-then-to-entry-clause-exact g c honest =
     let count = inv.count in
     wrong_end c.rows.to c.args.imports c.args.entry (g.B.SegmentBuilder.rows c.rows.builder) _ inv.read (omega (arith, ended, most, count)) c.if-to-entry.true (inv.begins honest)
 
-pub returns-in_err-to-clause-bytes_read : goal.returns-in_err-to-clause-bytes_read
-returns-in_err-to-clause-bytes_read g c =
+pub returns-in_err-to-clause-meters : goal.returns-in_err-to-clause-meters
+returns-in_err-to-clause-meters g c = record {
+  moments = search rules;
+  honesty = search rules;
+  failures = search rules;
+  bytes_read =
     let inv = c.rows.invariant in
     let extent = ap (λ (x : Extent). x.bytes) (c.in_err-to.ensures.extent ∙ inv.extent) in
-    omega (arith, inv.bytes_read, c.in_err-to.ensures.meters.bytes_read, c.read_row.new.window.within, extent)
+    omega (arith, inv.bytes_read, c.in_err-to.ensures.meters.bytes_read, c.read_row.new.window.within, extent);
+  other_calls = search rules;
+}
 
-pub returns-then-to-entry-clause-bytes_read : goal.returns-then-to-entry-clause-bytes_read
-returns-then-to-entry-clause-bytes_read g c =
+pub returns-then-to-entry-clause-meters : goal.returns-then-to-entry-clause-meters
+returns-then-to-entry-clause-meters g c = record {
+  moments = search rules;
+  honesty = search rules;
+  failures = search rules;
+  bytes_read =
     let inv = c.rows.invariant in
     let extent = ap (λ (x : Extent). x.bytes) inv.extent in
-    omega (arith, inv.bytes_read, c.rows.window.within, extent)
+    omega (arith, inv.bytes_read, c.rows.window.within, extent);
+  other_calls = search rules;
+}
 
-pub returns-clause-bytes_read : goal.returns-clause-bytes_read
-returns-clause-bytes_read g c =
+pub returns-clause-meters : goal.returns-clause-meters
+returns-clause-meters g c = record {
+  moments = search rules;
+  honesty = search rules;
+  failures = search rules;
+  bytes_read =
     let inv = c.rows.invariant in
     let extent = ap (λ (x : Extent). x.bytes) inv.extent in
-    omega (arith, inv.bytes_read, c.rows.window.within, extent)
+    omega (arith, inv.bytes_read, c.rows.window.within, extent);
+  other_calls = search rules;
+}
 
 pub returns-clause-found : goal.returns-clause-found
 returns-clause-found g c =

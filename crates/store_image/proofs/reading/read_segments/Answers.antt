@@ -1,6 +1,6 @@
 use Rattle.std.specs.Prelude.{map}
 use Rattle.std.specs.List.{AllByRecursion}
-use Rattle.std.proofs.Common.{◌≡◌, ◌++◌, ℕ, List, [], ◌∷◌, get_or, take, sym, ap, subst, ◌∙◌, arith, take_all, length-take}
+use Rattle.std.proofs.Common.{◌≡◌, ◌++◌, ℕ, List, [], ◌∷◌, get_or, take, sym, ap, subst, ◌∙◌, arith, take_all, length-take, rules}
 use Rattle.std.proofs.lemmas.List.{length-map}
 use Rattle.disk_model.specs.Disk.{Moments}
 use Rattle.directory.specs.declared.entry.Entry.{Entry}
@@ -120,31 +120,56 @@ returns-clause-read g c =
 
 -- ---- the bytes that were read
 
-pub returns-in-Err-clause-bytes_read : goal.returns-in-Err-clause-bytes_read
+pub returns-in-Err-clause-meters : goal.returns-in-Err-clause-meters
 unfolding none
-returns-in-Err-clause-bytes_read g c =
+returns-in-Err-clause-meters g c = record {
+  honesty = search rules;
+  failures = search rules;
+  bytes_read =
     let entries = c.args.entries.now in
     let i = c.loop-entry.entry-index in
-    omega (arith, c.loop-entry.invariant.bytes_read, c.in-Err.ensures.meters.bytes_read, bytes_up_to entries i none c.loop-entry-test.true)
+    omega (arith, c.loop-entry.invariant.bytes_read, c.in-Err.ensures.meters.bytes_read, bytes_up_to entries i none c.loop-entry-test.true);
+  other_calls = search rules;
+}
 
-pub returns-in_err-push-clause-bytes_read : goal.returns-in_err-push-clause-bytes_read
+pub returns-in_err-push-clause-meters : goal.returns-in_err-push-clause-meters
 unfolding none
-returns-in_err-push-clause-bytes_read g c =
+returns-in_err-push-clause-meters g c = record {
+  honesty = search rules;
+  failures = search rules;
+  bytes_read =
     let entries = c.args.entries.now in
     let i = c.loop-entry.entry-index in
-    omega (arith, c.loop-entry.invariant.bytes_read, c.in-Ok.ensures.meters.bytes_read, bytes_up_to entries i none c.loop-entry-test.true)
+    omega (arith, c.loop-entry.invariant.bytes_read, c.in-Ok.ensures.meters.bytes_read, bytes_up_to entries i none c.loop-entry-test.true);
+  other_calls = search rules;
+}
 
-pub returns-in_err-are_apart-clause-bytes_read : goal.returns-in_err-are_apart-clause-bytes_read
-returns-in_err-are_apart-clause-bytes_read g c =
-    omega (arith, c.loop-entry.invariant.bytes_read, bytes_within c.args.entries.now c.loop-entry.entry-index)
+pub returns-in_err-are_apart-clause-meters : goal.returns-in_err-are_apart-clause-meters
+returns-in_err-are_apart-clause-meters g c = record {
+  honesty = search rules;
+  failures = search rules;
+  bytes_read =
+    omega (arith, c.loop-entry.invariant.bytes_read, bytes_within c.args.entries.now c.loop-entry.entry-index);
+  other_calls = search rules;
+}
 
-pub returns-then-not-branch-clause-bytes_read : goal.returns-then-not-branch-clause-bytes_read
-returns-then-not-branch-clause-bytes_read g c =
-    omega (arith, c.loop-entry.invariant.bytes_read, bytes_within c.args.entries.now c.loop-entry.entry-index)
+pub returns-then-not-branch-clause-meters : goal.returns-then-not-branch-clause-meters
+returns-then-not-branch-clause-meters g c = record {
+  honesty = search rules;
+  failures = search rules;
+  bytes_read =
+    omega (arith, c.loop-entry.invariant.bytes_read, bytes_within c.args.entries.now c.loop-entry.entry-index);
+  other_calls = search rules;
+}
 
-pub returns-clause-bytes_read : goal.returns-clause-bytes_read
-returns-clause-bytes_read g c =
-    omega (arith, c.loop-entry.invariant.bytes_read, bytes_within c.args.entries.now c.loop-entry.entry-index)
+pub returns-clause-meters : goal.returns-clause-meters
+returns-clause-meters g c = record {
+  honesty = search rules;
+  failures = search rules;
+  bytes_read =
+    omega (arith, c.loop-entry.invariant.bytes_read, bytes_within c.args.entries.now c.loop-entry.entry-index);
+  other_calls = search rules;
+}
 
 -- ---- where it stops
 

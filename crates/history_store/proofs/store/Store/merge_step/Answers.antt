@@ -1,6 +1,6 @@
 use Rattle.std.specs.Prelude.{Option, Some, Ok, Err}
 use Rattle.std.specs.Option.{option_to_list}
-use Rattle.std.proofs.Common.{◌≡◌, ◌≢◌, ◌+◌, ◌≤◌, map, refl, sym, ap, subst, ◌∙◌}
+use Rattle.std.proofs.Common.{◌≡◌, ◌≢◌, ◌+◌, ◌≤◌, map, refl, sym, ap, subst, ◌∙◌, rules}
 use Rattle.disk_model.proofs.MomentSteps.{stayed}
 use Rattle.history_store.specs.declared.refusal.Refusal.TheVariants as refusals
 use Rattle.blocks.specs.Extents.{byte_range}
@@ -148,20 +148,35 @@ returns-else-matches-clause-looked_up g c =
     rw (← c.self.view_is) (subst (λ (o : Option MergeInProgress). LooksUpAndForgets (is_listed s.directory.entries) (reserved_by (merge_of o)) s.cache new.cache (g.D.Disk.view s.disk).bytes_read (g.D.Disk.view new.disk).bytes_read)
     c.in-Some.ensures.value c.step-stepped.ensures.looked_up)
 
-pub returns-in-Ok-clause-bytes_read : goal.returns-in-Ok-clause-bytes_read
-returns-in-Ok-clause-bytes_read g c =
+pub returns-in-Ok-clause-meters : goal.returns-in-Ok-clause-meters
+returns-in-Ok-clause-meters g c = record {
+  honesty = search rules;
+  failures = search rules;
+  bytes_read =
     let s = c.self.inside in
     let new = c.step-stepped.new in
-    rw (← c.self.view_is) (subst (λ (o : Option MergeInProgress). (g.D.Disk.view new.disk).bytes_read ≤ (g.D.Disk.view s.disk).bytes_read + step_cost c.args.n (merge_of o)) c.in-Some.ensures.value c.step-stepped.ensures.meters.bytes_read)
+    rw (← c.self.view_is) (subst (λ (o : Option MergeInProgress). (g.D.Disk.view new.disk).bytes_read ≤ (g.D.Disk.view s.disk).bytes_read + step_cost c.args.n (merge_of o)) c.in-Some.ensures.value c.step-stepped.ensures.meters.bytes_read);
+  other_calls = search rules;
+}
 
-pub returns-then-matches-clause-bytes_read : goal.returns-then-matches-clause-bytes_read
-returns-then-matches-clause-bytes_read g c =
+pub returns-then-matches-clause-meters : goal.returns-then-matches-clause-meters
+returns-then-matches-clause-meters g c = record {
+  honesty = search rules;
+  failures = search rules;
+  bytes_read =
     let s = c.self.inside in
     let new = c.step-stepped.new in
-    rw (← c.self.view_is) (subst (λ (o : Option MergeInProgress). (g.D.Disk.view new.disk).bytes_read ≤ (g.D.Disk.view s.disk).bytes_read + step_cost c.args.n (merge_of o)) c.in-Some.ensures.value c.step-stepped.ensures.meters.bytes_read)
+    rw (← c.self.view_is) (subst (λ (o : Option MergeInProgress). (g.D.Disk.view new.disk).bytes_read ≤ (g.D.Disk.view s.disk).bytes_read + step_cost c.args.n (merge_of o)) c.in-Some.ensures.value c.step-stepped.ensures.meters.bytes_read);
+  other_calls = search rules;
+}
 
-pub returns-else-matches-clause-bytes_read : goal.returns-else-matches-clause-bytes_read
-returns-else-matches-clause-bytes_read g c =
+pub returns-else-matches-clause-meters : goal.returns-else-matches-clause-meters
+returns-else-matches-clause-meters g c = record {
+  honesty = search rules;
+  failures = search rules;
+  bytes_read =
     let s = c.self.inside in
     let new = c.step-stepped.new in
-    rw (← c.self.view_is) (subst (λ (o : Option MergeInProgress). (g.D.Disk.view new.disk).bytes_read ≤ (g.D.Disk.view s.disk).bytes_read + step_cost c.args.n (merge_of o)) c.in-Some.ensures.value c.step-stepped.ensures.meters.bytes_read)
+    rw (← c.self.view_is) (subst (λ (o : Option MergeInProgress). (g.D.Disk.view new.disk).bytes_read ≤ (g.D.Disk.view s.disk).bytes_read + step_cost c.args.n (merge_of o)) c.in-Some.ensures.value c.step-stepped.ensures.meters.bytes_read);
+  other_calls = search rules;
+}
