@@ -3,6 +3,7 @@
 ghost use Rattle.std.specs.Prelude.{◌≡◌, ◌⊎◌, ◌↔◌, ℕ, List, length};
 ghost use Rattle.std.specs.Prelude.{IfOk, IfErr, OnOk};
 ghost use Rattle.disk_model.specs.Disk.{IsImage, LeavesOnly};
+ghost use Rattle.disk_model.specs.View.{Calls, Stays, Unsaid};
 ghost use Rattle.fault_counts.specs.Counting.{Counts};
 ghost use Rattle.store_image.specs.Answers.{synced};
 ghost use Rattle.store_image.specs.Images.{IsStore};
@@ -64,9 +65,8 @@ fn read_and_plan<S: Disk>(
     ensures any_moment { (S.view source.old).is_honest
         → LeavesOnly (S.view source.old).moments (S.view source.new).moments
         (IsImage (S.view source.old).moments.state) }
-    ensures honesty { (S.view source.old).is_honest ↔ (S.view source.new).is_honest }
-    ensures failures { Counts CountsSource result
-        (S.view source.old).failures (S.view source.new).failures }
+    ensures meters { Calls (Counts CountsSource result) Unsaid Unsaid
+        (S.view source.old) (S.view source.new) }
     // No fault is one of the disk that is copied to.
     ensures target_failures { (n : ℕ) → Counts CountsTarget result n n }
 {
@@ -121,13 +121,10 @@ pub fn copy<S: Disk, T: Disk>(
     ensures source_any_moment { (S.view source.old).is_honest
         → LeavesOnly (S.view source.old).moments (S.view source.new).moments
         (IsImage (S.view source.old).moments.state) }
-    ensures source_honesty { (S.view source.old).is_honest ↔ (S.view source.new).is_honest }
-    ensures target_honesty { (T.view target.old).is_honest ↔ (T.view target.new).is_honest }
-    ensures source_failures { Counts CountsSource result
-        (S.view source.old).failures (S.view source.new).failures }
-    ensures target_failures { Counts CountsTarget result
-        (T.view target.old).failures (T.view target.new).failures }
-    ensures bytes_read { (T.view target.new).bytes_read ≡ (T.view target.old).bytes_read }
+    ensures source_meters { Calls (Counts CountsSource result) Unsaid Unsaid
+        (S.view source.old) (S.view source.new) }
+    ensures target_meters { Calls (Counts CountsTarget result) Stays Unsaid
+        (T.view target.old) (T.view target.new) }
 {
     check_empty(target)?;
     let Planned {

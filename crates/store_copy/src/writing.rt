@@ -6,6 +6,7 @@ ghost use Rattle.std.specs.List.{AllByRecursion};
 ghost use Rattle.fault_counts.specs.Counting.{Counts, CountsEach, CountsDiskFault};
 ghost use Rattle.fault_counts.specs.declared.fault.ReadFault.TheVariants as readfault;
 ghost use Rattle.disk_model.specs.Disk.{EachImage, IsImage, LeavesOnly};
+ghost use Rattle.disk_model.specs.View.{OnlyReads, Calls, Stays, Unsaid};
 ghost use Rattle.blocks.specs.declared.slots.Slot.TheVariants.{A};
 ghost use Rattle.blocks.specs.Extents.{block_limit, byte_range};
 ghost use Rattle.blocks.specs.Outside.{SameOutside, StemsWithin};
@@ -83,12 +84,8 @@ impl Pending {
             → IsThere from.form (4096 * from.first + at.at) s at
             (S.view source.old).moments.state.now
             → IfErr result (λ e. e ≢ readfault.Damaged) }
-        ensures moments { (S.view source.old).is_honest
-            → (S.view source.new).moments ≡ (S.view source.old).moments }
-        ensures honesty { (S.view source.old).is_honest ↔ (S.view source.new).is_honest }
-        ensures failures { Counts CountsDiskFault result
-            (S.view source.old).failures (S.view source.new).failures }
-        ensures other_calls { (S.view source.new).other_calls ≡ (S.view source.old).other_calls }
+        ensures meters { OnlyReads (Counts CountsDiskFault result) Unsaid
+            (S.view source.old) (S.view source.new) }
     {
         let row = read_row(alloc, source, from, at)?;
         put_record(&mut self.bytes, &mut self.fields, form, &row)?;
@@ -114,10 +111,8 @@ impl Pending {
         ensures elsewhere { (T.view target.old).is_honest → OnOk result
             (SameOutside (byte_range extent ∷ [])
             (T.view target.old).moments.state.now (T.view target.new).moments.state.now) }
-        ensures honesty { (T.view target.old).is_honest ↔ (T.view target.new).is_honest }
-        ensures failures { CountsEach result (T.view target.old).failures
-            (T.view target.new).failures }
-        ensures bytes_read { (T.view target.new).bytes_read ≡ (T.view target.old).bytes_read }
+        ensures meters { Calls (CountsEach result) Stays Unsaid
+            (T.view target.old) (T.view target.new) }
     {
         write_part(target, extent, self.written, self.bytes.as_slice())?;
         self.written += self.bytes.len() as u32;
@@ -156,16 +151,10 @@ fn copy_row<S: Disk, T: Disk>(
     ensures elsewhere { (T.view target.old).is_honest → OnOk result
         (SameOutside (byte_range (extent_of to) ∷ [])
         (T.view target.old).moments.state.now (T.view target.new).moments.state.now) }
-    ensures moments { (S.view source.old).is_honest
-        → (S.view source.new).moments ≡ (S.view source.old).moments }
-    ensures source_honesty { (S.view source.old).is_honest ↔ (S.view source.new).is_honest }
-    ensures target_honesty { (T.view target.old).is_honest ↔ (T.view target.new).is_honest }
-    ensures source_failures { Counts CountsRead result
-        (S.view source.old).failures (S.view source.new).failures }
-    ensures target_failures { Counts CountsWrite result
-        (T.view target.old).failures (T.view target.new).failures }
-    ensures other_calls { (S.view source.new).other_calls ≡ (S.view source.old).other_calls }
-    ensures bytes_read { (T.view target.new).bytes_read ≡ (T.view target.old).bytes_read }
+    ensures source_meters { OnlyReads (Counts CountsRead result) Unsaid
+        (S.view source.old) (S.view source.new) }
+    ensures target_meters { Calls (Counts CountsWrite result) Stays Unsaid
+        (T.view target.old) (T.view target.new) }
 {
     let form = to.form;
     match pending.take(alloc, source, from, at, form) {
@@ -207,16 +196,10 @@ fn copy_segment<S: Disk, T: Disk>(
     ensures elsewhere { (T.view target.old).is_honest → OnOk result
         (SameOutside (byte_range (extent_of to) ∷ [])
         (T.view target.old).moments.state.now (T.view target.new).moments.state.now) }
-    ensures moments { (S.view source.old).is_honest
-        → (S.view source.new).moments ≡ (S.view source.old).moments }
-    ensures source_honesty { (S.view source.old).is_honest ↔ (S.view source.new).is_honest }
-    ensures target_honesty { (T.view target.old).is_honest ↔ (T.view target.new).is_honest }
-    ensures source_failures { Counts CountsRead result
-        (S.view source.old).failures (S.view source.new).failures }
-    ensures target_failures { Counts CountsWrite result
-        (T.view target.old).failures (T.view target.new).failures }
-    ensures other_calls { (S.view source.new).other_calls ≡ (S.view source.old).other_calls }
-    ensures bytes_read { (T.view target.new).bytes_read ≡ (T.view target.old).bytes_read }
+    ensures source_meters { OnlyReads (Counts CountsRead result) Unsaid
+        (S.view source.old) (S.view source.new) }
+    ensures target_meters { Calls (Counts CountsWrite result) Stays Unsaid
+        (T.view target.old) (T.view target.new) }
 {
     let mut pending = Pending::new(alloc);
     for place in segment.places() {
@@ -263,16 +246,10 @@ fn copy_segments<S: Disk, T: Disk>(
     ensures any_moment { (T.view target.old).is_honest
         → EachImage (T.view target.old).moments.state IsShut
         → LeavesOnly (T.view target.old).moments (T.view target.new).moments IsShut }
-    ensures moments { (S.view source.old).is_honest
-        → (S.view source.new).moments ≡ (S.view source.old).moments }
-    ensures source_honesty { (S.view source.old).is_honest ↔ (S.view source.new).is_honest }
-    ensures target_honesty { (T.view target.old).is_honest ↔ (T.view target.new).is_honest }
-    ensures source_failures { Counts CountsSource result
-        (S.view source.old).failures (S.view source.new).failures }
-    ensures target_failures { Counts CountsTarget result
-        (T.view target.old).failures (T.view target.new).failures }
-    ensures other_calls { (S.view source.new).other_calls ≡ (S.view source.old).other_calls }
-    ensures bytes_read { (T.view target.new).bytes_read ≡ (T.view target.old).bytes_read }
+    ensures source_meters { OnlyReads (Counts CountsSource result) Unsaid
+        (S.view source.old) (S.view source.new) }
+    ensures target_meters { Calls (Counts CountsTarget result) Stays Unsaid
+        (T.view target.old) (T.view target.new) }
 {
     let imports = copy.imports();
     let mut left = copy.entries();
@@ -322,15 +299,10 @@ pub(crate) fn write_copy<S: Disk, T: Disk>(
         → LeavesOnly (T.view target.old).moments (T.view target.new).moments
         (λ c. IsImage (T.view target.old).moments.state c ⊎ (IsStore c → ⊥)
         ⊎ HasStore A copy.now (lists_up_to copy.now.imports segments.now) c) }
-    ensures moments { (S.view source.old).is_honest
-        → (S.view source.new).moments ≡ (S.view source.old).moments }
-    ensures source_honesty { (S.view source.old).is_honest ↔ (S.view source.new).is_honest }
-    ensures target_honesty { (T.view target.old).is_honest ↔ (T.view target.new).is_honest }
-    ensures source_failures { Counts CountsSource result
-        (S.view source.old).failures (S.view source.new).failures }
-    ensures target_failures { Counts CountsTarget result
-        (T.view target.old).failures (T.view target.new).failures }
-    ensures bytes_read { (T.view target.new).bytes_read ≡ (T.view target.old).bytes_read }
+    ensures source_meters { OnlyReads (Counts CountsSource result) Unsaid
+        (S.view source.old) (S.view source.new) }
+    ensures target_meters { Calls (Counts CountsTarget result) Stays Unsaid
+        (T.view target.old) (T.view target.new) }
 {
     close_slots(target)?;
     copy_segments(alloc, source, from, segments, target, copy)?;

@@ -3,7 +3,7 @@
 ghost use Rattle.std.specs.Prelude.{◌≡◌, ◌⊎◌, ◌↔◌, ◌+◌, ◌≤◌, length, map};
 ghost use Rattle.std.specs.Prelude.{IfOk, IfErr, MatchResult};
 ghost use Rattle.disk_model.specs.Disk.{IsImage, LeavesOnly, raised_by};
-ghost use Rattle.disk_model.specs.View.{OnlyReads, AtMost};
+ghost use Rattle.disk_model.specs.View.{OnlyReads, Calls, AtMost};
 ghost use Rattle.blocks.specs.Slots.{other_read, slots_read};
 ghost use Rattle.store_image.specs.declared.fault.Damage.TheVariants as damages;
 ghost use Rattle.store_image.specs.declared.fault.LoadFault.TheVariants as faults;
@@ -61,15 +61,13 @@ pub fn load<D: Disk, B: SegmentBuilder>(
     ensures on_disk { (D.view disk.old).is_honest
         → IfOk result (λ l. IsOnDisk (D.view disk.new).moments.state l.slot l.directory
         (map B.sealed l.segments.items)) }
-    ensures honesty { (D.view disk.old).is_honest ↔ (D.view disk.new).is_honest }
-    ensures failures { CountsLoading result (D.view disk.old).failures (D.view disk.new).failures }
-    // On every disk it reads the slots, and each byte of the listed segments once.
-    ensures bytes_read { IfOk result (λ l. (D.view disk.new).bytes_read
-        ≤ (D.view disk.old).bytes_read + slots_read + bytes_listed l.directory.entries) }
-    // Beside its reads it makes one sync, and asks for the length once for the slots and once for
-    // each segment.
-    ensures other_calls { IfOk result (λ l. (D.view disk.new).other_calls
-        ≤ (D.view disk.old).other_calls + 2 + length l.directory.entries) }
+    // On every disk it reads the slots, and each byte of the listed segments once. Beside its reads
+    // it makes one sync, and asks for the length once for the slots and once for each segment.
+    ensures meters { Calls (CountsLoading result)
+        (λ before after. IfOk result
+        (λ l. after ≤ before + slots_read + bytes_listed l.directory.entries))
+        (λ before after. IfOk result (λ l. after ≤ before + 2 + length l.directory.entries))
+        (D.view disk.old) (D.view disk.new) }
     // Before it reads it makes one call: a sync that failed isn't tried again.
     ensures synced_once { ((D.view disk.new).other_calls ≤ (D.view disk.old).other_calls + 1)
         ⊎ (raised_by (D.view disk.old).bytes_read 1 ≤ (D.view disk.new).bytes_read) }

@@ -51,13 +51,13 @@ loop-i-preserved g c =
           let first = each.0.first in
           let some : 1 ≤ length (up_to n rows) = omega (arith, w.if-size_up_to-gt0.true, all, count) in
           rw (w.source-is, w.target-is, w.left-is) (record {
-            source = (λ h. done.source_honesty.0 (inv.source.0 h), λ h. inv.source.1 (done.source_honesty.1 h));
-            target = (λ h. done.target_honesty.0 (inv.target.0 h), λ h. inv.target.1 (done.target_honesty.1 h));
-            moments = λ h. done.moments (inv.source.0 h) ∙ inv.moments h;
-            source_failures = done.source_failures ∙ inv.source_failures;
-            target_failures = done.target_failures ∙ inv.target_failures;
-            other_calls = done.other_calls ∙ inv.other_calls;
-            bytes_read = done.bytes_read ∙ inv.bytes_read;
+            source = (λ h. done.source_meters.honesty.0 (inv.source.0 h), λ h. inv.source.1 (done.source_meters.honesty.1 h));
+            target = (λ h. done.target_meters.honesty.0 (inv.target.0 h), λ h. inv.target.1 (done.target_meters.honesty.1 h));
+            moments = λ h. done.source_meters.moments (inv.source.0 h) ∙ inv.moments h;
+            source_failures = done.source_meters.failures ∙ inv.source_failures;
+            target_failures = done.target_meters.failures ∙ inv.target_failures;
+            other_calls = done.source_meters.other_calls ∙ inv.other_calls;
+            bytes_read = done.target_meters.bytes_read ∙ inv.bytes_read;
             left = left_some form n lists i rows lt is some c.loop-i.left.now behind to inv.left split;
             entries = each.1;
             long = λ h. let so_far = inv.long h in let more = (done.elsewhere (inv.target.0 h)).no_shorter in omega (arith, so_far, more);
