@@ -1,6 +1,5 @@
 //! What may be wrong with a release that was checked, told to people.
 
-ghost use Rattle.store_life.specs.DeviceView.{device_view};
 ghost use Rattle.command_line.specs.Checking.{IsOnlyRead};
 
 use disk_model::Disk;
@@ -73,7 +72,7 @@ pub(crate) fn tell_warnings<D: Disk, E: Write>(
     store: &mut Store<D>,
     faults: &mut E,
 )
-    ensures { IsOnlyRead (device_view D.is_honest D.moments D.failures D.bytes_read)
+    ensures { IsOnlyRead D.view
         store.old.disk store.new.disk }
 {
     let Some(latest) = store.latest_time() else {
@@ -114,7 +113,7 @@ fn unmet_modules<D: Disk>(
     modules: &BTreeSet<u64>,
     store: &mut Store<D>,
 ) -> Result<BTreeSet<u64>, Refusal>
-    ensures { IsOnlyRead (device_view D.is_honest D.moments D.failures D.bytes_read)
+    ensures { IsOnlyRead D.view
         store.old.disk store.new.disk }
 {
     let mut unmet = modules_without_own_row(alloc, modules, store)?;
@@ -135,7 +134,7 @@ fn modules_without_own_row<D: Disk>(
     modules: &BTreeSet<u64>,
     store: &mut Store<D>,
 ) -> Result<BTreeSet<u64>, Refusal>
-    ensures { IsOnlyRead (device_view D.is_honest D.moments D.failures D.bytes_read)
+    ensures { IsOnlyRead D.view
         store.old.disk store.new.disk }
 {
     let mut unmet = BTreeSet::new(alloc);
@@ -149,7 +148,7 @@ fn modules_without_own_row<D: Disk>(
 
 /// Whether a row of a module's own concept is of the module.
 fn has_own_row<D: Disk>(module: u64, store: &mut Store<D>) -> Result<bool, Refusal>
-    ensures { IsOnlyRead (device_view D.is_honest D.moments D.failures D.bytes_read)
+    ensures { IsOnlyRead D.view
         store.old.disk store.new.disk }
 {
     let pin = store.imports();
@@ -164,7 +163,7 @@ fn meet_next<D: Disk>(
     after: Option<Key>,
     store: &mut Store<D>,
 ) -> Result<Option<Key>, Refusal>
-    ensures { IsOnlyRead (device_view D.is_honest D.moments D.failures D.bytes_read)
+    ensures { IsOnlyRead D.view
         store.old.disk store.new.disk }
 {
     let pin = store.imports();

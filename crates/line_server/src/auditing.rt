@@ -1,7 +1,6 @@
 //! The questions of an audit: what the store finds, as a reply.
 
 ghost use Rattle.std.specs.Prelude.{◌≤◌};
-ghost use Rattle.store_life.specs.DeviceView.{device_view};
 ghost use Rattle.line_commands.specs.Questions.{Ancestors, Descendants, Replaces, Timeline, Delta};
 ghost use Rattle.line_commands.specs.Questions.{Dates, Digest};
 ghost use Rattle.line_server.specs.Private.{IsQueried};
@@ -24,7 +23,7 @@ pub(crate) fn answer_ancestors<D: Disk>(
     store: &mut Store<D>,
 ) -> Result<Reply, LineRefusal>
     requires { pin ≤ store.old.history.imports }
-    ensures { IsQueried result (device_view D.is_honest D.moments D.failures D.bytes_read)
+    ensures { IsQueried result D.view
         (Ancestors concept time) pin store.old store.new }
 {
     let found = store.ancestors(concept, time, pin)?;
@@ -40,7 +39,7 @@ pub(crate) fn answer_descendants<D: Disk>(
     store: &mut Store<D>,
 ) -> Result<Reply, LineRefusal>
     requires { pin ≤ store.old.history.imports }
-    ensures { IsQueried result (device_view D.is_honest D.moments D.failures D.bytes_read)
+    ensures { IsQueried result D.view
         (Descendants concept time) pin store.old store.new }
 {
     let found = store.descendants(concept, time, pin)?;
@@ -56,7 +55,7 @@ pub(crate) fn answer_replaces<D: Disk>(
     store: &mut Store<D>,
 ) -> Result<Reply, LineRefusal>
     requires { pin ≤ store.old.history.imports }
-    ensures { IsQueried result (device_view D.is_honest D.moments D.failures D.bytes_read)
+    ensures { IsQueried result D.view
         (Replaces id time) pin store.old store.new }
 {
     let found = store.replaces(id, time, pin)?;
@@ -72,7 +71,7 @@ pub(crate) fn answer_timeline<D: Disk>(
     store: &mut Store<D>,
 ) -> Result<Reply, LineRefusal>
     requires { pin ≤ store.old.history.imports }
-    ensures { IsQueried result (device_view D.is_honest D.moments D.failures D.bytes_read)
+    ensures { IsQueried result D.view
         (Timeline kind id) pin store.old store.new }
 {
     let found = store.timeline(kind, id, pin)?;
@@ -91,7 +90,7 @@ pub(crate) fn answer_delta<D: Disk>(
     store: &mut Store<D>,
 ) -> Result<Reply, LineRefusal>
     requires { pin ≤ store.old.history.imports }
-    ensures { IsQueried result (device_view D.is_honest D.moments D.failures D.bytes_read)
+    ensures { IsQueried result D.view
         (Delta kind from time after limit) pin store.old store.new }
 {
     let found = store.delta(kind, from, time, after, limit, pin)?;
@@ -105,7 +104,7 @@ pub(crate) fn answer_dates<D: Disk>(
     store: &mut Store<D>,
 ) -> Result<Reply, LineRefusal>
     requires { pin ≤ store.old.history.imports }
-    ensures { IsQueried result (device_view D.is_honest D.moments D.failures D.bytes_read)
+    ensures { IsQueried result D.view
         Dates pin store.old store.new }
 {
     let found = store.dates(pin)?;
@@ -119,7 +118,7 @@ pub(crate) fn answer_digest<D: Disk>(
     store: &mut Store<D>,
 ) -> Result<Reply, LineRefusal>
     requires { pin ≤ store.old.history.imports }
-    ensures { IsQueried result (device_view D.is_honest D.moments D.failures D.bytes_read)
+    ensures { IsQueried result D.view
         Digest pin store.old store.new }
 {
     let found = digest(alloc, store, pin)?;

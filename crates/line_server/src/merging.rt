@@ -1,7 +1,6 @@
 //! The commands of a merge, and trimming: what the store says, as a reply.
 
 ghost use Rattle.line_commands.specs.Commands.{Merge, Step, Publish, Abandon, Trim};
-ghost use Rattle.store_life.specs.DeviceView.{device_view};
 ghost use Rattle.line_server.specs.Private.{IsCarriedOut};
 
 use crate::refusal::LineRefusal;
@@ -17,7 +16,7 @@ pub(crate) fn answer_merge<D: Disk>(
     store: &mut Store<D>,
 ) -> Result<Reply, LineRefusal>
     ensures { IsCarriedOut result
-        (device_view D.is_honest D.moments D.failures D.bytes_read) Merge store.old
+        D.view Merge store.old
         store.new }
 {
     let left = store.merge_begin()?;
@@ -31,7 +30,7 @@ pub(crate) fn answer_step<D: Disk>(
     store: &mut Store<D>,
 ) -> Result<Reply, LineRefusal>
     ensures { IsCarriedOut result
-        (device_view D.is_honest D.moments D.failures D.bytes_read) (Step rows)
+        D.view (Step rows)
         store.old store.new }
 {
     let left = store.merge_step(rows)?;
@@ -44,7 +43,7 @@ pub(crate) fn answer_publish<D: Disk>(
     store: &mut Store<D>,
 ) -> Result<Reply, LineRefusal>
     ensures { IsCarriedOut result
-        (device_view D.is_honest D.moments D.failures D.bytes_read) Publish store.old
+        D.view Publish store.old
         store.new }
 {
     store.merge_publish()?;
@@ -57,7 +56,7 @@ pub(crate) fn answer_abandon<D: Disk>(
     store: &mut Store<D>,
 ) -> Result<Reply, LineRefusal>
     ensures { IsCarriedOut result
-        (device_view D.is_honest D.moments D.failures D.bytes_read) Abandon store.old
+        D.view Abandon store.old
         store.new }
 {
     store.merge_abandon()?;
@@ -70,7 +69,7 @@ pub(crate) fn answer_trim<D: Disk>(
     store: &mut Store<D>,
 ) -> Result<Reply, LineRefusal>
     ensures { IsCarriedOut result
-        (device_view D.is_honest D.moments D.failures D.bytes_read) Trim store.old
+        D.view Trim store.old
         store.new }
 {
     let _bytes = store.trim()?;

@@ -1,7 +1,6 @@
 //! Queries: what the store finds, as a reply.
 
 ghost use Rattle.std.specs.Prelude.{◌≤◌};
-ghost use Rattle.store_life.specs.DeviceView.{device_view};
 ghost use Rattle.line_commands.specs.Questions.{Get, History, Children, Terms, Search, Replaced};
 ghost use Rattle.line_commands.specs.Questions.{About, Page, Receipt};
 ghost use Rattle.line_server.specs.Private.{IsQueried};
@@ -25,7 +24,7 @@ pub(crate) fn answer_get<D: Disk>(
 ) -> Result<Reply, LineRefusal>
     requires { pin ≤ store.old.history.imports }
     ensures { IsQueried result
-        (device_view D.is_honest D.moments D.failures D.bytes_read) (Get kind id time) pin
+        D.view (Get kind id time) pin
         store.old store.new }
 {
     let found = store.get(kind, id, time, pin)?;
@@ -42,7 +41,7 @@ pub(crate) fn answer_history<D: Disk>(
 ) -> Result<Reply, LineRefusal>
     requires { pin ≤ store.old.history.imports }
     ensures { IsQueried result
-        (device_view D.is_honest D.moments D.failures D.bytes_read) (History kind id) pin
+        D.view (History kind id) pin
         store.old store.new }
 {
     let found = store.history(kind, id, pin)?;
@@ -58,7 +57,7 @@ pub(crate) fn answer_children<D: Disk>(
     store: &mut Store<D>,
 ) -> Result<Reply, LineRefusal>
     requires { pin ≤ store.old.history.imports }
-    ensures { IsQueried result (device_view D.is_honest D.moments D.failures D.bytes_read)
+    ensures { IsQueried result D.view
         (Children concept time) pin store.old store.new }
 {
     let found = store.children(concept, time, pin)?;
@@ -75,7 +74,7 @@ pub(crate) fn answer_terms<D: Disk>(
     store: &mut Store<D>,
 ) -> Result<Reply, LineRefusal>
     requires { pin ≤ store.old.history.imports }
-    ensures { IsQueried result (device_view D.is_honest D.moments D.failures D.bytes_read)
+    ensures { IsQueried result D.view
         (Terms prefix.now time limit) pin store.old store.new }
 {
     let found = store.terms(prefix, time, limit, pin)?;
@@ -93,7 +92,7 @@ pub(crate) fn answer_search<D: Disk>(
     store: &mut Store<D>,
 ) -> Result<Reply, LineRefusal>
     requires { pin ≤ store.old.history.imports }
-    ensures { IsQueried result (device_view D.is_honest D.moments D.failures D.bytes_read)
+    ensures { IsQueried result D.view
         (Search prefix.now time after limit) pin store.old store.new }
 {
     let found = store.search(prefix, time, after, limit, pin)?;
@@ -110,7 +109,7 @@ pub(crate) fn answer_replaced<D: Disk>(
 ) -> Result<Reply, LineRefusal>
     requires { pin ≤ store.old.history.imports }
     ensures { IsQueried result
-        (device_view D.is_honest D.moments D.failures D.bytes_read) (Replaced id time) pin
+        D.view (Replaced id time) pin
         store.old store.new }
 {
     let found = store.replacements(id, time, pin)?;
@@ -128,7 +127,7 @@ pub(crate) fn answer_about<D: Disk>(
 ) -> Result<Reply, LineRefusal>
     requires { pin ≤ store.old.history.imports }
     ensures { IsQueried result
-        (device_view D.is_honest D.moments D.failures D.bytes_read) (About kind id time)
+        D.view (About kind id time)
         pin store.old store.new }
 {
     let found = store.about(kind, id, time, pin)?;
@@ -146,7 +145,7 @@ pub(crate) fn answer_page<D: Disk>(
     store: &mut Store<D>,
 ) -> Result<Reply, LineRefusal>
     requires { pin ≤ store.old.history.imports }
-    ensures { IsQueried result (device_view D.is_honest D.moments D.failures D.bytes_read)
+    ensures { IsQueried result D.view
         (Page kind time after limit) pin store.old store.new }
 {
     let found = store.page(kind, time, after, limit, pin)?;
@@ -163,7 +162,7 @@ pub(crate) fn answer_receipt<D: Disk>(
     requires first { 1 ≤ number }
     requires within { pin ≤ store.now.history.imports }
     ensures { IsQueried result
-        (device_view D.is_honest D.moments D.failures D.bytes_read) (Receipt number) pin
+        D.view (Receipt number) pin
         store.now store.now }
 {
     if number > pin {

@@ -1,7 +1,6 @@
 //! The questions of reference sets: what the store finds, as a reply.
 
 ghost use Rattle.std.specs.Prelude.{◌≤◌};
-ghost use Rattle.store_life.specs.DeviceView.{device_view};
 ghost use Rattle.line_commands.specs.Questions.{Members, Values, Called};
 ghost use Rattle.line_server.specs.Private.{IsQueried};
 
@@ -24,7 +23,7 @@ pub(crate) fn answer_members<D: Disk>(
     store: &mut Store<D>,
 ) -> Result<Reply, LineRefusal>
     requires { pin ≤ store.old.history.imports }
-    ensures { IsQueried result (device_view D.is_honest D.moments D.failures D.bytes_read)
+    ensures { IsQueried result D.view
         (Members refset time after limit) pin store.old store.new }
 {
     let found = store.members(refset, time, after, limit, pin)?;
@@ -42,7 +41,7 @@ pub(crate) fn answer_values<D: Disk>(
     store: &mut Store<D>,
 ) -> Result<Reply, LineRefusal>
     requires { pin ≤ store.old.history.imports }
-    ensures { IsQueried result (device_view D.is_honest D.moments D.failures D.bytes_read)
+    ensures { IsQueried result D.view
         (Values refset time after limit) pin store.old store.new }
 {
     let found = store.values(refset, time, after, limit, pin)?;
@@ -59,7 +58,7 @@ pub(crate) fn answer_called<D: Disk>(
     store: &mut Store<D>,
 ) -> Result<Reply, LineRefusal>
     requires { pin ≤ store.old.history.imports }
-    ensures { IsQueried result (device_view D.is_honest D.moments D.failures D.bytes_read)
+    ensures { IsQueried result D.view
         (Called concept time refset) pin store.old store.new }
 {
     let found = store.called(concept, time, refset, pin)?;

@@ -1,11 +1,10 @@
 use Rattle.std.proofs.Common.{refl}
-use Rattle.store_life.specs.DeviceView.{device_view}
 use Rattle.store_life.proofs.Made.{rewrite_made}
 use Rattle.command_line.proofs.merging.merge_all.Goals as goal
 
 pub returns-after-anew : goal.returns-after-anew
 returns-after-anew g c =
-    let view = device_view g.D.Disk.is_honest g.D.Disk.moments g.D.Disk.failures g.D.Disk.bytes_read in
+    let view = g.D.Disk.view in
     let r = c.rewrite.ensures in
     record {
       result = c.rewrite.result;
@@ -17,7 +16,7 @@ returns-after-anew g c =
 
 pub returns-in-Err : goal.returns-in-Err
 returns-in-Err g c =
-    let view = device_view g.D.Disk.is_honest g.D.Disk.moments g.D.Disk.failures g.D.Disk.bytes_read in
+    let view = g.D.Disk.view in
     let r = c.rewrite.ensures in
     record {
       result = c.rewrite.result;

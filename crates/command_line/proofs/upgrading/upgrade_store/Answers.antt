@@ -1,11 +1,10 @@
 use Rattle.std.proofs.Common.{refl}
-use Rattle.store_life.specs.DeviceView.{device_view}
 use Rattle.store_life.proofs.Made.{upgrade_made}
 use Rattle.command_line.proofs.upgrading.upgrade_store.Goals as goal
 
 pub returns-in-Ok : goal.returns-in-Ok
 returns-in-Ok g c =
-    let view = device_view g.D.Disk.is_honest g.D.Disk.moments g.D.Disk.failures g.D.Disk.bytes_read in
+    let view = g.D.Disk.view in
     let u = c.upgrade.ensures in
     record {
       result = c.upgrade.result;
@@ -18,7 +17,7 @@ returns-in-Ok g c =
 
 pub returns-in-Err : goal.returns-in-Err
 returns-in-Err g c =
-    let view = device_view g.D.Disk.is_honest g.D.Disk.moments g.D.Disk.failures g.D.Disk.bytes_read in
+    let view = g.D.Disk.view in
     let u = c.upgrade.ensures in
     record {
       result = c.upgrade.result;
