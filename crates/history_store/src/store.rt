@@ -4,7 +4,7 @@ ghost use Rattle.std.specs.Prelude.{◌≡◌, ◌≢◌, ◌⊎◌, ◌↔◌, 
 ghost use Rattle.std.specs.List.{sum_by};
 ghost use Rattle.std.specs.Prelude.{IfOk, IfErr, OnOk, OnErr, true, false};
 ghost use Rattle.disk_model.specs.Disk.{IsImage, EachImage, LeavesOnly, raised_by};
-ghost use Rattle.disk_model.specs.View.{Calls, AtMost};
+ghost use Rattle.disk_model.specs.View.{OnlyReads, Calls, AtMost, Unsaid};
 
 use crate::checking::{Next, Ready};
 use crate::counting::{blocks_in_use, plain_count, row_count};
@@ -211,13 +211,8 @@ impl<D: Disk> Store<D> {
             + sum_by row_cost (already_known (full self.old.history) rows) }
         ensures bytes_unread { (IsRead release → ⊥)
             → (D.view self.new.disk).bytes_read ≤ (D.view self.old.disk).bytes_read }
-        ensures moments { (D.view self.old.disk).is_honest
-            → (D.view self.new.disk).moments ≡ (D.view self.old.disk).moments }
-        ensures honesty { (D.view self.old.disk).is_honest ↔ (D.view self.new.disk).is_honest }
-        ensures failures { Counts result (D.view self.old.disk).failures
-            (D.view self.new.disk).failures }
-        ensures other_calls { (D.view self.new.disk).other_calls
-            ≡ (D.view self.old.disk).other_calls }
+        ensures meters { OnlyReads (Counts result) Unsaid
+            (D.view self.old.disk) (D.view self.new.disk) }
     {
         let pin = self.directory.imports();
         let mut reader = DiskRows::new(
@@ -375,12 +370,11 @@ impl<D: Disk> Store<D> {
             (D.view self.old.disk).moments (D.view self.new.disk).moments }
         // On every disk it makes no other call than reads and these; and none
         // of these where it is refused for any other reason than the device.
-        ensures other_calls { MakesNoOtherCalls result
-            (D.view self.old.disk).other_calls (D.view self.new.disk).other_calls }
-        ensures honesty { (D.view self.old.disk).is_honest ↔ (D.view self.new.disk).is_honest }
+        ensures meters { Calls (Counts result) Unsaid (MakesNoOtherCalls result)
+            (D.view self.old.disk) (D.view self.new.disk) }
         // On every disk, and whatever it answers, it reads blocks of listed segments alone, through
         // the blocks in memory, and the gate of a slot. It forgets what it wrote, and nothing else.
-        ensures looked_up { ImportsThroughCache result (D.view self.old).bytes_read self.new }
+        ensures looked_up { ImportsThroughCache result D.view self.old self.new }
         // It reads each row of the store whose key the release has once at most, no other row,
         // and the gate. Where a file is no release file, nothing is read.
         ensures bytes_read { (rows : List RowValue) → IsReleaseOf release rows
@@ -390,8 +384,6 @@ impl<D: Disk> Store<D> {
             → (D.view self.new.disk).bytes_read ≤ (D.view self.old.disk).bytes_read }
         // There is room for as many blocks in memory as before.
         ensures capacity { self.new.cache.cap ≡ self.old.cache.cap }
-        ensures failures { Counts result (D.view self.old.disk).failures
-            (D.view self.new.disk).failures }
     {
         let Ready { receipt, next } = self.make_ready(release)?;
         match next {
