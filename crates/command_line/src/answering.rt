@@ -24,8 +24,7 @@ pub(crate) fn answer_read<D: Disk + Drop, S: Source, O: Write>(
 ) -> Result<Ending, ServeFault>
     requires { (line : List ℕ) × IsReading line read.now }
     ensures { (line : List ℕ) → IsReading line read.now
-        → IsLineTold (source_view (S.is_honest source.old) (S.releases source.old))
-        D.view
+        → IsLineTold (source_view (S.is_honest source.old) (S.releases source.old)) D.view
         line store.old store.new.disk
         (report result (O.contents output.old) (O.contents output.new)) }
 {

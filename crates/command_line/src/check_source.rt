@@ -50,8 +50,7 @@ impl<F: Folders, E: Write> CheckSource<'_, F, E> {
         ended: Result<Ending, ServeFault>,
         store: &mut Store<D>,
     )
-        ensures { IsOnlyRead D.view
-            store.old.disk store.new.disk }
+        ensures { IsOnlyRead D.view store.old.disk store.new.disk }
     {
         if self.refused.is_none() && !matches!(ended, Ok(Ending::Done)) {
             return;
@@ -79,8 +78,7 @@ impl<F: Folders, E: Write> CheckSource<'_, F, E> {
         release: Release,
         store: &mut Store<D>,
     )
-        ensures { IsOnlyRead D.view
-            store.old.disk store.new.disk }
+        ensures { IsOnlyRead D.view store.old.disk store.new.disk }
     {
         let outline = outline_of(alloc, &release.files);
         self.tell_contradicting(alloc, name, release, store);
@@ -98,8 +96,7 @@ impl<F: Folders, E: Write> CheckSource<'_, F, E> {
         release: Release,
         store: &mut Store<D>,
     )
-        ensures { IsOnlyRead D.view
-            store.old.disk store.new.disk }
+        ensures { IsOnlyRead D.view store.old.disk store.new.disk }
     {
         if self.refused.is_none() {
             return;

@@ -115,8 +115,7 @@ fn copy_onto<V: Devices, F: Folders, O: Write, E: Write>(
     output: &mut O,
     faults: &mut E,
 ) -> Performed<V::Device>
-    ensures { IsCopyMade
-        V.Device.view
+    ensures { IsCopyMade V.Device.view
         (F.removes folders.now to.now) (F.retains folders.now to.now) imports source target
         result.1 result.2 (report result.0 (O.contents output.old) (O.contents output.new)) }
 {

@@ -18,8 +18,7 @@ pub(crate) fn init<D: Disk + Drop, O: Write>(
     layout: Layout,
     output: &mut O,
 ) -> (Result<Ending, ServeFault>, D)
-    ensures { IsMade layout
-        D.view device result.1
+    ensures { IsMade layout D.view device result.1
         (report result.0 (O.contents output.old) (O.contents output.new)) }
 {
     match Store::create_in(alloc, device, layout) {

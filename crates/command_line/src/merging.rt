@@ -33,8 +33,7 @@ fn ask<D: Disk>(
     requires asked { (line : List ℕ) × IsReading line read.now }
     requires within { AreWithin store.old.history.imports state.old.pins }
     ensures within { AreWithin store.new.history.imports state.new.pins }
-    ensures asked { (line : List ℕ) → IsReading line read.now → IsAsked
-        D.view line result
+    ensures asked { (line : List ℕ) → IsReading line read.now → IsAsked D.view line result
         (server state.old store.old) (server state.new store.new) }
 {
     let _reply = carry_out(alloc, read, state, &mut NoReleases, store)?;
@@ -101,8 +100,7 @@ fn merge_to<D: Disk, E: Write>(
     requires within { AreWithin store.old.history.imports state.old.pins }
     requires at_rest { IsAtRest (server state.old store.old) }
     ensures within { AreWithin store.new.history.imports state.new.pins }
-    ensures merged { IsTrimmedTo
-        D.view most result
+    ensures merged { IsTrimmedTo D.view most result
         (server state.old store.old) (server state.new store.new) }
 {
     for _ in 0..store.segments().saturating_sub(most) {
@@ -126,8 +124,7 @@ fn merge_lines<D: Disk, O: Write, E: Write>(
     faults: &mut E,
 ) -> Result<Ending, ServeFault>
     requires at_rest { IsAtRest (server fresh store.old) }
-    ensures { TellsLines
-        D.view most store.new.disk
+    ensures { TellsLines D.view most store.new.disk
         (report result (O.contents output.old) (O.contents output.new)) store.old }
 {
     let mut state = ServerState::new();
@@ -155,8 +152,7 @@ fn merge_all<D: Disk, O: Write, E: Write>(
     faults: &mut E,
 ) -> Result<Ending, ServeFault>
     requires at_rest { IsAtRest (server fresh store.old) }
-    ensures { TellsMerge
-        D.view most store.new.disk
+    ensures { TellsMerge D.view most store.new.disk
         (report result (O.contents output.old) (O.contents output.new)) store.old }
 {
     match store.rewrite() {
@@ -179,8 +175,7 @@ pub(crate) fn merge<D: Disk + Drop, O: Write, E: Write>(
     output: &mut O,
     faults: &mut E,
 ) -> (Result<Ending, ServeFault>, D)
-    ensures { IsMergedOnDisk
-        D.view most device result.1
+    ensures { IsMergedOnDisk D.view most device result.1
         (report result.0 (O.contents output.old) (O.contents output.new)) }
 {
     match Store::open(alloc, device) {

@@ -225,8 +225,7 @@ fn import_at<V: Devices, F: Folders, O: Write, E: Write>(
 ) -> Ended<V::Device>
     ensures done { IsDoneAt (V.stands devices.old path.now)
         (λ device after. IsImport
-        (source_view (F.is_honest folders.now) (F.releases folders.now dir.now))
-        V.Device.view
+        (source_view (F.is_honest folders.now) (F.releases folders.now dir.now)) V.Device.view
         name.now device after (report result.0 (O.contents output.old) (O.contents output.new)))
         (IsMissing (report result.0 (O.contents output.old) (O.contents output.new))
         × V.withholds devices.old path.now) result.1 }
@@ -264,8 +263,7 @@ fn check_at<V: Devices, F: Folders, O: Write, E: Write>(
 ) -> Ended<V::Device>
     ensures done { IsDoneAt (V.stands devices.old path.now)
         (λ device after. IsCheck
-        (source_view (F.is_honest folders.now) (F.releases folders.now dir.now))
-        V.Device.view
+        (source_view (F.is_honest folders.now) (F.releases folders.now dir.now)) V.Device.view
         name.now device after (report result.0 (O.contents output.old) (O.contents output.new)))
         (IsMissing (report result.0 (O.contents output.old) (O.contents output.new))
         × V.withholds devices.old path.now) result.1 }
@@ -358,9 +356,7 @@ fn status_at<V: Devices, O: Write, E: Write>(
     faults: &mut E,
 ) -> Ended<V::Device>
     ensures done { IsDoneAt (V.stands devices.old path.now)
-        (λ device after. IsStatus
-        V.Device.view
-        device after
+        (λ device after. IsStatus V.Device.view device after
         (report result.0 (O.contents output.old) (O.contents output.new)))
         (IsMissing (report result.0 (O.contents output.old) (O.contents output.new))
         × V.withholds devices.old path.now) result.1 }
@@ -393,9 +389,7 @@ fn merge_at<V: Devices, O: Write, E: Write>(
     faults: &mut E,
 ) -> Ended<V::Device>
     ensures done { IsDoneAt (V.stands devices.old path.now)
-        (λ device after. IsMergedOnDisk
-        V.Device.view
-        most device after
+        (λ device after. IsMergedOnDisk V.Device.view most device after
         (report result.0 (O.contents output.old) (O.contents output.new)))
         (IsMissing (report result.0 (O.contents output.old) (O.contents output.new))
         × V.withholds devices.old path.now) result.1 }
@@ -426,9 +420,7 @@ fn digest_at<V: Devices, O: Write, E: Write>(
     faults: &mut E,
 ) -> Ended<V::Device>
     ensures done { IsDoneAt (V.stands devices.old path.now)
-        (λ device after. IsDigest
-        V.Device.view
-        imports device after
+        (λ device after. IsDigest V.Device.view imports device after
         (report result.0 (O.contents output.old) (O.contents output.new)))
         (IsMissing (report result.0 (O.contents output.old) (O.contents output.new))
         × V.withholds devices.old path.now) result.1 }
@@ -457,9 +449,7 @@ fn upgrade_at<V: Devices, O: Write, E: Write>(
     faults: &mut E,
 ) -> Ended<V::Device>
     ensures done { IsDoneAt (V.stands devices.old path.now)
-        (λ device after. IsUpgrade
-        V.Device.view
-        device after
+        (λ device after. IsUpgrade V.Device.view device after
         (report result.0 (O.contents output.old) (O.contents output.new)))
         (IsMissing (report result.0 (O.contents output.old) (O.contents output.new))
         × V.withholds devices.old path.now) result.1 }

@@ -23,8 +23,7 @@ fn serve_all<D: Disk + Drop, S: Source, I: Read, O: Write>(
     input: &mut I,
     output: &mut O,
 ) -> Result<Ending, ServeFault>
-    ensures { Serves (source_view (S.is_honest source.old) (S.releases source.old))
-        D.view
+    ensures { Serves (source_view (S.is_honest source.old) (S.releases source.old)) D.view
         (Ok store.old) store.new.disk result
         (streams (I.remaining input.old) (I.remaining input.new)
         (O.contents output.old) (O.contents output.new)) }

@@ -72,8 +72,7 @@ pub(crate) fn tell_warnings<D: Disk, E: Write>(
     store: &mut Store<D>,
     faults: &mut E,
 )
-    ensures { IsOnlyRead D.view
-        store.old.disk store.new.disk }
+    ensures { IsOnlyRead D.view store.old.disk store.new.disk }
 {
     let Some(latest) = store.latest_time() else {
         return;
@@ -113,8 +112,7 @@ fn unmet_modules<D: Disk>(
     modules: &BTreeSet<u64>,
     store: &mut Store<D>,
 ) -> Result<BTreeSet<u64>, Refusal>
-    ensures { IsOnlyRead D.view
-        store.old.disk store.new.disk }
+    ensures { IsOnlyRead D.view store.old.disk store.new.disk }
 {
     let mut unmet = modules_without_own_row(alloc, modules, store)?;
     let mut last = None;
@@ -134,8 +132,7 @@ fn modules_without_own_row<D: Disk>(
     modules: &BTreeSet<u64>,
     store: &mut Store<D>,
 ) -> Result<BTreeSet<u64>, Refusal>
-    ensures { IsOnlyRead D.view
-        store.old.disk store.new.disk }
+    ensures { IsOnlyRead D.view store.old.disk store.new.disk }
 {
     let mut unmet = BTreeSet::new(alloc);
     for module in modules.iter() {
@@ -148,8 +145,7 @@ fn modules_without_own_row<D: Disk>(
 
 /// Whether a row of a module's own concept is of the module.
 fn has_own_row<D: Disk>(module: u64, store: &mut Store<D>) -> Result<bool, Refusal>
-    ensures { IsOnlyRead D.view
-        store.old.disk store.new.disk }
+    ensures { IsOnlyRead D.view store.old.disk store.new.disk }
 {
     let pin = store.imports();
     let rows = store.history(Kind::Concept, u128::from(module), pin)?;
@@ -163,8 +159,7 @@ fn meet_next<D: Disk>(
     after: Option<Key>,
     store: &mut Store<D>,
 ) -> Result<Option<Key>, Refusal>
-    ensures { IsOnlyRead D.view
-        store.old.disk store.new.disk }
+    ensures { IsOnlyRead D.view store.old.disk store.new.disk }
 {
     let pin = store.imports();
     let rows = store.rows_after(after, ROWS_AT_ONCE, pin)?;

@@ -52,8 +52,7 @@ impl<D: Disk> Store<D> {
         release: Release,
         limit: usize,
     ) -> Result<Contradictions, Refusal>
-        ensures answer { IsListing result release limit
-            D.view self.old self.new }
+        ensures answer { IsListing result release limit D.view self.old self.new }
     {
         if self.needs_reopen {
             return Err(Refusal::ReopenNeeded);

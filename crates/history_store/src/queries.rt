@@ -57,8 +57,7 @@ impl<D: Disk> Store<D> {
     ) -> Result<Option<Row>, Refusal>
         requires { pin ≤ self.old.history.imports }
         ensures answer { IsRowsQuery result option_to_list
-            (λ rows. option_to_list (get kind id time rows)) pin
-            D.view self.old self.new }
+            (λ rows. option_to_list (get kind id time rows)) pin D.view self.old self.new }
     {
         if self.needs_reopen {
             return Err(Refusal::ReopenNeeded);
@@ -169,8 +168,7 @@ impl<D: Disk> Store<D> {
     ) -> Result<Vec<Row>, Refusal>
         requires { pin ≤ self.old.history.imports }
         ensures answer { IsRowsQuery result (λ rows. rows.items)
-            (search_terms prefix.now time after limit) pin
-            D.view self.old self.new }
+            (search_terms prefix.now time after limit) pin D.view self.old self.new }
     {
         if self.needs_reopen {
             return Err(Refusal::ReopenNeeded);

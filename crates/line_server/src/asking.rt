@@ -30,8 +30,7 @@ pub(crate) fn ask<D: Disk>(
 ) -> Result<Reply, LineRefusal>
     requires asked { QuestionCanBeAsked (question_of question.now) }
     requires within { pin ≤ store.old.history.imports }
-    ensures { IsQueried result D.view
-        (question_of question.now) pin store.old store.new }
+    ensures { IsQueried result D.view (question_of question.now) pin store.old store.new }
 {
     match *question {
         Question::Get { kind, id, time } => answer_get(alloc, kind, id, time, pin, store),

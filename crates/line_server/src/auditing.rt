@@ -23,8 +23,7 @@ pub(crate) fn answer_ancestors<D: Disk>(
     store: &mut Store<D>,
 ) -> Result<Reply, LineRefusal>
     requires { pin ≤ store.old.history.imports }
-    ensures { IsQueried result D.view
-        (Ancestors concept time) pin store.old store.new }
+    ensures { IsQueried result D.view (Ancestors concept time) pin store.old store.new }
 {
     let found = store.ancestors(concept, time, pin)?;
     Ok(reply_ids(alloc, &found)?)
@@ -39,8 +38,7 @@ pub(crate) fn answer_descendants<D: Disk>(
     store: &mut Store<D>,
 ) -> Result<Reply, LineRefusal>
     requires { pin ≤ store.old.history.imports }
-    ensures { IsQueried result D.view
-        (Descendants concept time) pin store.old store.new }
+    ensures { IsQueried result D.view (Descendants concept time) pin store.old store.new }
 {
     let found = store.descendants(concept, time, pin)?;
     Ok(reply_ids(alloc, &found)?)
@@ -55,8 +53,7 @@ pub(crate) fn answer_replaces<D: Disk>(
     store: &mut Store<D>,
 ) -> Result<Reply, LineRefusal>
     requires { pin ≤ store.old.history.imports }
-    ensures { IsQueried result D.view
-        (Replaces id time) pin store.old store.new }
+    ensures { IsQueried result D.view (Replaces id time) pin store.old store.new }
 {
     let found = store.replaces(id, time, pin)?;
     Ok(reply_rows(alloc, &found)?)
@@ -71,8 +68,7 @@ pub(crate) fn answer_timeline<D: Disk>(
     store: &mut Store<D>,
 ) -> Result<Reply, LineRefusal>
     requires { pin ≤ store.old.history.imports }
-    ensures { IsQueried result D.view
-        (Timeline kind id) pin store.old store.new }
+    ensures { IsQueried result D.view (Timeline kind id) pin store.old store.new }
 {
     let found = store.timeline(kind, id, pin)?;
     Ok(reply_rows(alloc, &found)?)
@@ -90,8 +86,7 @@ pub(crate) fn answer_delta<D: Disk>(
     store: &mut Store<D>,
 ) -> Result<Reply, LineRefusal>
     requires { pin ≤ store.old.history.imports }
-    ensures { IsQueried result D.view
-        (Delta kind from time after limit) pin store.old store.new }
+    ensures { IsQueried result D.view (Delta kind from time after limit) pin store.old store.new }
 {
     let found = store.delta(kind, from, time, after, limit, pin)?;
     Ok(reply_rows(alloc, &found)?)
@@ -104,8 +99,7 @@ pub(crate) fn answer_dates<D: Disk>(
     store: &mut Store<D>,
 ) -> Result<Reply, LineRefusal>
     requires { pin ≤ store.old.history.imports }
-    ensures { IsQueried result D.view
-        Dates pin store.old store.new }
+    ensures { IsQueried result D.view Dates pin store.old store.new }
 {
     let found = store.dates(pin)?;
     Ok(reply_dates(alloc, &found)?)
@@ -118,8 +112,7 @@ pub(crate) fn answer_digest<D: Disk>(
     store: &mut Store<D>,
 ) -> Result<Reply, LineRefusal>
     requires { pin ≤ store.old.history.imports }
-    ensures { IsQueried result D.view
-        Digest pin store.old store.new }
+    ensures { IsQueried result D.view Digest pin store.old store.new }
 {
     let found = digest(alloc, store, pin)?;
     Ok(reply_digest(alloc, found)?)

@@ -60,8 +60,7 @@ pub fn feed<W: Write, S: Source, D: Disk>(
     ensures pins { AreWithin store.new.history.imports state.new.pins }
     // It holds whatever had come of a line before, of which the buffer keeps the first bytes.
     ensures fed { (part : List ℕ) → IsUnended part → line.old ≡ kept part → IsFed result
-        (source_view (S.is_honest source.old) (S.releases source.old))
-        D.view
+        (source_view (S.is_honest source.old) (S.releases source.old)) D.view
         (intake part piece.now line.new (W.contents writer.old) (W.contents writer.new))
         (server state.old store.old) (server state.new store.new) }
     ensures source { S.is_honest source.old → S.is_honest source.new }

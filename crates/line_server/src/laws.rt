@@ -96,13 +96,11 @@ pub fn pinned_sees_its_receipts<D: Disk>()
 
 /// A pinned session is answered alike in any two runs, whatever the others do.
 pub fn pinned_runs_are_undisturbed<D: Disk>()
-    ensures { PinnedRunsAreUndisturbed D
-        D.view }
+    ensures { PinnedRunsAreUndisturbed D D.view }
 {}
 
 /// A RECEIPT of a pinned session is answered alike in any two runs, where the import brought the
 /// same rows.
 pub fn pinned_receipts_are_undisturbed<D: Disk>()
-    ensures { PinnedReceiptsAreUndisturbed D
-        D.view }
+    ensures { PinnedReceiptsAreUndisturbed D D.view }
 {}

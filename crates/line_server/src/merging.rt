@@ -15,8 +15,7 @@ pub(crate) fn answer_merge<D: Disk>(
     alloc: Global,
     store: &mut Store<D>,
 ) -> Result<Reply, LineRefusal>
-    ensures { IsCarriedOut result
-        D.view Merge store.old
+    ensures { IsCarriedOut result D.view Merge store.old
         store.new }
 {
     let left = store.merge_begin()?;
@@ -29,8 +28,7 @@ pub(crate) fn answer_step<D: Disk>(
     rows: u32,
     store: &mut Store<D>,
 ) -> Result<Reply, LineRefusal>
-    ensures { IsCarriedOut result
-        D.view (Step rows)
+    ensures { IsCarriedOut result D.view (Step rows)
         store.old store.new }
 {
     let left = store.merge_step(rows)?;
@@ -42,8 +40,7 @@ pub(crate) fn answer_publish<D: Disk>(
     alloc: Global,
     store: &mut Store<D>,
 ) -> Result<Reply, LineRefusal>
-    ensures { IsCarriedOut result
-        D.view Publish store.old
+    ensures { IsCarriedOut result D.view Publish store.old
         store.new }
 {
     store.merge_publish()?;
@@ -55,8 +52,7 @@ pub(crate) fn answer_abandon<D: Disk>(
     alloc: Global,
     store: &mut Store<D>,
 ) -> Result<Reply, LineRefusal>
-    ensures { IsCarriedOut result
-        D.view Abandon store.old
+    ensures { IsCarriedOut result D.view Abandon store.old
         store.new }
 {
     store.merge_abandon()?;
@@ -68,8 +64,7 @@ pub(crate) fn answer_trim<D: Disk>(
     alloc: Global,
     store: &mut Store<D>,
 ) -> Result<Reply, LineRefusal>
-    ensures { IsCarriedOut result
-        D.view Trim store.old
+    ensures { IsCarriedOut result D.view Trim store.old
         store.new }
 {
     let _bytes = store.trim()?;

@@ -23,8 +23,7 @@ pub(crate) fn answer_get<D: Disk>(
     store: &mut Store<D>,
 ) -> Result<Reply, LineRefusal>
     requires { pin ≤ store.old.history.imports }
-    ensures { IsQueried result
-        D.view (Get kind id time) pin
+    ensures { IsQueried result D.view (Get kind id time) pin
         store.old store.new }
 {
     let found = store.get(kind, id, time, pin)?;
@@ -40,8 +39,7 @@ pub(crate) fn answer_history<D: Disk>(
     store: &mut Store<D>,
 ) -> Result<Reply, LineRefusal>
     requires { pin ≤ store.old.history.imports }
-    ensures { IsQueried result
-        D.view (History kind id) pin
+    ensures { IsQueried result D.view (History kind id) pin
         store.old store.new }
 {
     let found = store.history(kind, id, pin)?;
@@ -57,8 +55,7 @@ pub(crate) fn answer_children<D: Disk>(
     store: &mut Store<D>,
 ) -> Result<Reply, LineRefusal>
     requires { pin ≤ store.old.history.imports }
-    ensures { IsQueried result D.view
-        (Children concept time) pin store.old store.new }
+    ensures { IsQueried result D.view (Children concept time) pin store.old store.new }
 {
     let found = store.children(concept, time, pin)?;
     Ok(reply_ids(alloc, &found)?)
@@ -74,8 +71,7 @@ pub(crate) fn answer_terms<D: Disk>(
     store: &mut Store<D>,
 ) -> Result<Reply, LineRefusal>
     requires { pin ≤ store.old.history.imports }
-    ensures { IsQueried result D.view
-        (Terms prefix.now time limit) pin store.old store.new }
+    ensures { IsQueried result D.view (Terms prefix.now time limit) pin store.old store.new }
 {
     let found = store.terms(prefix, time, limit, pin)?;
     Ok(reply_rows(alloc, &found)?)
@@ -92,8 +88,7 @@ pub(crate) fn answer_search<D: Disk>(
     store: &mut Store<D>,
 ) -> Result<Reply, LineRefusal>
     requires { pin ≤ store.old.history.imports }
-    ensures { IsQueried result D.view
-        (Search prefix.now time after limit) pin store.old store.new }
+    ensures { IsQueried result D.view (Search prefix.now time after limit) pin store.old store.new }
 {
     let found = store.search(prefix, time, after, limit, pin)?;
     Ok(reply_rows(alloc, &found)?)
@@ -108,8 +103,7 @@ pub(crate) fn answer_replaced<D: Disk>(
     store: &mut Store<D>,
 ) -> Result<Reply, LineRefusal>
     requires { pin ≤ store.old.history.imports }
-    ensures { IsQueried result
-        D.view (Replaced id time) pin
+    ensures { IsQueried result D.view (Replaced id time) pin
         store.old store.new }
 {
     let found = store.replacements(id, time, pin)?;
@@ -126,8 +120,7 @@ pub(crate) fn answer_about<D: Disk>(
     store: &mut Store<D>,
 ) -> Result<Reply, LineRefusal>
     requires { pin ≤ store.old.history.imports }
-    ensures { IsQueried result
-        D.view (About kind id time)
+    ensures { IsQueried result D.view (About kind id time)
         pin store.old store.new }
 {
     let found = store.about(kind, id, time, pin)?;
@@ -145,8 +138,7 @@ pub(crate) fn answer_page<D: Disk>(
     store: &mut Store<D>,
 ) -> Result<Reply, LineRefusal>
     requires { pin ≤ store.old.history.imports }
-    ensures { IsQueried result D.view
-        (Page kind time after limit) pin store.old store.new }
+    ensures { IsQueried result D.view (Page kind time after limit) pin store.old store.new }
 {
     let found = store.page(kind, time, after, limit, pin)?;
     Ok(reply_rows(alloc, &found)?)
@@ -161,8 +153,7 @@ pub(crate) fn answer_receipt<D: Disk>(
 ) -> Result<Reply, LineRefusal>
     requires first { 1 ≤ number }
     requires within { pin ≤ store.now.history.imports }
-    ensures { IsQueried result
-        D.view (Receipt number) pin
+    ensures { IsQueried result D.view (Receipt number) pin
         store.now store.now }
 {
     if number > pin {

@@ -23,8 +23,7 @@ pub(crate) fn answer_members<D: Disk>(
     store: &mut Store<D>,
 ) -> Result<Reply, LineRefusal>
     requires { pin ≤ store.old.history.imports }
-    ensures { IsQueried result D.view
-        (Members refset time after limit) pin store.old store.new }
+    ensures { IsQueried result D.view (Members refset time after limit) pin store.old store.new }
 {
     let found = store.members(refset, time, after, limit, pin)?;
     Ok(reply_rows(alloc, &found)?)
@@ -41,8 +40,7 @@ pub(crate) fn answer_values<D: Disk>(
     store: &mut Store<D>,
 ) -> Result<Reply, LineRefusal>
     requires { pin ≤ store.old.history.imports }
-    ensures { IsQueried result D.view
-        (Values refset time after limit) pin store.old store.new }
+    ensures { IsQueried result D.view (Values refset time after limit) pin store.old store.new }
 {
     let found = store.values(refset, time, after, limit, pin)?;
     Ok(reply_rows(alloc, &found)?)
@@ -58,8 +56,7 @@ pub(crate) fn answer_called<D: Disk>(
     store: &mut Store<D>,
 ) -> Result<Reply, LineRefusal>
     requires { pin ≤ store.old.history.imports }
-    ensures { IsQueried result D.view
-        (Called concept time refset) pin store.old store.new }
+    ensures { IsQueried result D.view (Called concept time refset) pin store.old store.new }
 {
     let found = store.called(concept, time, refset, pin)?;
     Ok(reply_rows(alloc, &found)?)

@@ -47,8 +47,7 @@ pub fn serve<R: PieceReader, W: Write, S: Source, D: Disk>(
     max_reads: u32,
 ) -> Result<u64, ServeFault>
     ensures served { IsServed result max_reads
-        (source_view (S.is_honest source.old) (S.releases source.old))
-        D.view
+        (source_view (S.is_honest source.old) (S.releases source.old)) D.view
         (with_reads (streams (R.remaining reader.old) (R.remaining reader.new)
         (W.contents writer.old) (W.contents writer.new)) (R.reads reader.old) (R.reads reader.new))
         store.old store.new }

@@ -76,14 +76,12 @@ pub fn each_life_begins<D: Disk>()
 
 /// Each opening that `Store::open` makes is one of those that a life names.
 pub fn each_opening_is_of_a_life<D: Disk>()
-    ensures { EachOpeningIsOfALife D
-        D.view }
+    ensures { EachOpeningIsOfALife D D.view }
 {}
 
 /// A store that was closed by `Store::close` is opened with what it held.
 pub fn closed_store_is_opened<D: Disk>()
-    ensures { ClosedStoreIsOpened D
-        D.view }
+    ensures { ClosedStoreIsOpened D D.view }
 {}
 
 /// A run of events followed by another is the run of both.
@@ -99,8 +97,7 @@ pub fn each_stop_is_of_a_life<D: Disk>()
 /// Over any number of calls, stops and openings no import that was acknowledged is lost,
 /// and of the others at most one for each stop is kept, and that one whole.
 pub fn each_life_keeps_its_imports<D: Disk>()
-    ensures { EachLifeKeepsItsImports D
-        D.view }
+    ensures { EachLifeKeepsItsImports D D.view }
 {}
 
 /// Each release whose import was acknowledged is among those
@@ -112,8 +109,7 @@ pub fn kept_are_acknowledged()
 /// Whatever a stop leaves represents the history with the releases that are kept, after any number
 /// of calls, stops and openings.
 pub fn each_life_is_represented<D: Disk>()
-    ensures { EachLifeIsRepresented D
-        D.view }
+    ensures { EachLifeIsRepresented D D.view }
 {}
 
 /// So it is opened with that history.
