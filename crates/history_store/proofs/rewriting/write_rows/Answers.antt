@@ -166,7 +166,7 @@ loop-part-preserved g c =
     let taken = c.deref.ensures.value ∙ c.in_ok-taken.ensures ∙ ap (λ l. as_taken (take 1000 l)) (take_rest places k) in
     record {
       held = λ slot was. held_after (g.D.Disk.view c.loop-part.disk).is_honest (g.D.Disk.view c.write_taken.new.disk).is_honest (g.D.Disk.view c.loop-part.disk).moments.state (g.D.Disk.view c.write_taken.new.disk).moments.state c.loop-part.cache c.write_taken.new.cache slot d lists false (inv.held slot was)
-          wrote.honesty.1 (λ up on. wrote.on_disk up slot d lists on ahead) (λ up still. wrote.agrees up ((inv.held slot was).agrees up refl));
+          wrote.meters.honesty.1 (λ up on. wrote.on_disk up slot d lists on ahead) (λ up still. wrote.agrees up ((inv.held slot was).agrees up refl));
       any_moment = λ up.
           joined (g.D.Disk.view c.args.disk.now).moments (g.D.Disk.view c.loop-part.disk).moments (g.D.Disk.view c.write_taken.new.disk).moments (RepresentsAs d.layout (history_of d lists)) (inv.any_moment up)
           (wrote.any_moment (inv.honesty.0 up) c.requires.slot d lists ((inv.held c.requires.slot c.requires.held).on_disk (inv.honesty.0 up) refl) ahead);
@@ -180,10 +180,10 @@ loop-part-preserved g c =
           subst (λ (b : List ℕ). BeginsWith (extent_of entry) b (g.D.Disk.view c.write_taken.new.disk).moments.state.now) (sym (ap (λ n. segment_in entry.form (take n rows)) more ∙ part_joins rows segment.is.ascending k 1000 entry.form)) here;
       elsewhere = λ up. elsewhere_on (byte_range (extent_of entry) ∷ []) (g.D.Disk.view c.args.disk.now).moments.state.now (g.D.Disk.view c.loop-part.disk).moments.state.now (g.D.Disk.view c.write_taken.new.disk).moments.state.now (inv.elsewhere up) (wrote.elsewhere (inv.honesty.0 up));
       calls = λ up. omega (arith, wrote.calls (inv.honesty.0 up), inv.calls up);
-      honesty = (λ up. wrote.honesty.0 (inv.honesty.0 up), λ down. inv.honesty.1 (wrote.honesty.1 down));
-      failures = wrote.failures ∙ inv.failures;
-      bytes_read = omega (arith, wrote.bytes_read, inv.bytes_read, ap cost_at taken, cost_on k 1000 places, ap (λ n. cost_at (as_taken (take n places))) more);
-      other_calls = omega (arith, wrote.other_calls, inv.other_calls);
+      honesty = (λ up. wrote.meters.honesty.0 (inv.honesty.0 up), λ down. inv.honesty.1 (wrote.meters.honesty.1 down));
+      failures = wrote.meters.failures ∙ inv.failures;
+      bytes_read = omega (arith, wrote.meters.bytes_read, inv.bytes_read, ap cost_at taken, cost_on k 1000 places, ap (λ n. cost_at (as_taken (take n places))) more);
+      other_calls = omega (arith, wrote.meters.other_calls, inv.other_calls);
       capacity = wrote.capacity ∙ inv.capacity;
     }
 

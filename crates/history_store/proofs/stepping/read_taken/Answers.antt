@@ -38,14 +38,14 @@ loop-t-preserved g c =
       agrees = λ up agrees.
           let agrees_still = subst (λ (m : Moments). AgreesWith l.cache m.state.now) (sym (so_far.moments up)) (so_far.agrees up agrees) in
           subst (λ (m : Moments). AgreesWith c.read_row.new.cache m.state.now) (so_far.moments up) (read.agrees (so_far.honesty.0 up) agrees_still);
-      moments = λ up. read.moments (so_far.honesty.0 up) ∙ so_far.moments up;
-      honesty = (λ up. read.honesty.0 (so_far.honesty.0 up), λ down. so_far.honesty.1 (read.honesty.1 down));
-      failures = read.failures ∙ so_far.failures;
-      other_calls = read.other_calls ∙ so_far.other_calls;
+      moments = λ up. read.meters.moments (so_far.honesty.0 up) ∙ so_far.moments up;
+      honesty = (λ up. read.meters.honesty.0 (so_far.honesty.0 up), λ down. so_far.honesty.1 (read.meters.honesty.1 down));
+      failures = read.meters.failures ∙ so_far.failures;
+      other_calls = read.meters.other_calls ∙ so_far.other_calls;
       looked_up = some_more (is_listed a.entries.now) a.cache.now l.cache c.read_row.new.cache (g.D.Disk.view a.disk.now).bytes_read (g.D.Disk.view l.disk).bytes_read (g.D.Disk.view c.read_row.new.disk).bytes_read so_far.looked_up read.looked_up;
       bytes_read =
           let more = take_more a.taken.now l.t-index t c.loop-t-test.true ∙ ap (λ (x : Taken). take l.t-index a.taken.now ++ x ∷ []) (sym c.t-item.is) in
-          omega (arith, so_far.bytes_read, read.bytes_read, ap cost_at more ∙ cost_push (take l.t-index a.taken.now) t);
+          omega (arith, so_far.bytes_read, read.meters.bytes_read, ap cost_at more ∙ cost_push (take l.t-index a.taken.now) t);
     }
 
 pub returns-in_err-row-clause-found : goal.returns-in_err-row-clause-found

@@ -32,21 +32,21 @@ returns-clause-any_moment g c up slot d lists on ahead =
     let old = (g.D.Disk.view c.args.disk.now).moments in
     let mid = (g.D.Disk.view c.read_part.new.disk).moments in
     let read = c.read_part.ensures in
-    subst (λ (x : Moments). LeavesOnly x (g.D.Disk.view c.write_part.new.disk).moments (RepresentsAs d.layout (history_of d lists))) (read.moments up)
-    (c.write_part.ensures.any_moment (read.honesty.0 up) slot d lists (on_still old mid slot d lists (read.moments up) on) (subst (λ (e : Extent). IsAhead e d.entries) (sym c.extent.ensures) ahead))
+    subst (λ (x : Moments). LeavesOnly x (g.D.Disk.view c.write_part.new.disk).moments (RepresentsAs d.layout (history_of d lists))) (read.meters.moments up)
+    (c.write_part.ensures.any_moment (read.meters.honesty.0 up) slot d lists (on_still old mid slot d lists (read.meters.moments up) on) (subst (λ (e : Extent). IsAhead e d.entries) (sym c.extent.ensures) ahead))
 
 pub returns-clause-on_disk : goal.returns-clause-on_disk
 returns-clause-on_disk g c up slot d lists on ahead =
     let old = (g.D.Disk.view c.args.disk.now).moments in
     let mid = (g.D.Disk.view c.read_part.new.disk).moments in
     let read = c.read_part.ensures in
-    c.write_part.ensures.on_disk (read.honesty.0 up) slot d lists (on_still old mid slot d lists (read.moments up) on) (subst (λ (e : Extent). IsAhead e d.entries) (sym c.extent.ensures) ahead)
+    c.write_part.ensures.on_disk (read.meters.honesty.0 up) slot d lists (on_still old mid slot d lists (read.meters.moments up) on) (subst (λ (e : Extent). IsAhead e d.entries) (sym c.extent.ensures) ahead)
 
 pub returns-clause-agrees : goal.returns-clause-agrees
 returns-clause-agrees g c up agrees =
     let read = c.read_part.ensures in
     unless_written c.write_part.result (AgreesWith c.write_part.new.cache (g.D.Disk.view c.write_part.new.disk).moments.state.now) c.write_part.ensures.refused
-    (c.write_part.ensures.agrees (read.honesty.0 up) (agrees_still (g.D.Disk.view c.args.disk.now).moments (g.D.Disk.view c.read_part.new.disk).moments c.read_part.new.cache (read.moments up) (read.agrees up agrees)))
+    (c.write_part.ensures.agrees (read.meters.honesty.0 up) (agrees_still (g.D.Disk.view c.args.disk.now).moments (g.D.Disk.view c.read_part.new.disk).moments c.read_part.new.cache (read.meters.moments up) (read.agrees up agrees)))
 
 pub returns-clause-capacity : goal.returns-clause-capacity
 returns-clause-capacity g c = c.write_part.ensures.capacity ∙ capacity_stays _ _ _ _ _ c.in_ok-bytes.ensures.looked_up

@@ -73,12 +73,12 @@ rows-preserved g c =
           let before = subst (λ (x : Extent). P (g.B.SegmentBuilder.rows c.rows.builder) x later) (sym inv.extent) (subst (λ (f : List ℕ). P (g.B.SegmentBuilder.rows c.rows.builder) (extent_of entry) f) (sym same) (inv.begins honest)) in
           let after = subst (λ (f : Form). BeginsWith f (g.B.SegmentBuilder.rows c.rows.builder) (bytes_of c.rows.window.extent later) → BeginsWith f (g.B.SegmentBuilder.rows c.read_row.new.builder) (bytes_of c.rows.window.extent later)) inv.form (read.exact (inv.honesty.0 honest) (subst (Sees c.rows.window) (sym same) (inv.sees honest))) before in
           subst (λ (f : List ℕ). P (g.B.SegmentBuilder.rows c.read_row.new.builder) (extent_of entry) f) same (subst (λ (x : Extent). P (g.B.SegmentBuilder.rows c.read_row.new.builder) x later) inv.extent after);
-      moments = λ honest. read.moments (inv.honesty.0 honest) ∙ inv.moments honest;
-      honesty = (λ h. read.honesty.0 (inv.honesty.0 h), λ h. inv.honesty.1 (read.honesty.1 h));
-      failures = read.failures ∙ inv.failures;
-      bytes_read = omega (arith, inv.bytes_read, read.bytes_read);
+      moments = λ honest. read.meters.moments (inv.honesty.0 honest) ∙ inv.moments honest;
+      honesty = (λ h. read.meters.honesty.0 (inv.honesty.0 h), λ h. inv.honesty.1 (read.meters.honesty.1 h));
+      failures = read.meters.failures ∙ inv.failures;
+      bytes_read = omega (arith, inv.bytes_read, read.meters.bytes_read);
       goes_on = omega (arith, inv.goes_on, read.goes_on);
-      other_calls = read.other_calls ∙ inv.other_calls;
+      other_calls = read.meters.other_calls ∙ inv.other_calls;
     }
 
 pub returns-then-to-entry-clause-exact : goal.returns-then-to-entry-clause-exact

@@ -67,11 +67,11 @@ loop-entry-preserved g c =
           let there = subst (λ (f : List ℕ). IsAt f (get_or entries i none) rows) (same_now _ _ (inv.moments honest)) (read.exact (inv.honesty.0 honest)) in
           more_held entries i none lists more rows lt more_is _ inv.segments (inv.held honest) there;
       moments = λ honest. read.moments (inv.honesty.0 honest) ∙ inv.moments honest;
-      honesty = (λ h. read.honesty.0 (inv.honesty.0 h), λ h. inv.honesty.1 (read.honesty.1 h));
-      failures = read.failures ∙ inv.failures;
-      bytes_read = omega (arith, inv.bytes_read, read.bytes_read, bytes_more entries i none lt);
+      honesty = (λ h. read.meters.honesty.0 (inv.honesty.0 h), λ h. inv.honesty.1 (read.meters.honesty.1 h));
+      failures = read.meters.failures ∙ inv.failures;
+      bytes_read = omega (arith, inv.bytes_read, read.meters.bytes_read, bytes_more entries i none lt);
       goes_on = omega (arith, inv.goes_on, read.goes_on);
-      other_calls = omega (arith, inv.other_calls, read.other_calls);
+      other_calls = omega (arith, inv.other_calls, read.meters.other_calls);
     }
 
 pub are_apart-requires : goal.are_apart-requires
