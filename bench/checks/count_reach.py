@@ -42,8 +42,8 @@ METERS = re.compile(r"\b(?:bytes_read|other_calls|failures|failure_count|disk_fa
                     r"|call_count|raised_by|cap|faults)(?:_of)?\b|\w*Makes\w*Calls\b|\bCounts\w*"
                     r"|\w*ThroughCache\b|\bLooksUp\w*|\bForgets\w*|\bKeepsAll\b")
 METER_NAMES = re.compile(r"ensures (?:cache|same_cache|keeps|capacity|looked_up|forgets)$")
-# A clause that hands on what a disk is, or a system, to a word that says more than counts.
-HANDS_ON = re.compile(r"device_view|\.moments \w+(?:\.\w+)*\.failures|\bP\.stands")
+# A clause that hands on what a system is to a word that says more than counts.
+HANDS_ON = re.compile(r"\bP\.stands")
 
 QUESTIONS = "history_store/src/queries.rt"
 

@@ -1,6 +1,6 @@
 -- What lines of a merge leave of a store.
 use Rattle.std.proofs.Common.{◌≡◌, ◌⊎◌, ℕ, ◌+◌, List, [], ◌∷◌, ◌++◌, length, codes, true, false, slice_set, min, Option, Some, None, Result, Ok, Err, IsOk, IsErr, refl, ap, sym, subst, ◌∙◌, arith, inl, inr, ◌<◌, ◌≤◌, ◌-◌}
-use Rattle.store_life.specs.DeviceView.{DeviceView}
+use Rattle.disk_model.specs.View.{DiskView}
 use Rattle.std.specs.Prelude.{unwrap_or, option_map}
 use Rattle.std.specs.Fmt.{digits}
 use Rattle.std.proofs.lemmas.Bool.{false≢true}
@@ -175,40 +175,40 @@ begun_same old new left b = rw b.next_is refl
 stepped_same : (n : ℕ) (old new : Catalog) (left : ℕ) → IsStepped n old new left → length new.entries ≡ length old.entries
 stepped_same n old new left s = rw s.next_is refl
 
-module _ {D : Type 0} (view : DeviceView D) where
+module _ {D : Type 0} (view : D → DiskView) where
   abbrev Goes : Server D → Turn → Server D → Type 0
   Goes old turn new = IsTurn no_releases view old turn new
 
   merge_keeps : (old new : Server D) (turn : Turn) → turn.line ≡ codes "0 MERGE" → IsOk turn.outcome → Goes old turn new → segments_of new ≡ segments_of old
   merge_keeps old new turn is ok t =
-      let a = answered (view.is_honest old.store.disk) t.releases old new turn.line 0 Merge (rw is merge_asks) turn.outcome ok t.goes.replies in
+      let a = answered (view old.store.disk).is_honest t.releases old new turn.line 0 Merge (rw is merge_asks) turn.outcome ok t.goes.replies in
       begun_same old.store.catalog new.store.catalog a.1.0 a.1.1.0
 
   step_keeps : (old new : Server D) (turn : Turn) → turn.line ≡ codes "0 STEP 100000" → IsOk turn.outcome → Goes old turn new → segments_of new ≡ segments_of old
   step_keeps old new turn is ok t =
-      let a = answered (view.is_honest old.store.disk) t.releases old new turn.line 0 (Step 100000) (rw is step_asks) turn.outcome ok t.goes.replies in
+      let a = answered (view old.store.disk).is_honest t.releases old new turn.line 0 (Step 100000) (rw is step_asks) turn.outcome ok t.goes.replies in
       stepped_same 100000 old.store.catalog new.store.catalog a.1.0 a.1.1.0
 
   publish_lowers : (old new : Server D) (turn : Turn) → turn.line ≡ codes "0 PUBLISH" → IsOk turn.outcome → Goes old turn new → segments_of new + 1 ≡ segments_of old
   publish_lowers old new turn is ok t =
-      let a = answered (view.is_honest old.store.disk) t.releases old new turn.line 0 Publish (rw is publish_asks) turn.outcome ok t.goes.replies in
+      let a = answered (view old.store.disk).is_honest t.releases old new turn.line 0 Publish (rw is publish_asks) turn.outcome ok t.goes.replies in
       published_less old.store.catalog new.store.catalog a.1.0.0
 
   trim_keeps : (old new : Server D) (turn : Turn) → turn.line ≡ trim_line → IsOk turn.outcome → Goes old turn new → segments_of new ≡ segments_of old
   trim_keeps old new turn is ok t =
-      let a = answered (view.is_honest old.store.disk) t.releases old new turn.line 0 Trim (rw is trim_asks) turn.outcome ok t.goes.replies in
+      let a = answered (view old.store.disk).is_honest t.releases old new turn.line 0 Trim (rw is trim_asks) turn.outcome ok t.goes.replies in
       ap (λ (s : Catalog). length s.entries) a.1.1.0
 
   -- ---- whether a merge goes on then
 
   begun_goes : (old new : Server D) (turn : Turn) → turn.line ≡ codes "0 MERGE" → IsOk turn.outcome → Goes old turn new → IsMerging new
   begun_goes old new turn is ok t =
-      let a = answered (view.is_honest old.store.disk) t.releases old new turn.line 0 Merge (rw is merge_asks) turn.outcome ok t.goes.replies in
+      let a = answered (view old.store.disk).is_honest t.releases old new turn.line 0 Merge (rw is merge_asks) turn.outcome ok t.goes.replies in
       (a.1.1.1.open_still, (_, ap (λ (c : Catalog). c.merge) a.1.1.0.next_is))
 
   step_goes : (old new : Server D) (turn : Turn) → turn.line ≡ codes "0 STEP 100000" → IsOk turn.outcome → Goes old turn new → IsMerging new × (rows_left new ≡ rows_left old - 100000)
   step_goes old new turn is ok t =
-      let a = answered (view.is_honest old.store.disk) t.releases old new turn.line 0 (Step 100000) (rw is step_asks) turn.outcome ok t.goes.replies in
+      let a = answered (view old.store.disk).is_honest t.releases old new turn.line 0 (Step 100000) (rw is step_asks) turn.outcome ok t.goes.replies in
       let now : left_in new.store.catalog.merge ≡ a.1.0 = ap (λ (c : Catalog). left_in c.merge) a.1.1.0.next_is in
       let before : left_in old.store.catalog.merge ≡ a.1.1.0.merge.left = ap left_in a.1.1.0.goes_on in
       ((a.1.1.1.open_still, (_, ap (λ (c : Catalog). c.merge) a.1.1.0.next_is)), now ∙ a.1.1.0.left_is ∙ ap (λ n. n - 100000) (sym before))
@@ -220,35 +220,35 @@ module _ {D : Type 0} (view : DeviceView D) where
 
   published_rests : (old new : Server D) (turn : Turn) → turn.line ≡ codes "0 PUBLISH" → IsOk turn.outcome → Goes old turn new → IsAtRest new
   published_rests old new turn is ok t =
-      let a = answered (view.is_honest old.store.disk) t.releases old new turn.line 0 Publish (rw is publish_asks) turn.outcome ok t.goes.replies in
+      let a = answered (view old.store.disk).is_honest t.releases old new turn.line 0 Publish (rw is publish_asks) turn.outcome ok t.goes.replies in
       (a.1.0.3, ap (λ (c : Catalog). c.merge) a.1.0.0.next_is)
 
   trimmed_rests : (old new : Server D) (turn : Turn) → turn.line ≡ trim_line → IsOk turn.outcome → Goes old turn new → IsAtRest old → new.store.catalog.merge ≡ None
   trimmed_rests old new turn is ok t rest =
-      let a = answered (view.is_honest old.store.disk) t.releases old new turn.line 0 Trim (rw is trim_asks) turn.outcome ok t.goes.replies in
+      let a = answered (view old.store.disk).is_honest t.releases old new turn.line 0 Trim (rw is trim_asks) turn.outcome ok t.goes.replies in
       ap (λ (c : Catalog). c.merge) a.1.1.0 ∙ rest.1
 
   -- ---- why a line is refused that was due
 
   pub merge_stops : (most : ℕ) (old new : Server D) (turn : Turn) → turn.line ≡ codes "0 MERGE" → IsErr turn.outcome → IsAtRest old → most < segments_of old → Goes old turn new → 1 ≤ most → IsHalt turn.outcome
   merge_stops most old new turn is err rest more t one =
-      let r = refused_as (view.is_honest old.store.disk) t.releases old new turn.line 0 Merge (rw is merge_asks) turn.outcome err t.goes.replies in
-      subst IsHalt (sym r.1) (halts_so r.0 (λ so. merge_halts (view.is_honest old.store.disk) t.releases old new r.0 so rest (omega (arith, more, one))) r.2)
+      let r = refused_as (view old.store.disk).is_honest t.releases old new turn.line 0 Merge (rw is merge_asks) turn.outcome err t.goes.replies in
+      subst IsHalt (sym r.1) (halts_so r.0 (λ so. merge_halts (view old.store.disk).is_honest t.releases old new r.0 so rest (omega (arith, more, one))) r.2)
 
   pub step_stops : (old new : Server D) (turn : Turn) → turn.line ≡ codes "0 STEP 100000" → IsErr turn.outcome → IsMerging old → Goes old turn new → IsHalt turn.outcome
   step_stops old new turn is err on t =
-      let r = refused_as (view.is_honest old.store.disk) t.releases old new turn.line 0 (Step 100000) (rw is step_asks) turn.outcome err t.goes.replies in
-      subst IsHalt (sym r.1) (halts_so r.0 (λ so. step_halts (view.is_honest old.store.disk) t.releases old new 100000 r.0 so on) r.2)
+      let r = refused_as (view old.store.disk).is_honest t.releases old new turn.line 0 (Step 100000) (rw is step_asks) turn.outcome err t.goes.replies in
+      subst IsHalt (sym r.1) (halts_so r.0 (λ so. step_halts (view old.store.disk).is_honest t.releases old new 100000 r.0 so on) r.2)
 
   publish_stops : (old new : Server D) (turn : Turn) → turn.line ≡ codes "0 PUBLISH" → IsErr turn.outcome → HasMerged old → Goes old turn new → IsHalt turn.outcome
   publish_stops old new turn is err done t =
-      let r = refused_as (view.is_honest old.store.disk) t.releases old new turn.line 0 Publish (rw is publish_asks) turn.outcome err t.goes.replies in
-      subst IsHalt (sym r.1) (halts_so r.0 (λ so. publish_halts (view.is_honest old.store.disk) t.releases old new r.0 so done) r.2)
+      let r = refused_as (view old.store.disk).is_honest t.releases old new turn.line 0 Publish (rw is publish_asks) turn.outcome err t.goes.replies in
+      subst IsHalt (sym r.1) (halts_so r.0 (λ so. publish_halts (view old.store.disk).is_honest t.releases old new r.0 so done) r.2)
 
   trim_stops : (old new : Server D) (turn : Turn) → turn.line ≡ trim_line → IsErr turn.outcome → IsAtRest old → Goes old turn new → IsHalt turn.outcome
   trim_stops old new turn is err rest t =
-      let r = refused_as (view.is_honest old.store.disk) t.releases old new turn.line 0 Trim (rw is trim_asks) turn.outcome err t.goes.replies in
-      subst IsHalt (sym r.1) (halts_so r.0 (λ so. trim_halts (view.is_honest old.store.disk) t.releases old new r.0 so rest) r.2)
+      let r = refused_as (view old.store.disk).is_honest t.releases old new turn.line 0 Trim (rw is trim_asks) turn.outcome err t.goes.replies in
+      subst IsHalt (sym r.1) (halts_so r.0 (λ so. trim_halts (view old.store.disk).is_honest t.releases old new r.0 so rest) r.2)
 
   -- ---- lines one after the other
 
@@ -311,23 +311,23 @@ module _ {D : Type 0} (view : DeviceView D) where
   none_imported scope line (Failed r) asked = refl
   none_imported scope line Other asked = refl
 
-  turn_keeps : (old new : Server D) (turn : Turn) → Goes old turn new → view.is_honest old.store.disk → new.store.history ≡ old.store.history
+  turn_keeps : (old new : Server D) (turn : Turn) → Goes old turn new → (view old.store.disk).is_honest → new.store.history ≡ old.store.history
   turn_keeps old new turn t up =
       subst (λ (rs : List Release). TakesAll old.store.history rs new.store.history) (none_imported (scope_of old.store.catalog.layout) turn.line turn.call (t.own tt).asked) (t.call.history up)
 
-  merges_keep : (old new : Server D) (turns : List Turn) → Merges view old turns new → view.is_honest old.store.disk
-      → (view.is_honest new.store.disk) × (new.store.history ≡ old.store.history)
-  merges_keep old new [] e up = (subst (λ (s : Server D). view.is_honest s.store.disk) (sym e) up, ap (λ (s : Server D). s.store.history) e)
+  merges_keep : (old new : Server D) (turns : List Turn) → Merges view old turns new → (view old.store.disk).is_honest
+      → (view new.store.disk).is_honest × (new.store.history ≡ old.store.history)
+  merges_keep old new [] e up = (subst (λ (s : Server D). (view s.store.disk).is_honest) (sym e) up, ap (λ (s : Server D). s.store.history) e)
   merges_keep old new (turn ∷ turns) m up =
       let rest = merges_keep m.0 new turns m.4 (m.3.call.honesty.0 up) in
       (rest.0, rest.1 ∙ turn_keeps old m.0 turn m.3 up)
 
-  pub halted_keeps : (most : ℕ) (old new : Server D) (last : Turn) → IsHaltedBy view most last old new → view.is_honest old.store.disk → new.store.history ≡ old.store.history
+  pub halted_keeps : (most : ℕ) (old new : Server D) (last : Turn) → IsHaltedBy view most last old new → (view old.store.disk).is_honest → new.store.history ≡ old.store.history
   halted_keeps most old new last h lie =
       let before = merges_keep old h.before h.turns h.merges lie in
       turn_keeps h.before new last h.goes before.0 ∙ before.1
 
-  pub merged_keeps : (most : ℕ) (old new : Server D) (last : Turn) → IsMergedAndAsked view most last old new → view.is_honest old.store.disk
+  pub merged_keeps : (most : ℕ) (old new : Server D) (last : Turn) → IsMergedAndAsked view most last old new → (view old.store.disk).is_honest
       → new.store.history ≡ old.store.history
   merged_keeps most old new last m lie =
       let before = merges_keep old m.1.before m.1.turns m.1.merges lie in
@@ -364,13 +364,13 @@ module _ {D : Type 0} (view : DeviceView D) where
 
   line_checked : (old new : Server D) (turn : Turn) → IsMergeLine turn.line old → IsOk turn.outcome → Goes old turn new → GoesChecked old.store.catalog → GoesChecked new.store.catalog
   line_checked old new turn (inl is) ok t so =
-      let a = answered (view.is_honest old.store.disk) t.releases old new turn.line 0 Merge (rw is merge_asks) turn.outcome ok t.goes.replies in
+      let a = answered (view old.store.disk).is_honest t.releases old new turn.line 0 Merge (rw is merge_asks) turn.outcome ok t.goes.replies in
       begun_checked old.store.catalog new.store.catalog a.1.0 a.1.1.0 so
   line_checked old new turn (inr (inl (is, some))) ok t so =
-      let a = answered (view.is_honest old.store.disk) t.releases old new turn.line 0 (Step 100000) (rw is step_asks) turn.outcome ok t.goes.replies in
+      let a = answered (view old.store.disk).is_honest t.releases old new turn.line 0 (Step 100000) (rw is step_asks) turn.outcome ok t.goes.replies in
       stepped_checked 100000 old.store.catalog new.store.catalog a.1.0 a.1.1.0 so
   line_checked old new turn (inr (inr is)) ok t so =
-      let a = answered (view.is_honest old.store.disk) t.releases old new turn.line 0 Publish (rw is publish_asks) turn.outcome ok t.goes.replies in
+      let a = answered (view old.store.disk).is_honest t.releases old new turn.line 0 Publish (rw is publish_asks) turn.outcome ok t.goes.replies in
       published_checked old.store.catalog new.store.catalog a.1.0.0 so
 
   merges_checked : (old new : Server D) (turns : List Turn) → Merges view old turns new → GoesChecked old.store.catalog → GoesChecked new.store.catalog
@@ -379,7 +379,7 @@ module _ {D : Type 0} (view : DeviceView D) where
 
   trim_catalog : (old new : Server D) (turn : Turn) → turn.line ≡ trim_line → IsOk turn.outcome → Goes old turn new → new.store.catalog ≡ old.store.catalog
   trim_catalog old new turn is ok t =
-      let a = answered (view.is_honest old.store.disk) t.releases old new turn.line 0 Trim (rw is trim_asks) turn.outcome ok t.goes.replies in
+      let a = answered (view old.store.disk).is_honest t.releases old new turn.line 0 Trim (rw is trim_asks) turn.outcome ok t.goes.replies in
       a.1.1.0
 
   all_checked : (most : ℕ) (old mid new : Server D) → HaveMerged view old mid → new.store.catalog ≡ mid.store.catalog → segments_of mid ≡ min (segments_of old) most

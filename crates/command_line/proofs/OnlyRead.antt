@@ -8,7 +8,7 @@ use Rattle.history_store.specs.StoreValue.{StoreValue}
 use Rattle.history_store.specs.Answers.{Counts, CountsRefusal}
 use Rattle.history_store.specs.Queries.{IsQuery}
 use Rattle.history_store.specs.Contradicting.{IsListing}
-use Rattle.store_life.specs.DeviceView.{DeviceView}
+use Rattle.disk_model.specs.View.{DiskView}
 use Rattle.command_line.specs.Checking.{IsOnlyRead}
 
 -- the count of a device's failures never falls
@@ -20,7 +20,7 @@ rises : {T : Type 0} (result : Result T Refusal) (old new : ℕ) → Counts resu
 rises (Ok x) old new same = omega (arith, same)
 rises (Err e) old new counts = refused_rises e old new counts
 
-module _ {D : Type 0} (view : DeviceView D) where
+module _ {D : Type 0} (view : D → DiskView) where
   pub not_read : (device : D) → IsOnlyRead view device device
   not_read device = record {
     moments = λ up. refl;
@@ -35,16 +35,16 @@ module _ {D : Type 0} (view : DeviceView D) where
     failures = (let before = first.failures in let after = second.failures in omega arith);
   }
 
-  pub queried : {T : Type 0} (result : Result T Refusal) (old new : StoreValue D) → IsQuery result view.is_honest view.moments view.failures old new → IsOnlyRead view old.disk new.disk
+  pub queried : {T : Type 0} (result : Result T Refusal) (old new : StoreValue D) → IsQuery result view old new → IsOnlyRead view old.disk new.disk
   queried result old new query = record {
     moments = query.moments;
     honesty = query.honesty;
-    failures = rises result (view.failures old.disk) (view.failures new.disk) query.failures;
+    failures = rises result (view old.disk).failures (view new.disk).failures query.failures;
   }
 
-  pub listed : (result : Result Contradictions Refusal) (release : Release) (limit : ℕ) (other_calls_of : D → ℕ) (old new : StoreValue D) → IsListing result release limit view.is_honest view.moments view.failures view.bytes_read other_calls_of old new → IsOnlyRead view old.disk new.disk
-  listed result release limit other_calls_of old new listing = record {
+  pub listed : (result : Result Contradictions Refusal) (release : Release) (limit : ℕ) (old new : StoreValue D) → IsListing result release limit view old new → IsOnlyRead view old.disk new.disk
+  listed result release limit old new listing = record {
     moments = listing.moments;
     honesty = listing.honesty;
-    failures = rises result (view.failures old.disk) (view.failures new.disk) listing.failures;
+    failures = rises result (view old.disk).failures (view new.disk).failures listing.failures;
   }

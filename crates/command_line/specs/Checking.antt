@@ -1,6 +1,6 @@
 -- What the check of a release does: it asks the line that a session would ask, and then reads.
 use Rattle.std.specs.Prelude.{◌≡◌, ◌≤◌, ◌↔◌, ℕ, List}
-use Rattle.store_life.specs.DeviceView.{DeviceView}
+use Rattle.disk_model.specs.View.{DiskView}
 use Rattle.history_store.specs.StoreValue.{StoreValue}
 use Rattle.line_commands.specs.Requests.{check_line}
 use Rattle.line_server.specs.Sources.{SourceView}
@@ -9,19 +9,19 @@ use Rattle.command_line.specs.Tasks.{IsLineTold, IsOnOpened}
 
 -- The device was left as calls leave it that only read: what stops may leave of an honest one
 -- stays, and so does whether it is honest, and no failure is forgotten.
-pub record IsOnlyRead {D : Type 0} (view : DeviceView D) (old new : D) : Type 0 where
-  pub moments : view.is_honest old → view.moments new ≡ view.moments old
-  pub honesty : view.is_honest old ↔ view.is_honest new
-  pub failures : view.failures old ≤ view.failures new
+pub record IsOnlyRead {D : Type 0} (view : D → DiskView) (old new : D) : Type 0 where
+  pub moments : (view old).is_honest → (view new).moments ≡ (view old).moments
+  pub honesty : (view old).is_honest ↔ (view new).is_honest
+  pub failures : (view old).failures ≤ (view new).failures
 
 -- the line that checks the release was answered, and from then on the device was only read
-abbrev pub Checks : {D : Type 0} → SourceView → DeviceView D → List ℕ → D → Report → StoreValue D
+abbrev pub Checks : {D : Type 0} → SourceView → (D → DiskView) → List ℕ → D → Report → StoreValue D
     → Type 0
 Checks {D} source view name left report store =
     (mid : D) × IsLineTold source view (check_line name) store mid report
     × IsOnlyRead view mid left
 
 -- the store was opened from this device, and the release was checked against it
-abbrev pub IsCheck : {D : Type 0} → SourceView → DeviceView D → List ℕ → D → D → Report → Type 0
+abbrev pub IsCheck : {D : Type 0} → SourceView → (D → DiskView) → List ℕ → D → D → Report → Type 0
 IsCheck source view name device left report =
     IsOnOpened view (Checks source view name left report) device left report

@@ -3,7 +3,7 @@ use Rattle.std.specs.Prelude.{◌≡◌, ◌⊎◌, ◌↔◌, ℕ, [], Option, 
 use Rattle.std.specs.Prelude.{IfOk, IfErr, OnOk, length}
 use Rattle.disk_model.specs.Disk.{IsImage, LeavesOnly}
 use Rattle.fault_counts.specs.Counting.{Counts}
-use Rattle.store_life.specs.DeviceView.{DeviceView}
+use Rattle.disk_model.specs.View.{DiskView}
 use Rattle.directory.specs.Listings.{DirectoryValue}
 use Rattle.store_image.specs.Answers.{synced}
 use Rattle.store_image.specs.Images.{IsStore}
@@ -35,36 +35,36 @@ copy_told (Err e) = Err (copy_refusal e)
 
 -- The first imports of the store on one device, or all of them, were copied to another one, or it
 -- is said why not.
-pub record IsCopied {D : Type 0} (view : DeviceView D) (imports : Option ℕ)
+pub record IsCopied {D : Type 0} (view : D → DiskView) (imports : Option ℕ)
     (result : Result DirectoryValue CopyFault) (source source_left target target_left : D)
     : Type 0 where
   -- whatever a stop leaves from now on is the copy
-  pub copied : view.is_honest source → view.is_honest target → IfOk result
-      (λ copy. HasCopy imports (view.moments source).state.now copy
-      (view.moments target_left).state)
+  pub copied : (view source).is_honest → (view target).is_honest → IfOk result
+      (λ copy. HasCopy imports (view source).moments.state.now copy
+      (view target_left).moments.state)
   -- a stop at any moment leaves what it might have left before, no store, or the whole copy
-  pub any_moment : view.is_honest source → view.is_honest target
-      → LeavesOnly (view.moments target) (view.moments target_left)
-      (λ c. IsImage (view.moments target).state c ⊎ (IsStore c → ⊥)
-      ⊎ IsCopyOf imports (view.moments source).state.now c)
-  pub empty : view.is_honest target → OnOk result (length (view.moments target).state.now ≡ 0)
-  pub refused : view.is_honest source → view.is_honest target → IfErr result
-      (λ e. IsNotCopied e imports (view.moments source).state.now
-      (view.moments target).state.now)
-  pub stays : view.is_honest source → view.is_honest target
-      → StaysUnlessFailed result (view.moments target) (view.moments target_left)
+  pub any_moment : (view source).is_honest → (view target).is_honest
+      → LeavesOnly (view target).moments (view target_left).moments
+      (λ c. IsImage (view target).moments.state c ⊎ (IsStore c → ⊥)
+      ⊎ IsCopyOf imports (view source).moments.state.now c)
+  pub empty : (view target).is_honest → OnOk result (length (view target).moments.state.now ≡ 0)
+  pub refused : (view source).is_honest → (view target).is_honest → IfErr result
+      (λ e. IsNotCopied e imports (view source).moments.state.now
+      (view target).moments.state.now)
+  pub stays : (view source).is_honest → (view target).is_honest
+      → StaysUnlessFailed result (view target).moments (view target_left).moments
   -- the store that is copied is synced, and changes in nothing else
-  pub source_stays : view.is_honest source → (view.moments source_left ≡ view.moments source)
-      ⊎ (view.moments source_left ≡ synced (view.moments source))
-  pub source_any_moment : view.is_honest source
-      → LeavesOnly (view.moments source) (view.moments source_left)
-      (IsImage (view.moments source).state)
-  pub source_honesty : view.is_honest source ↔ view.is_honest source_left
-  pub target_honesty : view.is_honest target ↔ view.is_honest target_left
-  pub source_failures : Counts CountsSource result (view.failures source)
-      (view.failures source_left)
-  pub target_failures : Counts CountsTarget result (view.failures target)
-      (view.failures target_left)
+  pub source_stays : (view source).is_honest → ((view source_left).moments ≡ (view source).moments)
+      ⊎ ((view source_left).moments ≡ synced (view source).moments)
+  pub source_any_moment : (view source).is_honest
+      → LeavesOnly (view source).moments (view source_left).moments
+      (IsImage (view source).moments.state)
+  pub source_honesty : (view source).is_honest ↔ (view source_left).is_honest
+  pub target_honesty : (view target).is_honest ↔ (view target_left).is_honest
+  pub source_failures : Counts CountsSource result (view source).failures
+      (view source_left).failures
+  pub target_failures : Counts CountsTarget result (view target).failures
+      (view target_left).failures
 
 -- what was made for a copy was removed, or that can't be done and it was left so
 abbrev pub IsRemoved : {D : Type 0} → (removes retains : Type 0) → D → Option D → Type 0
@@ -79,7 +79,7 @@ IsKept removes retains (Err e) made left = IsRemoved removes retains made left
 
 -- A copy was made of the store on one device onto another one, or it is said why not. That was
 -- told, and each device was left as it then was, but for one that was made for a copy that failed.
-pub record IsCopyMade {D : Type 0} (view : DeviceView D) (removes retains : Type 0)
+pub record IsCopyMade {D : Type 0} (view : D → DiskView) (removes retains : Type 0)
     (imports : Option ℕ) (source target : D) (left made : Option D) (report : Report)
     : Type 0 where
   pub result : Result DirectoryValue CopyFault

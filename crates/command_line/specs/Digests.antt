@@ -1,6 +1,6 @@
 -- What telling the digest of a store does: it asks the line that a session would ask.
 use Rattle.std.specs.Prelude.{ℕ, List, ◌++◌, codes, decimal, Option, Some, None}
-use Rattle.store_life.specs.DeviceView.{DeviceView}
+use Rattle.disk_model.specs.View.{DiskView}
 use Rattle.line_server.specs.Sources.{no_releases}
 use Rattle.command_line.specs.Endings.{Report}
 use Rattle.command_line.specs.Tasks.{IsLineTold, IsOnOpened}
@@ -11,7 +11,7 @@ digest_line None = codes "0 DIGEST"
 digest_line (Some imports) = codes "0 AT " ++ decimal imports ++ codes " DIGEST"
 
 -- the store was opened from this device, and the line that asks for its digest was answered
-abbrev pub IsDigest : {D : Type 0} → DeviceView D → Option ℕ → D → D → Report → Type 0
+abbrev pub IsDigest : {D : Type 0} → (D → DiskView) → Option ℕ → D → D → Report → Type 0
 IsDigest view imports device left report = IsOnOpened view
     (λ store. IsLineTold no_releases view (digest_line imports) store left report) device left
     report

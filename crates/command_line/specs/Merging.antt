@@ -3,7 +3,7 @@ use Rattle.std.specs.Prelude.{◌≡◌, ◌⊎◌, ℕ, ◌<◌, ◌≤◌, Lis
 use Rattle.std.specs.Prelude.{None, Result, Ok, Err, Bool, IsOk, IsErr, unwrap_or}
 use Rattle.std.specs.Prelude.{option_map}
 use Rattle.line_server.specs.Sources.{no_releases}
-use Rattle.store_life.specs.DeviceView.{DeviceView}
+use Rattle.disk_model.specs.View.{DiskView}
 use Rattle.store_life.specs.Life.{Other, IsCall}
 use Rattle.history_store.specs.declared.refusal.Refusal.{Refusal}
 use Rattle.history_store.specs.declared.refusal.Refusal.TheVariants as store
@@ -35,7 +35,7 @@ abbrev pub trim_line : List ℕ
 trim_line = codes "0 TRIM"
 
 -- such lines were answered OK, one after the other
-abbrev pub Merges : {D : Type 0} → DeviceView D → Server D → List Turn → Server D → Type 0
+abbrev pub Merges : {D : Type 0} → (D → DiskView) → Server D → List Turn → Server D → Type 0
 Merges {D} view old [] new = new ≡ old
 Merges {D} view old (turn ∷ turns) new =
     (mid : Server D) × IsMergeLine turn.line old × IsOk turn.outcome
@@ -51,7 +51,7 @@ HasNoMerge server = server.store.catalog.merge ≡ None
 
 -- Lines of merges were answered OK, and then the one that trims. From more than so many
 -- segments that many are left, and from fewer as many as there were. No merge is left begun.
-pub record IsMergedTo {D : Type 0} (view : DeviceView D) (most : ℕ) (old new : Server D)
+pub record IsMergedTo {D : Type 0} (view : D → DiskView) (most : ℕ) (old new : Server D)
     : Type 0 where
   pub turns : List Turn
   pub before : Server D
@@ -87,7 +87,7 @@ IsDue most turn first now =
 
 -- Lines of merges were answered OK, and then one of these lines was
 -- refused, which was due, for a reason that lies outside of them.
-pub record IsHaltedBy {D : Type 0} (view : DeviceView D) (most : ℕ) (last : Turn)
+pub record IsHaltedBy {D : Type 0} (view : D → DiskView) (most : ℕ) (last : Turn)
     (old new : Server D) : Type 0 where
   pub turns : List Turn
   pub before : Server D
@@ -98,14 +98,14 @@ pub record IsHaltedBy {D : Type 0} (view : DeviceView D) (most : ℕ) (last : Tu
   pub cause : 1 ≤ most → IsHalt last.outcome
 
 -- the segments were merged, and then the status was asked for
-abbrev pub IsMergedAndAsked : {D : Type 0} → DeviceView D → ℕ → Turn → Server D → Server D
+abbrev pub IsMergedAndAsked : {D : Type 0} → (D → DiskView) → ℕ → Turn → Server D → Server D
     → Type 0
 IsMergedAndAsked {D} view most last old new =
     (mid : Server D) × IsMergedTo view most old mid
     × (last.line ≡ status_line) × IsTurn no_releases view mid last new
 
 -- the last line was that for the status, or one that was refused; its reply was told
-pub record TellsLines {D : Type 0} (view : DeviceView D) (most : ℕ) (left : D) (report : Report)
+pub record TellsLines {D : Type 0} (view : D → DiskView) (most : ℕ) (left : D) (report : Report)
     (store : StoreValue D) : Type 0 where
   pub last : Turn
   pub state : StateValue
@@ -115,11 +115,11 @@ pub record TellsLines {D : Type 0} (view : DeviceView D) (most : ℕ) (left : D)
   pub told : Tells report last.outcome
   pub left_so : left ≡ after.disk
   -- what stands in the store stays the same
-  pub history : view.is_honest store.disk → after.history ≡ store.history
+  pub history : (view store.disk).is_honest → after.history ≡ store.history
 
 -- after the only segment was written anew, or had no need of that, lines merge the segments; else
 -- it was told why it wasn't
-abbrev pub GoesOn : {D : Type 0} → DeviceView D → ℕ → D → Report → Result Bool Refusal
+abbrev pub GoesOn : {D : Type 0} → (D → DiskView) → ℕ → D → Report → Result Bool Refusal
     → StoreValue D → Type 0
 GoesOn view most left report (Ok anew) store = TellsLines view most left report store
 GoesOn view most left report (Err e) store =
@@ -127,7 +127,7 @@ GoesOn view most left report (Err e) store =
 
 -- If the store is of version 3, and its only segment has no checksums, that is written anew. Then
 -- the segments are merged.
-pub record TellsMerge {D : Type 0} (view : DeviceView D) (most : ℕ) (left : D) (report : Report)
+pub record TellsMerge {D : Type 0} (view : D → DiskView) (most : ℕ) (left : D) (report : Report)
     (store : StoreValue D) : Type 0 where
   pub result : Result Bool Refusal
   pub mid : StoreValue D
@@ -136,6 +136,6 @@ pub record TellsMerge {D : Type 0} (view : DeviceView D) (most : ℕ) (left : D)
   pub goes_on : GoesOn view most left report result mid
 
 -- the store was opened from this device, and its segments were merged
-abbrev pub IsMergedOnDisk : {D : Type 0} → DeviceView D → ℕ → D → D → Report → Type 0
+abbrev pub IsMergedOnDisk : {D : Type 0} → (D → DiskView) → ℕ → D → D → Report → Type 0
 IsMergedOnDisk view most device left report =
     IsOnOpened view (TellsMerge view most left report) device left report

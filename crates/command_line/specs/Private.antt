@@ -2,7 +2,7 @@
 -- No public clause cites them.
 use Rattle.std.specs.Prelude.{◌≡◌, ℕ, ◌+◌, ◌<◌, ◌≤◌, List, Result, Ok, Err, IsOk, IsErr, [], ◌∷◌}
 use Rattle.line_server.specs.Sources.{no_releases}
-use Rattle.store_life.specs.DeviceView.{DeviceView}
+use Rattle.disk_model.specs.View.{DiskView}
 use Rattle.std.specs.Prelude.{codes, decimal, false}
 use Rattle.history_store.specs.Merging.{GoesOn, IsFinished}
 use Rattle.clap.specs.Walk.{Rule, rule_of}
@@ -20,7 +20,7 @@ use Rattle.command_line.specs.Merging.{IsMergeLine, Merges, IsHalt, IsHaltedBy, 
 use Rattle.command_line.specs.Merging.{HasNoMerge, segments_of}
 
 -- the line was answered OK, or its refusal comes back
-abbrev pub IsAsked : {D : Type 0} → DeviceView D → List ℕ → Result (Unit {0}) LineRefusal
+abbrev pub IsAsked : {D : Type 0} → (D → DiskView) → List ℕ → Result (Unit {0}) LineRefusal
     → Server D → Server D → Type 0
 IsAsked view line (Ok done) old new =
     HasTurn no_releases view line old new (λ turn. IsOk turn.outcome)
@@ -40,12 +40,12 @@ abbrev pub HasMerged : {D : Type 0} → Server D → Type 0
 HasMerged server = (server.store.needs_reopen ≡ false) × IsFinished server.store.catalog
 
 -- lines of merges were answered OK
-pub record HaveMerged {D : Type 0} (view : DeviceView D) (old new : Server D) : Type 0 where
+pub record HaveMerged {D : Type 0} (view : D → DiskView) (old new : Server D) : Type 0 where
   pub turns : List Turn
   pub merges : Merges view old turns new
 
 -- lines of merges were answered OK, and then one was refused that was due
-pub record IsStoppedBy {D : Type 0} (view : DeviceView D) (most : ℕ) (last : Turn)
+pub record IsStoppedBy {D : Type 0} (view : D → DiskView) (most : ℕ) (last : Turn)
     (old new : Server D) : Type 0 where
   pub before : Server D
   pub have : HaveMerged view old before
@@ -56,18 +56,18 @@ pub record IsStoppedBy {D : Type 0} (view : DeviceView D) (most : ℕ) (last : T
   pub cause : 1 ≤ most → IsHalt last.outcome
 
 -- a line of a merge was refused, by this
-abbrev pub IsStopped : {D : Type 0} → DeviceView D → ℕ → LineRefusal → Server D → Server D → Type 0
+abbrev pub IsStopped : {D : Type 0} → (D → DiskView) → ℕ → LineRefusal → Server D → Server D → Type 0
 IsStopped view most refusal old new =
     (last : Turn) × (last.outcome ≡ Err refusal) × IsStoppedBy view most last old new
 
 -- a line was refused, by this
-abbrev pub IsHalted : {D : Type 0} → DeviceView D → ℕ → LineRefusal → Server D → Server D → Type 0
+abbrev pub IsHalted : {D : Type 0} → (D → DiskView) → ℕ → LineRefusal → Server D → Server D → Type 0
 IsHalted view most refusal old new =
     (last : Turn) × (last.outcome ≡ Err refusal)
     × IsHaltedBy view most last old new
 
 -- all rows of the merge were taken, and there are as many segments as before
-abbrev pub MergesRows : {D : Type 0} → DeviceView D → Result (Unit {0}) LineRefusal
+abbrev pub MergesRows : {D : Type 0} → (D → DiskView) → Result (Unit {0}) LineRefusal
     → Server D → Server D → Type 0
 MergesRows view (Ok done) old new =
     HaveMerged view old new × (segments_of new ≡ segments_of old) × HasMerged new
@@ -75,7 +75,7 @@ MergesRows view (Err refusal) old new =
     (most : ℕ) → most < segments_of old → IsStopped view most refusal old new
 
 -- two segments were merged into one
-abbrev pub IsOneLess : {D : Type 0} → DeviceView D → Result (Unit {0}) LineRefusal
+abbrev pub IsOneLess : {D : Type 0} → (D → DiskView) → Result (Unit {0}) LineRefusal
     → Server D → Server D → Type 0
 IsOneLess view (Ok done) old new =
     HaveMerged view old new × (segments_of new + 1 ≡ segments_of old) × IsAtRest new
@@ -83,7 +83,7 @@ IsOneLess view (Err refusal) old new =
     (most : ℕ) → most < segments_of old → IsStopped view most refusal old new
 
 -- segments were merged until so many were left, and the disk was trimmed
-abbrev pub IsTrimmedTo : {D : Type 0} → DeviceView D → ℕ → Result (Unit {0}) LineRefusal
+abbrev pub IsTrimmedTo : {D : Type 0} → (D → DiskView) → ℕ → Result (Unit {0}) LineRefusal
     → Server D → Server D → Type 0
 IsTrimmedTo view most (Ok done) old new =
     IsMergedTo view most old new

@@ -2,11 +2,11 @@
 use Rattle.std.specs.Prelude.{◌≡◌, ◌≢◌, ◌⊎◌, ◌≤◌, ℕ, List, [], Option, Some, None, Result, Ok, Err}
 use Rattle.std.specs.Prelude.{⊤}
 use Rattle.std.specs.Io.KnownBytes.{Keeps}
-use Rattle.store_life.specs.DeviceView.{DeviceView, device_view}
+use Rattle.disk_model.specs.View.{DiskView}
 use Rattle.directory.specs.declared.layout.Layout.{Layout}
 use Rattle.disk_model.specs.Change.{made}
 use Rattle.disk_model.specs.Disk.{raised_by}
-use Rattle.disk_model.specs.MemDisk.{memory_moments, failure_count, bytes_read_of}
+use Rattle.disk_model.specs.MemDisk.{memory_moments, memory_view}
 use Rattle.disk_model.specs.declared.memory.MemDisk.{MemDisk}
 use Rattle.samples.specs.Sample.{sample_files}
 use Rattle.clap.specs.Values.{kind_of}
@@ -51,7 +51,7 @@ pub record SystemView (D : Type 0) : Type 1 where
   pub lacks : List ℕ → Type 0
   pub is_honest : Type 0
   pub releases : List ℕ → Releases
-  pub device : DeviceView D
+  pub device : D → DiskView
 
 -- the source that a folder of releases is
 abbrev pub source_in : {D : Type 0} → SystemView D → List ℕ → SourceView
@@ -119,7 +119,7 @@ pub record IsDemonstrated (script : List ℕ) (report : Report) : Type 0 where
   pub left : MemDisk
   pub rest : Option (List ℕ)
   pub serving : IsServingNew (source_view ⊤ (λ _. sample_files))
-      (device_view (λ _. Unit {0}) memory_moments failure_count bytes_read_of)
+      memory_view
       disk left report.ended (streams (Some script) rest report.old report.new)
 
 -- the lines of the script were served so, what was written went out at the end, and the status is 0

@@ -2,7 +2,7 @@
 use Rattle.std.specs.Prelude.{◌≡◌, ℕ, List, [], codes, Result, Ok, Err}
 use Rattle.directory.specs.declared.layout.Layout.{Layout}
 use Rattle.directory.specs.declared.layout.Layout.TheVariants as layouts
-use Rattle.store_life.specs.DeviceView.{DeviceView}
+use Rattle.disk_model.specs.View.{DiskView}
 use Rattle.store_life.specs.Life.{IsCall, Other}
 use Rattle.history_store.specs.declared.refusal.Refusal.{Refusal}
 use Rattle.history_store.specs.StoreValue.{StoreValue}
@@ -32,10 +32,10 @@ making_told (Ok store) = Ok (AllDone [])
 making_told (Err e) = Err (Store e.0)
 
 -- a store of this version was made, that was told, and the device was left so
-pub record IsMade {D : Type 0} (layout : Layout) (view : DeviceView D) (device left : D)
+pub record IsMade {D : Type 0} (layout : Layout) (view : D → DiskView) (device left : D)
     (report : Report) : Type 0 where
   pub had : StoreOr D
-  pub making : IsMaking layout had view.is_honest view.moments view.failures device
+  pub making : IsMaking layout had view device
   pub left_so : left ≡ device_of had
   pub told : Tells report (making_told had)
 
@@ -43,7 +43,7 @@ pub record IsMade {D : Type 0} (layout : Layout) (view : DeviceView D) (device l
 
 -- The line was answered, where no session is pinned, the
 -- reply was told, and the device was left as it then was.
-pub record IsLineTold {D : Type 0} (source : SourceView) (view : DeviceView D) (line : List ℕ)
+pub record IsLineTold {D : Type 0} (source : SourceView) (view : D → DiskView) (line : List ℕ)
     (store : StoreValue D) (left : D) (report : Report) : Type 0 where
   pub state : StateValue
   pub after : StoreValue D
@@ -58,16 +58,16 @@ OnStore done (Ok store) left report = done store
 OnStore done (Err e) left report = Tells report (Err (Store e.0)) × (left ≡ e.1)
 
 -- the store was opened from this device, and the task was done on it
-pub record IsOnOpened {D : Type 0} (view : DeviceView D) (done : StoreValue D → Type 0)
+pub record IsOnOpened {D : Type 0} (view : D → DiskView) (done : StoreValue D → Type 0)
     (device left : D) (report : Report) : Type 0 where
   pub had : StoreOr D
-  pub opening : IsOpening had view.is_honest view.moments view.failures device
+  pub opening : IsOpening had view device
   pub does : OnStore done had left report
 
 -- ---- import
 
 -- the store was opened from this device, and the line that imports the release was answered
-abbrev pub IsImport : {D : Type 0} → SourceView → DeviceView D → List ℕ → D → D → Report → Type 0
+abbrev pub IsImport : {D : Type 0} → SourceView → (D → DiskView) → List ℕ → D → D → Report → Type 0
 IsImport source view name device left report = IsOnOpened view
     (λ store. IsLineTold source view (import_line name) store left report) device left report
 
@@ -78,7 +78,7 @@ abbrev pub status_line : List ℕ
 status_line = codes "0 STATUS"
 
 -- the store was opened from this device, and the line that asks for the status was answered
-abbrev pub IsStatus : {D : Type 0} → DeviceView D → D → D → Report → Type 0
+abbrev pub IsStatus : {D : Type 0} → (D → DiskView) → D → D → Report → Type 0
 IsStatus view device left report = IsOnOpened view
     (λ store. IsLineTold no_releases view status_line store left report) device left report
 
@@ -91,7 +91,7 @@ upgrade_told (Err e) = Err (Store e)
 
 -- the store was brought to version 3, or it was refused; that was told, and the device was left as
 -- it then was
-pub record Upgrades {D : Type 0} (view : DeviceView D) (left : D) (report : Report)
+pub record Upgrades {D : Type 0} (view : D → DiskView) (left : D) (report : Report)
     (store : StoreValue D) : Type 0 where
   pub result : Result (Unit {0}) Refusal
   pub after : StoreValue D
@@ -101,7 +101,7 @@ pub record Upgrades {D : Type 0} (view : DeviceView D) (left : D) (report : Repo
   pub left_so : left ≡ after.disk
 
 -- the store was opened from this device, and brought to version 3
-abbrev pub IsUpgrade : {D : Type 0} → DeviceView D → D → D → Report → Type 0
+abbrev pub IsUpgrade : {D : Type 0} → (D → DiskView) → D → D → Report → Type 0
 IsUpgrade view device left report =
     IsOnOpened view (Upgrades view left report) device left report
 
@@ -117,7 +117,7 @@ abbrev pub most_reads : ℕ
 most_reads = 4294967295
 
 -- the lines of the input were served, and the device was left as it then was
-pub record IsInputServed {D : Type 0} (source : SourceView) (view : DeviceView D)
+pub record IsInputServed {D : Type 0} (source : SourceView) (view : D → DiskView)
     (store : StoreValue D) (left : D) (ended : Result Ending ServeFault) (streams : Streams)
     : Type 0 where
   pub result : Result ℕ ServeFault
@@ -127,7 +127,7 @@ pub record IsInputServed {D : Type 0} (source : SourceView) (view : DeviceView D
   pub left_so : left ≡ after.disk
 
 -- the lines were served from the store; or it was told why there is none, and nothing was read
-abbrev pub Serves : {D : Type 0} → SourceView → DeviceView D → StoreOr D → D
+abbrev pub Serves : {D : Type 0} → SourceView → (D → DiskView) → StoreOr D → D
     → Result Ending ServeFault → Streams → Type 0
 Serves source view (Ok store) left ended streams =
     IsInputServed source view store left ended streams
@@ -136,15 +136,15 @@ Serves source view (Err e) left ended streams =
     × (left ≡ e.1)
 
 -- the store was opened from this device, and the lines were served from it
-pub record IsServing {D : Type 0} (source : SourceView) (view : DeviceView D) (device left : D)
+pub record IsServing {D : Type 0} (source : SourceView) (view : D → DiskView) (device left : D)
     (ended : Result Ending ServeFault) (streams : Streams) : Type 0 where
   pub had : StoreOr D
-  pub opening : IsOpening had view.is_honest view.moments view.failures device
+  pub opening : IsOpening had view device
   pub serves : Serves source view had left ended streams
 
 -- the store was made on this device, and the lines were served from it
-pub record IsServingNew {D : Type 0} (source : SourceView) (view : DeviceView D) (device left : D)
+pub record IsServingNew {D : Type 0} (source : SourceView) (view : D → DiskView) (device left : D)
     (ended : Result Ending ServeFault) (streams : Streams) : Type 0 where
   pub had : StoreOr D
-  pub making : IsMaking layouts.Two had view.is_honest view.moments view.failures device
+  pub making : IsMaking layouts.Two had view device
   pub serves : Serves source view had left ended streams

@@ -5,7 +5,6 @@ ghost use Rattle.command_line.specs.Tasks.{IsLineTold};
 ghost use Rattle.command_line.specs.Endings.{report};
 ghost use Rattle.line_commands.specs.Requests.{IsReading};
 ghost use Rattle.line_server.specs.Sources.{source_view};
-ghost use Rattle.store_life.specs.DeviceView.{device_view};
 
 use crate::endings::{Ending, tell};
 use disk_model::Disk;
@@ -25,8 +24,7 @@ pub(crate) fn answer_read<D: Disk + Drop, S: Source, O: Write>(
 ) -> Result<Ending, ServeFault>
     requires { (line : List ℕ) × IsReading line read.now }
     ensures { (line : List ℕ) → IsReading line read.now
-        → IsLineTold (source_view (S.is_honest source.old) (S.releases source.old))
-        (device_view D.is_honest D.moments D.failures D.bytes_read)
+        → IsLineTold (source_view (S.is_honest source.old) (S.releases source.old)) D.view
         line store.old store.new.disk
         (report result (O.contents output.old) (O.contents output.new)) }
 {

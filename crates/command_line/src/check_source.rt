@@ -1,6 +1,5 @@
 //! The source of a release that is checked, and what more is told of it than of an import.
 
-ghost use Rattle.store_life.specs.DeviceView.{device_view};
 ghost use Rattle.command_line.specs.Checking.{IsOnlyRead};
 
 use crate::contradicting::{MOST_TOLD, files_without_bytes, tell_contradictions};
@@ -51,8 +50,7 @@ impl<F: Folders, E: Write> CheckSource<'_, F, E> {
         ended: Result<Ending, ServeFault>,
         store: &mut Store<D>,
     )
-        ensures { IsOnlyRead (device_view D.is_honest D.moments D.failures D.bytes_read)
-            store.old.disk store.new.disk }
+        ensures { IsOnlyRead D.view store.old.disk store.new.disk }
     {
         if self.refused.is_none() && !matches!(ended, Ok(Ending::Done)) {
             return;
@@ -80,8 +78,7 @@ impl<F: Folders, E: Write> CheckSource<'_, F, E> {
         release: Release,
         store: &mut Store<D>,
     )
-        ensures { IsOnlyRead (device_view D.is_honest D.moments D.failures D.bytes_read)
-            store.old.disk store.new.disk }
+        ensures { IsOnlyRead D.view store.old.disk store.new.disk }
     {
         let outline = outline_of(alloc, &release.files);
         self.tell_contradicting(alloc, name, release, store);
@@ -99,8 +96,7 @@ impl<F: Folders, E: Write> CheckSource<'_, F, E> {
         release: Release,
         store: &mut Store<D>,
     )
-        ensures { IsOnlyRead (device_view D.is_honest D.moments D.failures D.bytes_read)
-            store.old.disk store.new.disk }
+        ensures { IsOnlyRead D.view store.old.disk store.new.disk }
     {
         if self.refused.is_none() {
             return;

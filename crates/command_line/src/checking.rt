@@ -2,7 +2,6 @@
 
 ghost use Rattle.command_line.specs.Endings.{report};
 ghost use Rattle.line_server.specs.Sources.{source_view};
-ghost use Rattle.store_life.specs.DeviceView.{device_view};
 ghost use Rattle.command_line.specs.Checking.{Checks, IsCheck};
 
 use crate::answering::answer_read;
@@ -26,7 +25,7 @@ fn check_in<D: Disk + Drop, F: Folders, E: Write, O: Write>(
 ) -> Result<Ending, ServeFault>
     ensures { Checks (source_view (F.is_honest source.old.folder.folders.now)
         (F.releases source.old.folder.folders.now source.old.folder.dir.now))
-        (device_view D.is_honest D.moments D.failures D.bytes_read) name.now store.new.disk
+        D.view name.now store.new.disk
         (report result (O.contents output.old) (O.contents output.new)) store.old }
 {
     let ended = answer_read(alloc, &check_request(name), source, store, output);
@@ -44,7 +43,7 @@ pub(crate) fn check<D: Disk + Drop, F: Folders, E: Write, O: Write>(
 ) -> (Result<Ending, ServeFault>, D)
     ensures { IsCheck (source_view (F.is_honest source.old.folder.folders.now)
         (F.releases source.old.folder.folders.now source.old.folder.dir.now))
-        (device_view D.is_honest D.moments D.failures D.bytes_read) name.now device result.1
+        D.view name.now device result.1
         (report result.0 (O.contents output.old) (O.contents output.new)) }
 {
     match Store::open(alloc, device) {

@@ -1,7 +1,6 @@
 //! A store is copied to a new device.
 
 ghost use Rattle.std.specs.Prelude.{◌≡◌, Err};
-ghost use Rattle.store_life.specs.DeviceView.{device_view};
 ghost use Rattle.command_line.specs.Copies.{IsCopyMade, IsKept, IsRemoved, copy_refusal, copy_told};
 ghost use Rattle.command_line.specs.Endings.{IsTold, report};
 ghost use Rattle.command_line.specs.Runs.{AsksForPair, IsCopiedAt};
@@ -116,8 +115,7 @@ fn copy_onto<V: Devices, F: Folders, O: Write, E: Write>(
     output: &mut O,
     faults: &mut E,
 ) -> Performed<V::Device>
-    ensures { IsCopyMade
-        (device_view V.Device.is_honest V.Device.moments V.Device.failures V.Device.bytes_read)
+    ensures { IsCopyMade V.Device.view
         (F.removes folders.now to.now) (F.retains folders.now to.now) imports source target
         result.1 result.2 (report result.0 (O.contents output.old) (O.contents output.new)) }
 {
@@ -160,8 +158,7 @@ pub(crate) fn copy_at<V: Devices, F: Folders, O: Write, E: Write>(
       lacks = F.lacks folders.now;
       is_honest = F.is_honest folders.now;
       releases = F.releases folders.now;
-      device = device_view V.Device.is_honest V.Device.moments V.Device.failures
-          V.Device.bytes_read;
+      device = V.Device.view;
     }) path.now to.now imports result.1 result.2
         (report result.0 (O.contents output.old) (O.contents output.new)) }
     ensures asked { AsksForPair result.1 (V.asked devices.old) (V.asked devices.new) }

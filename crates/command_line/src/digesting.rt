@@ -3,7 +3,6 @@
 ghost use Rattle.std.specs.Prelude.{Some};
 ghost use Rattle.line_commands.specs.Requests.{Asks, command_of};
 ghost use Rattle.command_line.specs.Endings.{report};
-ghost use Rattle.store_life.specs.DeviceView.{device_view};
 ghost use Rattle.command_line.specs.Digests.{IsDigest, digest_line};
 
 use crate::answering::answer_read;
@@ -43,7 +42,7 @@ pub(crate) fn digest<D: Disk + Drop, O: Write>(
     imports: Option<u32>,
     output: &mut O,
 ) -> (Result<Ending, ServeFault>, D)
-    ensures { IsDigest (device_view D.is_honest D.moments D.failures D.bytes_read) imports device
+    ensures { IsDigest D.view imports device
         result.1 (report result.0 (O.contents output.old) (O.contents output.new)) }
 {
     match Store::open(alloc, device) {

@@ -2,7 +2,6 @@
 
 ghost use Rattle.command_line.specs.Endings.{report};
 ghost use Rattle.line_server.specs.Sources.{source_view};
-ghost use Rattle.store_life.specs.DeviceView.{device_view};
 ghost use Rattle.command_line.specs.Tasks.{IsImport};
 
 use crate::answering::answer_read;
@@ -23,7 +22,7 @@ pub(crate) fn import<D: Disk + Drop, S: Source, O: Write>(
     output: &mut O,
 ) -> (Result<Ending, ServeFault>, D)
     ensures { IsImport (source_view (S.is_honest source.old) (S.releases source.old))
-        (device_view D.is_honest D.moments D.failures D.bytes_read) name.now device result.1
+        D.view name.now device result.1
         (report result.0 (O.contents output.old) (O.contents output.new)) }
 {
     match Store::open(alloc, device) {

@@ -1,7 +1,6 @@
 //! The status of a store is told.
 
 ghost use Rattle.command_line.specs.Endings.{report};
-ghost use Rattle.store_life.specs.DeviceView.{device_view};
 ghost use Rattle.line_commands.specs.Requests.{Asks, command_of};
 ghost use Rattle.command_line.specs.Tasks.{IsStatus, status_line};
 
@@ -56,7 +55,7 @@ pub(crate) fn status<D: Disk + Drop, O: Write>(
     device: D,
     output: &mut O,
 ) -> (Result<Ending, ServeFault>, D, Option<Figures>)
-    ensures { IsStatus (device_view D.is_honest D.moments D.failures D.bytes_read) device result.1
+    ensures { IsStatus D.view device result.1
         (report result.0 (O.contents output.old) (O.contents output.new)) }
 {
     match Store::open(alloc, device) {

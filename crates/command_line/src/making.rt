@@ -2,7 +2,6 @@
 
 ghost use Rattle.command_line.specs.Tasks.{IsMade};
 ghost use Rattle.command_line.specs.Endings.{report};
-ghost use Rattle.store_life.specs.DeviceView.{device_view};
 
 use crate::endings::{Ending, refuse, tell_done};
 use directory::Layout;
@@ -19,8 +18,7 @@ pub(crate) fn init<D: Disk + Drop, O: Write>(
     layout: Layout,
     output: &mut O,
 ) -> (Result<Ending, ServeFault>, D)
-    ensures { IsMade layout
-        (device_view D.is_honest D.moments D.failures D.bytes_read) device result.1
+    ensures { IsMade layout D.view device result.1
         (report result.0 (O.contents output.old) (O.contents output.new)) }
 {
     match Store::create_in(alloc, device, layout) {

@@ -5,7 +5,6 @@ ghost use Rattle.line_commands.specs.Requests.{IsReading};
 ghost use Rattle.line_server.specs.Pins.{AreWithin};
 ghost use Rattle.line_server.specs.StateValue.{fresh};
 ghost use Rattle.command_line.specs.Endings.{report};
-ghost use Rattle.store_life.specs.DeviceView.{device_view};
 ghost use Rattle.line_server.specs.Replies.{server};
 ghost use Rattle.command_line.specs.Merging.{IsMergedOnDisk, TellsLines, TellsMerge};
 ghost use Rattle.command_line.specs.Private.{IsAsked, IsAtRest, IsMerging, IsOneLess, IsTrimmedTo};
@@ -34,8 +33,7 @@ fn ask<D: Disk>(
     requires asked { (line : List ℕ) × IsReading line read.now }
     requires within { AreWithin store.old.history.imports state.old.pins }
     ensures within { AreWithin store.new.history.imports state.new.pins }
-    ensures asked { (line : List ℕ) → IsReading line read.now → IsAsked
-        (device_view D.is_honest D.moments D.failures D.bytes_read) line result
+    ensures asked { (line : List ℕ) → IsReading line read.now → IsAsked D.view line result
         (server state.old store.old) (server state.new store.new) }
 {
     let _reply = carry_out(alloc, read, state, &mut NoReleases, store)?;
@@ -51,7 +49,7 @@ fn take_rows<D: Disk>(
     requires within { AreWithin store.old.history.imports state.old.pins }
     requires merging { IsMerging (server state.old store.old) }
     ensures within { AreWithin store.new.history.imports state.new.pins }
-    ensures taken { MergesRows (device_view D.is_honest D.moments D.failures D.bytes_read) result
+    ensures taken { MergesRows D.view result
         (server state.old store.old) (server state.new store.new) }
 {
     let step = Ok(Request {
@@ -74,7 +72,7 @@ fn merge_two<D: Disk>(
     requires within { AreWithin store.old.history.imports state.old.pins }
     requires at_rest { IsAtRest (server state.old store.old) }
     ensures within { AreWithin store.new.history.imports state.new.pins }
-    ensures merged { IsOneLess (device_view D.is_honest D.moments D.failures D.bytes_read) result
+    ensures merged { IsOneLess D.view result
         (server state.old store.old) (server state.new store.new) }
 {
     let merge = Ok(Request {
@@ -102,8 +100,7 @@ fn merge_to<D: Disk, E: Write>(
     requires within { AreWithin store.old.history.imports state.old.pins }
     requires at_rest { IsAtRest (server state.old store.old) }
     ensures within { AreWithin store.new.history.imports state.new.pins }
-    ensures merged { IsTrimmedTo
-        (device_view D.is_honest D.moments D.failures D.bytes_read) most result
+    ensures merged { IsTrimmedTo D.view most result
         (server state.old store.old) (server state.new store.new) }
 {
     for _ in 0..store.segments().saturating_sub(most) {
@@ -127,8 +124,7 @@ fn merge_lines<D: Disk, O: Write, E: Write>(
     faults: &mut E,
 ) -> Result<Ending, ServeFault>
     requires at_rest { IsAtRest (server fresh store.old) }
-    ensures { TellsLines
-        (device_view D.is_honest D.moments D.failures D.bytes_read) most store.new.disk
+    ensures { TellsLines D.view most store.new.disk
         (report result (O.contents output.old) (O.contents output.new)) store.old }
 {
     let mut state = ServerState::new();
@@ -156,8 +152,7 @@ fn merge_all<D: Disk, O: Write, E: Write>(
     faults: &mut E,
 ) -> Result<Ending, ServeFault>
     requires at_rest { IsAtRest (server fresh store.old) }
-    ensures { TellsMerge
-        (device_view D.is_honest D.moments D.failures D.bytes_read) most store.new.disk
+    ensures { TellsMerge D.view most store.new.disk
         (report result (O.contents output.old) (O.contents output.new)) store.old }
 {
     match store.rewrite() {
@@ -180,8 +175,7 @@ pub(crate) fn merge<D: Disk + Drop, O: Write, E: Write>(
     output: &mut O,
     faults: &mut E,
 ) -> (Result<Ending, ServeFault>, D)
-    ensures { IsMergedOnDisk
-        (device_view D.is_honest D.moments D.failures D.bytes_read) most device result.1
+    ensures { IsMergedOnDisk D.view most device result.1
         (report result.0 (O.contents output.old) (O.contents output.new)) }
 {
     match Store::open(alloc, device) {

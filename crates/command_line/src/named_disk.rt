@@ -1,7 +1,8 @@
 //! A disk that was had under a name, and on which nothing is written once the name leads elsewhere.
 
 ghost use Rattle.std.specs.Prelude.{◌≡◌, ◌↔◌, ◌+◌, ◌≤◌, ℕ, length, IfOk, IfErr, OnOk, OnErr};
-ghost use Rattle.disk_model.specs.Disk.{Fails, followed_by, after_write, raised_by};
+ghost use Rattle.disk_model.specs.Disk.{Fails, followed_by, after_write};
+ghost use Rattle.disk_model.specs.View.{Calls, Stays, RisesBy};
 ghost use Rattle.fault_counts.specs.Counting.{CountsEach};
 
 use disk_model::{Disk, DiskFault, MAX_END};
@@ -78,17 +79,9 @@ fn counted<T: Drop>(answer: Result<T, DiskFault>, failures: &mut u64) -> Result<
 }
 
 impl<D: Disk, N: Name> Disk for NamedDisk<D, N> {
-    ghost use Rattle.command_line.specs.NamedDisks.{WritesNamed};
+    ghost use Rattle.command_line.specs.NamedDisks.{WritesNamed, named_view};
 
-    ghost moments = { λ d. D.moments d.disk };
-
-    ghost failures = { λ d. d.failures };
-
-    ghost bytes_read = { λ d. D.bytes_read d.disk };
-
-    ghost other_calls = { λ d. d.other_calls };
-
-    ghost is_honest = { λ d. D.is_honest d.disk };
+    ghost view = { named_view D.view };
 
     ghost now_is_image = { λ d honest. D.now_is_image d.disk honest };
 
@@ -103,18 +96,18 @@ impl<D: Disk, N: Name> Disk for NamedDisk<D, N> {
 
     fn write_at(&mut self, at: u64, bytes: &[u8]) -> Result<(), DiskFault>
         requires { at + length bytes.now ≤ MAX_END }
-        ensures made { D.is_honest self.old.disk → OnOk result (D.moments self.new.disk
-            ≡ followed_by (D.moments self.old.disk)
-            (after_write (D.moments self.old.disk).state at bytes.now)) }
-        ensures failed { D.is_honest self.old.disk → OnErr result (Fails (D.moments self.old.disk)
-            (after_write (D.moments self.old.disk).state at bytes.now)
-            (D.moments self.new.disk)) }
-        ensures honesty { D.is_honest self.old.disk ↔ D.is_honest self.new.disk }
-        ensures failures { CountsEach result self.old.failures self.new.failures }
-        ensures bytes_read { D.bytes_read self.new.disk ≡ D.bytes_read self.old.disk }
-        ensures other_calls { self.new.other_calls ≡ raised_by self.old.other_calls 1 }
+        ensures made { (D.view self.old.disk).is_honest
+            → OnOk result ((D.view self.new.disk).moments
+            ≡ followed_by (D.view self.old.disk).moments
+            (after_write (D.view self.old.disk).moments.state at bytes.now)) }
+        ensures failed { (D.view self.old.disk).is_honest
+            → OnErr result (Fails (D.view self.old.disk).moments
+            (after_write (D.view self.old.disk).moments.state at bytes.now)
+            (D.view self.new.disk).moments) }
+        ensures meters { Calls (CountsEach result) Stays (RisesBy 1)
+            (named_view D.view self.old) (named_view D.view self.new) }
         // Nothing is written where the name leads elsewhere.
-        ensures named { WritesNamed N.leads N.misses D.other_calls result self.old self.new }
+        ensures named { WritesNamed N.leads N.misses D.view result self.old self.new }
     {
         self.other_calls = self.other_calls.saturating_add(1);
         if let Err(error) = self.name.look(self.length) {

@@ -4,7 +4,6 @@ ghost use Rattle.std.specs.Prelude.{◌≡◌, ◌≤◌, ◌⊎◌, IfOk, IfErr
 ghost use Rattle.command_line.specs.Endings.{report};
 ghost use Rattle.line_server.specs.Streams.{streams};
 ghost use Rattle.line_server.specs.Sources.{source_view};
-ghost use Rattle.store_life.specs.DeviceView.{device_view};
 ghost use Rattle.command_line.specs.Tasks.{IsImport, IsStatus, IsUpgrade};
 ghost use Rattle.command_line.specs.Merging.{IsMergedOnDisk};
 ghost use Rattle.command_line.specs.Checking.{IsCheck};
@@ -69,8 +68,7 @@ pub fn run<V: Devices, F: Folders, I: Read, O: Write, E: Write>(
       lacks = F.lacks folders.now;
       is_honest = F.is_honest folders.now;
       releases = F.releases folders.now;
-      device = device_view V.Device.is_honest V.Device.moments V.Device.failures
-          V.Device.bytes_read;
+      device = V.Device.view;
     }) SCRIPT.now (map string_bytes words.now) result.1 result.2 result.0
         (streams (I.remaining input.old) (I.remaining input.new)
         (O.contents output.old) (O.contents output.new))
@@ -116,8 +114,7 @@ fn perform<V: Devices, F: Folders, I: Read, O: Write, E: Write>(
       lacks = F.lacks folders.now;
       is_honest = F.is_honest folders.now;
       releases = F.releases folders.now;
-      device = device_view V.Device.is_honest V.Device.moments V.Device.failures
-          V.Device.bytes_read;
+      device = V.Device.view;
     }) SCRIPT.now task.now result.1 result.2 result.0
         (streams (I.remaining input.old) (I.remaining input.new)
         (O.contents output.old) (O.contents output.new)) }
@@ -194,8 +191,7 @@ fn init_at<V: Devices, F: Folders, O: Write, E: Write>(
       lacks = F.lacks folders.now;
       is_honest = F.is_honest folders.now;
       releases = F.releases folders.now;
-      device = device_view V.Device.is_honest V.Device.moments V.Device.failures
-          V.Device.bytes_read;
+      device = V.Device.view;
     }) path.now result.1 (report result.0 (O.contents output.old) (O.contents output.new)) }
     ensures asked { V.asked devices.new ≡ raised_by (V.asked devices.old) 1 }
 {
@@ -229,8 +225,7 @@ fn import_at<V: Devices, F: Folders, O: Write, E: Write>(
 ) -> Ended<V::Device>
     ensures done { IsDoneAt (V.stands devices.old path.now)
         (λ device after. IsImport
-        (source_view (F.is_honest folders.now) (F.releases folders.now dir.now))
-        (device_view V.Device.is_honest V.Device.moments V.Device.failures V.Device.bytes_read)
+        (source_view (F.is_honest folders.now) (F.releases folders.now dir.now)) V.Device.view
         name.now device after (report result.0 (O.contents output.old) (O.contents output.new)))
         (IsMissing (report result.0 (O.contents output.old) (O.contents output.new))
         × V.withholds devices.old path.now) result.1 }
@@ -268,8 +263,7 @@ fn check_at<V: Devices, F: Folders, O: Write, E: Write>(
 ) -> Ended<V::Device>
     ensures done { IsDoneAt (V.stands devices.old path.now)
         (λ device after. IsCheck
-        (source_view (F.is_honest folders.now) (F.releases folders.now dir.now))
-        (device_view V.Device.is_honest V.Device.moments V.Device.failures V.Device.bytes_read)
+        (source_view (F.is_honest folders.now) (F.releases folders.now dir.now)) V.Device.view
         name.now device after (report result.0 (O.contents output.old) (O.contents output.new)))
         (IsMissing (report result.0 (O.contents output.old) (O.contents output.new))
         × V.withholds devices.old path.now) result.1 }
@@ -325,8 +319,7 @@ fn serve_at<V: Devices, F: Folders, I: Read, O: Write, E: Write>(
       lacks = F.lacks folders.now;
       is_honest = F.is_honest folders.now;
       releases = F.releases folders.now;
-      device = device_view V.Device.is_honest V.Device.moments V.Device.failures
-          V.Device.bytes_read;
+      device = V.Device.view;
     }) path.now dir.now result.1 result.0 (streams (I.remaining input.old) (I.remaining input.new)
         (O.contents output.old) (O.contents output.new)) }
     ensures asked { V.asked devices.new ≡ raised_by (V.asked devices.old) 1 }
@@ -363,9 +356,7 @@ fn status_at<V: Devices, O: Write, E: Write>(
     faults: &mut E,
 ) -> Ended<V::Device>
     ensures done { IsDoneAt (V.stands devices.old path.now)
-        (λ device after. IsStatus
-        (device_view V.Device.is_honest V.Device.moments V.Device.failures V.Device.bytes_read)
-        device after
+        (λ device after. IsStatus V.Device.view device after
         (report result.0 (O.contents output.old) (O.contents output.new)))
         (IsMissing (report result.0 (O.contents output.old) (O.contents output.new))
         × V.withholds devices.old path.now) result.1 }
@@ -398,9 +389,7 @@ fn merge_at<V: Devices, O: Write, E: Write>(
     faults: &mut E,
 ) -> Ended<V::Device>
     ensures done { IsDoneAt (V.stands devices.old path.now)
-        (λ device after. IsMergedOnDisk
-        (device_view V.Device.is_honest V.Device.moments V.Device.failures V.Device.bytes_read)
-        most device after
+        (λ device after. IsMergedOnDisk V.Device.view most device after
         (report result.0 (O.contents output.old) (O.contents output.new)))
         (IsMissing (report result.0 (O.contents output.old) (O.contents output.new))
         × V.withholds devices.old path.now) result.1 }
@@ -431,9 +420,7 @@ fn digest_at<V: Devices, O: Write, E: Write>(
     faults: &mut E,
 ) -> Ended<V::Device>
     ensures done { IsDoneAt (V.stands devices.old path.now)
-        (λ device after. IsDigest
-        (device_view V.Device.is_honest V.Device.moments V.Device.failures V.Device.bytes_read)
-        imports device after
+        (λ device after. IsDigest V.Device.view imports device after
         (report result.0 (O.contents output.old) (O.contents output.new)))
         (IsMissing (report result.0 (O.contents output.old) (O.contents output.new))
         × V.withholds devices.old path.now) result.1 }
@@ -462,9 +449,7 @@ fn upgrade_at<V: Devices, O: Write, E: Write>(
     faults: &mut E,
 ) -> Ended<V::Device>
     ensures done { IsDoneAt (V.stands devices.old path.now)
-        (λ device after. IsUpgrade
-        (device_view V.Device.is_honest V.Device.moments V.Device.failures V.Device.bytes_read)
-        device after
+        (λ device after. IsUpgrade V.Device.view device after
         (report result.0 (O.contents output.old) (O.contents output.new)))
         (IsMissing (report result.0 (O.contents output.old) (O.contents output.new))
         × V.withholds devices.old path.now) result.1 }

@@ -3,7 +3,6 @@
 ghost use Rattle.std.specs.Prelude.{Ok};
 ghost use Rattle.line_server.specs.Streams.{streams};
 ghost use Rattle.line_server.specs.Sources.{source_view};
-ghost use Rattle.store_life.specs.DeviceView.{device_view};
 ghost use Rattle.command_line.specs.Tasks.{Serves, IsServing, IsServingNew};
 
 use crate::endings::{Ending, refuse};
@@ -24,8 +23,7 @@ fn serve_all<D: Disk + Drop, S: Source, I: Read, O: Write>(
     input: &mut I,
     output: &mut O,
 ) -> Result<Ending, ServeFault>
-    ensures { Serves (source_view (S.is_honest source.old) (S.releases source.old))
-        (device_view D.is_honest D.moments D.failures D.bytes_read)
+    ensures { Serves (source_view (S.is_honest source.old) (S.releases source.old)) D.view
         (Ok store.old) store.new.disk result
         (streams (I.remaining input.old) (I.remaining input.new)
         (O.contents output.old) (O.contents output.new)) }
@@ -45,7 +43,7 @@ pub(crate) fn serve_device<D: Disk + Drop, S: Source, I: Read, O: Write>(
     output: &mut O,
 ) -> (Result<Ending, ServeFault>, D)
     ensures { IsServing (source_view (S.is_honest source.old) (S.releases source.old))
-        (device_view D.is_honest D.moments D.failures D.bytes_read) device result.1 result.0
+        D.view device result.1 result.0
         (streams (I.remaining input.old) (I.remaining input.new)
         (O.contents output.old) (O.contents output.new)) }
 {
@@ -68,7 +66,7 @@ pub(crate) fn serve_new<D: Disk + Drop, S: Source, I: Read, O: Write>(
     output: &mut O,
 ) -> (Result<Ending, ServeFault>, D)
     ensures { IsServingNew (source_view (S.is_honest source.old) (S.releases source.old))
-        (device_view D.is_honest D.moments D.failures D.bytes_read) device result.1 result.0
+        D.view device result.1 result.0
         (streams (I.remaining input.old) (I.remaining input.new)
         (O.contents output.old) (O.contents output.new)) }
 {

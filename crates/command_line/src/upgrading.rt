@@ -2,7 +2,6 @@
 
 ghost use Rattle.command_line.specs.Tasks.{IsUpgrade, Upgrades};
 ghost use Rattle.command_line.specs.Endings.{report};
-ghost use Rattle.store_life.specs.DeviceView.{device_view};
 
 use crate::endings::{Ending, refuse, tell_done};
 use disk_model::Disk;
@@ -17,7 +16,7 @@ fn upgrade_store<D: Disk, O: Write>(
     store: &mut Store<D>,
     output: &mut O,
 ) -> Result<Ending, ServeFault>
-    ensures { Upgrades (device_view D.is_honest D.moments D.failures D.bytes_read) store.new.disk
+    ensures { Upgrades D.view store.new.disk
         (report result (O.contents output.old) (O.contents output.new)) store.old }
 {
     match store.upgrade() {
@@ -32,7 +31,7 @@ pub(crate) fn upgrade<D: Disk + Drop, O: Write>(
     device: D,
     output: &mut O,
 ) -> (Result<Ending, ServeFault>, D)
-    ensures { IsUpgrade (device_view D.is_honest D.moments D.failures D.bytes_read) device result.1
+    ensures { IsUpgrade D.view device result.1
         (report result.0 (O.contents output.old) (O.contents output.new)) }
 {
     match Store::open(alloc, device) {

@@ -1,6 +1,5 @@
 //! What may be wrong with a release that was checked, told to people.
 
-ghost use Rattle.store_life.specs.DeviceView.{device_view};
 ghost use Rattle.command_line.specs.Checking.{IsOnlyRead};
 
 use disk_model::Disk;
@@ -73,8 +72,7 @@ pub(crate) fn tell_warnings<D: Disk, E: Write>(
     store: &mut Store<D>,
     faults: &mut E,
 )
-    ensures { IsOnlyRead (device_view D.is_honest D.moments D.failures D.bytes_read)
-        store.old.disk store.new.disk }
+    ensures { IsOnlyRead D.view store.old.disk store.new.disk }
 {
     let Some(latest) = store.latest_time() else {
         return;
@@ -114,8 +112,7 @@ fn unmet_modules<D: Disk>(
     modules: &BTreeSet<u64>,
     store: &mut Store<D>,
 ) -> Result<BTreeSet<u64>, Refusal>
-    ensures { IsOnlyRead (device_view D.is_honest D.moments D.failures D.bytes_read)
-        store.old.disk store.new.disk }
+    ensures { IsOnlyRead D.view store.old.disk store.new.disk }
 {
     let mut unmet = modules_without_own_row(alloc, modules, store)?;
     let mut last = None;
@@ -135,8 +132,7 @@ fn modules_without_own_row<D: Disk>(
     modules: &BTreeSet<u64>,
     store: &mut Store<D>,
 ) -> Result<BTreeSet<u64>, Refusal>
-    ensures { IsOnlyRead (device_view D.is_honest D.moments D.failures D.bytes_read)
-        store.old.disk store.new.disk }
+    ensures { IsOnlyRead D.view store.old.disk store.new.disk }
 {
     let mut unmet = BTreeSet::new(alloc);
     for module in modules.iter() {
@@ -149,8 +145,7 @@ fn modules_without_own_row<D: Disk>(
 
 /// Whether a row of a module's own concept is of the module.
 fn has_own_row<D: Disk>(module: u64, store: &mut Store<D>) -> Result<bool, Refusal>
-    ensures { IsOnlyRead (device_view D.is_honest D.moments D.failures D.bytes_read)
-        store.old.disk store.new.disk }
+    ensures { IsOnlyRead D.view store.old.disk store.new.disk }
 {
     let pin = store.imports();
     let rows = store.history(Kind::Concept, u128::from(module), pin)?;
@@ -164,8 +159,7 @@ fn meet_next<D: Disk>(
     after: Option<Key>,
     store: &mut Store<D>,
 ) -> Result<Option<Key>, Refusal>
-    ensures { IsOnlyRead (device_view D.is_honest D.moments D.failures D.bytes_read)
-        store.old.disk store.new.disk }
+    ensures { IsOnlyRead D.view store.old.disk store.new.disk }
 {
     let pin = store.imports();
     let rows = store.rows_after(after, ROWS_AT_ONCE, pin)?;

@@ -7,5 +7,6 @@ pub mod Faults
 pub mod FileDisk
 pub mod MemDisk
 pub mod Record
+pub mod View
 pub mod Private
 pub use Rattle.fault_counts.specs.Counting

@@ -4,6 +4,7 @@ use Rattle.disk_model.specs.Disk.{DiskState, Moments}
 use Rattle.disk_model.specs.Change.{Change, replayed, made, count_made, place_of}
 use Rattle.disk_model.specs.Contents.{HasRoom}
 use Rattle.disk_model.specs.Record.{changes_in}
+use Rattle.disk_model.specs.View.{DiskView}
 use Rattle.disk_model.specs.Record.{HasRoomFor as RecordHasRoomFor}
 use Rattle.disk_model.specs.declared.memory.MemDisk.{MemDisk}
 use Rattle.disk_model.specs.declared.memory.faults.Faults.{Faults}
@@ -61,3 +62,14 @@ bytes_read_of d = d.bytes_read
 -- how many calls but reads it was asked for
 abbrev pub other_calls_of : MemDisk → ℕ
 other_calls_of d = d.other_calls
+
+-- a disk in memory is honest
+abbrev pub memory_view : MemDisk → DiskView
+memory_view d =
+    record {
+      is_honest = Unit {0};
+      moments = memory_moments d;
+      failures = failure_count d;
+      bytes_read = bytes_read_of d;
+      other_calls = other_calls_of d;
+    }

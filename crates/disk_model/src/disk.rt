@@ -1,7 +1,8 @@
-ghost use Rattle.std.specs.Prelude.{◌≡◌, ◌↔◌, ◌+◌, ◌-◌, ◌≤◌, ◌++◌, ℕ, List, length, take, drop};
+ghost use Rattle.std.specs.Prelude.{◌≡◌, ◌+◌, ◌-◌, ◌≤◌, ◌++◌, List, length, take, drop};
 ghost use Rattle.std.specs.Prelude.{min, IfOk, OnOk, OnErr, MatchResult};
-ghost use Rattle.disk_model.specs.Disk.{Moments, IsImage, Fails, followed_by, settled, after_write};
-ghost use Rattle.disk_model.specs.Disk.{after_cut, raised_by};
+ghost use Rattle.disk_model.specs.Disk.{IsImage, Fails, followed_by, settled, after_write};
+ghost use Rattle.disk_model.specs.Disk.{after_cut};
+ghost use Rattle.disk_model.specs.View.{DiskView, OnlyReads, Calls, Stays, RisesBy};
 ghost use Rattle.fault_counts.specs.Counting.{CountsEach};
 
 use thiserror::Error;
@@ -48,87 +49,66 @@ pub const MAX_END: u64 = 17_179_869_184;
 /// that isn't honest only what stands without that premise is known: calls end, name no more bytes
 /// than the buffer has, and are counted with their failures and the bytes that reads asked for.
 pub trait Disk {
-    /// What a read gives and what a stop may leave, now and at each moment before.
-    ghost moments: { Self → Moments };
-
-    /// How many calls have failed. It has 64 bits.
-    ghost failures: { Self → ℕ };
-
-    /// How many bytes its reads were asked for, whatever they answered.
-    /// It has 64 bits; at its last value it stays.
-    ghost bytes_read: { Self → ℕ };
-
-    /// How many calls but reads were made, whatever they answered.
-    /// It has 64 bits; at its last value it stays.
-    ghost other_calls: { Self → ℕ };
-
-    /// The device keeps to what its calls promise of bytes and stops.
-    /// Of one that doesn't nothing else is known.
-    ghost is_honest: { Self → Type 0 };
+    /// What it shows at one time. Each count has 64 bits; at its last value it stays.
+    ghost view: { Self → DiskView };
 
     /// The length, in bytes.
     fn len(&mut self) -> Result<u64, DiskFault>
-        ensures value { is_honest self.old
-            → IfOk result (λ n. n ≡ length (moments self.old).state.now) }
-        ensures moments { is_honest self.old → moments self.new ≡ moments self.old }
-        ensures honesty { is_honest self.old ↔ is_honest self.new }
-        ensures failures { CountsEach result (failures self.old) (failures self.new) }
-        ensures bytes_read { bytes_read self.new ≡ bytes_read self.old }
-        ensures other_calls { other_calls self.new ≡ raised_by (other_calls self.old) 1 };
+        ensures value { (view self.old).is_honest
+            → IfOk result (λ n. n ≡ length (view self.old).moments.state.now) }
+        ensures moments { (view self.old).is_honest
+            → (view self.new).moments ≡ (view self.old).moments }
+        ensures meters { Calls (CountsEach result) Stays (RisesBy 1)
+            (view self.old) (view self.new) };
 
     /// Fills the front of `into` with the bytes from the place `at` on, as far as they go, and
     /// answers how many. Past the end there are none. After an error `into` may hold any bytes.
     fn read_at(&mut self, at: u64, into: &mut [u8]) -> Result<usize, DiskFault>
         ensures within { IfOk result (λ n. n ≤ length into.old) }
-        ensures count { is_honest self.old → IfOk result
-            (λ n. n ≡ min (length into.old) (length (moments self.old).state.now - at)) }
-        ensures bytes { is_honest self.old → IfOk result
-            (λ n. into.new ≡ take n (drop at (moments self.old).state.now) ++ drop n into.old) }
-        ensures moments { is_honest self.old → moments self.new ≡ moments self.old }
-        ensures honesty { is_honest self.old ↔ is_honest self.new }
-        ensures failures { CountsEach result (failures self.old) (failures self.new) }
-        ensures bytes_read { bytes_read self.new
-            ≡ raised_by (bytes_read self.old) (length into.old) }
-        ensures other_calls { other_calls self.new ≡ other_calls self.old };
+        ensures count { (view self.old).is_honest → IfOk result
+            (λ n. n ≡ min (length into.old) (length (view self.old).moments.state.now - at)) }
+        ensures bytes { (view self.old).is_honest → IfOk result
+            (λ n. into.new
+            ≡ take n (drop at (view self.old).moments.state.now) ++ drop n into.old) }
+        ensures meters { OnlyReads (CountsEach result) (RisesBy (length into.old))
+            (view self.old) (view self.new) };
 
     /// Writes over what is there from the place `at` on, and past the end, with zeros between the
     /// end and `at`. Until a sync, a stop may leave any bytes in the range. A write of no bytes
     /// changes no byte, and is a call like any other.
     fn write_at(&mut self, at: u64, bytes: &[u8]) -> Result<(), DiskFault>
         requires { at + length bytes.now ≤ MAX_END }
-        ensures made { is_honest self.old → OnOk result (moments self.new
-            ≡ followed_by (moments self.old) (after_write (moments self.old).state at bytes.now)) }
-        ensures failed { is_honest self.old → OnErr result (Fails (moments self.old)
-            (after_write (moments self.old).state at bytes.now) (moments self.new)) }
-        ensures honesty { is_honest self.old ↔ is_honest self.new }
-        ensures failures { CountsEach result (failures self.old) (failures self.new) }
-        ensures bytes_read { bytes_read self.new ≡ bytes_read self.old }
-        ensures other_calls { other_calls self.new ≡ raised_by (other_calls self.old) 1 };
+        ensures made { (view self.old).is_honest → OnOk result ((view self.new).moments
+            ≡ followed_by (view self.old).moments
+            (after_write (view self.old).moments.state at bytes.now)) }
+        ensures failed { (view self.old).is_honest → OnErr result (Fails (view self.old).moments
+            (after_write (view self.old).moments.state at bytes.now) (view self.new).moments) }
+        ensures meters { Calls (CountsEach result) Stays (RisesBy 1)
+            (view self.old) (view self.new) };
 
     /// Cuts the device to a length in bytes, where it is longer. Until
     /// a sync, a stop may leave what was cut off, or a part of it.
     fn cut(&mut self, len: u64) -> Result<(), DiskFault>
-        ensures made { is_honest self.old → OnOk result (moments self.new
-            ≡ followed_by (moments self.old) (after_cut (moments self.old).state len)) }
-        ensures failed { is_honest self.old → OnErr result (Fails (moments self.old)
-            (after_cut (moments self.old).state len) (moments self.new)) }
-        ensures honesty { is_honest self.old ↔ is_honest self.new }
-        ensures failures { CountsEach result (failures self.old) (failures self.new) }
-        ensures bytes_read { bytes_read self.new ≡ bytes_read self.old }
-        ensures other_calls { other_calls self.new ≡ raised_by (other_calls self.old) 1 };
+        ensures made { (view self.old).is_honest → OnOk result ((view self.new).moments
+            ≡ followed_by (view self.old).moments
+            (after_cut (view self.old).moments.state len)) }
+        ensures failed { (view self.old).is_honest → OnErr result (Fails (view self.old).moments
+            (after_cut (view self.old).moments.state len) (view self.new).moments) }
+        ensures meters { Calls (CountsEach result) Stays (RisesBy 1)
+            (view self.old) (view self.new) };
 
     /// Waits until all that was written is on the device:
     /// after it, a stop leaves what a read gives.
     fn sync(&mut self) -> Result<(), DiskFault>
-        ensures made { is_honest self.old → OnOk result (moments self.new
-            ≡ followed_by (moments self.old) (settled (moments self.old).state.now)) }
-        ensures failed { is_honest self.old → OnErr result (moments self.new ≡ moments self.old) }
-        ensures honesty { is_honest self.old ↔ is_honest self.new }
-        ensures failures { CountsEach result (failures self.old) (failures self.new) }
-        ensures bytes_read { bytes_read self.new ≡ bytes_read self.old }
-        ensures other_calls { other_calls self.new ≡ raised_by (other_calls self.old) 1 };
+        ensures made { (view self.old).is_honest → OnOk result ((view self.new).moments
+            ≡ followed_by (view self.old).moments
+            (settled (view self.old).moments.state.now)) }
+        ensures failed { (view self.old).is_honest
+            → OnErr result ((view self.new).moments ≡ (view self.old).moments) }
+        ensures meters { Calls (CountsEach result) Stays (RisesBy 1)
+            (view self.old) (view self.new) };
 
     /// What a read gives is one of the images.
-    ghost now_is_image: { (disk : Self) → is_honest disk
-        → IsImage (moments disk).state (moments disk).state.now };
+    ghost now_is_image: { (disk : Self) → (view disk).is_honest
+        → IsImage (view disk).moments.state (view disk).moments.state.now };
 }

@@ -135,17 +135,9 @@ fn answer<T: Drop>(
 }
 
 impl Disk for FileDisk {
-    ghost use Rattle.disk_model.specs.FileDisk.{failures_of, bytes_read_of, other_calls_of};
+    ghost use Rattle.disk_model.specs.FileDisk.{file_view};
 
-    ghost moments = { λ _. made [] };
-
-    ghost failures = { failures_of };
-
-    ghost bytes_read = { bytes_read_of };
-
-    ghost other_calls = { other_calls_of };
-
-    ghost is_honest = { λ _. ⊥ };
+    ghost view = { file_view };
 
     ghost now_is_image = { λ _ lie. absurd lie };
 

@@ -297,20 +297,13 @@ impl MemDisk {
 impl Disk for MemDisk {
     ghost use Rattle.disk_model.specs.MemDisk.{memory_moments, first_bytes, record_of, faults_of};
     ghost use Rattle.disk_model.specs.MemDisk.{failure_count, bytes_read_of, other_calls_of};
+    ghost use Rattle.disk_model.specs.MemDisk.{memory_view};
     ghost use Rattle.disk_model.specs.MemDisk.{SameRecord, HasRoomFor, KeepsRoom, UsesRoom};
     ghost use Rattle.disk_model.specs.Change.{Write, Cut, Sync};
     ghost use Rattle.disk_model.specs.Faults.{fate_of, after_change_call, passes_read};
     ghost use Rattle.disk_model.specs.Faults.{after_read_call, written_as, cut_as, synced_as};
 
-    ghost moments = { memory_moments };
-
-    ghost failures = { failure_count };
-
-    ghost bytes_read = { bytes_read_of };
-
-    ghost other_calls = { other_calls_of };
-
-    ghost is_honest = { λ _. Unit {0} };
+    ghost view = { memory_view };
 
     ghost now_is_image = { λ d _. memory_image d.contents.first.items (changes_in d.calls) };
 

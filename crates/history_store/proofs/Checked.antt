@@ -2,6 +2,7 @@
 use Rattle.std.proofs.Common.{◌≡◌, ◌↔◌, ℕ, ◌+◌, ◌≤◌, Bool, false, IsTrue, List, length, Result, Ok, Err, refl, sym, ap, subst, ◌∙◌}
 use Rattle.std.specs.List.{sum_by}
 use Rattle.std.proofs.lemmas.Bool.{false≢true}
+use Rattle.disk_model.specs.View.{DiskView}
 use Rattle.disk_model.specs.Disk.{Moments, EachImage}
 use Rattle.rf2_values.specs.Row.{RowValue}
 use Rattle.history_model.specs.declared.receipt.Receipt.{Receipt}
@@ -131,22 +132,22 @@ module _ {D : Type 0} (honest : Type 0) (s : StoreValue D) (release : Release) (
 
 -- ---- a check that has read the known rows
 
-module _ {D : Type 0} (is_honest : D → Type 0) (moments_of : D → Moments) (failures_of bytes_read_of other_calls_of : D → ℕ) (old mid : StoreValue D) (release : Release) where
+module _ {D : Type 0} (view : D → DiskView) (old mid : StoreValue D) (release : Release) where
   -- what the reading of known rows leaves
   pub record HasRead : Type 0 where
     pub still : IsStill old mid
     pub version : IsForLater old.catalog.layout release → ⊥
-    pub moments : is_honest old.disk → moments_of mid.disk ≡ moments_of old.disk
-    pub acknowledged : is_honest mid.disk → mid.needs_reopen ≡ false → IsAcknowledged moments_of mid
-    pub honesty : is_honest old.disk ↔ is_honest mid.disk
-    pub failures : failures_of mid.disk ≡ failures_of old.disk
-    pub other_calls : other_calls_of mid.disk ≡ other_calls_of old.disk
-    pub looked_up : ReadsThroughCache bytes_read_of old mid
-    pub bytes_read : (rows : List RowValue) → IsReleaseOf release rows → bytes_read_of mid.disk ≤ bytes_read_of old.disk + sum_by row_cost (already_known (full old.history) rows)
-    pub bytes_unread : (IsRead release → ⊥) → bytes_read_of mid.disk ≤ bytes_read_of old.disk
+    pub moments : (view old.disk).is_honest → (view mid.disk).moments ≡ (view old.disk).moments
+    pub acknowledged : (view mid.disk).is_honest → mid.needs_reopen ≡ false → IsAcknowledged view mid
+    pub honesty : (view old.disk).is_honest ↔ (view mid.disk).is_honest
+    pub failures : (view mid.disk).failures ≡ (view old.disk).failures
+    pub other_calls : (view mid.disk).other_calls ≡ (view old.disk).other_calls
+    pub looked_up : ReadsThroughCache view old mid
+    pub bytes_read : (rows : List RowValue) → IsReleaseOf release rows → (view mid.disk).bytes_read ≤ (view old.disk).bytes_read + sum_by row_cost (already_known (full old.history) rows)
+    pub bytes_unread : (IsRead release → ⊥) → (view mid.disk).bytes_read ≤ (view old.disk).bytes_read
 
-  pub checked_after : (result : Result Receipt Refusal) → HasRead → (is_honest old.disk → IsCheckingOf result old mid release) → IsCheckingOnAnyDisk result old mid release → Counts result (failures_of old.disk) (failures_of mid.disk)
-      → IsChecking result release is_honest moments_of failures_of bytes_read_of other_calls_of old mid
+  pub checked_after : (result : Result Receipt Refusal) → HasRead → ((view old.disk).is_honest → IsCheckingOf result old mid release) → IsCheckingOnAnyDisk result old mid release → Counts result (view old.disk).failures (view mid.disk).failures
+      → IsChecking result release view old mid
   checked_after result read answer kept failures = record {
     answer = answer;
     kept = kept;
@@ -163,17 +164,17 @@ module _ {D : Type 0} (is_honest : D → Type 0) (moments_of : D → Moments) (f
   }
 
   -- a check that was refused while known rows were read, or because of what the files say
-  pub turned_back : (u : StoreValue D) (e : Refusal) → u ≡ old → u.needs_reopen ≡ false → IsAdmitted u.history u.catalog release → (is_honest old.disk → old.needs_reopen ≡ false → IsAcknowledged moments_of old) → IsNotFresh (is_honest old.disk) e (full old.history) release → IsRefused e old mid
-      → (is_honest old.disk → moments_of mid.disk ≡ moments_of old.disk) → (is_honest old.disk ↔ is_honest mid.disk) → CountsRefusal e (failures_of old.disk) (failures_of mid.disk) → other_calls_of mid.disk ≡ other_calls_of old.disk → ReadsThroughCache bytes_read_of old mid
-      → ((rows : List RowValue) → IsReleaseOf release rows → bytes_read_of mid.disk ≤ bytes_read_of old.disk + sum_by row_cost (already_known (full old.history) rows)) → ((IsRead release → ⊥) → bytes_read_of mid.disk ≤ bytes_read_of old.disk)
-      → IsChecking (Err e) release is_honest moments_of failures_of bytes_read_of other_calls_of old mid
+  pub turned_back : (u : StoreValue D) (e : Refusal) → u ≡ old → u.needs_reopen ≡ false → IsAdmitted u.history u.catalog release → ((view old.disk).is_honest → old.needs_reopen ≡ false → IsAcknowledged view old) → IsNotFresh (view old.disk).is_honest e (full old.history) release → IsRefused e old mid
+      → ((view old.disk).is_honest → (view mid.disk).moments ≡ (view old.disk).moments) → ((view old.disk).is_honest ↔ (view mid.disk).is_honest) → CountsRefusal e (view old.disk).failures (view mid.disk).failures → (view mid.disk).other_calls ≡ (view old.disk).other_calls → ReadsThroughCache view old mid
+      → ((rows : List RowValue) → IsReleaseOf release rows → (view mid.disk).bytes_read ≤ (view old.disk).bytes_read + sum_by row_cost (already_known (full old.history) rows)) → ((IsRead release → ⊥) → (view mid.disk).bytes_read ≤ (view old.disk).bytes_read)
+      → IsChecking (Err e) release view old mid
   turned_back u e first was_open admits stood why refused moments honesty failures other_calls looked_up bytes_read bytes_unread =
       let still : old.needs_reopen ≡ false = subst (λ (x : StoreValue D). x.needs_reopen ≡ false) first was_open in
       let here : IsAdmitted old.history old.catalog release = subst (λ (x : StoreValue D). IsAdmitted x.history x.catalog release) first admits in
       let Stands : Moments → History → Catalog → Type 0 = λ m h x. EachImage m.state (λ c. Represents c h x.layout x.epoch x.entries) in
       record {
-        answer = λ up. (not_fresh (is_honest old.disk) old release still here e why up, refused);
-        kept = (not_fresh_at_all (is_honest old.disk) old release still here e why, refused);
+        answer = λ up. (not_fresh (view old.disk).is_honest old release still here e why up, refused);
+        kept = (not_fresh_at_all (view old.disk).is_honest old release still here e why, refused);
         closed = λ closed. absurd (false≢true (sym still ∙ closed));
         later = λ later. absurd (here.version later);
         moments = moments;
@@ -181,7 +182,7 @@ module _ {D : Type 0} (is_honest : D → Type 0) (moments_of : D → Moments) (f
           open_still = open_still;
           each =
               subst (λ (m : Moments). Stands m mid.history mid.catalog) (sym (moments up))
-              (subst (λ (h : History). Stands (moments_of old.disk) h mid.catalog) (sym refused.history) (subst (λ (x : Catalog). Stands (moments_of old.disk) old.history x) (sym refused.catalog) (stood up still).each));
+              (subst (λ (h : History). Stands (view old.disk).moments h mid.catalog) (sym refused.history) (subst (λ (x : Catalog). Stands (view old.disk).moments old.history x) (sym refused.catalog) (stood up still).each));
         };
         honesty = honesty;
         failures = failures;

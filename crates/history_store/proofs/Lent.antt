@@ -1,6 +1,7 @@
 -- What a reader is lent of a store, and what its reading leaves.
 use Rattle.std.proofs.Common.{◌≡◌, ℕ, Bool, false, List, sym, subst}
 use Rattle.std.specs.Prelude.{Option}
+use Rattle.disk_model.specs.View.{DiskView}
 use Rattle.disk_model.specs.Disk.{Moments, IsImage}
 use Rattle.lru.specs.LruCache.{LruCache}
 use Rattle.blocks.specs.declared.slots.Slot.{Slot}
@@ -15,27 +16,27 @@ use Rattle.history_store.specs.StoreValue.{IsHeld}
 use Rattle.history_store.proofs.GoingOn.{merge_read}
 use Rattle.history_store.proofs.Held.{lent_honest, held_read}
 
-module _ {D : Type 0} (honest : D → Type 0) (moments : D → Moments) (disk lent : D) (cache lent_cache : LruCache ℕ (List ℕ)) (slot : Slot) (d : DirectoryValue) (lists lent_lists : List (List StampedRow)) (entries : List Entry) (needs : Bool)
-    (held : IsHeld (honest disk) (moments disk).state cache slot d lists needs) (same : lent ≡ disk) (kept : lent_cache ≡ cache) (listed_so : entries ≡ d.entries) (shown : lent_lists ≡ lists) where
+module _ {D : Type 0} (view : D → DiskView) (disk lent : D) (cache lent_cache : LruCache ℕ (List ℕ)) (slot : Slot) (d : DirectoryValue) (lists lent_lists : List (List StampedRow)) (entries : List Entry) (needs : Bool)
+    (held : IsHeld (view disk).is_honest (view disk).moments.state cache slot d lists needs) (same : lent ≡ disk) (kept : lent_cache ≡ cache) (listed_so : entries ≡ d.entries) (shown : lent_lists ≡ lists) where
   -- the disk that is lent has the rows that are lent
-  pub reader_honest : honest disk → needs ≡ false → IsImage (moments disk).state (moments disk).state.now → honest lent × AgreesWith lent_cache (moments lent).state.now × AreThere entries lent_lists (moments lent).state.now
+  pub reader_honest : (view disk).is_honest → needs ≡ false → IsImage (view disk).moments.state (view disk).moments.state.now → (view lent).is_honest × AgreesWith lent_cache (view lent).moments.state.now × AreThere entries lent_lists (view lent).moments.state.now
   reader_honest up still now =
-      let all = lent_honest (honest disk) (moments disk).state cache slot d lists needs held entries lent_lists listed_so shown up still now in
-      subst (λ x. honest x × AgreesWith lent_cache (moments x).state.now × AreThere entries lent_lists (moments x).state.now) (sym same)
-      (subst (λ (c : LruCache ℕ (List ℕ)). honest disk × AgreesWith c (moments disk).state.now × AreThere entries lent_lists (moments disk).state.now) (sym kept) all)
+      let all = lent_honest (view disk).is_honest (view disk).moments.state cache slot d lists needs held entries lent_lists listed_so shown up still now in
+      subst (λ x. (view x).is_honest × AgreesWith lent_cache (view x).moments.state.now × AreThere entries lent_lists (view x).moments.state.now) (sym same)
+      (subst (λ (c : LruCache ℕ (List ℕ)). (view disk).is_honest × AgreesWith c (view disk).moments.state.now × AreThere entries lent_lists (view disk).moments.state.now) (sym kept) all)
 
   -- and what is held is held of the disk that is left
-  pub held_left : (merge : Option MergeInProgress) (after : D) (left : LruCache ℕ (List ℕ)) → HasMerge (honest disk) (moments disk).state.now d lists merge needs → MomentsStay (honest lent) (honest after) (moments lent) (moments after) → (honest disk → needs ≡ false → AgreesWith left (moments after).state.now)
-      → IsHeld (honest after) (moments after).state left slot d lists needs × HasMerge (honest after) (moments after).state.now d lists merge needs
+  pub held_left : (merge : Option MergeInProgress) (after : D) (left : LruCache ℕ (List ℕ)) → HasMerge (view disk).is_honest (view disk).moments.state.now d lists merge needs → MomentsStay (view lent).is_honest (view after).is_honest (view lent).moments (view after).moments → ((view disk).is_honest → needs ≡ false → AgreesWith left (view after).moments.state.now)
+      → IsHeld (view after).is_honest (view after).moments.state left slot d lists needs × HasMerge (view after).is_honest (view after).moments.state.now d lists merge needs
   held_left merge after left going lent_stays agrees =
-      let stays = subst (λ x. MomentsStay (honest x) (honest after) (moments x) (moments after)) same lent_stays in (
-        held_read (honest disk) (honest after) (moments disk) (moments after) cache left slot d lists needs held stays agrees,
-        merge_read (honest disk) (honest after) (moments disk) (moments after) d lists merge needs going stays,
+      let stays = subst (λ x. MomentsStay (view x).is_honest (view after).is_honest (view x).moments (view after).moments) same lent_stays in (
+        held_read (view disk).is_honest (view after).is_honest (view disk).moments (view after).moments cache left slot d lists needs held stays agrees,
+        merge_read (view disk).is_honest (view after).is_honest (view disk).moments (view after).moments d lists merge needs going stays,
       )
 
   -- so it is where the reader stays honest
-  pub held_after : (merge : Option MergeInProgress) (after : D) (left : LruCache ℕ (List ℕ)) (left_entries : List Entry) (left_lists : List (List StampedRow)) → HasMerge (honest disk) (moments disk).state.now d lists merge needs → MomentsStay (honest lent) (honest after) (moments lent) (moments after)
-      → (honest disk → IsImage (moments disk).state (moments disk).state.now)
-      → (honest lent × AgreesWith lent_cache (moments lent).state.now × AreThere entries lent_lists (moments lent).state.now → honest after × AgreesWith left (moments after).state.now × AreThere left_entries left_lists (moments after).state.now)
-      → IsHeld (honest after) (moments after).state left slot d lists needs × HasMerge (honest after) (moments after).state.now d lists merge needs
+  pub held_after : (merge : Option MergeInProgress) (after : D) (left : LruCache ℕ (List ℕ)) (left_entries : List Entry) (left_lists : List (List StampedRow)) → HasMerge (view disk).is_honest (view disk).moments.state.now d lists merge needs → MomentsStay (view lent).is_honest (view after).is_honest (view lent).moments (view after).moments
+      → ((view disk).is_honest → IsImage (view disk).moments.state (view disk).moments.state.now)
+      → ((view lent).is_honest × AgreesWith lent_cache (view lent).moments.state.now × AreThere entries lent_lists (view lent).moments.state.now → (view after).is_honest × AgreesWith left (view after).moments.state.now × AreThere left_entries left_lists (view after).moments.state.now)
+      → IsHeld (view after).is_honest (view after).moments.state left slot d lists needs × HasMerge (view after).is_honest (view after).moments.state.now d lists merge needs
   held_after merge after left left_entries left_lists going stays now honesty = held_left merge after left going stays (λ up still. (honesty (reader_honest up still (now up))).1)

@@ -8,7 +8,7 @@ use Rattle.rf2_values.specs.Row.{RowValue}
 use Rattle.history_model.specs.declared.stamped.StampedRow.{StampedRow}
 use Rattle.history_model.specs.History.{full}
 use Rattle.history_model.specs.Lists.{listed}
-use Rattle.disk_model.specs.Disk.{Moments}
+use Rattle.disk_model.specs.View.{DiskView}
 use Rattle.lru.specs.LruCache.{LruCache}
 use Rattle.blocks.specs.Cache.{AgreesWith, LooksUpSome}
 use Rattle.blocks.proofs.Looked.{none_looks_up}
@@ -60,9 +60,9 @@ left_so : {D : Type 0} (result : Result Contradictions Refusal) (old new : Store
 left_so (Ok x) old new disk cache r = record { history = r.history; catalog = r.catalog; open_before = r.open_before; open_still = r.open_still }
 left_so (Err e) old new disk cache r = record { history = r.history; catalog = r.catalog; closed = r.closed; still = r.still }
 
-module _ {D : Type 0} (honest : D → Type 0) (moments : D → Moments) (failures bytes_read other_calls : D → ℕ) (release : Release) (limit : ℕ) where
+module _ {D : Type 0} (view : D → DiskView) (release : Release) (limit : ℕ) where
   -- a store that has to be opened again lists nothing, and isn't touched
-  pub closed_listing : (s : StoreValue D) → s.needs_reopen ≡ true → IsListing (Err refusals.ReopenNeeded) release limit honest moments failures bytes_read other_calls s s
+  pub closed_listing : (s : StoreValue D) → s.needs_reopen ≡ true → IsListing (Err refusals.ReopenNeeded) release limit view s s
   closed_listing s needs = record {
     found = λ up. tt;
     read = tt;
@@ -74,7 +74,7 @@ module _ {D : Type 0} (honest : D → Type 0) (moments : D → Moments) (failure
     honesty = (λ up. up, λ up. up);
     failures = refl;
     other_calls = refl;
-    looked_up = none_looks_up (is_listed s.catalog.entries) s.cache (bytes_read s.disk);
+    looked_up = none_looks_up (is_listed s.catalog.entries) s.cache (view s.disk).bytes_read;
     bytes_read = λ rows are. omega arith;
     bytes_unread = λ unread. omega arith;
   }
@@ -82,48 +82,48 @@ module _ {D : Type 0} (honest : D → Type 0) (moments : D → Moments) (failure
   -- a release was compared by a reader to which the disk, the cache and the segments were lent
   module _ (pin : ℕ) (places : List (List RowPlace)) (old new : StoreValue D) (lists shown : List (List StampedRow)) (entries : List Entry) (lent disk : D) (lent_cache cache : LruCache ℕ (List ℕ)) (read : Result Contradictions ImportFault) (result : Result Contradictions Refusal) where
     abbrev IsHonestReader : Type 0
-    IsHonestReader = honest lent × AgreesWith lent_cache (moments lent).state.now × AreThere entries shown (moments lent).state.now
+    IsHonestReader = (view lent).is_honest × AgreesWith lent_cache (view lent).moments.state.now × AreThere entries shown (view lent).moments.state.now
 
     pub listed_so : old.history.rows ≡ listed lists → old.needs_reopen ≡ false
         → lent ≡ old.disk → lent_cache ≡ old.cache → entries ≡ old.catalog.entries → shown ≡ lists
-        → Lists places shown × Early pin shown → (honest old.disk → IsHonestReader)
+        → Lists places shown × Early pin shown → ((view old.disk).is_honest → IsHonestReader)
         → (IsHonestReader → Lists places shown → Early pin shown → IfOk read (AreContradictionsOf (rows_of shown) release limit))
         → IfOk read (λ found. IsRead release)
         → IfErr read (IsNotListed (IsHonestReader × Lists places shown × Early pin shown) release)
-        → (Lists places shown → Early pin shown → (rows : List RowValue) → IsReleaseOf release rows → bytes_read disk ≤ bytes_read lent + sum_by row_cost (already_known (rows_of shown) rows))
-        → ((IsRead release → ⊥) → bytes_read disk ≤ bytes_read lent)
-        → CountsBy CountsAnyDiskFault read (failures lent) (failures disk)
-        → MomentsStay (honest lent) (honest disk) (moments lent) (moments disk)
-        → LooksUpSome (is_listed entries) lent_cache cache (bytes_read lent) (bytes_read disk)
-        → other_calls disk ≡ other_calls lent
+        → (Lists places shown → Early pin shown → (rows : List RowValue) → IsReleaseOf release rows → (view disk).bytes_read ≤ (view lent).bytes_read + sum_by row_cost (already_known (rows_of shown) rows))
+        → ((IsRead release → ⊥) → (view disk).bytes_read ≤ (view lent).bytes_read)
+        → CountsBy CountsAnyDiskFault read (view lent).failures (view disk).failures
+        → MomentsStay (view lent).is_honest (view disk).is_honest (view lent).moments (view disk).moments
+        → LooksUpSome (is_listed entries) lent_cache cache (view lent).bytes_read (view disk).bytes_read
+        → (view disk).other_calls ≡ (view lent).other_calls
         → IsAnswerOf read result
         → MatchResult result (λ found. IsStill (record old { disk = disk; cache = cache }) new) (λ e. IsRefused e (record old { disk = disk; cache = cache }) new)
-        → new.disk ≡ disk → new.cache ≡ cache → (honest disk → new.needs_reopen ≡ false → IsAcknowledged moments new)
-        → IsListing result release limit honest moments failures bytes_read other_calls old new
+        → new.disk ≡ disk → new.cache ≡ cache → ((view disk).is_honest → new.needs_reopen ≡ false → IsAcknowledged view new)
+        → IsListing result release limit view old new
     listed_so rows_are still lent_is lent_cache_is entries_are shown_is sound lends found is_read why work unread counted stays looked_up calls answers left same kept acknowledged =
         let rows_so : rows_of shown ≡ full old.history = ap rows_of shown_is ∙ sym (ap (map (λ (s : StampedRow). s.row)) rows_are) in
-        let stay = subst (λ x. MomentsStay (honest x) (honest disk) (moments x) (moments disk)) lent_is stays in
-        let counts = subst (λ x. CountsBy CountsAnyDiskFault read (failures x) (failures disk)) lent_is counted in
-        let before = ap bytes_read lent_is in
-        let after = ap bytes_read same in
+        let stay = subst (λ x. MomentsStay (view x).is_honest (view disk).is_honest (view x).moments (view disk).moments) lent_is stays in
+        let counts = subst (λ x. CountsBy CountsAnyDiskFault read (view x).failures (view disk).failures) lent_is counted in
+        let before = ap (λ d. (view d).bytes_read) lent_is in
+        let after = ap (λ d. (view d).bytes_read) same in
         record {
           found = λ up. ok_so (AreContradictionsOf (full old.history) release limit) read result answers (subst (λ rows. IfOk read (AreContradictionsOf rows release limit)) rows_so (found (lends up) sound.0 sound.1));
           read = ok_so (λ found. IsRead release) read result answers is_read;
-          refused = err_so (IsNotListed (IsHonestReader × Lists places shown × Early pin shown) release) (λ e. ((e ≡ refusals.ReopenNeeded) × (old.needs_reopen ≡ true)) ⊎ ((old.needs_reopen ≡ false) × IsUnlisted (honest old.disk) e release)) read result answers
-              (λ fault h. inr (still, (fault, refl, unlisted_less (IsHonestReader × Lists places shown × Early pin shown) (honest old.disk) release fault (λ up. (lends up, sound.0, sound.1)) h))) why;
+          refused = err_so (IsNotListed (IsHonestReader × Lists places shown × Early pin shown) release) (λ e. ((e ≡ refusals.ReopenNeeded) × (old.needs_reopen ≡ true)) ⊎ ((old.needs_reopen ≡ false) × IsUnlisted (view old.disk).is_honest e release)) read result answers
+              (λ fault h. inr (still, (fault, refl, unlisted_less (IsHonestReader × Lists places shown × Early pin shown) (view old.disk).is_honest release fault (λ up. (lends up, sound.0, sound.1)) h))) why;
           left = left_so result old new disk cache left;
           closed = λ closed. absurd (false≢true (sym still ∙ closed));
-          moments = λ up. ap moments same ∙ stay.1 up;
+          moments = λ up. ap (λ d. (view d).moments) same ∙ stay.1 up;
           acknowledged = λ up. acknowledged (stay.0.0 up);
-          honesty = subst (λ d. honest old.disk ↔ honest d) (sym same) stay.0;
-          failures = subst (λ d. Counts result (failures old.disk) (failures d)) (sym same) (counted_so read result (failures old.disk) (failures disk) answers counts);
-          other_calls = ap other_calls same ∙ calls ∙ ap other_calls lent_is;
+          honesty = subst (λ d. (view old.disk).is_honest ↔ (view d).is_honest) (sym same) stay.0;
+          failures = subst (λ d. Counts result (view old.disk).failures (view d).failures) (sym same) (counted_so read result (view old.disk).failures (view disk).failures answers counts);
+          other_calls = ap (λ d. (view d).other_calls) same ∙ calls ∙ ap (λ d. (view d).other_calls) lent_is;
           looked_up =
-              subst (λ d. LooksUpSome (is_listed old.catalog.entries) old.cache new.cache (bytes_read old.disk) (bytes_read d)) (sym same)
-              (subst (λ c. LooksUpSome (is_listed old.catalog.entries) old.cache c (bytes_read old.disk) (bytes_read disk)) (sym kept)
-              (subst (λ d. LooksUpSome (is_listed old.catalog.entries) old.cache cache (bytes_read d) (bytes_read disk)) lent_is
-              (subst (λ c. LooksUpSome (is_listed old.catalog.entries) c cache (bytes_read lent) (bytes_read disk)) lent_cache_is
-              (subst (λ (e : List Entry). LooksUpSome (is_listed e) lent_cache cache (bytes_read lent) (bytes_read disk)) entries_are looked_up))));
+              subst (λ d. LooksUpSome (is_listed old.catalog.entries) old.cache new.cache (view old.disk).bytes_read (view d).bytes_read) (sym same)
+              (subst (λ c. LooksUpSome (is_listed old.catalog.entries) old.cache c (view old.disk).bytes_read (view disk).bytes_read) (sym kept)
+              (subst (λ d. LooksUpSome (is_listed old.catalog.entries) old.cache cache (view d).bytes_read (view disk).bytes_read) lent_is
+              (subst (λ c. LooksUpSome (is_listed old.catalog.entries) c cache (view lent).bytes_read (view disk).bytes_read) lent_cache_is
+              (subst (λ (e : List Entry). LooksUpSome (is_listed e) lent_cache cache (view lent).bytes_read (view disk).bytes_read) entries_are looked_up))));
           bytes_read = λ rows are.
               let least = work sound.0 sound.1 rows are in
               let sum = ap (λ known. sum_by row_cost (already_known known rows)) rows_so in

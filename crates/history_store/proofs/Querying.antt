@@ -8,7 +8,7 @@ use Rattle.fault_counts.specs.Counting.{Counts as CountsBy, CountsDiskFault}
 use Rattle.history_model.specs.declared.stamped.StampedRow.{StampedRow}
 use Rattle.history_model.specs.History.{rows_at}
 use Rattle.history_model.specs.Lists.{listed}
-use Rattle.disk_model.specs.Disk.{Moments}
+use Rattle.disk_model.specs.View.{DiskView}
 use Rattle.lru.specs.LruCache.{LruCache}
 use Rattle.blocks.specs.Cache.{AgreesWith, LooksUpSome}
 use Rattle.blocks.proofs.Looked.{none_looks_up}
@@ -63,28 +63,28 @@ read_beside (Err readfault.DiskFault) old new disk cache r = (r.0, refused_besid
 read_beside (Err readfault.Damaged) old new disk cache r = (r.0, refused_beside _ old new disk cache r.1)
 
 -- the rows were read, and what was read is answered
-pub answered_query : {T D : Type 0} (honest : D → Type 0) (moments : D → Moments) (failures : D → ℕ) (old new : StoreValue D) (lent disk : D) (cache : LruCache ℕ (List ℕ)) (read : Result T ReadFault) (result : Result T Refusal)
-    → old.needs_reopen ≡ false → lent ≡ old.disk → MomentsStay (honest lent) (honest disk) (moments lent) (moments disk) → CountsBy CountsDiskFault read (failures lent) (failures disk)
-    → (honest old.disk → IfErr read (λ e. e ≢ readfault.Damaged))
-    → IsAnswerOf read result → IsReadingOf result (record old { disk = disk; cache = cache }) new → new.disk ≡ disk → (honest disk → new.needs_reopen ≡ false → IsAcknowledged moments new)
-    → IsQuery result honest moments failures old new
-answered_query honest moments failures old new lent disk cache read result still lent_is stays counted undamaged answers left same acknowledged =
+pub answered_query : {T D : Type 0} (view : D → DiskView) (old new : StoreValue D) (lent disk : D) (cache : LruCache ℕ (List ℕ)) (read : Result T ReadFault) (result : Result T Refusal)
+    → old.needs_reopen ≡ false → lent ≡ old.disk → MomentsStay (view lent).is_honest (view disk).is_honest (view lent).moments (view disk).moments → CountsBy CountsDiskFault read (view lent).failures (view disk).failures
+    → ((view old.disk).is_honest → IfErr read (λ e. e ≢ readfault.Damaged))
+    → IsAnswerOf read result → IsReadingOf result (record old { disk = disk; cache = cache }) new → new.disk ≡ disk → ((view disk).is_honest → new.needs_reopen ≡ false → IsAcknowledged view new)
+    → IsQuery result view old new
+answered_query view old new lent disk cache read result still lent_is stays counted undamaged answers left same acknowledged =
     let is = is_answer read result answers in
-    let stay = subst (λ x. MomentsStay (honest x) (honest disk) (moments x) (moments disk)) lent_is stays in
-    let counts = subst (λ x. CountsBy CountsDiskFault read (failures x) (failures disk)) lent_is counted in record {
+    let stay = subst (λ x. MomentsStay (view x).is_honest (view disk).is_honest (view x).moments (view disk).moments) lent_is stays in
+    let counts = subst (λ x. CountsBy CountsDiskFault read (view x).failures (view disk).failures) lent_is counted in record {
       undamaged = λ up. subst (λ r. IfErr r (λ e. e ≢ refusals.Damaged)) (sym is) (undamaged_answer read (undamaged up));
       read = subst (λ r. IsReadingOf r old new) (sym is) (read_beside read old new disk cache (subst (λ r. IsReadingOf r (record old { disk = disk; cache = cache }) new) is left));
       closed = λ closed. absurd (false≢true (sym still ∙ closed));
-      moments = λ up. ap moments same ∙ stay.1 up;
+      moments = λ up. ap (λ d. (view d).moments) same ∙ stay.1 up;
       acknowledged = λ up. acknowledged (stay.0.0 up);
-      honesty = subst (λ d. honest old.disk ↔ honest d) (sym same) stay.0;
-      failures = subst (λ d. Counts result (failures old.disk) (failures d)) (sym same)
-          (subst (λ r. Counts r (failures old.disk) (failures disk)) (sym is) (counted_answer read (failures old.disk) (failures disk) counts));
+      honesty = subst (λ d. (view old.disk).is_honest ↔ (view d).is_honest) (sym same) stay.0;
+      failures = subst (λ d. Counts result (view old.disk).failures (view d).failures) (sym same)
+          (subst (λ r. Counts r (view old.disk).failures (view disk).failures) (sym is) (counted_answer read (view old.disk).failures (view disk).failures counts));
     }
 
 -- a store that has to be opened again isn't touched
-pub closed_query : {T D : Type 0} (honest : D → Type 0) (moments : D → Moments) (failures : D → ℕ) (s : StoreValue D) → s.needs_reopen ≡ true → IsQuery {T = T} (Err refusals.ReopenNeeded) honest moments failures s s
-closed_query honest moments failures s needs = record {
+pub closed_query : {T D : Type 0} (view : D → DiskView) (s : StoreValue D) → s.needs_reopen ≡ true → IsQuery {T = T} (Err refusals.ReopenNeeded) view s s
+closed_query view s needs = record {
   undamaged = λ up same. absurd (cc);
   read = (needs, record { history = refl; catalog = refl; closed = λ same. absurd (cc); still = λ other. refl });
   closed = λ closed. refl;
@@ -99,10 +99,10 @@ abbrev pub row_items : Vec RowValue Global → List RowValue
 row_items rows = rows.items
 
 -- rows were read by a reader to which the disk, the cache and the segments were lent, and what was read is answered
-module _ {T D : Type 0} (honest : D → Type 0) (moments : D → Moments) (failures bytes_read other_calls : D → ℕ) (rows_of : T → List RowValue) (wanted : List RowValue → List RowValue) (pin : ℕ) where
+module _ {T D : Type 0} (view : D → DiskView) (rows_of : T → List RowValue) (wanted : List RowValue → List RowValue) (pin : ℕ) where
   module _ (Indexed : List (List StampedRow) → Type 0) (old new : StoreValue D) (lists shown : List (List StampedRow)) (entries : List Entry) (lent disk : D) (lent_cache cache : LruCache ℕ (List ℕ)) (read : Result T ReadFault) (result : Result T Refusal) where
     abbrev pub IsHonestReader : Type 0
-    IsHonestReader = honest lent × AgreesWith lent_cache (moments lent).state.now × AreThere entries shown (moments lent).state.now
+    IsHonestReader = (view lent).is_honest × AgreesWith lent_cache (view lent).moments.state.now × AreThere entries shown (view lent).moments.state.now
 
     abbrev pub FoundOf : List (List StampedRow) → Type 0
     FoundOf ls = IfOk read (λ x. rows_of x ≡ wanted (rows_at pin (listed ls)))
@@ -111,54 +111,54 @@ module _ {T D : Type 0} (honest : D → Type 0) (moments : D → Moments) (failu
     KeysOf ls = IfOk read (λ x. map key_of (rows_of x) ≡ map key_of (wanted (rows_at pin (listed ls))))
 
     abbrev pub BoundOf : List (List StampedRow) → D → D → Type 0
-    BoundOf ls before after = bytes_read after ≤ bytes_read before + sum_by row_cost (wanted (rows_at pin (listed ls)))
+    BoundOf ls before after = (view after).bytes_read ≤ (view before).bytes_read + sum_by row_cost (wanted (rows_at pin (listed ls)))
 
     pub rows_answered : old.history.rows ≡ listed lists → old.needs_reopen ≡ false
         → lent ≡ old.disk → lent_cache ≡ old.cache → entries ≡ old.catalog.entries → shown ≡ lists
-        → Indexed lists → (honest old.disk → IsHonestReader)
+        → Indexed lists → ((view old.disk).is_honest → IsHonestReader)
         → (IsHonestReader → Indexed shown → FoundOf shown)
         → (Indexed shown → KeysOf shown)
         → (IsHonestReader → Indexed shown → IfErr read (λ e. e ≢ readfault.Damaged))
-        → IfOk read (λ x. bytes_read disk ≤ bytes_read lent + sum_by row_cost (rows_of x))
+        → IfOk read (λ x. (view disk).bytes_read ≤ (view lent).bytes_read + sum_by row_cost (rows_of x))
         → (Indexed shown → BoundOf shown lent disk)
-        → CountsBy CountsDiskFault read (failures lent) (failures disk)
-        → MomentsStay (honest lent) (honest disk) (moments lent) (moments disk)
-        → LooksUpSome (is_listed entries) lent_cache cache (bytes_read lent) (bytes_read disk)
-        → other_calls disk ≡ other_calls lent
+        → CountsBy CountsDiskFault read (view lent).failures (view disk).failures
+        → MomentsStay (view lent).is_honest (view disk).is_honest (view lent).moments (view disk).moments
+        → LooksUpSome (is_listed entries) lent_cache cache (view lent).bytes_read (view disk).bytes_read
+        → (view disk).other_calls ≡ (view lent).other_calls
         → IsAnswerOf read result → IsReadingOf result (record old { disk = disk; cache = cache }) new → new.disk ≡ disk → new.cache ≡ cache
-        → (honest disk → new.needs_reopen ≡ false → IsAcknowledged moments new)
-        → IsRowsQuery result rows_of wanted pin honest moments failures bytes_read other_calls old new
+        → ((view disk).is_honest → new.needs_reopen ≡ false → IsAcknowledged view new)
+        → IsRowsQuery result rows_of wanted pin view old new
     rows_answered rows_are still lent_is lent_cache_is entries_are shown_is indexed lends found keys undamaged work work_always counted stays looked_up calls answers left same kept acknowledged =
         let indexed_so = subst Indexed (sym shown_is) indexed in
         let all_are = ap (λ rows. wanted (rows_at pin rows)) (sym rows_are) in
         record {
           found = λ up. answered_so (λ x. rows_of x ≡ wanted (rows_at pin (listed shown))) (λ x. rows_of x ≡ wanted (rows_at pin old.history.rows)) read result answers (λ x is. is ∙ ap (λ ls. wanted (rows_at pin (listed ls))) shown_is ∙ all_are) (found (lends up) indexed_so);
           keys = answered_so (λ x. map key_of (rows_of x) ≡ map key_of (wanted (rows_at pin (listed shown)))) (λ x. map key_of (rows_of x) ≡ map key_of (wanted (rows_at pin old.history.rows))) read result answers (λ x is. is ∙ ap (map key_of) (ap (λ ls. wanted (rows_at pin (listed ls))) shown_is ∙ all_are)) (keys indexed_so);
-          query = answered_query honest moments failures old new lent disk cache read result still lent_is stays counted (λ up. undamaged (lends up) indexed_so) answers left same acknowledged;
-          other_calls = ap other_calls same ∙ calls ∙ ap other_calls lent_is;
+          query = answered_query view old new lent disk cache read result still lent_is stays counted (λ up. undamaged (lends up) indexed_so) answers left same acknowledged;
+          other_calls = ap (λ d. (view d).other_calls) same ∙ calls ∙ ap (λ d. (view d).other_calls) lent_is;
           looked_up =
-              subst (λ d. LooksUpSome (is_listed old.catalog.entries) old.cache new.cache (bytes_read old.disk) (bytes_read d)) (sym same)
-              (subst (λ c. LooksUpSome (is_listed old.catalog.entries) old.cache c (bytes_read old.disk) (bytes_read disk)) (sym kept)
-              (subst (λ d. LooksUpSome (is_listed old.catalog.entries) old.cache cache (bytes_read d) (bytes_read disk)) lent_is
-              (subst (λ c. LooksUpSome (is_listed old.catalog.entries) c cache (bytes_read lent) (bytes_read disk)) lent_cache_is
-              (subst (λ (e : List Entry). LooksUpSome (is_listed e) lent_cache cache (bytes_read lent) (bytes_read disk)) entries_are looked_up))));
-          bytes_read = answered_so (λ x. bytes_read disk ≤ bytes_read lent + sum_by row_cost (rows_of x)) (λ x. bytes_read new.disk ≤ bytes_read old.disk + sum_by row_cost (rows_of x)) read result answers
-              (λ x le. subst (λ d. bytes_read d ≤ bytes_read old.disk + sum_by row_cost (rows_of x)) (sym same) (subst (λ d. bytes_read disk ≤ bytes_read d + sum_by row_cost (rows_of x)) lent_is le)) work;
+              subst (λ d. LooksUpSome (is_listed old.catalog.entries) old.cache new.cache (view old.disk).bytes_read (view d).bytes_read) (sym same)
+              (subst (λ c. LooksUpSome (is_listed old.catalog.entries) old.cache c (view old.disk).bytes_read (view disk).bytes_read) (sym kept)
+              (subst (λ d. LooksUpSome (is_listed old.catalog.entries) old.cache cache (view d).bytes_read (view disk).bytes_read) lent_is
+              (subst (λ c. LooksUpSome (is_listed old.catalog.entries) c cache (view lent).bytes_read (view disk).bytes_read) lent_cache_is
+              (subst (λ (e : List Entry). LooksUpSome (is_listed e) lent_cache cache (view lent).bytes_read (view disk).bytes_read) entries_are looked_up))));
+          bytes_read = answered_so (λ x. (view disk).bytes_read ≤ (view lent).bytes_read + sum_by row_cost (rows_of x)) (λ x. (view new.disk).bytes_read ≤ (view old.disk).bytes_read + sum_by row_cost (rows_of x)) read result answers
+              (λ x le. subst (λ d. (view d).bytes_read ≤ (view old.disk).bytes_read + sum_by row_cost (rows_of x)) (sym same) (subst (λ d. (view disk).bytes_read ≤ (view d).bytes_read + sum_by row_cost (rows_of x)) lent_is le)) work;
           bytes_read_always =
-              subst (λ rows. bytes_read new.disk ≤ bytes_read old.disk + sum_by row_cost (wanted (rows_at pin rows))) (sym rows_are)
+              subst (λ rows. (view new.disk).bytes_read ≤ (view old.disk).bytes_read + sum_by row_cost (wanted (rows_at pin rows))) (sym rows_are)
               (subst (λ d. BoundOf lists old.disk d) (sym same)
               (subst (λ d. BoundOf lists d disk) lent_is
               (subst (λ ls. BoundOf ls lent disk) shown_is (work_always indexed_so))));
         }
 
   -- a store that has to be opened again answers nothing, and isn't touched
-  pub closed_rows : (s : StoreValue D) → s.needs_reopen ≡ true → IsRowsQuery (Err refusals.ReopenNeeded) rows_of wanted pin honest moments failures bytes_read other_calls s s
+  pub closed_rows : (s : StoreValue D) → s.needs_reopen ≡ true → IsRowsQuery (Err refusals.ReopenNeeded) rows_of wanted pin view s s
   closed_rows s needs = record {
     found = λ up. tt;
     keys = tt;
-    query = closed_query {T = T} honest moments failures s needs;
+    query = closed_query {T = T} view s needs;
     other_calls = refl;
-    looked_up = none_looks_up (is_listed s.catalog.entries) s.cache (bytes_read s.disk);
+    looked_up = none_looks_up (is_listed s.catalog.entries) s.cache (view s.disk).bytes_read;
     bytes_read = tt;
     bytes_read_always = omega arith;
   }

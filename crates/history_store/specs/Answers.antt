@@ -2,7 +2,7 @@
 use Rattle.std.specs.Prelude.{◌≡◌, ◌≢◌, ◌⊎◌, ℕ, ◌+◌, ◌≤◌, true, false, List, ◌∷◌}
 use Rattle.std.specs.Prelude.{length, None, Result, Ok, Err}
 use Rattle.fault_counts.specs.Counting.{HasRisen}
-use Rattle.disk_model.specs.Disk.{DiskState, Moments}
+use Rattle.disk_model.specs.Disk.{DiskState}
 use Rattle.blocks.specs.Slots.{slots_range}
 use Rattle.rf2_values.specs.Row.{RowValue}
 use Rattle.rf2_values.specs.declared.key.Key.{Key}
@@ -71,15 +71,15 @@ pub record IsNew {D : Type 0} (layout : Layout) (s : StoreValue D) : Type 0 wher
   pub open_still : s.needs_reopen ≡ false
 
 -- every refusal but the failed device leaves the device as it was, and what a stop may leave of it
-abbrev pub HandsBack : {D : Type 0} → (D → Moments) → StoreOr D → D → Type 0
-HandsBack moments (Ok store) disk = Unit {0}
-HandsBack moments (Err e) disk = e.0 ≢ refusals.DiskFault → moments e.1 ≡ moments disk
+abbrev pub HandsBack : {D : Type 0} → (D → DiskView) → StoreOr D → D → Type 0
+HandsBack view (Ok store) disk = Unit {0}
+HandsBack view (Err e) disk = e.0 ≢ refusals.DiskFault → (view e.1).moments ≡ (view disk).moments
 
 -- one sync changed the disk and nothing else did; where the device failed, maybe not even that
-abbrev pub SyncsOnce : {D : Type 0} → (D → Moments) → StoreOr D → D → Type 0
-SyncsOnce moments (Ok store) disk = moments store.disk ≡ synced (moments disk)
-SyncsOnce moments (Err e) disk = (moments e.1 ≡ synced (moments disk))
-    ⊎ ((e.0 ≡ refusals.DiskFault) × (moments e.1 ≡ moments disk))
+abbrev pub SyncsOnce : {D : Type 0} → (D → DiskView) → StoreOr D → D → Type 0
+SyncsOnce view (Ok store) disk = (view store.disk).moments ≡ synced (view disk).moments
+SyncsOnce view (Err e) disk = ((view e.1).moments ≡ synced (view disk).moments)
+    ⊎ ((e.0 ≡ refusals.DiskFault) × ((view e.1).moments ≡ (view disk).moments))
 
 -- a store is made on an empty disk alone
 abbrev pub IsMakingOf : {D : Type 0} → Layout → StoreOr D → List ℕ → Type 0
@@ -220,10 +220,11 @@ pub record IsRefused {D : Type 0} (e : Refusal) (old new : StoreValue D) : Type 
   pub still : e ≢ refusals.DiskFault → new.needs_reopen ≡ old.needs_reopen
 
 -- what a stop may leave stays as it is at every refusal but the failed device
-abbrev pub KeepsMoments : {T D : Type 0} → (D → Moments) → Result T Refusal → StoreValue D
+abbrev pub KeepsMoments : {T D : Type 0} → (D → DiskView) → Result T Refusal → StoreValue D
     → StoreValue D → Type 0
-KeepsMoments moments (Ok x) old new = Unit {0}
-KeepsMoments moments (Err e) old new = e ≢ refusals.DiskFault → moments new.disk ≡ moments old.disk
+KeepsMoments view (Ok x) old new = Unit {0}
+KeepsMoments view (Err e) old new = e ≢ refusals.DiskFault
+→ (view new.disk).moments ≡ (view old.disk).moments
 
 -- what an import answers, and the store after it
 abbrev pub IsImportOf : {D : Type 0} → Result Receipt Refusal → StoreValue D → StoreValue D

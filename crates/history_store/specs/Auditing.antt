@@ -6,7 +6,7 @@ use Rattle.rf2_values.specs.declared.row.Kind.TheVariants as kinds
 use Rattle.history_model.specs.History.{rows_at}
 use Rattle.history_model.specs.Queries.{about}
 use Rattle.history_model.specs.Hierarchy.{AreAncestors}
-use Rattle.disk_model.specs.Disk.{Moments}
+use Rattle.disk_model.specs.View.{DiskView}
 use Rattle.history_store.specs.declared.refusal.Refusal.{Refusal}
 use Rattle.history_store.specs.Reading.{row_cost}
 use Rattle.history_store.specs.StoreValue.{StoreValue}
@@ -24,17 +24,16 @@ relationships_cost date rows concepts =
 -- answered. Whatever is answered, no more is read of an honest disk than the relationships take of
 -- the concept and of those above it.
 pub record IsAncestorsQuery {T D : Type 0} (result : Result T Refusal) (ids_of : T → List ℕ)
-    (concept date pin : ℕ) (is_honest : D → Type 0)
-    (moments_of : D → Moments) (failures_of bytes_read_of other_calls_of : D → ℕ)
+    (concept date pin : ℕ) (view : D → DiskView)
     (old new : StoreValue D) : Type 0 where
-  pub found : is_honest old.disk
+  pub found : (view old.disk).is_honest
       → IfOk result (λ x. AreAncestors concept date (rows_at pin old.history.rows) (ids_of x))
-  pub query : IsQuery result is_honest moments_of failures_of old new
-  pub other_calls : other_calls_of new.disk ≡ other_calls_of old.disk
-  pub looked_up : ReadsThroughCache bytes_read_of old new
-  pub bytes_read : IfOk result (λ x. bytes_read_of new.disk ≤ bytes_read_of old.disk
+  pub query : IsQuery result view old new
+  pub other_calls : (view new.disk).other_calls ≡ (view old.disk).other_calls
+  pub looked_up : ReadsThroughCache view old new
+  pub bytes_read : IfOk result (λ x. (view new.disk).bytes_read ≤ (view old.disk).bytes_read
       + relationships_cost date (rows_at pin old.history.rows) (concept ∷ ids_of x))
-  pub bytes_read_always : is_honest old.disk → (above : List ℕ)
+  pub bytes_read_always : (view old.disk).is_honest → (above : List ℕ)
       → AreAncestors concept date (rows_at pin old.history.rows) above
-      → bytes_read_of new.disk ≤ bytes_read_of old.disk
+      → (view new.disk).bytes_read ≤ (view old.disk).bytes_read
       + relationships_cost date (rows_at pin old.history.rows) (concept ∷ above)

@@ -2,7 +2,7 @@
 -- receipt.
 use Rattle.std.specs.Prelude.{◌≡◌, ◌⊎◌, ◌↔◌, ℕ, ◌+◌, ◌≤◌, true, false, List, Result, Ok, Err}
 use Rattle.std.specs.List.{sum_by}
-use Rattle.disk_model.specs.Disk.{Moments}
+use Rattle.disk_model.specs.View.{DiskView}
 use Rattle.rf2_values.specs.Row.{RowValue}
 use Rattle.history_model.specs.declared.receipt.Receipt.{Receipt}
 use Rattle.history_model.specs.History.{History, full}
@@ -47,22 +47,21 @@ IsCheckingOnAnyDisk (Err e) old new release =
 -- file is no release file, nothing is read. What a stop may leave stays, and as long as no call has
 -- failed it represents what the store holds.
 pub record IsChecking {D : Type 0} (result : Result Receipt Refusal) (release : Release)
-    (is_honest : D → Type 0) (moments_of : D → Moments)
-    (failures_of bytes_read_of other_calls_of : D → ℕ) (old new : StoreValue D) : Type 0 where
-  pub answer : is_honest old.disk → IsCheckingOf result old new release
+    (view : D → DiskView) (old new : StoreValue D) : Type 0 where
+  pub answer : (view old.disk).is_honest → IsCheckingOf result old new release
   pub kept : IsCheckingOnAnyDisk result old new release
   pub closed : old.needs_reopen ≡ true → new ≡ old
   pub later : IsForLater old.catalog.layout release → new ≡ old
-  pub moments : is_honest old.disk → moments_of new.disk ≡ moments_of old.disk
-  pub acknowledged : is_honest old.disk → new.needs_reopen ≡ false → IsAcknowledged moments_of new
-  pub honesty : is_honest old.disk ↔ is_honest new.disk
-  pub failures : Counts result (failures_of old.disk) (failures_of new.disk)
-  pub other_calls : other_calls_of new.disk ≡ other_calls_of old.disk
-  pub looked_up : ReadsThroughCache bytes_read_of old new
+  pub moments : (view old.disk).is_honest → (view new.disk).moments ≡ (view old.disk).moments
+  pub acknowledged : (view old.disk).is_honest → new.needs_reopen ≡ false → IsAcknowledged view new
+  pub honesty : (view old.disk).is_honest ↔ (view new.disk).is_honest
+  pub failures : Counts result (view old.disk).failures (view new.disk).failures
+  pub other_calls : (view new.disk).other_calls ≡ (view old.disk).other_calls
+  pub looked_up : ReadsThroughCache view old new
   pub bytes_read : (rows : List RowValue) → IsReleaseOf release rows
-      → bytes_read_of new.disk ≤ bytes_read_of old.disk
+      → (view new.disk).bytes_read ≤ (view old.disk).bytes_read
       + sum_by row_cost (already_known (full old.history) rows)
-  pub bytes_unread : (IsRead release → ⊥) → bytes_read_of new.disk ≤ bytes_read_of old.disk
+  pub bytes_unread : (IsRead release → ⊥) → (view new.disk).bytes_read ≤ (view old.disk).bytes_read
 
 -- ---- what a check answers, an import answers next
 

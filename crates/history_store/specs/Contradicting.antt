@@ -2,7 +2,7 @@
 use Rattle.std.specs.Prelude.{◌≡◌, ◌⊎◌, ◌↔◌, ℕ, ◌+◌, ◌≤◌, true, false, List, map, MatchResult}
 use Rattle.std.specs.Prelude.{Option, MatchOption, Result, IfOk, IfErr}
 use Rattle.std.specs.List.{sum_by}
-use Rattle.disk_model.specs.Disk.{Moments}
+use Rattle.disk_model.specs.View.{DiskView}
 use Rattle.rf2_values.specs.declared.key.Key.{Key}
 use Rattle.rf2_values.specs.Row.{RowValue}
 use Rattle.rf2_values.specs.Key.{key_of}
@@ -42,23 +42,22 @@ IsUnlisted honest e release =
 -- What a stop may leave stays, and as long as no call has failed it represents what the store
 -- holds.
 pub record IsListing {D : Type 0} (result : Result Contradictions Refusal) (release : Release)
-    (limit : ℕ) (is_honest : D → Type 0) (moments_of : D → Moments)
-    (failures_of bytes_read_of other_calls_of : D → ℕ) (old new : StoreValue D) : Type 0 where
-  pub found : is_honest old.disk
+    (limit : ℕ) (view : D → DiskView) (old new : StoreValue D) : Type 0 where
+  pub found : (view old.disk).is_honest
       → IfOk result (AreContradictionsOf (full old.history) release limit)
   pub read : IfOk result (λ found. IsRead release)
   pub refused : IfErr result
       (λ e. ((e ≡ refusals.ReopenNeeded) × (old.needs_reopen ≡ true))
-      ⊎ ((old.needs_reopen ≡ false) × IsUnlisted (is_honest old.disk) e release))
+      ⊎ ((old.needs_reopen ≡ false) × IsUnlisted (view old.disk).is_honest e release))
   pub left : MatchResult result (λ found. IsStill old new) (λ e. IsRefused e old new)
   pub closed : old.needs_reopen ≡ true → new ≡ old
-  pub moments : is_honest old.disk → moments_of new.disk ≡ moments_of old.disk
-  pub acknowledged : is_honest old.disk → new.needs_reopen ≡ false → IsAcknowledged moments_of new
-  pub honesty : is_honest old.disk ↔ is_honest new.disk
-  pub failures : Counts result (failures_of old.disk) (failures_of new.disk)
-  pub other_calls : other_calls_of new.disk ≡ other_calls_of old.disk
-  pub looked_up : ReadsThroughCache bytes_read_of old new
+  pub moments : (view old.disk).is_honest → (view new.disk).moments ≡ (view old.disk).moments
+  pub acknowledged : (view old.disk).is_honest → new.needs_reopen ≡ false → IsAcknowledged view new
+  pub honesty : (view old.disk).is_honest ↔ (view new.disk).is_honest
+  pub failures : Counts result (view old.disk).failures (view new.disk).failures
+  pub other_calls : (view new.disk).other_calls ≡ (view old.disk).other_calls
+  pub looked_up : ReadsThroughCache view old new
   pub bytes_read : (rows : List RowValue) → IsReleaseOf release rows
-      → bytes_read_of new.disk ≤ bytes_read_of old.disk
+      → (view new.disk).bytes_read ≤ (view old.disk).bytes_read
       + sum_by row_cost (already_known (full old.history) rows)
-  pub bytes_unread : (IsRead release → ⊥) → bytes_read_of new.disk ≤ bytes_read_of old.disk
+  pub bytes_unread : (IsRead release → ⊥) → (view new.disk).bytes_read ≤ (view old.disk).bytes_read

@@ -1,5 +1,6 @@
 -- How a store is made, and how it is opened.
 use Rattle.std.specs.Prelude.{◌≡◌, ◌↔◌, ◌≤◌, ℕ, length, IfOk, IfErr}
+use Rattle.disk_model.specs.View.{DiskView}
 use Rattle.disk_model.specs.Disk.{Moments, IsImage, LeavesOnly}
 use Rattle.blocks.specs.Calls.{MakesCalls}
 use Rattle.blocks.specs.Outside.{StemsWithin}
@@ -17,56 +18,58 @@ use Rattle.history_store.specs.Answers.{CountsOpening, device_of}
 
 -- A store was made in this version on a device, or it is said why there is none and the device
 -- comes back.
-pub record IsMaking {D : Type 0} (layout : Layout) (result : StoreOr D) (is_honest : D → Type 0)
-    (moments_of : D → Moments) (failures_of : D → ℕ) (device : D) : Type 0 where
+pub record IsMaking {D : Type 0} (layout : Layout) (result : StoreOr D) (view : D
+    → DiskView) (device : D) : Type 0 where
   -- it is made exactly on a device of no bytes, unless memory runs out or the device fails
-  pub exact : is_honest device → IsMakingOf layout result (moments_of device).state.now
+  pub exact : (view device).is_honest → IsMakingOf layout result (view device).moments.state.now
   -- on every device what is made is a new store, and it is refused with 1, 2 or 4 alone
   pub new : IfOk result (IsNew layout)
   pub causes : IfErr result (λ e. IsMakingCause e.0)
   -- refused for any other reason than the device, it leaves whatever a stop may leave as it was
-  pub refused : is_honest device → HandsBack moments_of result device
+  pub refused : (view device).is_honest → HandsBack view result device
   -- a device with a byte stays as it is, whatever the answer: where the device fails, too
-  pub untouched : is_honest device → 1 ≤ length (moments_of device).state.now
-      → moments_of (device_of result) ≡ moments_of device
+  pub untouched : (view device).is_honest → 1 ≤ length (view device).moments.state.now
+      → (view (device_of result)).moments ≡ (view device).moments
   -- Whatever it answers, what a stop may leave doesn't change behind the slots,
   -- and nine calls at most may change the device: after Ok these nine.
-  pub inside : is_honest device → LeavesOnly (moments_of device) (moments_of (device_of result))
-      (StemsWithin (moments_of device).state slots_range)
-  pub calls : is_honest device
-      → MakesCalls result 9 (moments_of device) (moments_of (device_of result))
+  pub inside : (view device).is_honest
+      → LeavesOnly (view device).moments (view (device_of result)).moments
+      (StemsWithin (view device).moments.state slots_range)
+  pub calls : (view device).is_honest
+      → MakesCalls result 9 (view device).moments (view (device_of result)).moments
   -- a read of a new store gives its two slots, and nothing behind them
-  pub bytes : is_honest device → IfOk result (λ s. IsNewStore layout (moments_of s.disk).state.now)
+  pub bytes : (view device).is_honest
+      → IfOk result (λ s. IsNewStore layout (view s.disk).moments.state.now)
   -- whatever a stop leaves from now on represents the empty history
-  pub acknowledged : is_honest device → IfOk result (IsAcknowledged moments_of)
+  pub acknowledged : (view device).is_honest → IfOk result (IsAcknowledged view)
   -- on every device the store begins with no block in memory
   pub cache : IfOk result (λ s. s.cache ≡ no_blocks)
-  pub honesty : is_honest device ↔ is_honest (device_of result)
-  pub failures : CountsOpening result (failures_of device) (failures_of (device_of result))
+  pub honesty : (view device).is_honest ↔ (view (device_of result)).is_honest
+  pub failures : CountsOpening result (view device).failures (view (device_of result)).failures
 
 -- A store was opened from a device, or it is said why there is none and the device comes back.
-pub record IsOpening {D : Type 0} (result : StoreOr D) (is_honest : D → Type 0)
-    (moments_of : D → Moments) (failures_of : D → ℕ) (device : D) : Type 0 where
+pub record IsOpening {D : Type 0} (result : StoreOr D) (view : D
+    → DiskView) (device : D) : Type 0 where
   -- it is opened exactly where the bytes represent a history, unless memory runs out or the device
   -- fails
-  pub exact : is_honest device → IsOpeningOf result (moments_of device).state.now
+  pub exact : (view device).is_honest → IsOpeningOf result (view device).moments.state.now
   -- on every device what is opened is a history, and it is refused with 1, 2, 7 or 8 alone
   pub ready : IfOk result IsReady
   pub causes : IfErr result (λ e. IsOpeningCause e.0)
   -- a stop at any moment leaves what it might have left before
-  pub any_moment : is_honest device → LeavesOnly (moments_of device)
-      (moments_of (device_of result)) (IsImage (moments_of device).state)
+  pub any_moment : (view device).is_honest → LeavesOnly (view device).moments
+      (view (device_of result)).moments (IsImage (view device).moments.state)
   -- it syncs once and changes nothing else, and a read gives what it gave before, whatever it
   -- answers
-  pub synced : is_honest device → SyncsOnce moments_of result device
-  pub read : is_honest device
-      → (moments_of (device_of result)).state.now ≡ (moments_of device).state.now
+  pub synced : (view device).is_honest → SyncsOnce view result device
+  pub read : (view device).is_honest
+      → (view (device_of result)).moments.state.now ≡ (view device).moments.state.now
   -- whatever a stop leaves from now on represents what the store holds
-  pub acknowledged : is_honest device → IfOk result (IsAcknowledged moments_of)
+  pub acknowledged : (view device).is_honest → IfOk result (IsAcknowledged view)
   -- on every device the store begins with no block in memory
   pub cache : IfOk result (λ s. s.cache ≡ no_blocks)
-  pub honesty : is_honest device ↔ is_honest (device_of result)
-  pub failures : CountsOpening result (failures_of device) (failures_of (device_of result))
+  pub honesty : (view device).is_honest ↔ (view (device_of result)).is_honest
+  pub failures : CountsOpening result (view device).failures (view (device_of result)).failures
 
 -- an opening that was refused asked for no more than up to the fault of the bytes
 abbrev pub StopsIn : Refusal → (bytes_before bytes calls_before calls : ℕ) → Type 0

@@ -5,7 +5,7 @@ use Rattle.std.specs.List.{list_any, sum_by}
 use Rattle.rf2_values.specs.Row.{RowValue}
 use Rattle.rf2_values.specs.Key.{key_of}
 use Rattle.history_model.specs.History.{rows_at}
-use Rattle.disk_model.specs.Disk.{Moments}
+use Rattle.disk_model.specs.View.{DiskView}
 use Rattle.lru.specs.LruCache.{LruCache}
 use Rattle.blocks.specs.declared.extent.Extent.{Extent}
 use Rattle.blocks.specs.Cache.{LooksUpSome, Forgets, is_in}
@@ -27,9 +27,9 @@ is_listed entries block = list_any (λ entry. is_in (extent_of entry) block) ent
 
 -- Blocks of listed segments were looked up in the cache, and nothing else became of it. The
 -- device was asked for 4,096 bytes at most for each of them that wasn't kept at that time.
-abbrev pub ReadsThroughCache : {D : Type 0} → (D → ℕ) → StoreValue D → StoreValue D → Type 0
-ReadsThroughCache bytes_read_of old new = LooksUpSome (is_listed old.catalog.entries)
-    old.cache new.cache (bytes_read_of old.disk) (bytes_read_of new.disk)
+abbrev pub ReadsThroughCache : {D : Type 0} → (D → DiskView) → StoreValue D → StoreValue D → Type 0
+ReadsThroughCache view old new = LooksUpSome (is_listed old.catalog.entries)
+    old.cache new.cache (view old.disk).bytes_read (view new.disk).bytes_read
 
 -- the blocks of an extent aren't kept any longer; without an extent none is forgotten
 abbrev pub ForgetsIn : Option Extent → LruCache ℕ (List ℕ) → LruCache ℕ (List ℕ) → Type 0
@@ -45,10 +45,10 @@ LooksUpAndForgets test extent old new before after = (mid : LruCache ℕ (List �
 
 -- blocks of listed segments were looked up, and then
 -- those that the merge has reserved were forgotten, or none
-abbrev pub StepsThroughCache : {D : Type 0} → (D → ℕ) → StoreValue D → StoreValue D → Type 0
-StepsThroughCache bytes_read_of old new =
+abbrev pub StepsThroughCache : {D : Type 0} → (D → DiskView) → StoreValue D → StoreValue D → Type 0
+StepsThroughCache view old new =
     LooksUpAndForgets (is_listed old.catalog.entries) (reserved_by old.catalog.merge)
-    old.cache new.cache (bytes_read_of old.disk) (bytes_read_of new.disk)
+    old.cache new.cache (view old.disk).bytes_read (view new.disk).bytes_read
 
 -- the blocks of these segments aren't kept any longer, and after that those of a slot aren't either
 abbrev pub ForgetsWritten : List Entry → LruCache ℕ (List ℕ) → LruCache ℕ (List ℕ) → Type 0
@@ -58,14 +58,14 @@ ForgetsWritten entries old new = (slot : Slot) × (mid : LruCache ℕ (List ℕ)
 -- What an import reads and forgets. Blocks of listed segments are looked up in the cache, which
 -- makes this of it. A publication looks at one byte besides, the gate of a slot, and nothing else
 -- is read. After Ok the blocks that were written are forgotten; after an error none is.
-pub record ImportsThroughCache {T D : Type 0} (result : Result T Refusal) (bytes_read_of : D → ℕ)
+pub record ImportsThroughCache {T D : Type 0} (result : Result T Refusal) (view : D → DiskView)
     (old new : StoreValue D) : Type 0 where
   pub looked_up : LruCache ℕ (List ℕ)
   pub asked : ℕ
   pub reads : LooksUpSome (is_listed old.catalog.entries)
-      old.cache looked_up (bytes_read_of old.disk) asked
-  pub gate : bytes_read_of new.disk ≤ asked + 1
-  pub no_gate : IfErr result (λ e. e ≢ refusals.DiskFault → bytes_read_of new.disk ≤ asked)
+      old.cache looked_up (view old.disk).bytes_read asked
+  pub gate : (view new.disk).bytes_read ≤ asked + 1
+  pub no_gate : IfErr result (λ e. e ≢ refusals.DiskFault → (view new.disk).bytes_read ≤ asked)
   pub forgets : OnOk result
       (ForgetsWritten (added_entries old.catalog new.catalog) looked_up new.cache)
   pub keeps : OnErr result (new.cache ≡ looked_up)
@@ -74,16 +74,15 @@ pub record ImportsThroughCache {T D : Type 0} (result : Result T Refusal) (bytes
 -- store that has to be opened again leaves everything as it is. On an honest disk nothing is
 -- damaged, what a stop may leave stays, and as long as no call has failed it represents what the
 -- store holds.
-pub record IsQuery {T D : Type 0} (result : Result T Refusal) (is_honest : D → Type 0)
-    (moments_of : D → Moments) (failures_of : D → ℕ)
+pub record IsQuery {T D : Type 0} (result : Result T Refusal) (view : D → DiskView)
     (old new : StoreValue D) : Type 0 where
-  pub undamaged : is_honest old.disk → IfErr result (λ e. e ≢ refusals.Damaged)
+  pub undamaged : (view old.disk).is_honest → IfErr result (λ e. e ≢ refusals.Damaged)
   pub read : IsReadingOf result old new
   pub closed : old.needs_reopen ≡ true → new ≡ old
-  pub moments : is_honest old.disk → moments_of new.disk ≡ moments_of old.disk
-  pub acknowledged : is_honest old.disk → new.needs_reopen ≡ false → IsAcknowledged moments_of new
-  pub honesty : is_honest old.disk ↔ is_honest new.disk
-  pub failures : Counts result (failures_of old.disk) (failures_of new.disk)
+  pub moments : (view old.disk).is_honest → (view new.disk).moments ≡ (view old.disk).moments
+  pub acknowledged : (view old.disk).is_honest → new.needs_reopen ≡ false → IsAcknowledged view new
+  pub honesty : (view old.disk).is_honest ↔ (view new.disk).is_honest
+  pub failures : Counts result (view old.disk).failures (view new.disk).failures
 
 -- A query for rows: `rows_of` says which rows an answer has, and `wanted` which are to be answered,
 -- of the rows that the pin shows. On an honest disk these are the same, and on every disk they have
@@ -91,20 +90,19 @@ pub record IsQuery {T D : Type 0} (result : Result T Refusal) (is_honest : D →
 -- than the rows of the answer take. Whatever is answered, no more is read than the wanted rows
 -- take, each counted once.
 pub record IsRowsQuery {T D : Type 0} (result : Result T Refusal) (rows_of : T → List RowValue)
-    (wanted : List RowValue → List RowValue) (pin : ℕ) (is_honest : D → Type 0)
-    (moments_of : D → Moments) (failures_of bytes_read_of other_calls_of : D → ℕ)
+    (wanted : List RowValue → List RowValue) (pin : ℕ) (view : D → DiskView)
     (old new : StoreValue D) : Type 0 where
-  pub found : is_honest old.disk
+  pub found : (view old.disk).is_honest
       → IfOk result (λ x. rows_of x ≡ wanted (rows_at pin old.history.rows))
   pub keys : IfOk result
       (λ x. map key_of (rows_of x) ≡ map key_of (wanted (rows_at pin old.history.rows)))
-  pub query : IsQuery result is_honest moments_of failures_of old new
-  pub other_calls : other_calls_of new.disk ≡ other_calls_of old.disk
-  pub looked_up : ReadsThroughCache bytes_read_of old new
+  pub query : IsQuery result view old new
+  pub other_calls : (view new.disk).other_calls ≡ (view old.disk).other_calls
+  pub looked_up : ReadsThroughCache view old new
   pub bytes_read : IfOk result
-      (λ x. bytes_read_of new.disk ≤ bytes_read_of old.disk + sum_by row_cost (rows_of x))
-  pub bytes_read_always : bytes_read_of new.disk
-      ≤ bytes_read_of old.disk + sum_by row_cost (wanted (rows_at pin old.history.rows))
+      (λ x. (view new.disk).bytes_read ≤ (view old.disk).bytes_read + sum_by row_cost (rows_of x))
+  pub bytes_read_always : (view new.disk).bytes_read
+      ≤ (view old.disk).bytes_read + sum_by row_cost (wanted (rows_at pin old.history.rows))
 
 -- A query that the index answers on every disk, of the rows that the pin shows, without reading
 -- one. Nothing changes, and it is refused only where the store has to be opened again, or memory

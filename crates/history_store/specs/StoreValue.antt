@@ -1,5 +1,6 @@
 -- A store as clauses see it.
 use Rattle.std.specs.Prelude.{◌≡◌, ℕ, [], Bool, false, List}
+use Rattle.disk_model.specs.View.{DiskView}
 use Rattle.disk_model.specs.Disk.{DiskState, Moments, EachImage}
 use Rattle.blocks.specs.declared.slots.Slot.{Slot}
 use Rattle.history_model.specs.declared.stamped.StampedRow.{StampedRow}
@@ -30,9 +31,9 @@ abbrev pub no_blocks : LruCache ℕ (List ℕ)
 no_blocks = lru_cache [] cache_blocks
 
 -- no call has failed, and whatever a stop leaves represents what the store holds
-pub record IsAcknowledged {D : Type 0} (moments : D → Moments) (s : StoreValue D) : Type 0 where
+pub record IsAcknowledged {D : Type 0} (view : D → DiskView) (s : StoreValue D) : Type 0 where
   pub open_still : s.needs_reopen ≡ false
-  pub each : EachImage (moments s.disk).state
+  pub each : EachImage (view s.disk).moments.state
       (λ c. Represents c s.history s.catalog.layout s.catalog.epoch s.catalog.entries)
 
 -- What is kept in memory fits together: the directory may list segments of these rows. As long as

@@ -51,7 +51,7 @@ impl<D: Disk> Store<D> {
     ) -> Result<Vec<u64>, Refusal>
         requires { as_of.pin ≤ self.old.history.imports }
         ensures answer { IsAncestorsQuery result (λ ids. ids.items) id as_of.date as_of.pin
-            D.is_honest D.moments D.failures D.bytes_read D.other_calls self.old self.new }
+            D.view self.old self.new }
     {
         if self.needs_reopen {
             return Err(Refusal::ReopenNeeded);
@@ -82,7 +82,7 @@ impl<D: Disk> Store<D> {
     ) -> Result<Vec<Row>, Refusal>
         requires { as_of.pin ≤ self.old.history.imports }
         ensures answer { IsRowsQuery result (λ rows. rows.items) (replaces id as_of.date) as_of.pin
-            D.is_honest D.moments D.failures D.bytes_read D.other_calls self.old self.new }
+            D.view self.old self.new }
     {
         if self.needs_reopen {
             return Err(Refusal::ReopenNeeded);
@@ -109,7 +109,7 @@ impl<D: Disk> Store<D> {
     pub fn timeline(&mut self, kind: Kind, id: Sctid, pin: u32) -> Result<Vec<Row>, Refusal>
         requires { pin ≤ self.old.history.imports }
         ensures answer { IsRowsQuery result (λ rows. rows.items) (timeline kind id) pin
-            D.is_honest D.moments D.failures D.bytes_read D.other_calls self.old self.new }
+            D.view self.old self.new }
     {
         if self.needs_reopen {
             return Err(Refusal::ReopenNeeded);
@@ -144,8 +144,7 @@ impl<D: Disk> Store<D> {
     ) -> Result<Vec<Row>, Refusal>
         requires { as_of.pin ≤ self.old.history.imports }
         ensures answer { IsRowsQuery result (λ rows. rows.items)
-            (delta kind from as_of.date after limit) as_of.pin D.is_honest D.moments D.failures
-            D.bytes_read D.other_calls self.old self.new }
+            (delta kind from as_of.date after limit) as_of.pin D.view self.old self.new }
     {
         if self.needs_reopen {
             return Err(Refusal::ReopenNeeded);

@@ -33,12 +33,12 @@ impl<D: Disk> Store<D> {
 
     /// Finds the new rows of a release, and makes in memory all that an import of it publishes.
     pub(crate) fn make_ready(&mut self, release: Release) -> Result<Ready, Refusal>
-        ensures checking { IsChecking (checked result) release
-            D.is_honest D.moments D.failures D.bytes_read D.other_calls self.old self.new }
-        ensures ready { IfOk result (IsMadeReady (D.is_honest self.old.disk) self.new release) }
+        ensures checking { IsChecking (checked result) release D.view self.old self.new }
+        ensures ready { IfOk result
+            (IsMadeReady (D.view self.old.disk).is_honest self.new release) }
         // What the store held before the call, a stop before it would have left.
-        ensures stood { D.is_honest self.old.disk → self.old.needs_reopen ≡ false
-            → IsAcknowledged D.moments self.old }
+        ensures stood { (D.view self.old.disk).is_honest → self.old.needs_reopen ≡ false
+            → IsAcknowledged D.view self.old }
     {
         if self.needs_reopen {
             return Err(Refusal::ReopenNeeded);
@@ -69,8 +69,7 @@ impl<D: Disk> Store<D> {
     /// done that an import does before its first write, so that it takes as much memory. What an
     /// import finds out only by writing isn't foreseen: that the disk is full, or refuses a write.
     pub fn check(&mut self, release: Release) -> Result<Receipt, Refusal>
-        ensures answer { IsChecking result release
-            D.is_honest D.moments D.failures D.bytes_read D.other_calls self.old self.new }
+        ensures answer { IsChecking result release D.view self.old self.new }
     {
         let ready = self.make_ready(release)?;
         Ok(ready.receipt)

@@ -30,8 +30,8 @@ impl<D: Disk> Store<D> {
             (λ e. IsRefused e self.old self.new) }
         ensures disk { self.new.disk ≡ self.old.disk }
         ensures cache { self.new.cache ≡ self.old.cache }
-        ensures acknowledged { D.is_honest self.old.disk → self.new.needs_reopen ≡ false
-            → IsAcknowledged D.moments self.new }
+        ensures acknowledged { (D.view self.old.disk).is_honest → self.new.needs_reopen ≡ false
+            → IsAcknowledged D.view self.new }
     {
         match read {
             Ok(found) => Ok(found),
@@ -52,8 +52,7 @@ impl<D: Disk> Store<D> {
         release: Release,
         limit: usize,
     ) -> Result<Contradictions, Refusal>
-        ensures answer { IsListing result release limit
-            D.is_honest D.moments D.failures D.bytes_read D.other_calls self.old self.new }
+        ensures answer { IsListing result release limit D.view self.old self.new }
     {
         if self.needs_reopen {
             return Err(Refusal::ReopenNeeded);

@@ -22,7 +22,7 @@ impl<D: Disk> Store<D> {
     ) -> Result<Vec<Row>, Refusal>
         requires { pin ≤ self.old.history.imports }
         ensures answer { IsRowsQuery result (λ rows. rows.items) (rows_after after limit) pin
-            D.is_honest D.moments D.failures D.bytes_read D.other_calls self.old self.new }
+            D.view self.old self.new }
     {
         if self.needs_reopen {
             return Err(Refusal::ReopenNeeded);

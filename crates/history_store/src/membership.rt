@@ -26,8 +26,7 @@ impl<D: Disk> Store<D> {
     ) -> Result<Vec<Row>, Refusal>
         requires { as_of.pin ≤ self.old.history.imports }
         ensures answer { IsRowsQuery result (λ rows. rows.items)
-            (members refset as_of.date after limit) as_of.pin D.is_honest D.moments D.failures
-            D.bytes_read D.other_calls self.old self.new }
+            (members refset as_of.date after limit) as_of.pin D.view self.old self.new }
     {
         if self.needs_reopen {
             return Err(Refusal::ReopenNeeded);
@@ -63,8 +62,7 @@ impl<D: Disk> Store<D> {
     ) -> Result<Vec<Row>, Refusal>
         requires { as_of.pin ≤ self.old.history.imports }
         ensures answer { IsRowsQuery result (λ rows. rows.items)
-            (values refset as_of.date after limit) as_of.pin D.is_honest D.moments D.failures
-            D.bytes_read D.other_calls self.old self.new }
+            (values refset as_of.date after limit) as_of.pin D.view self.old self.new }
     {
         if self.needs_reopen {
             return Err(Refusal::ReopenNeeded);
@@ -99,7 +97,7 @@ impl<D: Disk> Store<D> {
     ) -> Result<Vec<Row>, Refusal>
         requires { as_of.pin ≤ self.old.history.imports }
         ensures answer { IsRowsQuery result (λ rows. rows.items) (called concept as_of.date refset)
-            as_of.pin D.is_honest D.moments D.failures D.bytes_read D.other_calls self.old
+            as_of.pin D.view self.old
             self.new }
     {
         if self.needs_reopen {

@@ -33,8 +33,8 @@ impl<D: Disk> Store<D> {
         ensures left { IsReadingOf result self.old self.new }
         ensures disk { self.new.disk ≡ self.old.disk }
         ensures cache { self.new.cache ≡ self.old.cache }
-        ensures acknowledged { D.is_honest self.old.disk → self.new.needs_reopen ≡ false
-            → IsAcknowledged D.moments self.new }
+        ensures acknowledged { (D.view self.old.disk).is_honest → self.new.needs_reopen ≡ false
+            → IsAcknowledged D.view self.new }
     {
         match read {
             Ok(found) => Ok(found),
@@ -57,7 +57,7 @@ impl<D: Disk> Store<D> {
         requires { as_of.pin ≤ self.old.history.imports }
         ensures answer { IsRowsQuery result option_to_list
             (λ rows. option_to_list (get kind id as_of.date rows)) as_of.pin
-            D.is_honest D.moments D.failures D.bytes_read D.other_calls self.old self.new }
+            D.view self.old self.new }
     {
         if self.needs_reopen {
             return Err(Refusal::ReopenNeeded);
@@ -76,7 +76,7 @@ impl<D: Disk> Store<D> {
     pub fn history(&mut self, kind: Kind, id: u128, pin: u32) -> Result<Vec<Row>, Refusal>
         requires { pin ≤ self.old.history.imports }
         ensures answer { IsRowsQuery result (λ rows. rows.items) (versions kind id) pin
-            D.is_honest D.moments D.failures D.bytes_read D.other_calls self.old self.new }
+            D.view self.old self.new }
     {
         if self.needs_reopen {
             return Err(Refusal::ReopenNeeded);
@@ -102,7 +102,7 @@ impl<D: Disk> Store<D> {
     ) -> Result<Vec<Row>, Refusal>
         requires { as_of.pin ≤ self.old.history.imports }
         ensures answer { IsRowsQuery result (λ rows. rows.items) (page kind as_of.date after limit)
-            as_of.pin D.is_honest D.moments D.failures D.bytes_read D.other_calls self.old
+            as_of.pin D.view self.old
             self.new }
     {
         if self.needs_reopen {
@@ -131,7 +131,7 @@ impl<D: Disk> Store<D> {
     ) -> Result<Vec<Row>, Refusal>
         requires { as_of.pin ≤ self.old.history.imports }
         ensures answer { IsRowsQuery result (λ rows. rows.items) (about kind id as_of.date)
-            as_of.pin D.is_honest D.moments D.failures D.bytes_read D.other_calls self.old
+            as_of.pin D.view self.old
             self.new }
     {
         if self.needs_reopen {
@@ -167,7 +167,7 @@ impl<D: Disk> Store<D> {
         requires { as_of.pin ≤ self.old.history.imports }
         ensures answer { IsRowsQuery result (λ rows. rows.items)
             (search_terms prefix.now as_of.date after limit) as_of.pin
-            D.is_honest D.moments D.failures D.bytes_read D.other_calls self.old self.new }
+            D.view self.old self.new }
     {
         if self.needs_reopen {
             return Err(Refusal::ReopenNeeded);
@@ -203,7 +203,7 @@ impl<D: Disk> Store<D> {
     ) -> Result<Vec<Row>, Refusal>
         requires { as_of.pin ≤ self.old.history.imports }
         ensures answer { IsRowsQuery result (λ rows. rows.items) (terms prefix.now as_of.date limit)
-            as_of.pin D.is_honest D.moments D.failures D.bytes_read D.other_calls self.old
+            as_of.pin D.view self.old
             self.new }
     {
         self.search(prefix, as_of, None, limit)
@@ -241,7 +241,7 @@ impl<D: Disk> Store<D> {
     ) -> Result<Vec<Row>, Refusal>
         requires { as_of.pin ≤ self.old.history.imports }
         ensures answer { IsRowsQuery result (λ rows. rows.items) (replacements id as_of.date)
-            as_of.pin D.is_honest D.moments D.failures D.bytes_read D.other_calls self.old
+            as_of.pin D.view self.old
             self.new }
     {
         if self.needs_reopen {

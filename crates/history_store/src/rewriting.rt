@@ -5,6 +5,7 @@ ghost use Rattle.std.specs.Prelude.{List, length, take, None, IsNone, IfSome, If
 ghost use Rattle.std.specs.Prelude.{false, true};
 ghost use Rattle.std.specs.Int.{div_ceil};
 ghost use Rattle.disk_model.specs.Disk.{LeavesOnly};
+ghost use Rattle.disk_model.specs.View.{Calls, AtMost};
 ghost use Rattle.blocks.specs.Calls.{call_count};
 ghost use Rattle.blocks.specs.Extents.{byte_range};
 ghost use Rattle.blocks.specs.Outside.{SameOutside};
@@ -112,33 +113,30 @@ fn write_rows<D: Disk>(
     index: &StoreIndex,
     entry: Entry,
 ) -> Result<(), Refusal>
-    requires { IsReadyToRewrite (D.is_honest disk.old) (D.moments disk.old).state cache.old
+    requires { IsReadyToRewrite (D.view disk.old).is_honest
+        (D.view disk.old).moments.state cache.old
         directory.now index.now entry }
     ensures refused { IfErr result IsUnread }
-    ensures undamaged { D.is_honest disk.old → IfErr result (λ e. e ≢ refusals.Damaged) }
+    ensures undamaged { (D.view disk.old).is_honest → IfErr result (λ e. e ≢ refusals.Damaged) }
     ensures held { (slot : Slot)
-        → IsHeld (D.is_honest disk.old) (D.moments disk.old).state cache.old slot
+        → IsHeld (D.view disk.old).is_honest (D.view disk.old).moments.state cache.old slot
         directory.now index.now false
-        → IsHeld (D.is_honest disk.new) (D.moments disk.new).state cache.new slot
+        → IsHeld (D.view disk.new).is_honest (D.view disk.new).moments.state cache.new slot
         directory.now index.now (is_fault result) }
     // A stop at any moment leaves the history that is listed.
-    ensures any_moment { D.is_honest disk.old
-        → LeavesOnly (D.moments disk.old) (D.moments disk.new)
+    ensures any_moment { (D.view disk.old).is_honest
+        → LeavesOnly (D.view disk.old).moments (D.view disk.new).moments
         (RepresentsAs directory.now.layout (history_of directory.now index.now)) }
-    ensures written { D.is_honest disk.old → (rows : List StampedRow) → index.now ≡ rows ∷ []
+    ensures written { (D.view disk.old).is_honest → (rows : List StampedRow) → index.now ≡ rows ∷ []
         → OnOk result (BeginsWith (extent_of entry) (segment_in entry.form rows)
-        (D.moments disk.new).state.now) }
-    ensures elsewhere { D.is_honest disk.old → OnOk result
+        (D.view disk.new).moments.state.now) }
+    ensures elsewhere { (D.view disk.old).is_honest → OnOk result
         (SameOutside (byte_range (extent_of entry) ∷ [])
-        (D.moments disk.old).state.now (D.moments disk.new).state.now) }
-    ensures calls { D.is_honest disk.old → call_count (D.moments disk.new)
-        ≤ call_count (D.moments disk.old) + div_ceil entry.rows 1000 }
-    ensures honesty { D.is_honest disk.old ↔ D.is_honest disk.new }
-    ensures failures { Counts result (D.failures disk.old) (D.failures disk.new) }
-    ensures bytes_read { D.bytes_read disk.new
-        ≤ D.bytes_read disk.old + (entry.bytes + 8192 * entry.rows) }
-    ensures other_calls { D.other_calls disk.new
-        ≤ D.other_calls disk.old + div_ceil entry.rows 1000 }
+        (D.view disk.old).moments.state.now (D.view disk.new).moments.state.now) }
+    ensures calls { (D.view disk.old).is_honest → call_count (D.view disk.new).moments
+        ≤ call_count (D.view disk.old).moments + div_ceil entry.rows 1000 }
+    ensures meters { Calls (Counts result) (AtMost (entry.bytes + 8192 * entry.rows))
+        (AtMost (div_ceil entry.rows 1000)) (D.view disk.old) (D.view disk.new) }
     ensures capacity { cache.new.cap ≡ cache.old.cap }
 {
     let places = index.places().list(0);
@@ -162,32 +160,31 @@ fn write_and_list<D: Disk>(
     next: &Directory,
     entry: Entry,
 ) -> Result<Slot, Refusal>
-    requires held { IsHeld (D.is_honest disk.old) (D.moments disk.old).state cache.old slot
+    requires held { IsHeld (D.view disk.old).is_honest
+        (D.view disk.old).moments.state cache.old slot
         directory.now index.now false }
     requires anew { IsAnew directory.now entry }
     requires next { next.now ≡ only_listing directory.now entry }
     requires epochs_left { directory.now.epoch + 1 < 2 ^ 64 }
     ensures refused { IfErr result IsUnread }
-    ensures undamaged { D.is_honest disk.old → IfErr result (λ e. e ≢ refusals.Damaged) }
-    ensures listed { IfOk result (λ s. IsHeld (D.is_honest disk.new) (D.moments disk.new).state
+    ensures undamaged { (D.view disk.old).is_honest → IfErr result (λ e. e ≢ refusals.Damaged) }
+    ensures listed { IfOk result
+        (λ s. IsHeld (D.view disk.new).is_honest (D.view disk.new).moments.state
         cache.new s next.now index.now false) }
-    ensures held { IfErr result (λ e. IsHeld (D.is_honest disk.new) (D.moments disk.new).state
+    ensures held { IfErr result
+        (λ e. IsHeld (D.view disk.new).is_honest (D.view disk.new).moments.state
         cache.new slot directory.now index.now (is_device e)) }
     // A stop at any moment leaves the history.
-    ensures any_moment { D.is_honest disk.old
-        → LeavesOnly (D.moments disk.old) (D.moments disk.new)
+    ensures any_moment { (D.view disk.old).is_honest
+        → LeavesOnly (D.view disk.old).moments (D.view disk.new).moments
         (RepresentsAs directory.now.layout (history_of directory.now index.now)) }
-    ensures elsewhere { D.is_honest disk.old → OnOk result
+    ensures elsewhere { (D.view disk.old).is_honest → OnOk result
         (SameOutside (byte_range (extent_of entry) ∷ slots_range ∷ [])
-        (D.moments disk.old).state.now (D.moments disk.new).state.now) }
-    ensures calls { D.is_honest disk.old → call_count (D.moments disk.new)
-        ≤ call_count (D.moments disk.old) + (div_ceil entry.rows 1000 + 7) }
-    ensures honesty { D.is_honest disk.old ↔ D.is_honest disk.new }
-    ensures failures { Counts result (D.failures disk.old) (D.failures disk.new) }
-    ensures bytes_read { D.bytes_read disk.new
-        ≤ D.bytes_read disk.old + (entry.bytes + 8192 * entry.rows + 1) }
-    ensures other_calls { D.other_calls disk.new
-        ≤ D.other_calls disk.old + (div_ceil entry.rows 1000 + 7) }
+        (D.view disk.old).moments.state.now (D.view disk.new).moments.state.now) }
+    ensures calls { (D.view disk.old).is_honest → call_count (D.view disk.new).moments
+        ≤ call_count (D.view disk.old).moments + (div_ceil entry.rows 1000 + 7) }
+    ensures meters { Calls (Counts result) (AtMost (entry.bytes + 8192 * entry.rows + 1))
+        (AtMost (div_ceil entry.rows 1000 + 7)) (D.view disk.old) (D.view disk.new) }
     ensures capacity { cache.new.cap ≡ cache.old.cap }
 {
     write_rows(alloc, disk, cache, directory, index, entry)?;
@@ -206,29 +203,27 @@ impl<D: Disk> Store<D> {
     pub fn rewrite(&mut self) -> Result<bool, Refusal>
         ensures answer { IsRewritingOf result self.old self.new }
         ensures history { self.new.history ≡ self.old.history }
-        ensures undamaged { D.is_honest self.old.disk → IfErr result (λ e. e ≢ refusals.Damaged) }
+        ensures undamaged { (D.view self.old.disk).is_honest
+            → IfErr result (λ e. e ≢ refusals.Damaged) }
         // A stop at any moment leaves the history.
-        ensures any_moment { D.is_honest self.old.disk → self.old.needs_reopen ≡ false
-            → LeavesOnly (D.moments self.old.disk) (D.moments self.new.disk)
+        ensures any_moment { (D.view self.old.disk).is_honest → self.old.needs_reopen ≡ false
+            → LeavesOnly (D.view self.old.disk).moments (D.view self.new.disk).moments
             (RepresentsAs self.old.catalog.layout self.old.history) }
-        ensures acknowledged { D.is_honest self.old.disk → self.new.needs_reopen ≡ false
-            → IsAcknowledged D.moments self.new }
+        ensures acknowledged { (D.view self.old.disk).is_honest → self.new.needs_reopen ≡ false
+            → IsAcknowledged D.view self.new }
         // After Ok a read gives the same outside the slots and the segment that is listed then.
-        ensures elsewhere { D.is_honest self.old.disk → OnOk result
+        ensures elsewhere { (D.view self.old.disk).is_honest → OnOk result
             (SameOutside (written_ranges self.new.catalog.entries)
-            (D.moments self.old.disk).state.now (D.moments self.new.disk).state.now) }
+            (D.view self.old.disk).moments.state.now (D.view self.new.disk).moments.state.now) }
         ensures closed { self.old.needs_reopen ≡ true → self.new ≡ self.old }
-        ensures calls { D.is_honest self.old.disk → call_count (D.moments self.new.disk)
-            ≤ call_count (D.moments self.old.disk) + rewrite_calls self.old.catalog.entries }
+        ensures calls { (D.view self.old.disk).is_honest → call_count (D.view self.new.disk).moments
+            ≤ call_count (D.view self.old.disk).moments + rewrite_calls self.old.catalog.entries }
+        ensures capacity { self.new.cache.cap ≡ self.old.cache.cap }
         // On every disk, and whatever it answers, it reads no more than this, and makes no other
         // call than reads and these.
-        ensures bytes_read { D.bytes_read self.new.disk
-            ≤ D.bytes_read self.old.disk + rewrite_cost self.old.catalog.entries }
-        ensures other_calls { D.other_calls self.new.disk
-            ≤ D.other_calls self.old.disk + rewrite_calls self.old.catalog.entries }
-        ensures honesty { D.is_honest self.old.disk ↔ D.is_honest self.new.disk }
-        ensures capacity { self.new.cache.cap ≡ self.old.cache.cap }
-        ensures failures { Counts result (D.failures self.old.disk) (D.failures self.new.disk) }
+        ensures meters { Calls (Counts result) (AtMost (rewrite_cost self.old.catalog.entries))
+            (AtMost (rewrite_calls self.old.catalog.entries))
+            (D.view self.old.disk) (D.view self.new.disk) }
     {
         if self.needs_reopen {
             return Err(Refusal::ReopenNeeded);

@@ -3,6 +3,7 @@
 ghost use Rattle.std.specs.Prelude.{◌≡◌, ◌≢◌, ◌↔◌, ◌+◌, ◌≤◌, [], length, IfOk};
 ghost use Rattle.std.specs.Prelude.{IfErr, OnOk};
 ghost use Rattle.disk_model.specs.Disk.{LeavesOnly};
+ghost use Rattle.disk_model.specs.View.{Calls, Stays, AtMost};
 ghost use Rattle.blocks.specs.Calls.{MakesCalls};
 ghost use Rattle.blocks.specs.Outside.{StemsWithin};
 ghost use Rattle.blocks.specs.Slots.{slots_range};
@@ -58,29 +59,27 @@ pub(crate) fn start<D: Disk>(
 ) -> Result<Started, Refusal>
     ensures empty { IfOk result (λ s. (s.directory ≡ empty_listing layout) × (s.index ≡ [])
         × (s.cache ≡ no_blocks)) }
-    ensures made { D.is_honest disk.old → OnOk result (length (D.moments disk.old).state.now ≡ 0) }
-    ensures on_disk { D.is_honest disk.old
-        → IfOk result (λ s. IsOnDisk (D.moments disk.new).state s.slot s.directory []) }
-    ensures bytes { D.is_honest disk.old
-        → OnOk result (IsNewStore layout (D.moments disk.new).state.now) }
-    ensures untouched { D.is_honest disk.old → 1 ≤ length (D.moments disk.old).state.now
-        → D.moments disk.new ≡ D.moments disk.old }
-    ensures why { D.is_honest disk.old
-        → IfErr result (λ e. IsNotMade e (D.moments disk.old).state.now) }
+    ensures made { (D.view disk.old).is_honest
+        → OnOk result (length (D.view disk.old).moments.state.now ≡ 0) }
+    ensures on_disk { (D.view disk.old).is_honest
+        → IfOk result (λ s. IsOnDisk (D.view disk.new).moments.state s.slot s.directory []) }
+    ensures bytes { (D.view disk.old).is_honest
+        → OnOk result (IsNewStore layout (D.view disk.new).moments.state.now) }
+    ensures untouched { (D.view disk.old).is_honest → 1 ≤ length (D.view disk.old).moments.state.now
+        → (D.view disk.new).moments ≡ (D.view disk.old).moments }
+    ensures why { (D.view disk.old).is_honest
+        → IfErr result (λ e. IsNotMade e (D.view disk.old).moments.state.now) }
     ensures causes { IfErr result (λ e. IsMakingCause e) }
-    ensures refused { D.is_honest disk.old → IfErr result (λ e. e ≢ refusals.DiskFault
-        → D.moments disk.new ≡ D.moments disk.old) }
-    ensures inside { D.is_honest disk.old
-        → LeavesOnly (D.moments disk.old) (D.moments disk.new)
-        (StemsWithin (D.moments disk.old).state slots_range) }
-    ensures calls { D.is_honest disk.old
-        → MakesCalls result 9 (D.moments disk.old) (D.moments disk.new) }
-    ensures honesty { D.is_honest disk.old ↔ D.is_honest disk.new }
-    ensures failures { Counts result (D.failures disk.old) (D.failures disk.new) }
-    ensures bytes_read { D.bytes_read disk.new ≡ D.bytes_read disk.old }
-    ensures other_calls { D.other_calls disk.new ≤ D.other_calls disk.old + 11 }
+    ensures refused { (D.view disk.old).is_honest → IfErr result (λ e. e ≢ refusals.DiskFault
+        → (D.view disk.new).moments ≡ (D.view disk.old).moments) }
+    ensures inside { (D.view disk.old).is_honest
+        → LeavesOnly (D.view disk.old).moments (D.view disk.new).moments
+        (StemsWithin (D.view disk.old).moments.state slots_range) }
+    ensures calls { (D.view disk.old).is_honest
+        → MakesCalls result 9 (D.view disk.old).moments (D.view disk.new).moments }
+    ensures meters { Calls (Counts result) Stays (AtMost 11) (D.view disk.old) (D.view disk.new) }
     ensures looked { IfErr result (λ e. e ≢ refusals.DiskFault
-        → D.other_calls disk.new ≤ D.other_calls disk.old + 2) }
+        → (D.view disk.new).other_calls ≤ (D.view disk.old).other_calls + 2) }
 {
     check_empty(disk)?;
     let index = StoreIndex::new(alloc)?;

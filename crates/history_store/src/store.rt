@@ -4,6 +4,7 @@ ghost use Rattle.std.specs.Prelude.{◌≡◌, ◌≢◌, ◌⊎◌, ◌↔◌, 
 ghost use Rattle.std.specs.List.{sum_by};
 ghost use Rattle.std.specs.Prelude.{IfOk, IfErr, OnOk, OnErr, true, false};
 ghost use Rattle.disk_model.specs.Disk.{IsImage, EachImage, LeavesOnly, raised_by};
+ghost use Rattle.disk_model.specs.View.{OnlyReads, Calls, AtMost, Unsaid};
 
 use crate::checking::{Next, Ready};
 use crate::counting::{blocks_in_use, plain_count, row_count};
@@ -58,9 +59,9 @@ impl<D: Disk> Model for Store<D> {
       cache = s.cache;
     } };
 
-    ghost invariant = { λ s. IsHeld (D.is_honest s.disk) (D.moments s.disk).state
+    ghost invariant = { λ s. IsHeld (D.view s.disk).is_honest (D.view s.disk).moments.state
         s.cache s.slot s.directory s.index s.needs_reopen
-        × HasMerge (D.is_honest s.disk) (D.moments s.disk).state.now
+        × HasMerge (D.view s.disk).is_honest (D.view s.disk).moments.state.now
         s.directory s.index s.merge s.needs_reopen };
 }
 
@@ -102,11 +103,12 @@ impl<D: Disk> Store<D> {
 
     /// Makes a store of version 2 on an empty disk, as `create_in` does.
     pub fn create(alloc: Global, disk: D) -> Result<Store<D>, (Refusal, D)>
-        ensures made { IsMaking layouts.Two result D.is_honest D.moments D.failures disk }
-        ensures bytes_read { D.bytes_read (device_of result) ≡ D.bytes_read disk }
-        ensures other_calls { D.other_calls (device_of result) ≤ D.other_calls disk + 11 }
+        ensures made { IsMaking layouts.Two result D.view disk }
+        ensures bytes_read { (D.view (device_of result)).bytes_read ≡ (D.view disk).bytes_read }
+        ensures other_calls { (D.view (device_of result)).other_calls
+            ≤ (D.view disk).other_calls + 11 }
         ensures looked { IfErr result (λ e. e.0 ≢ refusals.DiskFault
-            → D.other_calls e.1 ≤ D.other_calls disk + 2) }
+            → (D.view e.1).other_calls ≤ (D.view disk).other_calls + 2) }
     {
         Store::create_in(alloc, disk, Layout::Two)
     }
@@ -114,13 +116,14 @@ impl<D: Disk> Store<D> {
     /// Makes a store of this version on an empty disk. The length of the disk is looked
     /// at first, then all memory is taken, then the disk is written.
     pub fn create_in(alloc: Global, disk: D, layout: Layout) -> Result<Store<D>, (Refusal, D)>
-        ensures made { IsMaking layout result D.is_honest D.moments D.failures disk }
+        ensures made { IsMaking layout result D.view disk }
         // On every disk, and whatever it answers, nothing is read. The length is asked for twice,
         // and nine calls are made; refused for any other reason than the device, none of the nine.
-        ensures bytes_read { D.bytes_read (device_of result) ≡ D.bytes_read disk }
-        ensures other_calls { D.other_calls (device_of result) ≤ D.other_calls disk + 11 }
+        ensures bytes_read { (D.view (device_of result)).bytes_read ≡ (D.view disk).bytes_read }
+        ensures other_calls { (D.view (device_of result)).other_calls
+            ≤ (D.view disk).other_calls + 11 }
         ensures looked { IfErr result (λ e. e.0 ≢ refusals.DiskFault
-            → D.other_calls e.1 ≤ D.other_calls disk + 2) }
+            → (D.view e.1).other_calls ≤ (D.view disk).other_calls + 2) }
     {
         let mut disk = disk;
         match start(alloc, &mut disk, layout) {
@@ -148,21 +151,23 @@ impl<D: Disk> Store<D> {
     /// Opens the store that a disk represents. The disk is read,
     /// after one sync, and is given back with every refusal.
     pub fn open(alloc: Global, disk: D) -> Result<Store<D>, (Refusal, D)>
-        ensures opened { IsOpening result D.is_honest D.moments D.failures disk }
+        ensures opened { IsOpening result D.view disk }
         // On every disk it reads the slots, and each byte of the listed segments once.
-        ensures bytes_read { IfOk result (λ s. D.bytes_read s.disk
-            ≤ D.bytes_read disk + slots_read + bytes_listed s.catalog.entries) }
+        ensures bytes_read { IfOk result (λ s. (D.view s.disk).bytes_read
+            ≤ (D.view disk).bytes_read + slots_read + bytes_listed s.catalog.entries) }
         // Beside its reads it makes one sync, and asks for the length once for the slots and once
         // for each segment.
-        ensures other_calls { IfOk result (λ s. D.other_calls s.disk
-            ≤ D.other_calls disk + 2 + length s.catalog.entries) }
+        ensures other_calls { IfOk result (λ s. (D.view s.disk).other_calls
+            ≤ (D.view disk).other_calls + 2 + length s.catalog.entries) }
         // Before it reads it makes one call, whatever it answers: a sync that failed isn't tried
         // again.
-        ensures synced_once { (D.other_calls (device_of result) ≤ D.other_calls disk + 1)
-            ⊎ (raised_by (D.bytes_read disk) 1 ≤ D.bytes_read (device_of result)) }
+        ensures synced_once { ((D.view (device_of result)).other_calls
+            ≤ (D.view disk).other_calls + 1)
+            ⊎ (raised_by (D.view disk).bytes_read 1 ≤ (D.view (device_of result)).bytes_read) }
         // After an error it has asked for no more than up to the fault, on every disk.
-        ensures stops { IfErr result (λ e. StopsIn e.0 (D.bytes_read disk) (D.bytes_read e.1)
-            (D.other_calls disk) (D.other_calls e.1)) }
+        ensures stops { IfErr result
+            (λ e. StopsIn e.0 (D.view disk).bytes_read (D.view e.1).bytes_read
+            (D.view disk).other_calls (D.view e.1).other_calls) }
     {
         let mut disk = disk;
         let Loaded {
@@ -191,26 +196,23 @@ impl<D: Disk> Store<D> {
     /// The rows of a release that aren't known.
     pub(crate) fn find_new_rows(&mut self, release: Release) -> Result<NewRows, Refusal>
         requires still { self.old.needs_reopen ≡ false }
-        ensures accepted { D.is_honest self.old.disk
+        ensures accepted { (D.view self.old.disk).is_honest
             → IfOk result (IsAcceptedAs (full self.old.history) release) }
         // The new rows are those with new keys on every disk.
         ensures brings { IfOk result (BringsByKey (full self.old.history) release) }
         ensures is_read { IfOk result (λ fresh. IsRead release) }
-        ensures refused { IfErr result (λ e. IsNotFresh (D.is_honest self.old.disk) e
+        ensures refused { IfErr result (λ e. IsNotFresh (D.view self.old.disk).is_honest e
             (full self.old.history) release) }
         ensures still { IfOk result (λ fresh. IsStill self.old self.new) }
         ensures closed { IfErr result (λ e. IsRefused e self.old self.new) }
-        ensures looked_up { ReadsThroughCache D.bytes_read self.old self.new }
+        ensures looked_up { ReadsThroughCache D.view self.old self.new }
         ensures bytes_read { (rows : List RowValue) → IsReleaseOf release rows
-            → D.bytes_read self.new.disk ≤ D.bytes_read self.old.disk
+            → (D.view self.new.disk).bytes_read ≤ (D.view self.old.disk).bytes_read
             + sum_by row_cost (already_known (full self.old.history) rows) }
         ensures bytes_unread { (IsRead release → ⊥)
-            → D.bytes_read self.new.disk ≤ D.bytes_read self.old.disk }
-        ensures moments { D.is_honest self.old.disk
-            → D.moments self.new.disk ≡ D.moments self.old.disk }
-        ensures honesty { D.is_honest self.old.disk ↔ D.is_honest self.new.disk }
-        ensures failures { Counts result (D.failures self.old.disk) (D.failures self.new.disk) }
-        ensures other_calls { D.other_calls self.new.disk ≡ D.other_calls self.old.disk }
+            → (D.view self.new.disk).bytes_read ≤ (D.view self.old.disk).bytes_read }
+        ensures meters { OnlyReads (Counts result) Unsaid
+            (D.view self.old.disk) (D.view self.new.disk) }
     {
         let pin = self.directory.imports();
         let mut reader = DiskRows::new(
@@ -237,30 +239,28 @@ impl<D: Disk> Store<D> {
         ensures step { IsStep result self.old self.new
             (with_imports self.old.history next.imports)
             (catalog_of next self.old.catalog.merge) }
-        ensures any_moment { D.is_honest self.old.disk
-            → LeavesOnly (D.moments self.old.disk) (D.moments self.new.disk)
+        ensures any_moment { (D.view self.old.disk).is_honest
+            → LeavesOnly (D.view self.old.disk).moments (D.view self.new.disk).moments
             (λ c. RepresentsAs self.old.catalog.layout self.old.history c
             ⊎ RepresentsAs next.layout (with_imports self.old.history next.imports) c) }
-        ensures refused { D.is_honest self.old.disk
-            → KeepsMoments D.moments result self.old self.new }
-        ensures elsewhere { D.is_honest self.old.disk → OnOk result
+        ensures refused { (D.view self.old.disk).is_honest
+            → KeepsMoments D.view result self.old self.new }
+        ensures elsewhere { (D.view self.old.disk).is_honest → OnOk result
             (SameOutside (slots_range ∷ added_ranges self.old.catalog self.new.catalog)
-            (D.moments self.old.disk).state.now (D.moments self.new.disk).state.now) }
-        ensures acknowledged { D.is_honest self.old.disk → self.new.needs_reopen ≡ false
-            → IsAcknowledged D.moments self.new }
-        ensures calls { D.is_honest self.old.disk
-            → MakesCalls result 6 (D.moments self.old.disk) (D.moments self.new.disk) }
-        ensures honesty { D.is_honest self.old.disk ↔ D.is_honest self.new.disk }
+            (D.view self.old.disk).moments.state.now (D.view self.new.disk).moments.state.now) }
+        ensures acknowledged { (D.view self.old.disk).is_honest → self.new.needs_reopen ≡ false
+            → IsAcknowledged D.view self.new }
+        ensures calls { (D.view self.old.disk).is_honest
+            → MakesCalls result 6 (D.view self.old.disk).moments (D.view self.new.disk).moments }
         ensures capacity { self.new.cache.cap ≡ self.old.cache.cap }
-        ensures inside { D.is_honest self.old.disk
-            → LeavesOnly (D.moments self.old.disk) (D.moments self.new.disk)
-            (StemsWithin (D.moments self.old.disk).state slots_range) }
+        ensures inside { (D.view self.old.disk).is_honest
+            → LeavesOnly (D.view self.old.disk).moments (D.view self.new.disk).moments
+            (StemsWithin (D.view self.old.disk).moments.state slots_range) }
         ensures forgets { OnOk result (ForgetsWritten
             (added_entries self.old.catalog self.new.catalog) self.old.cache self.new.cache) }
         ensures keeps { OnErr result (self.new.cache ≡ self.old.cache) }
-        ensures bytes_read { D.bytes_read self.new.disk ≤ D.bytes_read self.old.disk + 1 }
-        ensures failures { Counts result (D.failures self.old.disk) (D.failures self.new.disk) }
-        ensures other_calls { D.other_calls self.new.disk ≤ D.other_calls self.old.disk + 6 }
+        ensures meters { Calls (Counts result) (AtMost 1) (AtMost 6)
+            (D.view self.old.disk) (D.view self.new.disk) }
     {
         match publish_directory(&mut self.disk, self.slot, &next) {
             Ok(slot) => {
@@ -283,32 +283,30 @@ impl<D: Disk> Store<D> {
         ensures step { IsStep result self.old self.new
             (with_rows self.old.history prepared.index)
             (catalog_of prepared.directory self.old.catalog.merge) }
-        ensures any_moment { D.is_honest self.old.disk
-            → LeavesOnly (D.moments self.old.disk) (D.moments self.new.disk)
+        ensures any_moment { (D.view self.old.disk).is_honest
+            → LeavesOnly (D.view self.old.disk).moments (D.view self.new.disk).moments
             (λ c. RepresentsAs self.old.catalog.layout self.old.history c
             ⊎ RepresentsAs (next_layout self.old.catalog.layout)
             (with_rows self.old.history prepared.index) c) }
-        ensures refused { D.is_honest self.old.disk
-            → KeepsMoments D.moments result self.old self.new }
-        ensures elsewhere { D.is_honest self.old.disk → OnOk result
+        ensures refused { (D.view self.old.disk).is_honest
+            → KeepsMoments D.view result self.old self.new }
+        ensures elsewhere { (D.view self.old.disk).is_honest → OnOk result
             (SameOutside (slots_range ∷ added_ranges self.old.catalog self.new.catalog)
-            (D.moments self.old.disk).state.now (D.moments self.new.disk).state.now) }
-        ensures acknowledged { D.is_honest self.old.disk → self.new.needs_reopen ≡ false
-            → IsAcknowledged D.moments self.new }
-        ensures calls { D.is_honest self.old.disk
-            → MakesCalls result 8 (D.moments self.old.disk) (D.moments self.new.disk) }
-        ensures honesty { D.is_honest self.old.disk ↔ D.is_honest self.new.disk }
+            (D.view self.old.disk).moments.state.now (D.view self.new.disk).moments.state.now) }
+        ensures acknowledged { (D.view self.old.disk).is_honest → self.new.needs_reopen ≡ false
+            → IsAcknowledged D.view self.new }
+        ensures calls { (D.view self.old.disk).is_honest
+            → MakesCalls result 8 (D.view self.old.disk).moments (D.view self.new.disk).moments }
         ensures capacity { self.new.cache.cap ≡ self.old.cache.cap }
-        ensures inside { D.is_honest self.old.disk
-            → LeavesOnly (D.moments self.old.disk) (D.moments self.new.disk)
-            (StemsWithinAll (D.moments self.old.disk).state
+        ensures inside { (D.view self.old.disk).is_honest
+            → LeavesOnly (D.view self.old.disk).moments (D.view self.new.disk).moments
+            (StemsWithinAll (D.view self.old.disk).moments.state
             (slots_range ∷ byte_range (extent_of prepared.entry) ∷ [])) }
         ensures forgets { OnOk result (ForgetsWritten
             (added_entries self.old.catalog self.new.catalog) self.old.cache self.new.cache) }
         ensures keeps { OnErr result (self.new.cache ≡ self.old.cache) }
-        ensures bytes_read { D.bytes_read self.new.disk ≤ D.bytes_read self.old.disk + 1 }
-        ensures failures { Counts result (D.failures self.old.disk) (D.failures self.new.disk) }
-        ensures other_calls { D.other_calls self.new.disk ≤ D.other_calls self.old.disk + 8 }
+        ensures meters { Calls (Counts result) (AtMost 1) (AtMost 8)
+            (D.view self.old.disk) (D.view self.new.disk) }
     {
         let Prepared {
             directory,
@@ -334,33 +332,33 @@ impl<D: Disk> Store<D> {
 
     /// Adds a release: all of its rows, or nothing. All memory is taken before the first write.
     pub fn import(&mut self, release: Release) -> Result<Receipt, Refusal>
-        ensures answer { D.is_honest self.old.disk
+        ensures answer { (D.view self.old.disk).is_honest
             → IsImportOf result self.old self.new release }
         // What holds on every disk.
         ensures kept { IsImportOnAnyDisk result self.old self.new release }
         // A stop at any moment leaves the history from before, in the version
         // from before, or that with the release, in the next.
-        ensures any_moment { D.is_honest self.old.disk → self.old.needs_reopen ≡ false
-            → LeavesOnly (D.moments self.old.disk) (D.moments self.new.disk)
+        ensures any_moment { (D.view self.old.disk).is_honest → self.old.needs_reopen ≡ false
+            → LeavesOnly (D.view self.old.disk).moments (D.view self.new.disk).moments
             (IsBeforeOrAfter self.old.catalog.layout self.old.history release) }
         // After Ok each stop leaves the new one.
-        ensures acknowledged { D.is_honest self.old.disk → self.new.needs_reopen ≡ false
-            → IsAcknowledged D.moments self.new }
+        ensures acknowledged { (D.view self.old.disk).is_honest → self.new.needs_reopen ≡ false
+            → IsAcknowledged D.view self.new }
         // Refused for any other reason than the device,
         // it leaves whatever a stop may leave as it was.
-        ensures refused { D.is_honest self.old.disk
-            → KeepsMoments D.moments result self.old self.new }
+        ensures refused { (D.view self.old.disk).is_honest
+            → KeepsMoments D.view result self.old self.new }
         // After Ok a read gives the same outside the slots and the segment that was added.
-        ensures elsewhere { D.is_honest self.old.disk → OnOk result
+        ensures elsewhere { (D.view self.old.disk).is_honest → OnOk result
             (SameOutside (slots_range ∷ added_ranges self.old.catalog self.new.catalog)
-            (D.moments self.old.disk).state.now (D.moments self.new.disk).state.now) }
+            (D.view self.old.disk).moments.state.now (D.view self.new.disk).moments.state.now) }
         // Whatever it answers, a stop leaves what it might have left before,
         // or that but for the slots and the place of the new segment.
-        ensures inside { D.is_honest self.old.disk
-            → LeavesOnly (D.moments self.old.disk) (D.moments self.new.disk)
-            (λ c. IsImage (D.moments self.old.disk).state c
+        ensures inside { (D.view self.old.disk).is_honest
+            → LeavesOnly (D.view self.old.disk).moments (D.view self.new.disk).moments
+            (λ c. IsImage (D.view self.old.disk).moments.state c
             ⊎ StemsWithinNew self.old.history self.old.catalog release
-            (D.moments self.old.disk).state c) }
+            (D.view self.old.disk).moments.state c) }
         // A store that has to be opened again leaves everything as it is.
         ensures closed { self.old.needs_reopen ≡ true → self.new ≡ self.old }
         // So does a store below version 3 to which a release with members of reference sets is
@@ -368,26 +366,24 @@ impl<D: Disk> Store<D> {
         ensures later { IsForLater self.old.catalog.layout release → self.new ≡ self.old }
         // Eight calls that may change the disk where a row is new,
         // and else six; where it is refused, no more.
-        ensures calls { D.is_honest self.old.disk → MakesImportCalls result
-            (D.moments self.old.disk) (D.moments self.new.disk) }
+        ensures calls { (D.view self.old.disk).is_honest → MakesImportCalls result
+            (D.view self.old.disk).moments (D.view self.new.disk).moments }
         // On every disk it makes no other call than reads and these; and none
         // of these where it is refused for any other reason than the device.
-        ensures other_calls { MakesNoOtherCalls result
-            (D.other_calls self.old.disk) (D.other_calls self.new.disk) }
-        ensures honesty { D.is_honest self.old.disk ↔ D.is_honest self.new.disk }
+        ensures meters { Calls (Counts result) Unsaid (MakesNoOtherCalls result)
+            (D.view self.old.disk) (D.view self.new.disk) }
         // On every disk, and whatever it answers, it reads blocks of listed segments alone, through
         // the blocks in memory, and the gate of a slot. It forgets what it wrote, and nothing else.
-        ensures looked_up { ImportsThroughCache result D.bytes_read self.old self.new }
+        ensures looked_up { ImportsThroughCache result D.view self.old self.new }
         // It reads each row of the store whose key the release has once at most, no other row,
         // and the gate. Where a file is no release file, nothing is read.
         ensures bytes_read { (rows : List RowValue) → IsReleaseOf release rows
-            → D.bytes_read self.new.disk ≤ D.bytes_read self.old.disk + 1
+            → (D.view self.new.disk).bytes_read ≤ (D.view self.old.disk).bytes_read + 1
             + sum_by row_cost (already_known (full self.old.history) rows) }
         ensures bytes_unread { (IsRead release → ⊥)
-            → D.bytes_read self.new.disk ≤ D.bytes_read self.old.disk }
+            → (D.view self.new.disk).bytes_read ≤ (D.view self.old.disk).bytes_read }
         // There is room for as many blocks in memory as before.
         ensures capacity { self.new.cache.cap ≡ self.old.cache.cap }
-        ensures failures { Counts result (D.failures self.old.disk) (D.failures self.new.disk) }
     {
         let Ready { receipt, next } = self.make_ready(release)?;
         match next {
@@ -460,8 +456,8 @@ impl<D: Disk> Store<D> {
     pub fn close(self) -> D
         ensures disk { result ≡ self.disk }
         // Whatever a stop leaves of it represents what the store held.
-        ensures stands { D.is_honest result → self.needs_reopen ≡ false
-            → EachImage (D.moments result).state
+        ensures stands { (D.view result).is_honest → self.needs_reopen ≡ false
+            → EachImage (D.view result).moments.state
             (λ c. Represents c self.history self.catalog.layout self.catalog.epoch
             self.catalog.entries) }
     {

@@ -3,6 +3,7 @@
 ghost use Rattle.std.specs.Prelude.{◌≡◌, ◌≢◌, ◌⊎◌, ◌↔◌, ◌+◌, ◌≤◌, ◌∷◌, [], false, true};
 ghost use Rattle.std.specs.Prelude.{IfErr, OnOk, OnErr};
 ghost use Rattle.disk_model.specs.Disk.{LeavesOnly};
+ghost use Rattle.disk_model.specs.View.{Calls, AtMost};
 ghost use Rattle.directory.specs.declared.layout.Layout.TheVariants as layouts;
 
 use crate::preparing::in_version_three;
@@ -40,45 +41,43 @@ impl<D: Disk> Store<D> {
         ensures answer { IsUpgradingOf result self.old self.new }
         ensures history { self.new.history ≡ self.old.history }
         // A stop at any moment leaves the history, in the version from before or in version 3.
-        ensures any_moment { D.is_honest self.old.disk → self.old.needs_reopen ≡ false
-            → LeavesOnly (D.moments self.old.disk) (D.moments self.new.disk)
+        ensures any_moment { (D.view self.old.disk).is_honest → self.old.needs_reopen ≡ false
+            → LeavesOnly (D.view self.old.disk).moments (D.view self.new.disk).moments
             (λ c. RepresentsAs self.old.catalog.layout self.old.history c
             ⊎ RepresentsAs layouts.Three self.old.history c) }
-        ensures acknowledged { D.is_honest self.old.disk → self.new.needs_reopen ≡ false
-            → IsAcknowledged D.moments self.new }
+        ensures acknowledged { (D.view self.old.disk).is_honest → self.new.needs_reopen ≡ false
+            → IsAcknowledged D.view self.new }
         // A store of version 3 stays as it is, without a call on the disk.
         ensures idle { self.old.catalog.layout ≡ layouts.Three → self.new ≡ self.old }
         // Refused for any other reason than the device,
         // it leaves whatever a stop may leave as it was.
-        ensures refused { D.is_honest self.old.disk
-            → KeepsMoments D.moments result self.old self.new }
+        ensures refused { (D.view self.old.disk).is_honest
+            → KeepsMoments D.view result self.old self.new }
         // After Ok a read gives the same outside the slots.
-        ensures elsewhere { D.is_honest self.old.disk → OnOk result
+        ensures elsewhere { (D.view self.old.disk).is_honest → OnOk result
             (SameOutside (slots_range ∷ [])
-            (D.moments self.old.disk).state.now (D.moments self.new.disk).state.now) }
+            (D.view self.old.disk).moments.state.now (D.view self.new.disk).moments.state.now) }
         // Whatever it answers, a stop leaves what it might have left before, but for the slots.
-        ensures inside { D.is_honest self.old.disk
-            → LeavesOnly (D.moments self.old.disk) (D.moments self.new.disk)
-            (StemsWithin (D.moments self.old.disk).state slots_range) }
+        ensures inside { (D.view self.old.disk).is_honest
+            → LeavesOnly (D.view self.old.disk).moments (D.view self.new.disk).moments
+            (StemsWithin (D.view self.old.disk).moments.state slots_range) }
         // No block in memory is forgotten but those of a slot, after Ok.
         ensures forgets { OnOk result ((self.new.cache ≡ self.old.cache)
             ⊎ ForgetsWritten [] self.old.cache self.new.cache) }
         ensures keeps { OnErr result (self.new.cache ≡ self.old.cache) }
         ensures closed { self.old.needs_reopen ≡ true → self.new ≡ self.old }
         // It makes the six changing calls of a publication, and no more where it is refused.
-        ensures calls { D.is_honest self.old.disk
+        ensures calls { (D.view self.old.disk).is_honest
             → MakesCalls result (upgrade_calls self.old.catalog.layout)
-            (D.moments self.old.disk) (D.moments self.new.disk) }
+            (D.view self.old.disk).moments (D.view self.new.disk).moments }
+        ensures uncalled { IfErr result (λ e. e ≢ refusals.DiskFault
+            → (D.view self.new.disk).other_calls ≡ (D.view self.old.disk).other_calls) }
+        ensures capacity { self.new.cache.cap ≡ self.old.cache.cap }
         // On every disk it looks at the gate of a slot, and reads nothing else.
-        ensures bytes_read { D.bytes_read self.new.disk ≤ D.bytes_read self.old.disk + 1 }
         // On every disk it makes no other call than that look and these; refused for any other
         // reason than the device, none of these.
-        ensures other_calls { D.other_calls self.new.disk ≤ D.other_calls self.old.disk + 6 }
-        ensures uncalled { IfErr result (λ e. e ≢ refusals.DiskFault
-            → D.other_calls self.new.disk ≡ D.other_calls self.old.disk) }
-        ensures honesty { D.is_honest self.old.disk ↔ D.is_honest self.new.disk }
-        ensures capacity { self.new.cache.cap ≡ self.old.cache.cap }
-        ensures failures { Counts result (D.failures self.old.disk) (D.failures self.new.disk) }
+        ensures meters { Calls (Counts result) (AtMost 1) (AtMost 6)
+            (D.view self.old.disk) (D.view self.new.disk) }
     {
         if self.needs_reopen {
             return Err(Refusal::ReopenNeeded);

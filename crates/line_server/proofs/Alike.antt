@@ -1,6 +1,6 @@
 -- Lines that are too long are answered alike.
 use Rattle.std.proofs.Common.{◌≡◌, ℕ, ◌<◌, List, [], ◌∷◌, length, Result, subst, arith, inl, inr}
-use Rattle.store_life.specs.DeviceView.{DeviceView}
+use Rattle.disk_model.specs.View.{DiskView}
 use Rattle.import_check.specs.declared.scope.Scope.{Scope}
 use Rattle.import_check.specs.declared.release.Release.{Release}
 use Rattle.line_commands.specs.declared.unread.Unread.{Unread}
@@ -41,12 +41,12 @@ module _ {D : Type 0} (outcome : Result Answer LineRefusal) (call : Call) (old n
     asked = asked_alike releases (scope_of old.store.catalog.layout) x y call long g.asked;
   }
 
-  module _ (source : SourceView) (view : DeviceView D) where
+  module _ (source : SourceView) (view : D → DiskView) where
     pub turn_alike : (x y : List ℕ) → 4096 < length x → 4096 < length y → IsTurn source view old (turn_of x) new → IsTurn source view old (turn_of y) new
     turn_alike x y long other t = record {
       releases = t.releases;
-      goes = goes_alike (view.is_honest old.store.disk) t.releases x y long other t.goes;
-      own = λ h. goes_alike (view.is_honest old.store.disk) source.releases x y long other (t.own h);
+      goes = goes_alike (view old.store.disk).is_honest t.releases x y long other t.goes;
+      own = λ h. goes_alike (view old.store.disk).is_honest source.releases x y long other (t.own h);
       call = t.call;
       counts = t.counts;
       disk = λ session command asks. let short = asks.short in absurd (omega (arith, short, other));
@@ -58,24 +58,24 @@ module _ {D : Type 0} (outcome : Result Answer LineRefusal) (call : Call) (old n
     turn_now now line same t = record {
       releases = t.releases;
       goes = t.goes;
-      own = λ h. subst (λ (r : Releases). GoesBy (view.is_honest old.store.disk) r old (turn_of line) new) (same h).1 (t.own (same h).0);
+      own = λ h. subst (λ (r : Releases). GoesBy (view old.store.disk).is_honest r old (turn_of line) new) (same h).1 (t.own (same h).0);
       call = t.call;
       counts = t.counts;
       disk = t.disk;
     }
 
 -- a turn on a line, as a turn on the same line under another name
-pub turn_on : {D : Type 0} (source : SourceView) (view : DeviceView D) (old new : Server D) (turn : Turn) (line : List ℕ) → turn.line ≡ line → IsTurn source view old turn new
+pub turn_on : {D : Type 0} (source : SourceView) (view : D → DiskView) (old new : Server D) (turn : Turn) (line : List ℕ) → turn.line ≡ line → IsTurn source view old turn new
     → IsTurn source view old (turn_of turn.outcome turn.call old new line) new
 turn_on source view old new turn line same t = subst (λ (l : List ℕ). IsTurn source view old (turn_of turn.outcome turn.call old new l) new) same t
 
 -- ---- what is told of a source is told of none
 
-turn_of_none : {D : Type 0} (source : SourceView) (has : Releases) (view : DeviceView D) (old : Server D) (turn : Turn) (new : Server D) → IsTurn source view old turn new → IsTurn (source_view ⊥ has) view old turn new
+turn_of_none : {D : Type 0} (source : SourceView) (has : Releases) (view : D → DiskView) (old : Server D) (turn : Turn) (new : Server D) → IsTurn source view old turn new → IsTurn (source_view ⊥ has) view old turn new
 turn_of_none source has view old turn new t =
     record { releases = t.releases; goes = t.goes; own = λ none. absurd none; call = t.call; counts = t.counts; disk = t.disk }
 
-pub run_of_none : {D : Type 0} (source : SourceView) (has : Releases) (view : DeviceView D) (turns : List Turn) (old new : Server D) → Run source view old turns new → Run (source_view ⊥ has) view old turns new
+pub run_of_none : {D : Type 0} (source : SourceView) (has : Releases) (view : D → DiskView) (turns : List Turn) (old new : Server D) → Run source view old turns new → Run (source_view ⊥ has) view old turns new
 run_of_none source has view [] old new run = run
 run_of_none source has view (turn ∷ turns) old new run =
     (run.0, turn_of_none source has view old turn run.0 run.1, run_of_none source has view turns run.0 new run.2)

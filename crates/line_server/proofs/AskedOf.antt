@@ -1,6 +1,6 @@
 -- Questions that are asked of the first so many imports.
 use Rattle.std.proofs.Common.{◌≡◌, ℕ, ◌≤◌, Bool, Result, Ok, Err, sym, subst, inl, inr, arith}
-use Rattle.store_life.specs.DeviceView.{DeviceView}
+use Rattle.disk_model.specs.View.{DiskView}
 use Rattle.line_commands.specs.Questions.{Question}
 use Rattle.line_commands.specs.Commands.{Command, Ask, At}
 use Rattle.line_server.specs.declared.refusal.LineRefusal.{LineRefusal}
@@ -67,7 +67,7 @@ module _ {D : Type 0} (honest : Type 0) (releases : Releases) (session : ℕ) (q
         subst (λ (c : Command). IsOutcome honest releases session c outcome old new) (sym is) (comes_out outcome (subst (λ (k : ℕ). OutcomeAt honest k question outcome old new) (sym at) h))
     outcome_of (inr (is, within)) h = subst (λ (c : Command). IsOutcome honest releases session c outcome old new) (sym is) (comes_out_at pin outcome within h)
 
-    pub leaves_of : (view : DeviceView D) → IsAskedOf old session command question pin → LeavesAsked view pin question outcome old.store new.store → LeavesDisk view (imports_seen old session) command outcome old.store new.store
+    pub leaves_of : (view : D → DiskView) → IsAskedOf old session command question pin → LeavesAsked view pin question outcome old.store new.store → LeavesDisk view (imports_seen old session) command outcome old.store new.store
     leaves_of view (inl (is, at)) h =
         subst (λ (c : Command). LeavesDisk view (imports_seen old session) c outcome old.store new.store) (sym is)
         (subst (λ (k : ℕ). LeavesAsked view k question outcome old.store new.store) (sym at) h)

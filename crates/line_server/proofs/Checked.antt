@@ -1,6 +1,6 @@
 -- The check of the release under a name, as a response.
 use Rattle.std.proofs.Common.{◌≡◌, ℕ, List, refl, sym, ap, subst, ◌∙◌, Ok, Err, inl, inr, Some, None, arith}
-use Rattle.store_life.specs.DeviceView.{DeviceView}
+use Rattle.disk_model.specs.View.{DiskView}
 use Rattle.history_model.specs.declared.receipt.Receipt.{Receipt}
 use Rattle.history_model.specs.History.{History}
 use Rattle.import_check.specs.declared.release.Release.{Release}
@@ -27,10 +27,10 @@ use Rattle.store_life.proofs.Made.{check_made, unmade}
 use Rattle.line_server.proofs.Importing.{same_server, refused_imports}
 use Rattle.line_server.proofs.Queried.{carried_out, refused_as, refused_by, lack_is_no_fault}
 
-module _ {D : Type 0} (source : SourceView) (view : DeviceView D) (name : List ℕ) (session : ℕ) (state : StateValue) (free : HoldsBack state.met_damage (Check name) → ⊥) where
+module _ {D : Type 0} (source : SourceView) (view : D → DiskView) (name : List ℕ) (session : ℕ) (state : StateValue) (free : HoldsBack state.met_damage (Check name) → ⊥) where
   -- the device wasn't used
   unread : (s : StoreValue D) → LeavesQueried view s s
-  unread s = (λ h. refl, none_looks_up (is_listed s.catalog.entries) s.cache (view.bytes_read s.disk))
+  unread s = (λ h. refl, none_looks_up (is_listed s.catalog.entries) s.cache (view s.disk).bytes_read)
 
   -- the source had no memory
   lacking : (s : StoreValue D) → IsResponse (Err (refusals.Store store.OutOfMemory)) source view session (Check name) (server state s) (server state s)
@@ -58,33 +58,32 @@ module _ {D : Type 0} (source : SourceView) (view : DeviceView D) (name : List �
     given : source.is_honest → source.releases (scope_of old.catalog.layout) name ≡ Some (files_of release)
     given h = ap (λ (k : Scope). source.releases k name) (sym scope_is) ∙ had h
 
-    module _ {other_calls : D → ℕ} where
-      -- an import of it would be taken
-      pub checked : (receipt : Receipt) (reply : ReplyValue) → IsChecking (Ok receipt) release view.is_honest view.moments view.failures view.bytes_read other_calls old new
-          → reply ≡ reply_value (Ok (Done (import_words receipt))) → IsResponse (Ok reply) source view session (Check name) (server state old) (server state new)
-      checked receipt reply c told =
-          let same : new.history.imports ≡ old.history.imports = ap (λ (h : History). h.imports) c.kept.1.history in
-          carried_out source view (Ok reply) session (Check name) (Ok (Done (import_words receipt))) Other (server state old) (server state new) (λ k n. Some (files_of release)) told
-          (λ line asks. record {
-            replies = inl (session, Check name, asks, inr (record { free = free; comes_out = (receipt, record { release = release; has = refl; at_all = c.kept; checked = c.answer; pins = refl }, refl); damage = refl }));
-            asked = tt;
-          })
-          (λ h line asks. record {
-            replies = inl (session, Check name, asks, inr (record { free = free; comes_out = (receipt, record { release = release; has = given h; at_all = c.kept; checked = c.answer; pins = refl }, refl); damage = refl }));
-            asked = tt;
-          })
-          (check_made view other_calls old new release (Ok receipt) c) c.failures (c.moments, c.looked_up) (omega (arith, same))
+    -- an import of it would be taken
+    pub checked : (receipt : Receipt) (reply : ReplyValue) → IsChecking (Ok receipt) release view old new
+        → reply ≡ reply_value (Ok (Done (import_words receipt))) → IsResponse (Ok reply) source view session (Check name) (server state old) (server state new)
+    checked receipt reply c told =
+        let same : new.history.imports ≡ old.history.imports = ap (λ (h : History). h.imports) c.kept.1.history in
+        carried_out source view (Ok reply) session (Check name) (Ok (Done (import_words receipt))) Other (server state old) (server state new) (λ k n. Some (files_of release)) told
+        (λ line asks. record {
+          replies = inl (session, Check name, asks, inr (record { free = free; comes_out = (receipt, record { release = release; has = refl; at_all = c.kept; checked = c.answer; pins = refl }, refl); damage = refl }));
+          asked = tt;
+        })
+        (λ h line asks. record {
+          replies = inl (session, Check name, asks, inr (record { free = free; comes_out = (receipt, record { release = release; has = given h; at_all = c.kept; checked = c.answer; pins = refl }, refl); damage = refl }));
+          asked = tt;
+        })
+        (check_made view old new release (Ok receipt) c) c.failures (c.moments, c.looked_up) (omega (arith, same))
 
-      -- it would be refused
-      pub unchecked : (e : Refusal) → IsChecking (Err e) release view.is_honest view.moments view.failures view.bytes_read other_calls old new
-          → IsResponse (Err (refusals.Store e)) source view session (Check name) (server state old) (server (refused_by e state) new)
-      unchecked e c =
-          carried_out source view (Err (refusals.Store e)) session (Check name) (Err (refusals.Store e)) Other (server state old) (server (refused_by e state) new) (λ k n. Some (files_of release)) refl
-          (λ line asks. record { replies = inl (session, Check name, asks, inr (record { free = free; comes_out = refused (λ k n. Some (files_of release)) e refl refl; damage = refl })); asked = tt })
-          (λ h line asks. record { replies = inl (session, Check name, asks, inr (record { free = free; comes_out = refused source.releases e refl (given h); damage = refl })); asked = tt })
-          (check_made view other_calls old new release (Err e) c) c.failures (c.moments, c.looked_up) (refused_imports e old new c.kept.1) where
-            refused : (releases : Releases) (r : Refusal) → r ≡ e → releases (scope_of old.catalog.layout) name ≡ Some (files_of release) → IsStoreRefusal (view.is_honest old.disk) releases session (Check name) r (server state old) (server (refused_by e state) new)
-            refused releases store.OutOfMemory is has_it =
-                record { pins = refl; store = record { history = c.kept.1.history; catalog = c.kept.1.catalog; needs_reopen = c.kept.1.still (λ f. lack_is_no_fault (is ∙ f)) } }
-            refused releases r is has_it =
-                subst (λ (x : Refusal). IsChecked (view.is_honest old.disk) releases name (Err x) (server state old) (server (refused_by e state) new)) (sym is) (record { release = release; has = has_it; at_all = c.kept; checked = c.answer; pins = refl })
+    -- it would be refused
+    pub unchecked : (e : Refusal) → IsChecking (Err e) release view old new
+        → IsResponse (Err (refusals.Store e)) source view session (Check name) (server state old) (server (refused_by e state) new)
+    unchecked e c =
+        carried_out source view (Err (refusals.Store e)) session (Check name) (Err (refusals.Store e)) Other (server state old) (server (refused_by e state) new) (λ k n. Some (files_of release)) refl
+        (λ line asks. record { replies = inl (session, Check name, asks, inr (record { free = free; comes_out = refused (λ k n. Some (files_of release)) e refl refl; damage = refl })); asked = tt })
+        (λ h line asks. record { replies = inl (session, Check name, asks, inr (record { free = free; comes_out = refused source.releases e refl (given h); damage = refl })); asked = tt })
+        (check_made view old new release (Err e) c) c.failures (c.moments, c.looked_up) (refused_imports e old new c.kept.1) where
+          refused : (releases : Releases) (r : Refusal) → r ≡ e → releases (scope_of old.catalog.layout) name ≡ Some (files_of release) → IsStoreRefusal (view old.disk).is_honest releases session (Check name) r (server state old) (server (refused_by e state) new)
+          refused releases store.OutOfMemory is has_it =
+              record { pins = refl; store = record { history = c.kept.1.history; catalog = c.kept.1.catalog; needs_reopen = c.kept.1.still (λ f. lack_is_no_fault (is ∙ f)) } }
+          refused releases r is has_it =
+              subst (λ (x : Refusal). IsChecked (view old.disk).is_honest releases name (Err x) (server state old) (server (refused_by e state) new)) (sym is) (record { release = release; has = has_it; at_all = c.kept; checked = c.answer; pins = refl })

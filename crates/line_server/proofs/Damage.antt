@@ -1,7 +1,7 @@
 -- What is held back once damage was met, and that on an honest disk none is.
 use Rattle.std.proofs.Common.{◌≡◌, ◌⊎◌, ℕ, Bool, true, false, List, [], ◌∷◌, Result, Ok, Err, refl, sym, ap, ◌∙◌, inl, inr}
 use Rattle.std.proofs.lemmas.Bool.{false≢true}
-use Rattle.store_life.specs.DeviceView.{DeviceView}
+use Rattle.disk_model.specs.View.{DiskView}
 use Rattle.history_store.specs.declared.refusal.Refusal.{Refusal}
 use Rattle.history_store.specs.declared.refusal.Refusal.TheVariants as store
 use Rattle.line_commands.specs.Questions.{Question, Children, Descendants, Dates, Receipt}
@@ -42,12 +42,12 @@ met_stays (Err (refusals.Unread reason)) met e = e
 met_stays (Err refusals.PinRange) met e = e
 met_stays (Err refusals.NoFolder) met e = e
 
-module _ (D : Type 0) (view : DeviceView D) (has : Releases) where
+module _ (D : Type 0) (view : D → DiskView) (has : Releases) where
   run_met : (turns : List Turn) (old new : Server D) → Run (source_view ⊥ has) view old turns new → old.met_damage ≡ true → new.met_damage ≡ true
   run_met [] old new run met = ap (λ (d : Server D). d.met_damage) run ∙ met
   run_met (turn ∷ turns) old new run met =
       run_met turns run.0 new run.2
-      (met_by_line (view.is_honest old.store.disk) run.1.releases turn.line turn.outcome old run.0 run.1.goes.replies ∙ met_stays turn.outcome old.met_damage met)
+      (met_by_line (view old.store.disk).is_honest run.1.releases turn.line turn.outcome old run.0 run.1.goes.replies ∙ met_stays turn.outcome old.met_damage met)
 
 -- a command that is held back is answered 8
 held : {D : Type 0} (honest : Type 0) (releases : Releases) (session : ℕ) (command : Command) (outcome : Result Answer LineRefusal) (old new : Server D) → IsHeldBack command → old.met_damage ≡ true → Settles honest releases session command outcome old new
@@ -55,12 +55,12 @@ held : {D : Type 0} (honest : Type 0) (releases : Releases) (session : ℕ) (com
 held honest releases session command outcome old new is met (inl h) = (h.refused, h.unchanged)
 held honest releases session command outcome old new is met (inr h) = absurd (h.free (met, is))
 
-pub damage_holds_back : (D : Type 0) (view : DeviceView D) → DamageHoldsBack D view
+pub damage_holds_back : (D : Type 0) (view : D → DiskView) → DamageHoldsBack D view
 damage_holds_back D view has before mid late after first turn turns session command t refused run last asks is =
-    let honest = view.is_honest before.store.disk in
+    let honest = (view before.store.disk).is_honest in
     let met : mid.met_damage ≡ true = met_by_line honest t.releases first.line first.outcome before mid t.goes.replies ∙ ap (λ (o : Result Answer LineRefusal). met_after o before.met_damage) refused in
-    held (view.is_honest late.store.disk) last.releases session command turn.outcome late after is (run_met D view has turns mid late run met)
-    (asked_outcome (view.is_honest late.store.disk) last.releases late after turn.line session command turn.outcome asks last.goes.replies)
+    held (view late.store.disk).is_honest last.releases session command turn.outcome late after is (run_met D view has turns mid late run met)
+    (asked_outcome (view late.store.disk).is_honest last.releases late after turn.line session command turn.outcome asks last.goes.replies)
 
 -- ---- an honest disk
 
@@ -106,8 +106,8 @@ module _ {D : Type 0} (honest : Type 0) (up : honest) (releases : Releases) (old
   line_undamaged line outcome e (inl (session, command, asks, inr h)) = h.damage ∙ outcome_undamaged session command outcome h.comes_out ∙ e
   line_undamaged line outcome e (inr r) = ap (λ (d : Server D). d.met_damage) r.3 ∙ e
 
-pub honest_meets_no_damage : (D : Type 0) (view : DeviceView D) → HonestMeetsNoDamage D view
+pub honest_meets_no_damage : (D : Type 0) (view : D → DiskView) → HonestMeetsNoDamage D view
 honest_meets_no_damage D view has old new [] up e run = ap (λ (d : Server D). d.met_damage) run ∙ e
 honest_meets_no_damage D view has old new (turn ∷ turns) up e run =
     honest_meets_no_damage D view has run.0 new turns (run.1.call.honesty.0 up)
-    (line_undamaged (view.is_honest old.store.disk) up run.1.releases old run.0 turn.line turn.outcome e run.1.goes.replies) run.2
+    (line_undamaged (view old.store.disk).is_honest up run.1.releases old run.0 turn.line turn.outcome e run.1.goes.replies) run.2

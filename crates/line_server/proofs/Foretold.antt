@@ -1,6 +1,7 @@
 -- What CHECK answers, IMPORT answers next.
 use Rattle.std.proofs.Common.{◌≡◌, ◌⊎◌, ℕ, true, List, Result, sym, ap, ◌∙◌, inl, inr}
 use Rattle.std.proofs.lemmas.Option.{none-some, same_Some}
+use Rattle.disk_model.specs.View.{DiskView}
 use Rattle.import_check.specs.Release.{files_of}
 use Rattle.line_commands.specs.Commands.{Import, Check}
 use Rattle.line_server.specs.declared.refusal.LineRefusal.{LineRefusal}
@@ -38,8 +39,8 @@ module _ {D : Type 0} (releases : Releases) (name : List ℕ) (one two : Result 
   settled session other u v (inr h) (inr k) =
       with_release (check_told honest releases session name one old checked u h.comes_out) (import_told also releases other name two checked new v k.comes_out)
 
-pub check_foretells : (D : Type 0) (honest : D → Type 0) → CheckForetells D honest
-check_foretells D honest releases line text session other name one two old checked new up so asks also r s u v =
-    settled releases name one two old checked new (honest old.store.disk) (honest checked.store.disk) up so session other u v
-    (asked_outcome (honest old.store.disk) releases old checked line session (Check name) one asks r)
-    (asked_outcome (honest checked.store.disk) releases checked new text other (Import name) two also s)
+pub check_foretells : (D : Type 0) (view : D → DiskView) → CheckForetells D view
+check_foretells D view releases line text session other name one two old checked new up so asks also r s u v =
+    settled releases name one two old checked new (view old.store.disk).is_honest (view checked.store.disk).is_honest up so session other u v
+    (asked_outcome (view old.store.disk).is_honest releases old checked line session (Check name) one asks r)
+    (asked_outcome (view checked.store.disk).is_honest releases checked new text other (Import name) two also s)

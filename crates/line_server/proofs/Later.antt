@@ -1,6 +1,7 @@
 -- That no release is for a later version, where the source gives no members unasked.
 use Rattle.std.proofs.Common.{◌≡◌, ◌⊎◌, ℕ, Bool, true, false, List, Some, Result, Err, sym, ap, subst, ◌∙◌, inl, inr}
 use Rattle.std.proofs.lemmas.Bool.{false≢true}
+use Rattle.disk_model.specs.View.{DiskView}
 use Rattle.directory.specs.declared.layout.Layout.{Layout}
 use Rattle.directory.specs.declared.layout.Layout.TheVariants as layouts
 use Rattle.import_check.specs.declared.release.Release.{Release}
@@ -59,8 +60,8 @@ module _ {D : Type 0} (honest : Type 0) (releases : Releases) (none : GivesNoMem
   refused_never session Trim r = r.0.0
   refused_never session Status r = closed_never r
 
-pub none_is_later : (D : Type 0) (honest : D → Type 0) → NoneIsLater D honest
-none_is_later D honest releases line outcome old new none (inl (session, command, asks, inl h)) e = false≢true (ap comes_later (sym h.refused ∙ e))
-none_is_later D honest releases line outcome old new none (inl (session, command, asks, inr h)) e =
-    refused_never (honest old.store.disk) releases none old new session command (subst (λ (o : Result Answer LineRefusal). IsOutcome (honest old.store.disk) releases session command o old new) e h.comes_out)
-none_is_later D honest releases line outcome old new none (inr r) e = false≢true (ap comes_later (sym r.2 ∙ e))
+pub none_is_later : (D : Type 0) (view : D → DiskView) → NoneIsLater D view
+none_is_later D view releases line outcome old new none (inl (session, command, asks, inl h)) e = false≢true (ap comes_later (sym h.refused ∙ e))
+none_is_later D view releases line outcome old new none (inl (session, command, asks, inr h)) e =
+    refused_never (view old.store.disk).is_honest releases none old new session command (subst (λ (o : Result Answer LineRefusal). IsOutcome (view old.store.disk).is_honest releases session command o old new) e h.comes_out)
+none_is_later D view releases line outcome old new none (inr r) e = false≢true (ap comes_later (sym r.2 ∙ e))

@@ -3,6 +3,7 @@ use Rattle.std.proofs.Common.{◌≡◌, ℕ, ◌≤◌, ◌<◌, Bool, true, fa
 use Rattle.std.specs.Prelude.{decimal, slice_set, if◌then◌else◌, length}
 use Rattle.std.proofs.lemmas.Bool.{false≢true, cond-true, cond-false, le-leb, lt-leb, cases_lt}
 use Rattle.std.proofs.lemmas.Option.{none-some, same_Some}
+use Rattle.disk_model.specs.View.{DiskView}
 use Rattle.history_model.specs.History.{History, rows_at}
 use Rattle.history_model.specs.Brought.{brought_by}
 use Rattle.history_model.specs.declared.receipt.Receipt.{Receipt}
@@ -410,5 +411,5 @@ module _ {D : Type 0} (releases : Releases) (a b after next : Server D) (honest 
     (then_same a b after next same (same_from a after h.3) (same_from b next k.3), ap (λ (d : Server D). d.met_damage) k.3 ∙ met ∙ sym (ap (λ (d : Server D). d.met_damage) h.3)),
   )
 
-pub one_reply : (D : Type 0) (honest : D → Type 0) → OneReply D honest
-one_reply D honest releases line x y a b after next up so (same, met) h k u v = one_case releases a b after next (honest a.store.disk) (honest b.store.disk) up so same met line x y u v h k
+pub one_reply : (D : Type 0) (view : D → DiskView) → OneReply D view
+one_reply D view releases line x y a b after next up so (same, met) h k u v = one_case releases a b after next (view a.store.disk).is_honest (view b.store.disk).is_honest up so same met line x y u v h k

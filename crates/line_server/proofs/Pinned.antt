@@ -1,6 +1,7 @@
 -- What a query is answered at a pin.
 use Rattle.std.proofs.Common.{◌≡◌, ◌⊎◌, ℕ, false, List, sym, ap, subst, ◌∙◌, Result, Ok, inl, inr}
 use Rattle.std.proofs.lemmas.Bool.{false≢true}
+use Rattle.disk_model.specs.View.{DiskView}
 use Rattle.rf2_values.specs.Row.{RowValue}
 use Rattle.history_model.specs.History.{rows_at}
 use Rattle.line_commands.specs.Questions.{Question, Receipt}
@@ -51,8 +52,8 @@ reply_found honest releases old new session pin query line command question outc
       given (inl h) = h.3 ∙ ap Ok (one_found question (rows_at pin old.store.history.rows) h.0 query h.2 found)
       given (inr h) = absurd (false≢true (sym open_still ∙ h.0))
 
-module _ (D : Type 0) (honest : D → Type 0) where
+module _ (D : Type 0) (view : D → DiskView) where
   pub undisturbed : PinnedIsUndisturbed D honest
   undisturbed releases others a b after next line text session other pin command also question query one two ha hb oa ob asks asked at to found agree ra rb sa sb =
-      reply_found (honest a.store.disk) releases a after session pin query line command question one ha oa asks at found sa ra
-      ∙ sym (reply_found (honest b.store.disk) others b next other pin query text also question two hb ob asked to (subst (λ (rows : List RowValue). IsFound question rows query) agree found) sb rb)
+      reply_found (view a.store.disk).is_honest releases a after session pin query line command question one ha oa asks at found sa ra
+      ∙ sym (reply_found (view b.store.disk).is_honest others b next other pin query text also question two hb ob asked to (subst (λ (rows : List RowValue). IsFound question rows query) agree found) sb rb)

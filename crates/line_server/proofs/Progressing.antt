@@ -1,6 +1,6 @@
 -- How far serving has come.
 use Rattle.std.proofs.lemmas.Bool.{false≢true}
-use Rattle.store_life.specs.DeviceView.{DeviceView}
+use Rattle.disk_model.specs.View.{DiskView}
 use Rattle.std.proofs.Common.{◌≡◌, ℕ, Bool, ◌==◌, false, eqb, cond, ◌*◌, ◌<◌, ◌≤◌, ◌+◌, ◌-◌, ◌^◌, List, [], ◌∷◌, ◌++◌, length, length-append, append-nil, append_assoc, take, drop, get_or, take-append-drop, min, All, Option, Some, None, IfSome, refl, sym, ap, subst, ◌∙◌, arith, Result, Ok, Err}
 use Rattle.std.specs.Io.KnownBytes.{Appends, Consumes, IsAtEnd}
 use Rattle.std.proofs.KnownBytes.{Appends-nil, Appends-trans, Consumes-nil, Consumes-trans}
@@ -89,7 +89,7 @@ is_piece n buf some within long = (omega (arith, some, within, length-take n buf
 
 -- ---- the turns so far
 
-module _ {D : Type 0} (source : SourceView) (view : DeviceView D) where
+module _ {D : Type 0} (source : SourceView) (view : D → DiskView) where
   -- the bytes that came, and what became of them
   pub record Progress (old new : Option (List ℕ)) (before now : Server D) (seen buffer : List ℕ) (served : ℕ) : Type 0 where
     pub turns : List Turn

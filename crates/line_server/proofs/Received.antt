@@ -1,6 +1,7 @@
 -- What a RECEIPT is answered.
 use Rattle.std.proofs.Common.{◌≡◌, ◌⊎◌, ℕ, ◌≤◌, ◌<◌, true, false, List, length, Option, Result, Ok, Err, inl, inr, refl, sym, ap, subst, ◌∙◌, arith}
 use Rattle.std.proofs.lemmas.Bool.{false≢true}
+use Rattle.disk_model.specs.View.{DiskView}
 use Rattle.history_model.specs.declared.stamped.StampedRow.{StampedRow}
 use Rattle.history_model.specs.History.{History}
 use Rattle.history_model.specs.Brought.{IsLatestDay, ImportReceiptOf}
@@ -67,8 +68,8 @@ module _ {D : Type 0} (m n number : ℕ) (x y : Result Answer LineRefusal) (a b 
   one_receipt (inr (inr h)) (inr (inl k)) = absurd (let within = k.1 in let above = h.0 in omega (arith, within, above, seen))
   one_receipt (inr (inr h)) (inr (inr k)) = h.1 ∙ sym k.1
 
-pub receipt_undisturbed : (D : Type 0) (honest : D → Type 0) → PinnedReceiptIsUndisturbed D honest
-receipt_undisturbed D honest releases others a b after next line text session other pin number command also one two needs asks asked at to alike ra rb =
+pub receipt_undisturbed : (D : Type 0) (view : D → DiskView) → PinnedReceiptIsUndisturbed D view
+receipt_undisturbed D view releases others a b after next line text session other pin number command also one two needs asks asked at to alike ra rb =
     one_receipt pin pin number one two a b refl needs (λ within. alike)
-    (receipt_out (honest a.store.disk) pin number one a after (question_out (honest a.store.disk) releases a after line session command (Receipt number) pin one asks at ra)).1
-    (receipt_out (honest b.store.disk) pin number two b next (question_out (honest b.store.disk) others b next text other also (Receipt number) pin two asked to rb)).1
+    (receipt_out (view a.store.disk).is_honest pin number one a after (question_out (view a.store.disk).is_honest releases a after line session command (Receipt number) pin one asks at ra)).1
+    (receipt_out (view b.store.disk).is_honest pin number two b next (question_out (view b.store.disk).is_honest others b next text other also (Receipt number) pin two asked to rb)).1

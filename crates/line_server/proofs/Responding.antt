@@ -1,6 +1,6 @@
 -- Commands that ask for no rows, as responses.
 use Rattle.std.proofs.Common.{◌≡◌, ◌≢◌, ◌⊎◌, ℕ, ◌≤◌, ◌<◌, length, Bool, true, false, List, [], ◌∷◌, refl, sym, ap, subst, ◌∙◌, get_or, IfSome, Result, Ok, Err, inl, inr, Option, Some, None, arith}
-use Rattle.store_life.specs.DeviceView.{DeviceView}
+use Rattle.disk_model.specs.View.{DiskView}
 use Rattle.std.specs.Prelude.{decimal, slice_set, unwrap_or}
 use Rattle.std.proofs.lemmas.Bool.{false≢true}
 use Rattle.std.proofs.lemmas.List.Elements.{All-set}
@@ -46,16 +46,16 @@ fault_or_none _ = inr (λ same. false≢true (ap is_fault same))
 abbrev IsUnlisted : {D : Type 0} → Refusal → StoreValue D → Type 0
 IsUnlisted refusal s = ((refusal ≡ store.ReopenNeeded) × (s.needs_reopen ≡ true)) ⊎ ((refusal ≡ store.OutOfMemory) × (s.needs_reopen ≡ false))
 
-module _ {D : Type 0} (view : DeviceView D) (pin : ℕ) (s : StoreValue D) where
+module _ {D : Type 0} (view : D → DiskView) (pin : ℕ) (s : StoreValue D) where
   index_answer : (question : Question) (answer : Answer) (state : StateValue) → AsksIndex question → s.needs_reopen ≡ false → IsFound question (rows_at pin s.history.rows) answer
-      → IsAnswerAt (view.is_honest s.disk) pin question answer (server state s) (server state s)
+      → IsAnswerAt (view s.disk).is_honest pin question answer (server state s) (server state s)
   index_answer (Children concept date) answer state q still f = (still, same_from (server state s) (server state s) refl, f)
   index_answer (Descendants concept date) answer state q still f = (still, same_from (server state s) (server state s) refl, f)
   index_answer Dates answer state q still f = (still, same_from (server state s) (server state s) refl, f)
   index_answer question answer state q still f = absurd q
 
   index_refused : (question : Question) (refusal : Refusal) (old new : Server D) → AsksIndex question → IsClosed refusal old new ⊎ IsLacking refusal old new
-      → IsRefusalAt (view.is_honest s.disk) pin question refusal old new
+      → IsRefusalAt (view s.disk).is_honest pin question refusal old new
   index_refused (Children concept date) refusal old new q why = why
   index_refused (Descendants concept date) refusal old new q why = why
   index_refused Dates refusal old new q why = why
@@ -81,16 +81,16 @@ module _ {D : Type 0} (view : DeviceView D) (pin : ℕ) (s : StoreValue D) where
           cause state (inl w) = inl (w.0, w.1, ap (λ (r : Refusal). server (refused_by r state) s) w.0)
           cause state (inr w) = inr (w.0, w.1, record { pins = refl; store = record { history = refl; catalog = refl; needs_reopen = refl } })
 
-          counted : (e : Refusal) → IsUnlisted e s → CountsRefusal e (view.failures s.disk) (view.failures s.disk)
-          counted e (inl w) = subst (λ (r : Refusal). CountsRefusal r (view.failures s.disk) (view.failures s.disk)) (sym w.0) refl
-          counted e (inr w) = subst (λ (r : Refusal). CountsRefusal r (view.failures s.disk) (view.failures s.disk)) (sym w.0) refl
+          counted : (e : Refusal) → IsUnlisted e s → CountsRefusal e (view s.disk).failures (view s.disk).failures
+          counted e (inl w) = subst (λ (r : Refusal). CountsRefusal r (view s.disk).failures (view s.disk).failures) (sym w.0) refl
+          counted e (inr w) = subst (λ (r : Refusal). CountsRefusal r (view s.disk).failures (view s.disk).failures) (sym w.0) refl
 
     pub index_untold : s.needs_reopen ≡ false → IsQueried (Err (refusals.Store store.OutOfMemory)) view question pin s s
     index_untold still = index_unfound store.OutOfMemory (inr (refl, still))
 
 -- ---- STATUS
 
-module _ {D : Type 0} (view : DeviceView D) (s : StoreValue D) where
+module _ {D : Type 0} (view : D → DiskView) (s : StoreValue D) where
   pub status_told : (reply : ReplyValue) → s.needs_reopen ≡ false → reply ≡ reply_value (Ok (Done (status_of s))) → IsCarriedOut (Ok reply) view Status s s
   status_told reply still told has session state free =
       responded view (Ok reply) has session Status (Ok (Done (status_of s))) (server state s) (server state s) free refl told (still, refl, refl) (unmade view s) refl refl (omega arith)
@@ -102,7 +102,7 @@ module _ {D : Type 0} (view : DeviceView D) (s : StoreValue D) where
 
 -- ---- whatever the source has
 
-pub any_source : {D : Type 0} (source : SourceView) (view : DeviceView D) (result : Result ReplyValue LineRefusal) (session : ℕ) (command : Command) (old new : Server D)
+pub any_source : {D : Type 0} (source : SourceView) (view : D → DiskView) (result : Result ReplyValue LineRefusal) (session : ℕ) (command : Command) (old new : Server D)
     → IsResponse result (source_view (Unit {0}) source.releases) view session command old new → IsResponse result source view session command old new
 any_source source view result session command old new r = record {
   turned = λ line asks.
@@ -117,21 +117,21 @@ any_source source view result session command old new r = record {
 abbrev pub repinned : StateValue → ℕ → Option ℕ → StateValue
 repinned state session pin = record state { pins = slice_set state.pins session pin }
 
-module _ {D : Type 0} (source : SourceView) (view : DeviceView D) (session : ℕ) (state : StateValue) (s : StoreValue D) where
+module _ {D : Type 0} (source : SourceView) (view : D → DiskView) (session : ℕ) (state : StateValue) (s : StoreValue D) where
   pub unpinned : (reply : ReplyValue) → reply ≡ reply_value (Ok (Done [])) → IsResponse (Ok reply) source view session Unpin (server state s) (server (repinned state session None) s)
   unpinned reply told = any_source source view (Ok reply) session Unpin (server state s) (server (repinned state session None) s)
       (responded view (Ok reply) source.releases session Unpin (Ok (Done [])) (server state s) (server (repinned state session None) s) (λ h. h.1) refl told (refl, refl) (unmade view s) refl refl (omega arith))
 
 -- ---- PIN
 
-module _ {D : Type 0} (view : DeviceView D) (session : ℕ) (state : StateValue) (s : StoreValue D) (number : Option ℕ) (has : Releases) where
+module _ {D : Type 0} (view : D → DiskView) (session : ℕ) (state : StateValue) (s : StoreValue D) (number : Option ℕ) (has : Releases) where
   pub pinned : (pin : ℕ) (reply : ReplyValue) → (pin ≤ s.history.imports) × (pin ≡ unwrap_or number s.history.imports) → reply ≡ reply_value (Ok (Done (decimal pin ∷ [])))
       → IsResponse (Ok reply) (source_view (Unit {0}) has) view session (Pin number) (server state s) (server (repinned state session (Some pin)) s)
   pinned pin reply h told =
       responded view (Ok reply) has session (Pin number) (Ok (Done (decimal pin ∷ []))) (server state s) (server (repinned state session (Some pin)) s) (λ h. h.1) refl told
       (answered_so number h) (unmade view s) refl refl (omega arith) where
         answered_so : (number : Option ℕ) → (pin ≤ s.history.imports) × (pin ≡ unwrap_or number s.history.imports)
-            → IsAnswer (view.is_honest s.disk) has session (Pin number) (Done (decimal pin ∷ [])) (server state s) (server (repinned state session (Some pin)) s)
+            → IsAnswer (view s.disk).is_honest has session (Pin number) (Done (decimal pin ∷ [])) (server state s) (server (repinned state session (Some pin)) s)
         answered_so None h = (ap (λ (k : ℕ). server (repinned state session (Some k)) s) h.1, ap (λ (k : ℕ). Done (decimal k ∷ [])) h.1)
         answered_so (Some n) h = (subst (λ (k : ℕ). k ≤ s.history.imports) h.1 h.0, ap (λ (k : ℕ). server (repinned state session (Some k)) s) h.1, ap (λ (k : ℕ). Done (decimal k ∷ [])) h.1)
 
@@ -142,7 +142,7 @@ module _ {D : Type 0} (view : DeviceView D) (session : ℕ) (state : StateValue)
 
 -- ---- RECEIPT
 
-module _ {D : Type 0} (view : DeviceView D) (number pin : ℕ) (s : StoreValue D) where
+module _ {D : Type 0} (view : D → DiskView) (number pin : ℕ) (s : StoreValue D) where
   pub import_told : (brought : ℕ) (latest : Option ℕ) (reply : ReplyValue) → number ≤ pin → s.needs_reopen ≡ false → ImportReceiptOf s.history number brought latest → reply ≡ reply_value (Ok (Done (receipt_of number brought latest)))
       → IsQueried (Ok reply) view (AskReceipt number) pin s s
   import_told brought latest reply within still receipt told =
@@ -154,7 +154,7 @@ module _ {D : Type 0} (view : DeviceView D) (number pin : ℕ) (s : StoreValue D
   import_closed refusal within why =
       queried view (Err (refusals.Store refusal)) (AskReceipt number) pin (Err (refusals.Store refusal)) s s (λ met. refl) refl
       (λ state. (within, (why.0, why.1, ap (λ (r : Refusal). server (refused_by r state) s) why.0))) (unmade view s)
-      (subst (λ (r : Refusal). CountsRefusal r (view.failures s.disk) (view.failures s.disk)) (sym why.0) refl) refl (omega arith)
+      (subst (λ (r : Refusal). CountsRefusal r (view s.disk).failures (view s.disk).failures) (sym why.0) refl) refl (omega arith)
 
   pub import_unseen : pin < number → IsQueried (Err refusals.PinRange) view (AskReceipt number) pin s s
   import_unseen above =
@@ -163,7 +163,7 @@ module _ {D : Type 0} (view : DeviceView D) (number pin : ℕ) (s : StoreValue D
 
 -- ---- AT
 
-module _ {D : Type 0} (view : DeviceView D) (number : ℕ) (question : Question) (old new : StoreValue D) where
+module _ {D : Type 0} (view : D → DiskView) (number : ℕ) (question : Question) (old new : StoreValue D) where
   -- as the question is answered that is asked of the first so many imports
   pub asked_behind : (result : Result ReplyValue LineRefusal) → number ≤ old.history.imports → IsQueried result view question number old new → IsCarriedOut result view (At number question) old new
   asked_behind result within r has session state free = r has session state (At number question) (inr (refl, within))
@@ -178,8 +178,8 @@ module _ {D : Type 0} (view : DeviceView D) (number : ℕ) (question : Question)
         unseen_left (Descendants concept date) = refl
         unseen_left Dates = refl
         unseen_left (AskReceipt other) = refl
-        unseen_left Digest = ((λ h. refl, none_looks_up (is_listed old.catalog.entries) old.cache (view.bytes_read old.disk)), omega arith)
-        unseen_left other = ((λ h. refl, none_looks_up (is_listed old.catalog.entries) old.cache (view.bytes_read old.disk)), tt)
+        unseen_left Digest = ((λ h. refl, none_looks_up (is_listed old.catalog.entries) old.cache (view old.disk).bytes_read), omega arith)
+        unseen_left other = ((λ h. refl, none_looks_up (is_listed old.catalog.entries) old.cache (view old.disk).bytes_read), tt)
 
 -- ---- pins
 
@@ -211,7 +211,7 @@ pub refused_so : (refusal : LineRefusal) (reply : ReplyValue) (outcome : Result 
 refused_so refusal reply (Ok answer) says told = absurd told
 refused_so refusal reply (Err reason) says told = says ∙ sym (ap (λ (r : LineRefusal). reply_value (Err r)) told)
 
-module _ {D : Type 0} (source : SourceView) (view : DeviceView D) (line : List ℕ) where
+module _ {D : Type 0} (source : SourceView) (view : D → DiskView) (line : List ℕ) where
   -- the line asks nothing
   pub nothing_asked : (reason : Unread) (s : Server D) → IsUnread line reason → HasTurn source view line s s (λ turn. IsToldBy (Err (refusals.Unread reason)) turn.outcome)
   nothing_asked reason s is = (
@@ -233,13 +233,13 @@ module _ {D : Type 0} (source : SourceView) (view : DeviceView D) (line : List �
     -- the store isn't called
     held_left : (seen : ℕ) (c : Command) → IsHeldBack c → LeavesDisk view seen c (Err (refusals.Store store.Damaged)) s.store s.store
     held_left seen (Import name) h = λ up. refl
-    held_left seen (Check name) h = (λ up. refl, none_looks_up (is_listed s.store.catalog.entries) s.store.cache (view.bytes_read s.store.disk))
+    held_left seen (Check name) h = (λ up. refl, none_looks_up (is_listed s.store.catalog.entries) s.store.cache (view s.store.disk).bytes_read)
     held_left seen Merge h = refl
-    held_left seen (Step rows) h = (λ up. refl, (s.store.cache, none_looks_up (is_listed s.store.catalog.entries) s.store.cache (view.bytes_read s.store.disk), inl refl))
+    held_left seen (Step rows) h = (λ up. refl, (s.store.cache, none_looks_up (is_listed s.store.catalog.entries) s.store.cache (view s.store.disk).bytes_read, inl refl))
     held_left seen Publish h = (λ up. refl, omega arith)
     held_left seen c h = absurd h
 
-    goes_held : (releases : Releases) → GoesBy (view.is_honest s.store.disk) releases s (turn_of (Err (refusals.Store store.Damaged)) Other s s line) s
+    goes_held : (releases : Releases) → GoesBy (view s.store.disk).is_honest releases s (turn_of (Err (refusals.Store store.Damaged)) Other s s line) s
     goes_held releases = record { replies = inl (session, command, asks, inl (record { held_back = held; refused = refl; unchanged = refl })); asked = tt }
 
     pub held_back : HasTurn source view line s s (λ turn. IsToldBy (Err (refusals.Store store.Damaged)) turn.outcome)

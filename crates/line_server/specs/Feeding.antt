@@ -1,7 +1,7 @@
 -- What taking a piece of the input does.
 use Rattle.std.specs.Prelude.{◌≡◌, ◌⊎◌, ◌==◌, ◌^◌, ◌-◌, false, ℕ, List, [], ◌∷◌, ◌++◌, length, min}
 use Rattle.std.specs.Prelude.{All, Option, Result, Ok, Err, IfOk, OnOk}
-use Rattle.store_life.specs.DeviceView.{DeviceView}
+use Rattle.disk_model.specs.View.{DiskView}
 use Rattle.std.specs.Io.KnownBytes.{Appends}
 use Rattle.rf2_rows.specs.File.{lines_in}
 use Rattle.line_server.specs.Sources.{SourceView}
@@ -55,7 +55,7 @@ intake part piece buffer old new =
 -- A piece of the input came behind a part of a line. Each line that ended in the piece was
 -- answered, in order, and its reply was written; what has come of the next line is kept. After a
 -- fault of the writer that is so of the piece up to the end of the line whose reply wasn't written.
-pub record IsFed {D E : Type 0} (result : Result ℕ E) (source : SourceView) (view : DeviceView D)
+pub record IsFed {D E : Type 0} (result : Result ℕ E) (source : SourceView) (view : D → DiskView)
     (intake : Intake) (before after : Server D) : Type 0 where
   pub turns : List Turn
   pub run : Run source view before turns after

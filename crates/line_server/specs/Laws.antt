@@ -1,7 +1,7 @@
 -- What holds of every run of lines, on an honest disk.
 use Rattle.std.specs.Prelude.{◌≡◌, ◌≢◌, ℕ, false, ◌≤◌, List, [], map, Option, Some, None}
 use Rattle.std.specs.Prelude.{Result, Ok, Err, slice_index_or}
-use Rattle.store_life.specs.DeviceView.{DeviceView}
+use Rattle.disk_model.specs.View.{DiskView}
 use Rattle.std.specs.List.{AllByRecursion}
 use Rattle.history_model.specs.History.{rows_at}
 use Rattle.history_model.specs.Brought.{ImportReceiptOf}
@@ -33,24 +33,24 @@ IsSure _ = Unit {0}
 
 -- A question is answered alike in two states in which it is asked of one number of imports, and the
 -- histories agree up to it. So behind AT it is answered as a session is that is pinned to them.
-abbrev pub PinnedIsUndisturbed : (D : Type 0) → (D → Type 0) → Type 0
-PinnedIsUndisturbed D honest = (releases others : Releases) (a b after next : Server D)
+abbrev pub PinnedIsUndisturbed : (D : Type 0) → (D → DiskView) → Type 0
+PinnedIsUndisturbed D view = (releases others : Releases) (a b after next : Server D)
     (line text : List ℕ) (session other pin : ℕ) (command also : Command) (question : Question)
     (query : Answer) (one two : Result Answer LineRefusal)
-    → honest a.store.disk → honest b.store.disk → a.store.needs_reopen ≡ false
+    → (view a.store.disk).is_honest → (view b.store.disk).is_honest → a.store.needs_reopen ≡ false
     → b.store.needs_reopen ≡ false
     → Asks line session command → Asks text other also
     → IsAskedOf a session command question pin → IsAskedOf b other also question pin
     → IsFound question (rows_at pin a.store.history.rows) query
     → AgreeUpTo pin a.store.history b.store.history
-    → Replies (honest a.store.disk) releases line one a after
-    → Replies (honest b.store.disk) others text two b next
+    → Replies (view a.store.disk).is_honest releases line one a after
+    → Replies (view b.store.disk).is_honest others text two b next
     → IsSure one → IsSure two → one ≡ two
 
 -- A RECEIPT is answered alike in two states in which it is asked of one number of imports, and the
 -- import brought the same rows.
-abbrev pub PinnedReceiptIsUndisturbed : (D : Type 0) → (D → Type 0) → Type 0
-PinnedReceiptIsUndisturbed D honest = (releases others : Releases) (a b after next : Server D)
+abbrev pub PinnedReceiptIsUndisturbed : (D : Type 0) → (D → DiskView) → Type 0
+PinnedReceiptIsUndisturbed D view = (releases others : Releases) (a b after next : Server D)
     (line text : List ℕ) (session other pin number : ℕ) (command also : Command)
     (one two : Result Answer LineRefusal)
     → a.store.needs_reopen ≡ b.store.needs_reopen
@@ -58,11 +58,11 @@ PinnedReceiptIsUndisturbed D honest = (releases others : Releases) (a b after ne
     → IsAskedOf a session command (AskReceipt number) pin
     → IsAskedOf b other also (AskReceipt number) pin
     → BroughtAlike number a.store.history b.store.history
-    → Replies (honest a.store.disk) releases line one a after
-    → Replies (honest b.store.disk) others text two b next → one ≡ two
+    → Replies (view a.store.disk).is_honest releases line one a after
+    → Replies (view b.store.disk).is_honest others text two b next → one ≡ two
 
 -- lines that are answered are calls on the store, one after the other
-abbrev pub LinesAreCalls : {D : Type 0} → SourceView → DeviceView D → Type 0
+abbrev pub LinesAreCalls : {D : Type 0} → SourceView → (D → DiskView) → Type 0
 LinesAreCalls {D} source view = (old new : Server D) (turns : List Turn)
     → Run source view old turns new
     → IsLife view old.store (map (λ turn. Called turn.call) turns) new.store
@@ -72,17 +72,17 @@ abbrev pub AreAlike : {D : Type 0} → Server D → Server D → Type 0
 AreAlike a b = Same a b × (b.met_damage ≡ a.met_damage)
 
 -- A line has one reply at states that are alike, and leaves states that are alike.
-abbrev pub OneReply : (D : Type 0) → (D → Type 0) → Type 0
-OneReply D honest = (releases : Releases) (line : List ℕ) (one two : Result Answer LineRefusal)
+abbrev pub OneReply : (D : Type 0) → (D → DiskView) → Type 0
+OneReply D view = (releases : Releases) (line : List ℕ) (one two : Result Answer LineRefusal)
     (a b after next : Server D)
-    → honest a.store.disk → honest b.store.disk → AreAlike a b
-    → Replies (honest a.store.disk) releases line one a after
-    → Replies (honest b.store.disk) releases line two b next → IsSure one → IsSure two
+    → (view a.store.disk).is_honest → (view b.store.disk).is_honest → AreAlike a b
+    → Replies (view a.store.disk).is_honest releases line one a after
+    → Replies (view b.store.disk).is_honest releases line two b next → IsSure one → IsSure two
     → (one ≡ two) × AreAlike after next
 
 -- Once a line was answered 8, each later one that would import, check, merge or publish is answered
 -- 8 too and changes nothing, whatever the disk does and whatever the source has.
-abbrev pub DamageHoldsBack : (D : Type 0) → DeviceView D → Type 0
+abbrev pub DamageHoldsBack : (D : Type 0) → (D → DiskView) → Type 0
 DamageHoldsBack D view =
     (has : Releases) (before mid late after : Server D) (first turn : Turn) (turns : List Turn)
     (session : ℕ) (command : Command)
@@ -94,20 +94,20 @@ DamageHoldsBack D view =
     → (turn.outcome ≡ Err (refusals.Store store.Damaged)) × (after ≡ late)
 
 -- on an honest disk no damage is met, so that no line is held back there
-abbrev pub HonestMeetsNoDamage : (D : Type 0) → DeviceView D → Type 0
+abbrev pub HonestMeetsNoDamage : (D : Type 0) → (D → DiskView) → Type 0
 HonestMeetsNoDamage D view = (has : Releases) (old new : Server D) (turns : List Turn)
-    → view.is_honest old.store.disk → old.met_damage ≡ false
+    → (view old.store.disk).is_honest → old.met_damage ≡ false
     → Run (source_view ⊥ has) view old turns new → new.met_damage ≡ false
 
 -- What CHECK answers an IMPORT of the same name answers next, on an honest disk and where the
 -- source has the same releases still.
-abbrev pub CheckForetells : (D : Type 0) → (D → Type 0) → Type 0
-CheckForetells D honest = (releases : Releases) (line text : List ℕ) (session other : ℕ)
+abbrev pub CheckForetells : (D : Type 0) → (D → DiskView) → Type 0
+CheckForetells D view = (releases : Releases) (line text : List ℕ) (session other : ℕ)
     (name : List ℕ) (one two : Result Answer LineRefusal) (old checked new : Server D)
-    → honest old.store.disk → honest checked.store.disk
+    → (view old.store.disk).is_honest → (view checked.store.disk).is_honest
     → Asks line session (Check name) → Asks text other (Import name)
-    → Replies (honest old.store.disk) releases line one old checked
-    → Replies (honest checked.store.disk) releases text two checked new
+    → Replies (view old.store.disk).is_honest releases line one old checked
+    → Replies (view checked.store.disk).is_honest releases text two checked new
     → IsSure one → IsSure two → two ≡ one
 
 -- no release has members where the basic files are asked for
@@ -116,40 +116,40 @@ GivesNoMembers releases = (name : List ℕ) (release : Release)
     → releases scopes.Basic name ≡ Some (files_of release) → HasMembers release → ⊥
 
 -- With such releases no line is answered 14, whatever the disk does.
-abbrev pub NoneIsLater : (D : Type 0) → (D → Type 0) → Type 0
-NoneIsLater D honest = (releases : Releases) (line : List ℕ) (outcome : Result Answer LineRefusal)
+abbrev pub NoneIsLater : (D : Type 0) → (D → DiskView) → Type 0
+NoneIsLater D view = (releases : Releases) (line : List ℕ) (outcome : Result Answer LineRefusal)
     (old new : Server D)
-    → GivesNoMembers releases → Replies (honest old.store.disk) releases line outcome old new
+    → GivesNoMembers releases → Replies (view old.store.disk).is_honest releases line outcome old new
     → outcome ≢ Err (refusals.Store store.LaterVersion)
 
 -- an import that was answered OK is the one that its turn imported
-abbrev pub OkIsImported : (D : Type 0) → DeviceView D → Type 0
+abbrev pub OkIsImported : (D : Type 0) → (D → DiskView) → Type 0
 OkIsImported D view =
     (has : Releases) (old new : Server D) (turn : Turn) (session : ℕ) (name : List ℕ)
     (answer : Answer)
-    → view.is_honest old.store.disk → Asks turn.line session (Import name)
+    → (view old.store.disk).is_honest → Asks turn.line session (Import name)
     → turn.outcome ≡ Ok answer
     → IsTurn (source_view ⊥ has) view old turn new
     → (release : Release) × (turn.call ≡ Imported release)
 
 -- a line that was refused imported nothing
-abbrev pub RefusedIsNotImported : (D : Type 0) → DeviceView D → Type 0
+abbrev pub RefusedIsNotImported : (D : Type 0) → (D → DiskView) → Type 0
 RefusedIsNotImported D view =
     (has : Releases) (old new : Server D) (turn : Turn) (refusal : LineRefusal)
-    → view.is_honest old.store.disk → turn.outcome ≡ Err refusal
+    → (view old.store.disk).is_honest → turn.outcome ≡ Err refusal
     → IsTurn (source_view ⊥ has) view old turn new → taken turn.call ≡ []
 
 -- a release that a turn imported is one that its line asked to import, and the line was answered OK
-abbrev pub ImportedIsOk : (D : Type 0) → DeviceView D → Type 0
+abbrev pub ImportedIsOk : (D : Type 0) → (D → DiskView) → Type 0
 ImportedIsOk D view =
     (has : Releases) (old new : Server D) (turn : Turn) (release : Release)
-    → view.is_honest old.store.disk → turn.call ≡ Imported release
+    → (view old.store.disk).is_honest → turn.call ≡ Imported release
     → IsTurn (source_view ⊥ has) view old turn new
     → (session : ℕ) × (name : List ℕ) × (answer : Answer) × Asks turn.line session (Import name)
     × (turn.outcome ≡ Ok answer)
 
 -- what is said of a run where its source is honest holds without a word on the source
-abbrev pub RunNeedsNoSource : {D : Type 0} → SourceView → DeviceView D → Type 0
+abbrev pub RunNeedsNoSource : {D : Type 0} → SourceView → (D → DiskView) → Type 0
 RunNeedsNoSource {D} source view =
     (has : Releases) (old new : Server D) (turns : List Turn)
     → Run source view old turns new
@@ -158,10 +158,10 @@ RunNeedsNoSource {D} source view =
 -- A session stays pinned while lines are answered none of which pins it or
 -- unpins it, and the history stays as it was up to the pin:
 -- the rows that the pin shows, and which of these each import brought.
-abbrev pub RunKeepsPin : (D : Type 0) → DeviceView D → Type 0
+abbrev pub RunKeepsPin : (D : Type 0) → (D → DiskView) → Type 0
 RunKeepsPin D view =
     (has : Releases) (old new : Server D) (turns : List Turn) (session pin : ℕ)
-    → view.is_honest old.store.disk → IsAcknowledged view.moments old.store
+    → (view old.store.disk).is_honest → IsAcknowledged view old.store
     → IsPinnedTo old session pin
     → Run (source_view ⊥ has) view old turns new → AllByRecursion (LeavesPin session) turns
     → (slice_index_or new.pins session None ≡ Some pin)
@@ -170,7 +170,7 @@ RunKeepsPin D view =
 
 -- As long as a session stays pinned, each of its queries is answered by what the pin showed in the
 -- beginning.
-abbrev pub PinnedSeesItsImports : (D : Type 0) → DeviceView D → Type 0
+abbrev pub PinnedSeesItsImports : (D : Type 0) → (D → DiskView) → Type 0
 PinnedSeesItsImports D view =
     (has : Releases) (session pin : ℕ) (start : Server D) (turns : List Turn) (turn : Turn)
     (question : Question) (query : Answer)
@@ -181,7 +181,7 @@ PinnedSeesItsImports D view =
 
 -- As long as a session stays pinned, a RECEIPT of an import that the pin shows is answered by what
 -- the import had brought in the beginning.
-abbrev pub PinnedSeesItsReceipts : (D : Type 0) → DeviceView D → Type 0
+abbrev pub PinnedSeesItsReceipts : (D : Type 0) → (D → DiskView) → Type 0
 PinnedSeesItsReceipts D view =
     (has : Releases) (session pin number brought : ℕ) (latest : Option ℕ)
     (start : Server D) (turns : List Turn) (turn : Turn)
@@ -192,7 +192,7 @@ PinnedSeesItsReceipts D view =
 
 -- In any two runs from histories that agree up to its pin, a session is answered alike, whatever
 -- the other sessions do.
-abbrev pub PinnedRunsAreUndisturbed : (D : Type 0) → DeviceView D
+abbrev pub PinnedRunsAreUndisturbed : (D : Type 0) → (D → DiskView)
     → Type 0
 PinnedRunsAreUndisturbed D view =
     (has others : Releases) (session pin : ℕ) (a b : Server D) (before also : List Turn)
@@ -206,7 +206,7 @@ PinnedRunsAreUndisturbed D view =
 
 -- In any two runs a RECEIPT of a pinned session is answered alike, where the import brought the
 -- same rows to both histories.
-abbrev pub PinnedReceiptsAreUndisturbed : (D : Type 0) → DeviceView D
+abbrev pub PinnedReceiptsAreUndisturbed : (D : Type 0) → (D → DiskView)
     → Type 0
 PinnedReceiptsAreUndisturbed D view =
     (has others : Releases) (session pin number : ℕ) (a b : Server D) (before also : List Turn)

@@ -1,7 +1,7 @@
 -- Words that private functions and proofs need, of this crate or of one above it.
 -- No public clause cites them.
 use Rattle.std.specs.Prelude.{ℕ, List, Result, ◌≤◌}
-use Rattle.store_life.specs.DeviceView.{DeviceView}
+use Rattle.disk_model.specs.View.{DiskView}
 use Rattle.history_store.specs.StoreValue.{StoreValue}
 use Rattle.line_commands.specs.Questions.{Question, SpellsQuestion}
 use Rattle.line_commands.specs.Commands.{Command, SpellsArguments}
@@ -23,14 +23,14 @@ CanBeAsked command = (arguments : List (List ℕ)) × SpellsArguments command ar
 
 -- a command was carried out: each line by which the session asks it is answered so
 pub record IsResponse {D : Type 0} (result : Result ReplyValue LineRefusal) (source : SourceView)
-    (view : DeviceView D) (session : ℕ) (command : Command) (old new : Server D) : Type 0 where
+    (view : D → DiskView) (session : ℕ) (command : Command) (old new : Server D) : Type 0 where
   pub turned : (line : List ℕ) → Asks line session command
       → HasTurn source view line old new (λ turn. IsToldBy result turn.outcome)
   pub grows : old.store.history.imports ≤ new.store.history.imports
 
 -- The command was carried out so, whatever releases the source has and whichever session asks. In
 -- the server after it note is taken of what came out.
-abbrev pub IsCarriedOut : {D : Type 0} → Result ReplyValue LineRefusal → DeviceView D → Command
+abbrev pub IsCarriedOut : {D : Type 0} → Result ReplyValue LineRefusal → (D → DiskView) → Command
     → StoreValue D → StoreValue D → Type 0
 IsCarriedOut result view command old new =
     (has : Releases) (session : ℕ) (state : StateValue) → (HoldsBack state.met_damage command → ⊥)
@@ -42,7 +42,7 @@ abbrev pub QuestionCanBeAsked : Question → Type 0
 QuestionCanBeAsked question = (arguments : List (List ℕ)) × SpellsQuestion question arguments
 
 -- the question was carried out so, for any session and command that ask it of so many imports
-abbrev pub IsQueried : {D : Type 0} → Result ReplyValue LineRefusal → DeviceView D → Question → ℕ
+abbrev pub IsQueried : {D : Type 0} → Result ReplyValue LineRefusal → (D → DiskView) → Question → ℕ
     → StoreValue D → StoreValue D → Type 0
 IsQueried result view question pin old new =
     (has : Releases) (session : ℕ) (state : StateValue) (command : Command)

@@ -1,7 +1,7 @@
 -- What serving lines does.
 use Rattle.std.specs.Prelude.{◌≡◌, ◌^◌, ◌*◌, ◌-◌, ◌<◌, ◌≤◌, ℕ, List, [], ◌∷◌, ◌++◌, length, min}
 use Rattle.std.specs.Prelude.{All, Option, IfSome, Result, Ok, Err}
-use Rattle.store_life.specs.DeviceView.{DeviceView}
+use Rattle.disk_model.specs.View.{DiskView}
 use Rattle.std.specs.Io.KnownBytes.{Appends, Consumes, IsAtEnd}
 use Rattle.rf2_rows.specs.File.{lines_in}
 use Rattle.history_store.specs.StoreValue.{StoreValue}
@@ -77,7 +77,7 @@ AreReads (Err faults.Reads) most reads answered = All IsPiece reads × (length r
 -- are its lines; where the output is known, their replies were written; and where the reads are
 -- known, these were made and no others.
 pub record IsServed {D : Type 0} (result : Result ℕ ServeFault) (most : ℕ) (source : SourceView)
-    (view : DeviceView D) (streams : Streams) (before after : StoreValue D) : Type 0 where
+    (view : D → DiskView) (streams : Streams) (before after : StoreValue D) : Type 0 where
   pub turns : List Turn
   pub state : StateValue
   pub run : Run source view (server fresh before) turns (server state after)

@@ -1,7 +1,7 @@
 -- Lines that are answered one after the other.
 use Rattle.std.specs.Prelude.{◌≡◌, ℕ, ◌≤◌, List, [], ◌∷◌, map, take, Some}
 use Rattle.std.specs.Prelude.{Result, Ok, Err, OnOk, sum_by, ◌+◌}
-use Rattle.store_life.specs.DeviceView.{DeviceView}
+use Rattle.disk_model.specs.View.{DiskView}
 use Rattle.std.specs.List.{flat_map}
 use Rattle.import_check.specs.declared.scope.Scope.{Scope}
 use Rattle.import_check.specs.declared.release.Release.{Release}
@@ -76,28 +76,28 @@ ReadsAbove concept date rows _ old new = Unit {0}
 
 -- What is read through the cache leaves what a stop may leave of an honest disk as it was. On
 -- every disk blocks of listed segments alone are read, and none that is kept in memory.
-abbrev pub LeavesQueried : {D : Type 0} → DeviceView D → StoreValue D → StoreValue D → Type 0
+abbrev pub LeavesQueried : {D : Type 0} → (D → DiskView) → StoreValue D → StoreValue D → Type 0
 LeavesQueried view old new =
-    (view.is_honest old.disk → view.moments new.disk ≡ view.moments old.disk)
-    × ReadsThroughCache view.bytes_read old new
+    ((view old.disk).is_honest → (view new.disk).moments ≡ (view old.disk).moments)
+    × ReadsThroughCache view old new
 
 -- what a question of the first `seen` imports leaves of the disk: the device as it was, where the
 -- index alone answers
-abbrev pub LeavesAsked : {D : Type 0} → DeviceView D → ℕ → Question → Result Answer LineRefusal
+abbrev pub LeavesAsked : {D : Type 0} → (D → DiskView) → ℕ → Question → Result Answer LineRefusal
     → StoreValue D → StoreValue D → Type 0
 LeavesAsked view seen (Children concept date) outcome old new = new.disk ≡ old.disk
 LeavesAsked view seen (Descendants concept date) outcome old new = new.disk ≡ old.disk
 LeavesAsked view seen Dates outcome old new = new.disk ≡ old.disk
 LeavesAsked view seen (Receipt number) outcome old new = new.disk ≡ old.disk
 LeavesAsked view seen (Ancestors concept date) outcome old new = LeavesQueried view old new
-    × ReadsAbove concept date (rows_at seen old.history.rows) outcome (view.bytes_read old.disk)
-    (view.bytes_read new.disk)
+    × ReadsAbove concept date (rows_at seen old.history.rows) outcome (view old.disk).bytes_read
+    (view new.disk).bytes_read
 LeavesAsked view seen Digest outcome old new = LeavesQueried view old new
-    × (view.bytes_read new.disk
-    ≤ view.bytes_read old.disk + sum_by row_cost (rows_at seen old.history.rows))
+    × ((view new.disk).bytes_read
+    ≤ (view old.disk).bytes_read + sum_by row_cost (rows_at seen old.history.rows))
 LeavesAsked view seen question outcome old new =
     LeavesQueried view old new
-    × ReadsFor outcome (view.bytes_read old.disk) (view.bytes_read new.disk)
+    × ReadsFor outcome (view old.disk).bytes_read (view new.disk).bytes_read
 
 -- What a command leaves of the disk. On an honest one IMPORT, STEP and PUBLISH may change what a
 -- stop leaves, but not where they are refused for another reason than the device. After TRIM a read
@@ -106,43 +106,43 @@ LeavesAsked view seen question outcome old new =
 -- merge has reserved; PUBLISH reads one byte at most, and TRIM none. A question of a session that
 -- sees `seen` imports leaves what is said above, and every other command leaves the device as it
 -- was.
-abbrev pub LeavesDisk : {D : Type 0} → DeviceView D → ℕ → Command → Result Answer LineRefusal
+abbrev pub LeavesDisk : {D : Type 0} → (D → DiskView) → ℕ → Command → Result Answer LineRefusal
     → StoreValue D → StoreValue D → Type 0
 LeavesDisk view seen (Ask question) outcome old new = LeavesAsked view seen question outcome old new
 LeavesDisk view seen (At number question) outcome old new =
     LeavesAsked view number question outcome old new
 LeavesDisk view seen (Import name) outcome old new =
-    view.is_honest old.disk → IfRefused outcome (view.moments new.disk ≡ view.moments old.disk)
+    (view old.disk).is_honest → IfRefused outcome ((view new.disk).moments ≡ (view old.disk).moments)
 LeavesDisk view seen (Check name) outcome old new = LeavesQueried view old new
 LeavesDisk view seen (Step rows) outcome old new =
-    (view.is_honest old.disk → IfRefused outcome (view.moments new.disk ≡ view.moments old.disk))
-    × StepsThroughCache view.bytes_read old new
+    ((view old.disk).is_honest → IfRefused outcome ((view new.disk).moments ≡ (view old.disk).moments))
+    × StepsThroughCache view old new
 LeavesDisk view seen Publish outcome old new =
-    (view.is_honest old.disk → IfRefused outcome (view.moments new.disk ≡ view.moments old.disk))
-    × (view.bytes_read new.disk ≤ view.bytes_read old.disk + 1)
+    ((view old.disk).is_honest → IfRefused outcome ((view new.disk).moments ≡ (view old.disk).moments))
+    × ((view new.disk).bytes_read ≤ (view old.disk).bytes_read + 1)
 LeavesDisk view seen Trim outcome old new =
-    (view.is_honest old.disk
-    → OnOk outcome ((view.moments new.disk).state.now ≡ take (trimmed_len old.catalog)
-    (view.moments old.disk).state.now)
-    × IfRefused outcome (view.moments new.disk ≡ view.moments old.disk))
-    × (view.bytes_read new.disk ≡ view.bytes_read old.disk)
+    ((view old.disk).is_honest
+    → OnOk outcome ((view new.disk).moments.state.now ≡ take (trimmed_len old.catalog)
+    (view old.disk).moments.state.now)
+    × IfRefused outcome ((view new.disk).moments ≡ (view old.disk).moments))
+    × ((view new.disk).bytes_read ≡ (view old.disk).bytes_read)
 LeavesDisk view seen command outcome old new = new.disk ≡ old.disk
 
 -- One line was answered: as if the source had certain releases, and where it is honest, as its own
 -- releases say.
-pub record IsTurn {D : Type 0} (source : SourceView) (view : DeviceView D) (old : Server D)
+pub record IsTurn {D : Type 0} (source : SourceView) (view : D → DiskView) (old : Server D)
     (turn : Turn) (new : Server D) : Type 0 where
   pub releases : Releases
-  pub goes : GoesBy (view.is_honest old.store.disk) releases old turn new
-  pub own : source.is_honest → GoesBy (view.is_honest old.store.disk) source.releases old turn new
+  pub goes : GoesBy (view old.store.disk).is_honest releases old turn new
+  pub own : source.is_honest → GoesBy (view old.store.disk).is_honest source.releases old turn new
   pub call : IsCall view old.store turn.call new.store
-  pub counts : CountsOutcome turn.outcome (view.failures old.store.disk)
-      (view.failures new.store.disk)
+  pub counts : CountsOutcome turn.outcome (view old.store.disk).failures
+      (view new.store.disk).failures
   pub disk : (session : ℕ) (command : Command) → Asks turn.line session command
       → LeavesDisk view (imports_seen old session) command turn.outcome old.store new.store
 
 -- a line was answered by a turn of which this holds
-abbrev pub HasTurn : {D : Type 0} → SourceView → DeviceView D → List ℕ → Server D → Server D
+abbrev pub HasTurn : {D : Type 0} → SourceView → (D → DiskView) → List ℕ → Server D → Server D
     → (Turn → Type 0) → Type 0
 HasTurn source view line old new holds =
     (turn : Turn) × (turn.line ≡ line) × IsTurn source view old turn new × holds turn
@@ -154,13 +154,13 @@ IsToldBy (Err refusal) (Err reason) = reason ≡ refusal
 IsToldBy result outcome = ⊥
 
 -- a line was answered with this reply
-abbrev pub IsAnswered : {D : Type 0} → SourceView → DeviceView D → List ℕ → ReplyValue → Server D
+abbrev pub IsAnswered : {D : Type 0} → SourceView → (D → DiskView) → List ℕ → ReplyValue → Server D
     → Server D → Type 0
 IsAnswered source view line reply old new =
     HasTurn source view line old new (λ turn. reply ≡ reply_value turn.outcome)
 
 -- lines are answered one after the other
-abbrev pub Run : {D : Type 0} → SourceView → DeviceView D → Server D → List Turn → Server D
+abbrev pub Run : {D : Type 0} → SourceView → (D → DiskView) → Server D → List Turn → Server D
     → Type 0
 Run {D} source view old [] new = new ≡ old
 Run {D} source view old (turn ∷ turns) new =

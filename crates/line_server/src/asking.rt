@@ -1,7 +1,6 @@
 //! Questions: their answers, of so many imports.
 
 ghost use Rattle.std.specs.Prelude.{◌≤◌, ℕ, List, Option};
-ghost use Rattle.store_life.specs.DeviceView.{device_view};
 ghost use Rattle.line_commands.specs.Commands.{At};
 ghost use Rattle.line_commands.specs.Requests.{question_of};
 ghost use Rattle.line_server.specs.Private.{IsCarriedOut, IsQueried, QuestionCanBeAsked};
@@ -31,8 +30,7 @@ pub(crate) fn ask<D: Disk>(
 ) -> Result<Reply, LineRefusal>
     requires asked { QuestionCanBeAsked (question_of question.now) }
     requires within { pin ≤ store.old.history.imports }
-    ensures { IsQueried result (device_view D.is_honest D.moments D.failures D.bytes_read)
-        (question_of question.now) pin store.old store.new }
+    ensures { IsQueried result D.view (question_of question.now) pin store.old store.new }
 {
     match *question {
         Question::Get { kind, id, date } => answer_get(alloc, kind, id, AsOf { date, pin }, store),
@@ -101,7 +99,7 @@ pub(crate) fn ask_at<D: Disk>(
     store: &mut Store<D>,
 ) -> Result<Reply, LineRefusal>
     requires { QuestionCanBeAsked (question_of question.now) }
-    ensures { IsCarriedOut result (device_view D.is_honest D.moments D.failures D.bytes_read)
+    ensures { IsCarriedOut result D.view
         (At number (question_of question.now)) store.old store.new }
 {
     if number > store.imports() {

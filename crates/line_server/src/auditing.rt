@@ -1,7 +1,6 @@
 //! The questions of an audit: what the store finds, as a reply.
 
 ghost use Rattle.std.specs.Prelude.{◌≤◌};
-ghost use Rattle.store_life.specs.DeviceView.{device_view};
 ghost use Rattle.line_commands.specs.Questions.{Ancestors, Descendants, Replaces, Timeline, Delta};
 ghost use Rattle.line_commands.specs.Questions.{Dates, Digest};
 ghost use Rattle.line_server.specs.Private.{IsQueried};
@@ -23,7 +22,7 @@ pub(crate) fn answer_ancestors<D: Disk>(
     store: &mut Store<D>,
 ) -> Result<Reply, LineRefusal>
     requires { as_of.pin ≤ store.old.history.imports }
-    ensures { IsQueried result (device_view D.is_honest D.moments D.failures D.bytes_read)
+    ensures { IsQueried result D.view
         (Ancestors concept as_of.date) as_of.pin store.old store.new }
 {
     let found = store.ancestors(concept, as_of)?;
@@ -38,7 +37,7 @@ pub(crate) fn answer_descendants<D: Disk>(
     store: &mut Store<D>,
 ) -> Result<Reply, LineRefusal>
     requires { as_of.pin ≤ store.old.history.imports }
-    ensures { IsQueried result (device_view D.is_honest D.moments D.failures D.bytes_read)
+    ensures { IsQueried result D.view
         (Descendants concept as_of.date) as_of.pin store.old store.new }
 {
     let found = store.descendants(concept, as_of)?;
@@ -53,7 +52,7 @@ pub(crate) fn answer_replaces<D: Disk>(
     store: &mut Store<D>,
 ) -> Result<Reply, LineRefusal>
     requires { as_of.pin ≤ store.old.history.imports }
-    ensures { IsQueried result (device_view D.is_honest D.moments D.failures D.bytes_read)
+    ensures { IsQueried result D.view
         (Replaces id as_of.date) as_of.pin store.old store.new }
 {
     let found = store.replaces(id, as_of)?;
@@ -69,8 +68,7 @@ pub(crate) fn answer_timeline<D: Disk>(
     store: &mut Store<D>,
 ) -> Result<Reply, LineRefusal>
     requires { pin ≤ store.old.history.imports }
-    ensures { IsQueried result (device_view D.is_honest D.moments D.failures D.bytes_read)
-        (Timeline kind id) pin store.old store.new }
+    ensures { IsQueried result D.view (Timeline kind id) pin store.old store.new }
 {
     let found = store.timeline(kind, id, pin)?;
     Ok(reply_rows(alloc, &found)?)
@@ -87,7 +85,7 @@ pub(crate) fn answer_delta<D: Disk>(
     store: &mut Store<D>,
 ) -> Result<Reply, LineRefusal>
     requires { as_of.pin ≤ store.old.history.imports }
-    ensures { IsQueried result (device_view D.is_honest D.moments D.failures D.bytes_read)
+    ensures { IsQueried result D.view
         (Delta kind from as_of.date after limit) as_of.pin store.old store.new }
 {
     let found = store.delta(kind, from, as_of, after, limit)?;
@@ -101,8 +99,7 @@ pub(crate) fn answer_dates<D: Disk>(
     store: &mut Store<D>,
 ) -> Result<Reply, LineRefusal>
     requires { pin ≤ store.old.history.imports }
-    ensures { IsQueried result (device_view D.is_honest D.moments D.failures D.bytes_read)
-        Dates pin store.old store.new }
+    ensures { IsQueried result D.view Dates pin store.old store.new }
 {
     let found = store.dates(pin)?;
     Ok(reply_dates(alloc, &found)?)
@@ -115,8 +112,7 @@ pub(crate) fn answer_digest<D: Disk>(
     store: &mut Store<D>,
 ) -> Result<Reply, LineRefusal>
     requires { pin ≤ store.old.history.imports }
-    ensures { IsQueried result (device_view D.is_honest D.moments D.failures D.bytes_read)
-        Digest pin store.old store.new }
+    ensures { IsQueried result D.view Digest pin store.old store.new }
 {
     let found = digest(alloc, store, pin)?;
     Ok(reply_digest(alloc, found)?)

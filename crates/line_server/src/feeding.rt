@@ -2,7 +2,6 @@
 
 ghost use Rattle.std.specs.Prelude.{◌≡◌, ℕ, List};
 ghost use Rattle.line_server.specs.Sources.{source_view};
-ghost use Rattle.store_life.specs.DeviceView.{device_view};
 ghost use Rattle.line_server.specs.Pins.{AreWithin};
 ghost use Rattle.line_server.specs.Replies.{server};
 ghost use Rattle.line_server.specs.Steps.{kept};
@@ -33,7 +32,7 @@ pub(crate) fn answer_line<W: Write, S: Source, D: Disk>(
     requires { AreWithin store.old.history.imports state.old.pins }
     ensures pins { AreWithin store.new.history.imports state.new.pins }
     ensures served { HasTurn (source_view (S.is_honest source.old) (S.releases source.old))
-        (device_view D.is_honest D.moments D.failures D.bytes_read) line.now
+        D.view line.now
         (server state.old store.old) (server state.new store.new)
         (λ turn. IsPut result (W.contents writer.old) (W.contents writer.new)
         (bytes_of (reply_value turn.outcome))) }
@@ -61,8 +60,7 @@ pub fn feed<W: Write, S: Source, D: Disk>(
     ensures pins { AreWithin store.new.history.imports state.new.pins }
     // It holds whatever had come of a line before, of which the buffer keeps the first bytes.
     ensures fed { (part : List ℕ) → IsUnended part → line.old ≡ kept part → IsFed result
-        (source_view (S.is_honest source.old) (S.releases source.old))
-        (device_view D.is_honest D.moments D.failures D.bytes_read)
+        (source_view (S.is_honest source.old) (S.releases source.old)) D.view
         (intake part piece.now line.new (W.contents writer.old) (W.contents writer.new))
         (server state.old store.old) (server state.new store.new) }
     ensures source { S.is_honest source.old → S.is_honest source.new }

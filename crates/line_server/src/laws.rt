@@ -2,7 +2,6 @@
 
 ghost use Rattle.line_server.specs.Laws.{PinnedIsUndisturbed, PinnedReceiptIsUndisturbed};
 ghost use Rattle.line_server.specs.Laws.{LinesAreCalls, OneReply};
-ghost use Rattle.store_life.specs.DeviceView.{device_view};
 ghost use Rattle.line_server.specs.Sources.{source_view};
 ghost use Rattle.line_server.specs.Laws.{OkIsImported, RefusedIsNotImported, ImportedIsOk};
 ghost use Rattle.line_server.specs.Laws.{RunNeedsNoSource};
@@ -17,93 +16,91 @@ use disk_model::Disk;
 /// A question is answered alike where it is asked of the same
 /// imports, whether a session is pinned to them or AT names them.
 pub fn pinned_is_undisturbed<D: Disk>()
-    ensures { PinnedIsUndisturbed D D.is_honest }
+    ensures { PinnedIsUndisturbed D D.view }
 {}
 
 /// A RECEIPT is answered alike where it is asked of the same
 /// imports, and the import brought the same rows.
 pub fn pinned_receipt_is_undisturbed<D: Disk>()
-    ensures { PinnedReceiptIsUndisturbed D D.is_honest }
+    ensures { PinnedReceiptIsUndisturbed D D.view }
 {}
 
 /// Lines are calls on the store, of which the laws of a store's life speak.
 pub fn lines_are_calls<S: Source, D: Disk>()
     ensures { (source : S) → LinesAreCalls (source_view (S.is_honest source) (S.releases source))
-        (device_view D.is_honest D.moments D.failures D.bytes_read) }
+        D.view }
 {}
 
 /// A line has one reply, unless memory runs out or the device fails.
 pub fn one_reply<D: Disk>()
-    ensures { OneReply D D.is_honest }
+    ensures { OneReply D D.view }
 {}
 
 /// What CHECK answers an IMPORT of the same release answers next, unless memory runs out or the
 /// device fails.
 pub fn check_foretells<D: Disk>()
-    ensures { CheckForetells D D.is_honest }
+    ensures { CheckForetells D D.view }
 {}
 
 /// Once a line was answered 8, later imports, checks, merges and publications are answered 8 too.
 pub fn damage_holds_back<D: Disk>()
-    ensures { DamageHoldsBack D (device_view D.is_honest D.moments D.failures D.bytes_read) }
+    ensures { DamageHoldsBack D D.view }
 {}
 
 /// On an honest disk no damage is met.
 pub fn honest_meets_no_damage<D: Disk>()
-    ensures { HonestMeetsNoDamage D (device_view D.is_honest D.moments D.failures D.bytes_read) }
+    ensures { HonestMeetsNoDamage D D.view }
 {}
 
 /// No line is answered 14 where the source gives no members while the basic files are asked for.
 pub fn none_is_later<D: Disk>()
-    ensures { NoneIsLater D D.is_honest }
+    ensures { NoneIsLater D D.view }
 {}
 
 /// An import that was answered OK is the one that its turn imported.
 pub fn ok_is_imported<D: Disk>()
-    ensures { OkIsImported D (device_view D.is_honest D.moments D.failures D.bytes_read) }
+    ensures { OkIsImported D D.view }
 {}
 
 /// A line that was refused imported nothing.
 pub fn refused_is_not_imported<D: Disk>()
-    ensures { RefusedIsNotImported D (device_view D.is_honest D.moments D.failures D.bytes_read) }
+    ensures { RefusedIsNotImported D D.view }
 {}
 
 /// A release that a line imported is one that it asked to import, and it was answered OK.
 pub fn imported_is_ok<D: Disk>()
-    ensures { ImportedIsOk D (device_view D.is_honest D.moments D.failures D.bytes_read) }
+    ensures { ImportedIsOk D D.view }
 {}
 
 /// What serving says of its run, where the source is honest,
 /// is what the laws of runs ask for, whatever the releases are.
 pub fn run_needs_no_source<S: Source, D: Disk>()
     ensures { (source : S) → RunNeedsNoSource (source_view (S.is_honest source) (S.releases source))
-        (device_view D.is_honest D.moments D.failures D.bytes_read) }
+        D.view }
 {}
 
 /// Lines of other sessions leave a session its pin, and the history up to it.
 pub fn run_keeps_pin<D: Disk>()
-    ensures { RunKeepsPin D (device_view D.is_honest D.moments D.failures D.bytes_read) }
+    ensures { RunKeepsPin D D.view }
 {}
 
 /// A pinned session sees what its pin showed at first, whatever lines were answered since.
 pub fn pinned_sees_its_imports<D: Disk>()
-    ensures { PinnedSeesItsImports D (device_view D.is_honest D.moments D.failures D.bytes_read) }
+    ensures { PinnedSeesItsImports D D.view }
 {}
 
 /// A RECEIPT of a pinned session says what was so of the import when the session was pinned.
 pub fn pinned_sees_its_receipts<D: Disk>()
-    ensures { PinnedSeesItsReceipts D (device_view D.is_honest D.moments D.failures D.bytes_read) }
+    ensures { PinnedSeesItsReceipts D D.view }
 {}
 
 /// A pinned session is answered alike in any two runs, whatever the others do.
 pub fn pinned_runs_are_undisturbed<D: Disk>()
-    ensures { PinnedRunsAreUndisturbed D
-        (device_view D.is_honest D.moments D.failures D.bytes_read) }
+    ensures { PinnedRunsAreUndisturbed D D.view }
 {}
 
 /// A RECEIPT of a pinned session is answered alike in any two runs, where the import brought the
 /// same rows.
 pub fn pinned_receipts_are_undisturbed<D: Disk>()
-    ensures { PinnedReceiptsAreUndisturbed D
-        (device_view D.is_honest D.moments D.failures D.bytes_read) }
+    ensures { PinnedReceiptsAreUndisturbed D D.view }
 {}

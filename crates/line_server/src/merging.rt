@@ -1,7 +1,6 @@
 //! The commands of a merge, and trimming: what the store says, as a reply.
 
 ghost use Rattle.line_commands.specs.Commands.{Merge, Step, Publish, Abandon, Trim};
-ghost use Rattle.store_life.specs.DeviceView.{device_view};
 ghost use Rattle.line_server.specs.Private.{IsCarriedOut};
 
 use crate::refusal::LineRefusal;
@@ -16,8 +15,7 @@ pub(crate) fn answer_merge<D: Disk>(
     alloc: Global,
     store: &mut Store<D>,
 ) -> Result<Reply, LineRefusal>
-    ensures { IsCarriedOut result
-        (device_view D.is_honest D.moments D.failures D.bytes_read) Merge store.old
+    ensures { IsCarriedOut result D.view Merge store.old
         store.new }
 {
     let left = store.merge_begin()?;
@@ -30,8 +28,7 @@ pub(crate) fn answer_step<D: Disk>(
     rows: u32,
     store: &mut Store<D>,
 ) -> Result<Reply, LineRefusal>
-    ensures { IsCarriedOut result
-        (device_view D.is_honest D.moments D.failures D.bytes_read) (Step rows)
+    ensures { IsCarriedOut result D.view (Step rows)
         store.old store.new }
 {
     let left = store.merge_step(rows)?;
@@ -43,8 +40,7 @@ pub(crate) fn answer_publish<D: Disk>(
     alloc: Global,
     store: &mut Store<D>,
 ) -> Result<Reply, LineRefusal>
-    ensures { IsCarriedOut result
-        (device_view D.is_honest D.moments D.failures D.bytes_read) Publish store.old
+    ensures { IsCarriedOut result D.view Publish store.old
         store.new }
 {
     store.merge_publish()?;
@@ -56,8 +52,7 @@ pub(crate) fn answer_abandon<D: Disk>(
     alloc: Global,
     store: &mut Store<D>,
 ) -> Result<Reply, LineRefusal>
-    ensures { IsCarriedOut result
-        (device_view D.is_honest D.moments D.failures D.bytes_read) Abandon store.old
+    ensures { IsCarriedOut result D.view Abandon store.old
         store.new }
 {
     store.merge_abandon()?;
@@ -69,8 +64,7 @@ pub(crate) fn answer_trim<D: Disk>(
     alloc: Global,
     store: &mut Store<D>,
 ) -> Result<Reply, LineRefusal>
-    ensures { IsCarriedOut result
-        (device_view D.is_honest D.moments D.failures D.bytes_read) Trim store.old
+    ensures { IsCarriedOut result D.view Trim store.old
         store.new }
 {
     let _bytes = store.trim()?;

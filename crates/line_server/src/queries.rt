@@ -1,7 +1,6 @@
 //! Queries: what the store finds, as a reply.
 
 ghost use Rattle.std.specs.Prelude.{◌≤◌};
-ghost use Rattle.store_life.specs.DeviceView.{device_view};
 ghost use Rattle.line_commands.specs.Questions.{Get, History, Children, Terms, Search, Replaced};
 ghost use Rattle.line_commands.specs.Questions.{About, Page, Receipt};
 ghost use Rattle.line_server.specs.Private.{IsQueried};
@@ -24,7 +23,7 @@ pub(crate) fn answer_get<D: Disk>(
 ) -> Result<Reply, LineRefusal>
     requires { as_of.pin ≤ store.old.history.imports }
     ensures { IsQueried result
-        (device_view D.is_honest D.moments D.failures D.bytes_read) (Get kind id as_of.date)
+        D.view (Get kind id as_of.date)
         as_of.pin store.old store.new }
 {
     let found = store.get(kind, id, as_of)?;
@@ -40,8 +39,7 @@ pub(crate) fn answer_history<D: Disk>(
     store: &mut Store<D>,
 ) -> Result<Reply, LineRefusal>
     requires { pin ≤ store.old.history.imports }
-    ensures { IsQueried result
-        (device_view D.is_honest D.moments D.failures D.bytes_read) (History kind id) pin
+    ensures { IsQueried result D.view (History kind id) pin
         store.old store.new }
 {
     let found = store.history(kind, id, pin)?;
@@ -56,7 +54,7 @@ pub(crate) fn answer_children<D: Disk>(
     store: &mut Store<D>,
 ) -> Result<Reply, LineRefusal>
     requires { as_of.pin ≤ store.old.history.imports }
-    ensures { IsQueried result (device_view D.is_honest D.moments D.failures D.bytes_read)
+    ensures { IsQueried result D.view
         (Children concept as_of.date) as_of.pin store.old store.new }
 {
     let found = store.children(concept, as_of)?;
@@ -72,7 +70,7 @@ pub(crate) fn answer_terms<D: Disk>(
     store: &mut Store<D>,
 ) -> Result<Reply, LineRefusal>
     requires { as_of.pin ≤ store.old.history.imports }
-    ensures { IsQueried result (device_view D.is_honest D.moments D.failures D.bytes_read)
+    ensures { IsQueried result D.view
         (Terms prefix.now as_of.date limit) as_of.pin store.old store.new }
 {
     let found = store.terms(prefix, as_of, limit)?;
@@ -89,7 +87,7 @@ pub(crate) fn answer_search<D: Disk>(
     store: &mut Store<D>,
 ) -> Result<Reply, LineRefusal>
     requires { as_of.pin ≤ store.old.history.imports }
-    ensures { IsQueried result (device_view D.is_honest D.moments D.failures D.bytes_read)
+    ensures { IsQueried result D.view
         (Search prefix.now as_of.date after limit) as_of.pin store.old store.new }
 {
     let found = store.search(prefix, as_of, after, limit)?;
@@ -105,7 +103,7 @@ pub(crate) fn answer_replaced<D: Disk>(
 ) -> Result<Reply, LineRefusal>
     requires { as_of.pin ≤ store.old.history.imports }
     ensures { IsQueried result
-        (device_view D.is_honest D.moments D.failures D.bytes_read) (Replaced id as_of.date)
+        D.view (Replaced id as_of.date)
         as_of.pin store.old store.new }
 {
     let found = store.replacements(id, as_of)?;
@@ -122,7 +120,7 @@ pub(crate) fn answer_about<D: Disk>(
 ) -> Result<Reply, LineRefusal>
     requires { as_of.pin ≤ store.old.history.imports }
     ensures { IsQueried result
-        (device_view D.is_honest D.moments D.failures D.bytes_read) (About kind id as_of.date)
+        D.view (About kind id as_of.date)
         as_of.pin store.old store.new }
 {
     let found = store.about(kind, id, as_of)?;
@@ -139,7 +137,7 @@ pub(crate) fn answer_page<D: Disk>(
     store: &mut Store<D>,
 ) -> Result<Reply, LineRefusal>
     requires { as_of.pin ≤ store.old.history.imports }
-    ensures { IsQueried result (device_view D.is_honest D.moments D.failures D.bytes_read)
+    ensures { IsQueried result D.view
         (Page kind as_of.date after limit) as_of.pin store.old store.new }
 {
     let found = store.page(kind, as_of, after, limit)?;
@@ -155,8 +153,7 @@ pub(crate) fn answer_receipt<D: Disk>(
 ) -> Result<Reply, LineRefusal>
     requires first { 1 ≤ number }
     requires within { pin ≤ store.now.history.imports }
-    ensures { IsQueried result
-        (device_view D.is_honest D.moments D.failures D.bytes_read) (Receipt number) pin
+    ensures { IsQueried result D.view (Receipt number) pin
         store.now store.now }
 {
     if number > pin {

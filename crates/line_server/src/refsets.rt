@@ -1,7 +1,6 @@
 //! The questions of reference sets: what the store finds, as a reply.
 
 ghost use Rattle.std.specs.Prelude.{◌≤◌};
-ghost use Rattle.store_life.specs.DeviceView.{device_view};
 ghost use Rattle.line_commands.specs.Questions.{Members, Values, Called};
 ghost use Rattle.line_server.specs.Private.{IsQueried};
 
@@ -23,7 +22,7 @@ pub(crate) fn answer_members<D: Disk>(
     store: &mut Store<D>,
 ) -> Result<Reply, LineRefusal>
     requires { as_of.pin ≤ store.old.history.imports }
-    ensures { IsQueried result (device_view D.is_honest D.moments D.failures D.bytes_read)
+    ensures { IsQueried result D.view
         (Members refset as_of.date after limit) as_of.pin store.old store.new }
 {
     let found = store.members(refset, as_of, after, limit)?;
@@ -40,7 +39,7 @@ pub(crate) fn answer_values<D: Disk>(
     store: &mut Store<D>,
 ) -> Result<Reply, LineRefusal>
     requires { as_of.pin ≤ store.old.history.imports }
-    ensures { IsQueried result (device_view D.is_honest D.moments D.failures D.bytes_read)
+    ensures { IsQueried result D.view
         (Values refset as_of.date after limit) as_of.pin store.old store.new }
 {
     let found = store.values(refset, as_of, after, limit)?;
@@ -56,7 +55,7 @@ pub(crate) fn answer_called<D: Disk>(
     store: &mut Store<D>,
 ) -> Result<Reply, LineRefusal>
     requires { as_of.pin ≤ store.old.history.imports }
-    ensures { IsQueried result (device_view D.is_honest D.moments D.failures D.bytes_read)
+    ensures { IsQueried result D.view
         (Called concept as_of.date refset) as_of.pin store.old store.new }
 {
     let found = store.called(concept, as_of, refset)?;

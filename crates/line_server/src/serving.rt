@@ -2,7 +2,6 @@
 
 ghost use Rattle.std.specs.Prelude.{◌≡◌, IsErrOf};
 ghost use Rattle.line_server.specs.Sources.{source_view};
-ghost use Rattle.store_life.specs.DeviceView.{device_view};
 ghost use Rattle.line_server.specs.declared.serving.ServeFault.TheVariants.{OutOfMemory};
 ghost use Rattle.line_server.specs.Serving.{IsServed};
 ghost use Rattle.line_server.specs.Streams.{streams, with_reads};
@@ -48,8 +47,7 @@ pub fn serve<R: PieceReader, W: Write, S: Source, D: Disk>(
     max_reads: u32,
 ) -> Result<u64, ServeFault>
     ensures served { IsServed result max_reads
-        (source_view (S.is_honest source.old) (S.releases source.old))
-        (device_view D.is_honest D.moments D.failures D.bytes_read)
+        (source_view (S.is_honest source.old) (S.releases source.old)) D.view
         (with_reads (streams (R.remaining reader.old) (R.remaining reader.new)
         (W.contents writer.old) (W.contents writer.new)) (R.reads reader.old) (R.reads reader.new))
         store.old store.new }

@@ -3,6 +3,7 @@
 ghost use Rattle.std.specs.Prelude.{◌≡◌, ◌⊎◌, ◌↔◌, ℕ, List, length};
 ghost use Rattle.std.specs.Prelude.{IfOk, IfErr, OnOk};
 ghost use Rattle.disk_model.specs.Disk.{IsImage, LeavesOnly};
+ghost use Rattle.disk_model.specs.View.{Calls, Stays, Unsaid};
 ghost use Rattle.fault_counts.specs.Counting.{Counts};
 ghost use Rattle.store_image.specs.Answers.{synced};
 ghost use Rattle.store_image.specs.Images.{IsStore};
@@ -50,22 +51,22 @@ fn read_and_plan<S: Disk>(
     source: &mut S,
     imports: Option<u32>,
 ) -> Result<Planned, CopyFault>
-    ensures read { S.is_honest source.old → IfOk result
-        (λ p. HasStore p.slot p.of p.segments.items (S.moments source.old).state.now) }
+    ensures read { (S.view source.old).is_honest → IfOk result
+        (λ p. HasStore p.slot p.of p.segments.items (S.view source.old).moments.state.now) }
     // On every disk what was read fits together, and the plan to it.
     ensures planned { IfOk result (λ p. IsPlanned imports p.of p.segments.items p.copy) }
-    ensures refused { S.is_honest source.old → IfErr result (λ e. (target : List ℕ)
-        → IsNotCopied e imports (S.moments source.old).state.now target) }
-    ensures source { S.is_honest source.old → (S.moments source.new ≡ S.moments source.old)
-        ⊎ (S.moments source.new ≡ synced (S.moments source.old)) }
-    ensures now { S.is_honest source.old
-        → (S.moments source.new).state.now ≡ (S.moments source.old).state.now }
-    ensures any_moment { S.is_honest source.old
-        → LeavesOnly (S.moments source.old) (S.moments source.new)
-        (IsImage (S.moments source.old).state) }
-    ensures honesty { S.is_honest source.old ↔ S.is_honest source.new }
-    ensures failures { Counts CountsSource result
-        (S.failures source.old) (S.failures source.new) }
+    ensures refused { (S.view source.old).is_honest → IfErr result (λ e. (target : List ℕ)
+        → IsNotCopied e imports (S.view source.old).moments.state.now target) }
+    ensures source { (S.view source.old).is_honest
+        → ((S.view source.new).moments ≡ (S.view source.old).moments)
+        ⊎ ((S.view source.new).moments ≡ synced (S.view source.old).moments) }
+    ensures now { (S.view source.old).is_honest
+        → (S.view source.new).moments.state.now ≡ (S.view source.old).moments.state.now }
+    ensures any_moment { (S.view source.old).is_honest
+        → LeavesOnly (S.view source.old).moments (S.view source.new).moments
+        (IsImage (S.view source.old).moments.state) }
+    ensures meters { Calls (Counts CountsSource result) Unsaid Unsaid
+        (S.view source.old) (S.view source.new) }
     // No fault is one of the disk that is copied to.
     ensures target_failures { (n : ℕ) → Counts CountsTarget result n n }
 {
@@ -96,36 +97,34 @@ pub fn copy<S: Disk, T: Disk>(
     imports: Option<u32>,
 ) -> Result<Directory, CopyFault>
     // After Ok each stop leaves the copy.
-    ensures copied { S.is_honest source.old → T.is_honest target.old → IfOk result
-        (λ copy. HasCopy imports (S.moments source.old).state.now copy
-        (T.moments target.new).state) }
+    ensures copied { (S.view source.old).is_honest → (T.view target.old).is_honest → IfOk result
+        (λ copy. HasCopy imports (S.view source.old).moments.state.now copy
+        (T.view target.new).moments.state) }
     // A stop at any moment leaves what it might have left before, no store, or the whole copy.
-    ensures any_moment { S.is_honest source.old → T.is_honest target.old
-        → LeavesOnly (T.moments target.old) (T.moments target.new)
-        (λ c. IsImage (T.moments target.old).state c ⊎ (IsStore c → ⊥)
-        ⊎ IsCopyOf imports (S.moments source.old).state.now c) }
+    ensures any_moment { (S.view source.old).is_honest → (T.view target.old).is_honest
+        → LeavesOnly (T.view target.old).moments (T.view target.new).moments
+        (λ c. IsImage (T.view target.old).moments.state c ⊎ (IsStore c → ⊥)
+        ⊎ IsCopyOf imports (S.view source.old).moments.state.now c) }
     // It is made on a disk of no bytes alone.
-    ensures empty { T.is_honest target.old
-        → OnOk result (length (T.moments target.old).state.now ≡ 0) }
-    ensures refused { S.is_honest source.old → T.is_honest target.old → IfErr result
-        (λ e. IsNotCopied e imports (S.moments source.old).state.now
-        (T.moments target.old).state.now) }
+    ensures empty { (T.view target.old).is_honest
+        → OnOk result (length (T.view target.old).moments.state.now ≡ 0) }
+    ensures refused { (S.view source.old).is_honest → (T.view target.old).is_honest → IfErr result
+        (λ e. IsNotCopied e imports (S.view source.old).moments.state.now
+        (T.view target.old).moments.state.now) }
     // Refused for any other reason than a device or the memory, it leaves the target as it was.
-    ensures stays { S.is_honest source.old → T.is_honest target.old
-        → StaysUnlessFailed result (T.moments target.old) (T.moments target.new) }
+    ensures stays { (S.view source.old).is_honest → (T.view target.old).is_honest
+        → StaysUnlessFailed result (T.view target.old).moments (T.view target.new).moments }
     // The source is read and synced: what a read gives and what a stop may leave is as before.
-    ensures source { S.is_honest source.old → (S.moments source.new ≡ S.moments source.old)
-        ⊎ (S.moments source.new ≡ synced (S.moments source.old)) }
-    ensures source_any_moment { S.is_honest source.old
-        → LeavesOnly (S.moments source.old) (S.moments source.new)
-        (IsImage (S.moments source.old).state) }
-    ensures source_honesty { S.is_honest source.old ↔ S.is_honest source.new }
-    ensures target_honesty { T.is_honest target.old ↔ T.is_honest target.new }
-    ensures source_failures { Counts CountsSource result
-        (S.failures source.old) (S.failures source.new) }
-    ensures target_failures { Counts CountsTarget result
-        (T.failures target.old) (T.failures target.new) }
-    ensures bytes_read { T.bytes_read target.new ≡ T.bytes_read target.old }
+    ensures source { (S.view source.old).is_honest
+        → ((S.view source.new).moments ≡ (S.view source.old).moments)
+        ⊎ ((S.view source.new).moments ≡ synced (S.view source.old).moments) }
+    ensures source_any_moment { (S.view source.old).is_honest
+        → LeavesOnly (S.view source.old).moments (S.view source.new).moments
+        (IsImage (S.view source.old).moments.state) }
+    ensures source_meters { Calls (Counts CountsSource result) Unsaid Unsaid
+        (S.view source.old) (S.view source.new) }
+    ensures target_meters { Calls (Counts CountsTarget result) Stays Unsaid
+        (T.view target.old) (T.view target.new) }
 {
     check_empty(target)?;
     let Planned {

@@ -2,6 +2,7 @@
 
 ghost use Rattle.std.specs.Prelude.{◌≡◌, ◌≢◌, ◌↔◌, ◌+◌, ◌*◌, ◌<◌, ◌≤◌, length, take, drop, IsTrue};
 ghost use Rattle.std.specs.Prelude.{IfOk, IfErr, MatchResult};
+ghost use Rattle.disk_model.specs.View.{OnlyReads, AtMost};
 ghost use Rattle.fault_counts.specs.Counting.{Counts, CountsDiskFault};
 ghost use Rattle.fault_counts.specs.declared.fault.ReadFault.TheVariants as readfault;
 ghost use Rattle.history_model.specs.declared.stamped.StampedRow.{StampedRow};
@@ -30,17 +31,13 @@ fn read_bytes<S: Disk>(
     from: u64,
     len: u32,
 ) -> Result<Vec<u8>, ReadFault>
-    ensures bytes { S.is_honest source.old → IfOk result (λ bytes. bytes.items
-        ≡ take len (drop from (S.moments source.old).state.now)) }
+    ensures bytes { (S.view source.old).is_honest → IfOk result (λ bytes. bytes.items
+        ≡ take len (drop from (S.view source.old).moments.state.now)) }
     ensures len { IfOk result (λ bytes. length bytes.items ≡ len) }
-    ensures short { S.is_honest source.old → IfErr result (λ e. e ≡ readfault.Damaged
-        → length (take len (drop from (S.moments source.old).state.now)) < len) }
-    ensures moments { S.is_honest source.old → S.moments source.new ≡ S.moments source.old }
-    ensures honesty { S.is_honest source.old ↔ S.is_honest source.new }
-    ensures failures { Counts CountsDiskFault result
-        (S.failures source.old) (S.failures source.new) }
-    ensures bytes_read { S.bytes_read source.new ≤ S.bytes_read source.old + len }
-    ensures other_calls { S.other_calls source.new ≡ S.other_calls source.old }
+    ensures short { (S.view source.old).is_honest → IfErr result (λ e. e ≡ readfault.Damaged
+        → length (take len (drop from (S.view source.old).moments.state.now)) < len) }
+    ensures meters { OnlyReads (Counts CountsDiskFault result) (AtMost len)
+        (S.view source.old) (S.view source.new) }
 {
     let mut bytes = vec![in alloc; 0u8; len as usize]?;
     match source.read_at(from, bytes.as_mut_slice()) {
@@ -61,17 +58,13 @@ pub(crate) fn read_row<S: Disk>(
     entry: Entry,
     at: RowPlace,
 ) -> Result<StampedRow, ReadFault>
-    ensures found { S.is_honest source.old → (s : StampedRow)
-        → IsThere entry.form (4096 * entry.first + at.at) s at (S.moments source.old).state.now
+    ensures found { (S.view source.old).is_honest → (s : StampedRow)
+        → IsThere entry.form (4096 * entry.first + at.at) s at (S.view source.old).moments.state.now
         → MatchResult result (λ row. row ≡ s) (λ e. e ≢ readfault.Damaged) }
     // Whatever the disk gave, the row is as its place says.
     ensures of_place { IfOk result (λ row. IsOfPlace row at) }
-    ensures moments { S.is_honest source.old → S.moments source.new ≡ S.moments source.old }
-    ensures honesty { S.is_honest source.old ↔ S.is_honest source.new }
-    ensures failures { Counts CountsDiskFault result
-        (S.failures source.old) (S.failures source.new) }
-    ensures bytes_read { S.bytes_read source.new ≤ S.bytes_read source.old + at.bytes }
-    ensures other_calls { S.other_calls source.new ≡ S.other_calls source.old }
+    ensures meters { OnlyReads (Counts CountsDiskFault result) (AtMost at.bytes)
+        (S.view source.old) (S.view source.new) }
 {
     let from = BLOCK * u64::from(entry.first) + u64::from(at.at);
     let len = at.bytes;

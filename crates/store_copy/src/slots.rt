@@ -2,6 +2,7 @@
 
 ghost use Rattle.std.specs.Prelude.{◌≡◌, ◌⊎◌, ◌↔◌, ◌+◌, ◌≤◌, List, length, OnOk};
 ghost use Rattle.disk_model.specs.Disk.{EachImage, IsImage, LeavesOnly};
+ghost use Rattle.disk_model.specs.View.{Calls, Stays, AtMost};
 ghost use Rattle.fault_counts.specs.Counting.{CountsEach};
 ghost use Rattle.blocks.specs.declared.slots.Slot.TheVariants.{A};
 ghost use Rattle.history_model.specs.declared.stamped.StampedRow.{StampedRow};
@@ -19,17 +20,16 @@ use disk_model::{Disk, DiskFault};
 /// behind it. So no stop leaves as many bytes as the slots have before both gates are closed.
 pub(crate) fn close_slots<T: Disk>(target: &mut T) -> Result<(), DiskFault>
     // A stop at any moment leaves what it might have left before, or no store.
-    ensures any_moment { T.is_honest target.old → length (T.moments target.old).state.now ≡ 0
-        → LeavesOnly (T.moments target.old) (T.moments target.new)
-        (λ c. IsImage (T.moments target.old).state c ⊎ (IsStore c → ⊥)) }
-    ensures shut { T.is_honest target.old → length (T.moments target.old).state.now ≡ 0
-        → OnOk result (EachImage (T.moments target.new).state IsShut) }
-    ensures long { T.is_honest target.old → length (T.moments target.old).state.now ≡ 0
-        → OnOk result (16384 ≤ length (T.moments target.new).state.now) }
-    ensures honesty { T.is_honest target.old ↔ T.is_honest target.new }
-    ensures failures { CountsEach result (T.failures target.old) (T.failures target.new) }
-    ensures bytes_read { T.bytes_read target.new ≡ T.bytes_read target.old }
-    ensures other_calls { T.other_calls target.new ≤ T.other_calls target.old + 4 }
+    ensures any_moment { (T.view target.old).is_honest
+        → length (T.view target.old).moments.state.now ≡ 0
+        → LeavesOnly (T.view target.old).moments (T.view target.new).moments
+        (λ c. IsImage (T.view target.old).moments.state c ⊎ (IsStore c → ⊥)) }
+    ensures shut { (T.view target.old).is_honest → length (T.view target.old).moments.state.now ≡ 0
+        → OnOk result (EachImage (T.view target.new).moments.state IsShut) }
+    ensures long { (T.view target.old).is_honest → length (T.view target.old).moments.state.now ≡ 0
+        → OnOk result (16384 ≤ length (T.view target.new).moments.state.now) }
+    ensures meters { Calls (CountsEach result) Stays (AtMost 4)
+        (T.view target.old) (T.view target.new) }
 {
     target.sync()?;
     write_and_sync(target, 0, &[0; 8193])?;
@@ -40,24 +40,22 @@ pub(crate) fn close_slots<T: Disk>(target: &mut T) -> Result<(), DiskFault>
 /// has a store. `a5` opens a gate, and the slot's content begins at the second block.
 pub(crate) fn open_slot<T: Disk>(target: &mut T, directory: &Directory) -> Result<(), DiskFault>
     // A stop at any moment leaves no store, or the whole copy.
-    ensures any_moment { T.is_honest target.old
+    ensures any_moment { (T.view target.old).is_honest
         → (lists : List (List StampedRow)) → IsKept directory.now lists
-        → EachImage (T.moments target.old).state IsShut
-        → 16384 ≤ length (T.moments target.old).state.now
-        → HoldsAll (pieces_of directory.now.entries lists) (T.moments target.old).state.now
-        → LeavesOnly (T.moments target.old) (T.moments target.new)
+        → EachImage (T.view target.old).moments.state IsShut
+        → 16384 ≤ length (T.view target.old).moments.state.now
+        → HoldsAll (pieces_of directory.now.entries lists) (T.view target.old).moments.state.now
+        → LeavesOnly (T.view target.old).moments (T.view target.new).moments
         (λ c. (IsStore c → ⊥) ⊎ HasStore A directory.now lists c) }
     // After Ok each stop leaves the copy.
-    ensures on_disk { T.is_honest target.old
+    ensures on_disk { (T.view target.old).is_honest
         → (lists : List (List StampedRow)) → IsKept directory.now lists
-        → EachImage (T.moments target.old).state IsShut
-        → 16384 ≤ length (T.moments target.old).state.now
-        → HoldsAll (pieces_of directory.now.entries lists) (T.moments target.old).state.now
-        → OnOk result (IsOnDisk (T.moments target.new).state A directory.now lists) }
-    ensures honesty { T.is_honest target.old ↔ T.is_honest target.new }
-    ensures failures { CountsEach result (T.failures target.old) (T.failures target.new) }
-    ensures bytes_read { T.bytes_read target.new ≡ T.bytes_read target.old }
-    ensures other_calls { T.other_calls target.new ≤ T.other_calls target.old + 5 }
+        → EachImage (T.view target.old).moments.state IsShut
+        → 16384 ≤ length (T.view target.old).moments.state.now
+        → HoldsAll (pieces_of directory.now.entries lists) (T.view target.old).moments.state.now
+        → OnOk result (IsOnDisk (T.view target.new).moments.state A directory.now lists) }
+    ensures meters { Calls (CountsEach result) Stays (AtMost 5)
+        (T.view target.old) (T.view target.new) }
 {
     target.sync()?;
     let mut content = [0; 4096];

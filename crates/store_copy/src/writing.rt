@@ -6,6 +6,7 @@ ghost use Rattle.std.specs.List.{AllByRecursion};
 ghost use Rattle.fault_counts.specs.Counting.{Counts, CountsEach, CountsDiskFault};
 ghost use Rattle.fault_counts.specs.declared.fault.ReadFault.TheVariants as readfault;
 ghost use Rattle.disk_model.specs.Disk.{EachImage, IsImage, LeavesOnly};
+ghost use Rattle.disk_model.specs.View.{OnlyReads, Calls, Stays, Unsaid};
 ghost use Rattle.blocks.specs.declared.slots.Slot.TheVariants.{A};
 ghost use Rattle.blocks.specs.Extents.{block_limit, byte_range};
 ghost use Rattle.blocks.specs.Outside.{SameOutside, StemsWithin};
@@ -75,17 +76,16 @@ impl Pending {
         ensures written { OnOk result (self.new.written ≡ self.old.written) }
         ensures len { OnOk result (length self.new.bytes.items
             ≡ length self.old.bytes.items + at.bytes) }
-        ensures bytes { S.is_honest source.old → (s : StampedRow)
-            → IsThere from.form (4096 * from.first + at.at) s at (S.moments source.old).state.now
+        ensures bytes { (S.view source.old).is_honest → (s : StampedRow)
+            → IsThere from.form (4096 * from.first + at.at) s at
+            (S.view source.old).moments.state.now
             → OnOk result (self.new.bytes.items ≡ self.old.bytes.items ++ record_in form s) }
-        ensures found { S.is_honest source.old → (s : StampedRow)
-            → IsThere from.form (4096 * from.first + at.at) s at (S.moments source.old).state.now
+        ensures found { (S.view source.old).is_honest → (s : StampedRow)
+            → IsThere from.form (4096 * from.first + at.at) s at
+            (S.view source.old).moments.state.now
             → IfErr result (λ e. e ≢ readfault.Damaged) }
-        ensures moments { S.is_honest source.old → S.moments source.new ≡ S.moments source.old }
-        ensures honesty { S.is_honest source.old ↔ S.is_honest source.new }
-        ensures failures { Counts CountsDiskFault result
-            (S.failures source.old) (S.failures source.new) }
-        ensures other_calls { S.other_calls source.new ≡ S.other_calls source.old }
+        ensures meters { OnlyReads (Counts CountsDiskFault result) Unsaid
+            (S.view source.old) (S.view source.new) }
     {
         let row = read_row(alloc, source, from, at)?;
         put_record(&mut self.bytes, &mut self.fields, form, &row)?;
@@ -99,20 +99,20 @@ impl Pending {
         ensures written { OnOk result
             (self.new.written ≡ self.old.written + length self.old.bytes.items) }
         ensures none { OnOk result (self.new.bytes.items ≡ []) }
-        ensures pending { T.is_honest target.old → (form : FormValue) (rows : List StampedRow)
+        ensures pending { (T.view target.old).is_honest
+            → (form : FormValue) (rows : List StampedRow)
             → ArePending form extent rows self.old.written self.old.bytes.items
-            (T.moments target.old).state.now
+            (T.view target.old).moments.state.now
             → OnOk result (ArePending form extent rows self.new.written self.new.bytes.items
-            (T.moments target.new).state.now) }
-        ensures any_moment { T.is_honest target.old
-            → LeavesOnly (T.moments target.old) (T.moments target.new)
-            (StemsWithin (T.moments target.old).state (byte_range extent)) }
-        ensures elsewhere { T.is_honest target.old → OnOk result
+            (T.view target.new).moments.state.now) }
+        ensures any_moment { (T.view target.old).is_honest
+            → LeavesOnly (T.view target.old).moments (T.view target.new).moments
+            (StemsWithin (T.view target.old).moments.state (byte_range extent)) }
+        ensures elsewhere { (T.view target.old).is_honest → OnOk result
             (SameOutside (byte_range extent ∷ [])
-            (T.moments target.old).state.now (T.moments target.new).state.now) }
-        ensures honesty { T.is_honest target.old ↔ T.is_honest target.new }
-        ensures failures { CountsEach result (T.failures target.old) (T.failures target.new) }
-        ensures bytes_read { T.bytes_read target.new ≡ T.bytes_read target.old }
+            (T.view target.old).moments.state.now (T.view target.new).moments.state.now) }
+        ensures meters { Calls (CountsEach result) Stays Unsaid
+            (T.view target.old) (T.view target.new) }
     {
         write_part(target, extent, self.written, self.bytes.as_slice())?;
         self.written += self.bytes.len() as u32;
@@ -135,31 +135,26 @@ fn copy_row<S: Disk, T: Disk>(
     requires inside { pending.old.written + length pending.old.bytes.items + at.bytes ≤ to.bytes }
     ensures len { OnOk result (pending.new.written + length pending.new.bytes.items
         ≡ pending.old.written + length pending.old.bytes.items + at.bytes) }
-    ensures pending { S.is_honest source.old → T.is_honest target.old
+    ensures pending { (S.view source.old).is_honest → (T.view target.old).is_honest
         → (rows : List StampedRow) (s : StampedRow)
-        → IsThere from.form (4096 * from.first + at.at) s at (S.moments source.old).state.now
+        → IsThere from.form (4096 * from.first + at.at) s at (S.view source.old).moments.state.now
         → ArePending to.form (extent_of to) rows pending.old.written pending.old.bytes.items
-        (T.moments target.old).state.now
+        (T.view target.old).moments.state.now
         → OnOk result (ArePending to.form (extent_of to) (rows ++ s ∷ [])
-        pending.new.written pending.new.bytes.items (T.moments target.new).state.now) }
-    ensures found { S.is_honest source.old → (s : StampedRow)
-        → IsThere from.form (4096 * from.first + at.at) s at (S.moments source.old).state.now
+        pending.new.written pending.new.bytes.items (T.view target.new).moments.state.now) }
+    ensures found { (S.view source.old).is_honest → (s : StampedRow)
+        → IsThere from.form (4096 * from.first + at.at) s at (S.view source.old).moments.state.now
         → IfErr result (λ e. IsNoDamage e) }
-    ensures any_moment { T.is_honest target.old
-        → LeavesOnly (T.moments target.old) (T.moments target.new)
-        (StemsWithin (T.moments target.old).state (byte_range (extent_of to))) }
-    ensures elsewhere { T.is_honest target.old → OnOk result
+    ensures any_moment { (T.view target.old).is_honest
+        → LeavesOnly (T.view target.old).moments (T.view target.new).moments
+        (StemsWithin (T.view target.old).moments.state (byte_range (extent_of to))) }
+    ensures elsewhere { (T.view target.old).is_honest → OnOk result
         (SameOutside (byte_range (extent_of to) ∷ [])
-        (T.moments target.old).state.now (T.moments target.new).state.now) }
-    ensures moments { S.is_honest source.old → S.moments source.new ≡ S.moments source.old }
-    ensures source_honesty { S.is_honest source.old ↔ S.is_honest source.new }
-    ensures target_honesty { T.is_honest target.old ↔ T.is_honest target.new }
-    ensures source_failures { Counts CountsRead result
-        (S.failures source.old) (S.failures source.new) }
-    ensures target_failures { Counts CountsWrite result
-        (T.failures target.old) (T.failures target.new) }
-    ensures other_calls { S.other_calls source.new ≡ S.other_calls source.old }
-    ensures bytes_read { T.bytes_read target.new ≡ T.bytes_read target.old }
+        (T.view target.old).moments.state.now (T.view target.new).moments.state.now) }
+    ensures source_meters { OnlyReads (Counts CountsRead result) Unsaid
+        (S.view source.old) (S.view source.new) }
+    ensures target_meters { Calls (Counts CountsWrite result) Stays Unsaid
+        (T.view target.old) (T.view target.new) }
 {
     let form = to.form;
     match pending.take(alloc, source, from, at, form) {
@@ -188,27 +183,23 @@ fn copy_segment<S: Disk, T: Disk>(
     requires entry { IsEntry to }
     requires size { to.bytes ≡ length (segment_of (up_to imports segment.now)) }
     // After Ok a read of the extent gives the segment of these rows.
-    ensures written { S.is_honest source.old → T.is_honest target.old
-        → IsAt (S.moments source.old).state.now from segment.now
+    ensures written { (S.view source.old).is_honest → (T.view target.old).is_honest
+        → IsAt (S.view source.old).moments.state.now from segment.now
         → OnOk result (BeginsWith (extent_of to) (segment_in to.form (up_to imports segment.now))
-        (T.moments target.new).state.now) }
-    ensures found { S.is_honest source.old → IsAt (S.moments source.old).state.now from segment.now
+        (T.view target.new).moments.state.now) }
+    ensures found { (S.view source.old).is_honest
+        → IsAt (S.view source.old).moments.state.now from segment.now
         → IfErr result (λ e. IsNoDamage e) }
-    ensures any_moment { T.is_honest target.old
-        → LeavesOnly (T.moments target.old) (T.moments target.new)
-        (StemsWithin (T.moments target.old).state (byte_range (extent_of to))) }
-    ensures elsewhere { T.is_honest target.old → OnOk result
+    ensures any_moment { (T.view target.old).is_honest
+        → LeavesOnly (T.view target.old).moments (T.view target.new).moments
+        (StemsWithin (T.view target.old).moments.state (byte_range (extent_of to))) }
+    ensures elsewhere { (T.view target.old).is_honest → OnOk result
         (SameOutside (byte_range (extent_of to) ∷ [])
-        (T.moments target.old).state.now (T.moments target.new).state.now) }
-    ensures moments { S.is_honest source.old → S.moments source.new ≡ S.moments source.old }
-    ensures source_honesty { S.is_honest source.old ↔ S.is_honest source.new }
-    ensures target_honesty { T.is_honest target.old ↔ T.is_honest target.new }
-    ensures source_failures { Counts CountsRead result
-        (S.failures source.old) (S.failures source.new) }
-    ensures target_failures { Counts CountsWrite result
-        (T.failures target.old) (T.failures target.new) }
-    ensures other_calls { S.other_calls source.new ≡ S.other_calls source.old }
-    ensures bytes_read { T.bytes_read target.new ≡ T.bytes_read target.old }
+        (T.view target.old).moments.state.now (T.view target.new).moments.state.now) }
+    ensures source_meters { OnlyReads (Counts CountsRead result) Unsaid
+        (S.view source.old) (S.view source.new) }
+    ensures target_meters { Calls (Counts CountsWrite result) Stays Unsaid
+        (T.view target.old) (T.view target.new) }
 {
     let mut pending = Pending::new(alloc);
     for place in segment.places() {
@@ -239,29 +230,26 @@ fn copy_segments<S: Disk, T: Disk>(
     requires small { AllByRecursion MayBeSegment segments.now }
     requires copy { IsPlan copy.now segments.now }
     // After Ok a read gives all segments of the copy.
-    ensures held { S.is_honest source.old → T.is_honest target.old
+    ensures held { (S.view source.old).is_honest → (T.view target.old).is_honest
         → AreSegments from.now segments.now
-        → HoldsAll (pieces_of from.now segments.now) (S.moments source.old).state.now
+        → HoldsAll (pieces_of from.now segments.now) (S.view source.old).moments.state.now
         → OnOk result (HoldsAll
         (pieces_of copy.now.entries (lists_up_to copy.now.imports segments.now))
-        (T.moments target.new).state.now) }
-    ensures found { S.is_honest source.old → AreSegments from.now segments.now
-        → HoldsAll (pieces_of from.now segments.now) (S.moments source.old).state.now
+        (T.view target.new).moments.state.now) }
+    ensures found { (S.view source.old).is_honest → AreSegments from.now segments.now
+        → HoldsAll (pieces_of from.now segments.now) (S.view source.old).moments.state.now
         → IfErr result (λ e. IsFailure e) }
-    ensures long { T.is_honest target.old → OnOk result
-        (length (T.moments target.old).state.now ≤ length (T.moments target.new).state.now) }
+    ensures long { (T.view target.old).is_honest → OnOk result
+        (length (T.view target.old).moments.state.now
+        ≤ length (T.view target.new).moments.state.now) }
     // Both gates stay closed.
-    ensures any_moment { T.is_honest target.old → EachImage (T.moments target.old).state IsShut
-        → LeavesOnly (T.moments target.old) (T.moments target.new) IsShut }
-    ensures moments { S.is_honest source.old → S.moments source.new ≡ S.moments source.old }
-    ensures source_honesty { S.is_honest source.old ↔ S.is_honest source.new }
-    ensures target_honesty { T.is_honest target.old ↔ T.is_honest target.new }
-    ensures source_failures { Counts CountsSource result
-        (S.failures source.old) (S.failures source.new) }
-    ensures target_failures { Counts CountsTarget result
-        (T.failures target.old) (T.failures target.new) }
-    ensures other_calls { S.other_calls source.new ≡ S.other_calls source.old }
-    ensures bytes_read { T.bytes_read target.new ≡ T.bytes_read target.old }
+    ensures any_moment { (T.view target.old).is_honest
+        → EachImage (T.view target.old).moments.state IsShut
+        → LeavesOnly (T.view target.old).moments (T.view target.new).moments IsShut }
+    ensures source_meters { OnlyReads (Counts CountsSource result) Unsaid
+        (S.view source.old) (S.view source.new) }
+    ensures target_meters { Calls (Counts CountsTarget result) Stays Unsaid
+        (T.view target.old) (T.view target.new) }
 {
     let imports = copy.imports();
     let mut left = copy.entries();
@@ -296,29 +284,25 @@ pub(crate) fn write_copy<S: Disk, T: Disk>(
     requires copy { IsPlan copy.now segments.now }
     requires kept { IsKept copy.now (lists_up_to copy.now.imports segments.now) }
     // After Ok each stop leaves the copy.
-    ensures on_disk { S.is_honest source.old → T.is_honest target.old
-        → HoldsAll (pieces_of from.now segments.now) (S.moments source.old).state.now
-        → length (T.moments target.old).state.now ≡ 0
-        → OnOk result (IsOnDisk (T.moments target.new).state A copy.now
+    ensures on_disk { (S.view source.old).is_honest → (T.view target.old).is_honest
+        → HoldsAll (pieces_of from.now segments.now) (S.view source.old).moments.state.now
+        → length (T.view target.old).moments.state.now ≡ 0
+        → OnOk result (IsOnDisk (T.view target.new).moments.state A copy.now
         (lists_up_to copy.now.imports segments.now)) }
-    ensures found { S.is_honest source.old
-        → HoldsAll (pieces_of from.now segments.now) (S.moments source.old).state.now
+    ensures found { (S.view source.old).is_honest
+        → HoldsAll (pieces_of from.now segments.now) (S.view source.old).moments.state.now
         → IfErr result (λ e. IsFailure e) }
     // A stop at any moment leaves what it might have left before, no store, or the whole copy.
-    ensures any_moment { S.is_honest source.old → T.is_honest target.old
-        → HoldsAll (pieces_of from.now segments.now) (S.moments source.old).state.now
-        → length (T.moments target.old).state.now ≡ 0
-        → LeavesOnly (T.moments target.old) (T.moments target.new)
-        (λ c. IsImage (T.moments target.old).state c ⊎ (IsStore c → ⊥)
+    ensures any_moment { (S.view source.old).is_honest → (T.view target.old).is_honest
+        → HoldsAll (pieces_of from.now segments.now) (S.view source.old).moments.state.now
+        → length (T.view target.old).moments.state.now ≡ 0
+        → LeavesOnly (T.view target.old).moments (T.view target.new).moments
+        (λ c. IsImage (T.view target.old).moments.state c ⊎ (IsStore c → ⊥)
         ⊎ HasStore A copy.now (lists_up_to copy.now.imports segments.now) c) }
-    ensures moments { S.is_honest source.old → S.moments source.new ≡ S.moments source.old }
-    ensures source_honesty { S.is_honest source.old ↔ S.is_honest source.new }
-    ensures target_honesty { T.is_honest target.old ↔ T.is_honest target.new }
-    ensures source_failures { Counts CountsSource result
-        (S.failures source.old) (S.failures source.new) }
-    ensures target_failures { Counts CountsTarget result
-        (T.failures target.old) (T.failures target.new) }
-    ensures bytes_read { T.bytes_read target.new ≡ T.bytes_read target.old }
+    ensures source_meters { OnlyReads (Counts CountsSource result) Unsaid
+        (S.view source.old) (S.view source.new) }
+    ensures target_meters { Calls (Counts CountsTarget result) Stays Unsaid
+        (T.view target.old) (T.view target.new) }
 {
     close_slots(target)?;
     copy_segments(alloc, source, from, segments, target, copy)?;

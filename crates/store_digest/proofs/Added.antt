@@ -8,7 +8,7 @@ use Rattle.rf2_values.specs.declared.key.Key.{Key}
 use Rattle.rf2_values.specs.Row.{RowValue}
 use Rattle.rf2_values.specs.Key.{key_of}
 use Rattle.history_model.specs.KeyOrder.{is_after, rows_after}
-use Rattle.disk_model.specs.Disk.{Moments}
+use Rattle.disk_model.specs.View.{DiskView}
 use Rattle.history_store.specs.StoreValue.{StoreValue}
 use Rattle.history_store.specs.Queries.{IsRowsQuery}
 use Rattle.store_digest.specs.Digest.{text_line, text_of}
@@ -30,8 +30,8 @@ one_only (first ∷ rest) row after rows e keys =
     let same : first ≡ row = cc in
     ap (λ x. x ∷ rest) same ∙ ap (λ xs. row ∷ xs) (none_behind first rest after rows keys)
 
-module _ {D : Type 0} (is_honest : D → Type 0) (moments_of : D → Moments) (failures_of bytes_read_of other_calls_of : D → ℕ) (pin : ℕ) (after : Option Key) (old new : StoreValue D) where
-  pub row_added : {T : Type 0} (rows_of : T → List RowValue) (x : T) (row : RowValue) (key : Key) (before more : Sha256) → IsRowsQuery (Ok x) rows_of (rows_after after 1) pin is_honest moments_of failures_of bytes_read_of other_calls_of old new → slice_get (rows_of x) 0 ≡ Some row → key ≡ key_of row → ((m : List ℕ) → Holds256 before m → Holds256 more (m ++ text_line row)) → IsNextAdded (Ok (Some key)) after pin before more is_honest moments_of failures_of bytes_read_of other_calls_of old new
+module _ {D : Type 0} (view : D → DiskView) (pin : ℕ) (after : Option Key) (old new : StoreValue D) where
+  pub row_added : {T : Type 0} (rows_of : T → List RowValue) (x : T) (row : RowValue) (key : Key) (before more : Sha256) → IsRowsQuery (Ok x) rows_of (rows_after after 1) pin view old new → slice_get (rows_of x) 0 ≡ Some row → key ≡ key_of row → ((m : List ℕ) → Holds256 before m → Holds256 more (m ++ text_line row)) → IsNextAdded (Ok (Some key)) after pin before more view old new
   row_added rows_of x row key before more q first key_is holds =
       let one = one_only (rows_of x) row after _ first q.keys in record {
         holds = λ h m holding.
@@ -39,7 +39,7 @@ module _ {D : Type 0} (is_honest : D → Type 0) (moments_of : D → Moments) (f
             sym (append-nil (text_line row)) ∙ sym (flat_map-cons text_line row []) ∙ ap text_of (sym one ∙ q.found h) in
             subst (λ t. Holds256 more (m ++ t)) text (holds m holding);
         key = ap (λ k. k ∷ []) key_is ∙ ap (map key_of) (sym one) ∙ q.keys;
-        query = answered_otherwise is_honest moments_of failures_of bytes_read_of other_calls_of old new x (Some key) q.query;
+        query = answered_otherwise view old new x (Some key) q.query;
         other_calls = q.other_calls;
         looked_up = q.looked_up;
         bytes_read = q.bytes_read_always;

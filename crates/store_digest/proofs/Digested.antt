@@ -3,6 +3,7 @@ use Rattle.std.proofs.Common.{◌≡◌, ℕ, ◌+◌, ◌≤◌, ◌<◌, Optio
 use Rattle.std.specs.List.{filter, sum_by}
 use Rattle.std.proofs.lemmas.Grind.{flat_map-append}
 use Rattle.std.proofs.lemmas.List.Sums.{sum_by-cons}
+use Rattle.disk_model.specs.View.{DiskView}
 use Rattle.sha2.specs.declared.Sha256.{Sha256}
 use Rattle.sha2.specs.Hashers.{Holds256}
 use Rattle.sha2.specs.Sha256.{sha256}
@@ -44,39 +45,39 @@ fed_all hasher last rows fed none = subst (λ ys. Holds256 hasher (text_of ys)) 
 abbrev pub shown_of : {D : Type 0} → ℕ → StoreValue D → List RowValue
 shown_of pin store = rows_at pin store.history.rows
 
-module _ {D : Type 0} (is_honest : D → Type 0) (moments_of : D → Moments) (failures_of bytes_read_of other_calls_of : D → ℕ) (pin : ℕ) where
+module _ {D : Type 0} (view : D → DiskView) (pin : ℕ) where
   -- what an image represents has its rows in the order of their keys
-  shown_ascend : (s : StoreValue D) → IsImage (moments_of s.disk).state (moments_of s.disk).state.now → IsAcknowledged moments_of s → IsAscending row_cmp (shown_of pin s)
+  shown_ascend : (s : StoreValue D) → IsImage (view s.disk).moments.state (view s.disk).moments.state.now → IsAcknowledged view s → IsAscending row_cmp (shown_of pin s)
   shown_ascend s image acknowledged =
-      let r = acknowledged.each (moments_of s.disk).state.now image in
+      let r = acknowledged.each (view s.disk).moments.state.now image in
       subst (λ rows. IsAscending row_cmp (rows_at pin rows)) (sym r.rows) (IsAscending-rows_at pin _ (IsAscending-listed r.lists))
 
   -- the rows up to a key were fed to the hasher, and no more was read than they take
   pub record IsDigesting (old now : StoreValue D) (hasher : Sha256) (last : Option Key) : Type 0 where
-    pub asked : IsAsked is_honest moments_of failures_of bytes_read_of other_calls_of old now
-    pub fed : is_honest old.disk → IsFed hasher last (shown_of pin old)
-    pub bytes_read : bytes_read_of now.disk + sum_by row_cost (filter (is_after last) (shown_of pin old)) ≤ bytes_read_of old.disk + sum_by row_cost (shown_of pin old)
+    pub asked : IsAsked view old now
+    pub fed : (view old.disk).is_honest → IsFed hasher last (shown_of pin old)
+    pub bytes_read : (view now.disk).bytes_read + sum_by row_cost (filter (is_after last) (shown_of pin old)) ≤ (view old.disk).bytes_read + sum_by row_cost (shown_of pin old)
 
   pub begun : (old : StoreValue D) (hasher : Sha256) → Holds256 hasher [] → IsDigesting old old hasher None
   begun old hasher holds = record {
-    asked = not_asked is_honest moments_of failures_of bytes_read_of other_calls_of old;
+    asked = not_asked view old;
     fed = λ h. record { done = []; holds = holds; left = all_left (shown_of pin old) };
     bytes_read = (let same = ap (sum_by row_cost) (all_left (shown_of pin old)) in omega arith);
   }
 
   module _ (old now new : StoreValue D) (hasher more : Sha256) (last : Option Key) (d : IsDigesting old now hasher last) where
     -- the next row was added
-    module _ (now_is_image : (disk : D) → is_honest disk → IsImage (moments_of disk).state (moments_of disk).state.now) (key : Key) (q : IsNextAdded (Ok (Some key)) last pin hasher more is_honest moments_of failures_of bytes_read_of other_calls_of now new) where
+    module _ (now_is_image : (disk : D) → (view disk).is_honest → IsImage (view disk).moments.state (view disk).moments.state.now) (key : Key) (q : IsNextAdded (Ok (Some key)) last pin hasher more view now new) where
       answered : (b : RowValue) × IsFirstLeft last (shown_of pin old) b × (key ≡ key_of b) × (rows_after last 1 (shown_of pin old) ≡ b ∷ [])
       answered = key_answered last (shown_of pin old) key (subst (λ (h : History). key ∷ [] ≡ map key_of (rows_after last 1 (rows_at pin h.rows))) d.asked.history q.key)
 
-      ascend : is_honest now.disk → IsAscending row_cmp (shown_of pin old)
+      ascend : (view now.disk).is_honest → IsAscending row_cmp (shown_of pin old)
       ascend h = subst (λ (g : History). IsAscending row_cmp (rows_at pin g.rows)) (q.query.read.history ∙ d.asked.history)
           (shown_ascend new (now_is_image new.disk (q.query.honesty.0 h)) (q.query.acknowledged h q.query.read.open_still))
 
       pub gone_on : IsDigesting old new more (Some key)
       gone_on = record {
-        asked = asked_then is_honest moments_of failures_of bytes_read_of other_calls_of old now new d.asked (Some key) q.query q.other_calls q.looked_up;
+        asked = asked_then view old now new d.asked (Some key) q.query q.other_calls q.looked_up;
         fed = λ h.
             let still = d.asked.honesty.0 h in
             let fed = d.fed h in
@@ -101,7 +102,7 @@ module _ {D : Type 0} (is_honest : D → Type 0) (moments_of : D → Moments) (f
           omega arith
 
     -- no row was left
-    pub ended : IsNextAdded (Ok None) last pin hasher more is_honest moments_of failures_of bytes_read_of other_calls_of now new → (digest : List ℕ) → ((m : List ℕ) → Holds256 more m → digest ≡ sha256 m) → IsDigestQuery (Ok digest) pin is_honest moments_of failures_of bytes_read_of other_calls_of old new
+    pub ended : IsNextAdded (Ok None) last pin hasher more view now new → (digest : List ℕ) → ((m : List ℕ) → Holds256 more m → digest ≡ sha256 m) → IsDigestQuery (Ok digest) pin view old new
     ended q digest is =
         let none = none_answered last (shown_of pin old) (subst (λ (h : History). [] ≡ map key_of (rows_after last 1 (rows_at pin h.rows))) d.asked.history q.key) in record {
           found = λ h.
@@ -113,9 +114,9 @@ module _ {D : Type 0} (is_honest : D → Type 0) (moments_of : D → Moments) (f
                     (subst (λ (g : History). Holds256 more (text_of fed.done ++ text_of (rows_after last 1 (rows_at pin g.rows)))) d.asked.history (q.holds (d.asked.honesty.0 h) (text_of fed.done) fed.holds));
                 left = fed.left;
               }) none.0);
-          query = query_then is_honest moments_of failures_of bytes_read_of other_calls_of old now new d.asked (Ok digest) (answered_otherwise is_honest moments_of failures_of bytes_read_of other_calls_of now new None digest q.query);
+          query = query_then view old now new d.asked (Ok digest) (answered_otherwise view now new None digest q.query);
           other_calls = q.other_calls ∙ d.asked.other_calls;
-          looked_up = looked_up_then is_honest moments_of failures_of bytes_read_of other_calls_of old now new d.asked q.looked_up;
+          looked_up = looked_up_then view old now new d.asked q.looked_up;
           bytes_read =
               let before = d.bytes_read in
               let read = q.bytes_read in
@@ -125,12 +126,12 @@ module _ {D : Type 0} (is_honest : D → Type 0) (moments_of : D → Moments) (f
         }
 
     -- a row wasn't read
-    pub stopped : (e : Refusal) → IsNextAdded (Err e) last pin hasher more is_honest moments_of failures_of bytes_read_of other_calls_of now new → IsDigestQuery (Err e) pin is_honest moments_of failures_of bytes_read_of other_calls_of old new
+    pub stopped : (e : Refusal) → IsNextAdded (Err e) last pin hasher more view now new → IsDigestQuery (Err e) pin view old new
     stopped e q = record {
       found = λ h. tt;
-      query = query_then is_honest moments_of failures_of bytes_read_of other_calls_of old now new d.asked (Err e) (refused_otherwise is_honest moments_of failures_of bytes_read_of other_calls_of now new e q.query);
+      query = query_then view old now new d.asked (Err e) (refused_otherwise view now new e q.query);
       other_calls = q.other_calls ∙ d.asked.other_calls;
-      looked_up = looked_up_then is_honest moments_of failures_of bytes_read_of other_calls_of old now new d.asked q.looked_up;
+      looked_up = looked_up_then view old now new d.asked q.looked_up;
       bytes_read =
           let before = d.bytes_read in
           let read = q.bytes_read in

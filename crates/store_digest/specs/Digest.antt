@@ -4,7 +4,7 @@ use Rattle.std.specs.List.{flat_map, sum_by}
 use Rattle.sha2.specs.Sha256.{sha256}
 use Rattle.rf2_values.specs.Row.{RowValue, kind_of, canonical}
 use Rattle.history_model.specs.History.{rows_at}
-use Rattle.disk_model.specs.Disk.{Moments}
+use Rattle.disk_model.specs.View.{DiskView}
 use Rattle.line_commands.specs.Questions.{letter}
 use Rattle.history_store.specs.declared.refusal.Refusal.{Refusal}
 use Rattle.history_store.specs.Reading.{row_cost}
@@ -27,12 +27,11 @@ digest_of rows = sha256 (text_of rows)
 -- On every disk no call but reads is made, what is kept is not read again, and no more is read than
 -- these rows take, each counted once.
 pub record IsDigestQuery {D : Type 0} (result : Result (List ℕ) Refusal) (pin : ℕ)
-    (is_honest : D → Type 0) (moments_of : D → Moments)
-    (failures_of bytes_read_of other_calls_of : D → ℕ) (old new : StoreValue D) : Type 0 where
-  pub found : is_honest old.disk
+    (view : D → DiskView) (old new : StoreValue D) : Type 0 where
+  pub found : (view old.disk).is_honest
       → IfOk result (λ digest. digest ≡ digest_of (rows_at pin old.history.rows))
-  pub query : IsQuery result is_honest moments_of failures_of old new
-  pub other_calls : other_calls_of new.disk ≡ other_calls_of old.disk
-  pub looked_up : ReadsThroughCache bytes_read_of old new
-  pub bytes_read : bytes_read_of new.disk
-      ≤ bytes_read_of old.disk + sum_by row_cost (rows_at pin old.history.rows)
+  pub query : IsQuery result view old new
+  pub other_calls : (view new.disk).other_calls ≡ (view old.disk).other_calls
+  pub looked_up : ReadsThroughCache view old new
+  pub bytes_read : (view new.disk).bytes_read
+      ≤ (view old.disk).bytes_read + sum_by row_cost (rows_at pin old.history.rows)

@@ -9,7 +9,7 @@ use Rattle.rf2_values.specs.Row.{RowValue}
 use Rattle.rf2_values.specs.Key.{key_of}
 use Rattle.history_model.specs.History.{rows_at}
 use Rattle.history_model.specs.KeyOrder.{rows_after}
-use Rattle.disk_model.specs.Disk.{Moments}
+use Rattle.disk_model.specs.View.{DiskView}
 use Rattle.history_store.specs.declared.refusal.Refusal.{Refusal}
 use Rattle.history_store.specs.Reading.{row_cost}
 use Rattle.history_store.specs.StoreValue.{StoreValue}
@@ -22,13 +22,13 @@ next_row after pin store = rows_after after 1 (rows_at pin store.history.rows)
 
 -- The next row after a key was added to a hasher, and its key is answered, or there is none.
 pub record IsNextAdded {D : Type 0} (result : Result (Option Key) Refusal) (after : Option Key)
-    (pin : ℕ) (before after_it : Sha256) (is_honest : D → Type 0) (moments_of : D → Moments)
-    (failures_of bytes_read_of other_calls_of : D → ℕ) (old new : StoreValue D) : Type 0 where
-  pub holds : is_honest old.disk → IfOk result (λ key. (m : List ℕ) → Holds256 before m
+    (pin : ℕ) (before after_it : Sha256) (view : D
+    → DiskView) (old new : StoreValue D) : Type 0 where
+  pub holds : (view old.disk).is_honest → IfOk result (λ key. (m : List ℕ) → Holds256 before m
       → Holds256 after_it (m ++ text_of (next_row after pin old)))
   pub key : IfOk result (λ key. option_to_list key ≡ map key_of (next_row after pin old))
-  pub query : IsQuery result is_honest moments_of failures_of old new
-  pub other_calls : other_calls_of new.disk ≡ other_calls_of old.disk
-  pub looked_up : ReadsThroughCache bytes_read_of old new
-  pub bytes_read : bytes_read_of new.disk
-      ≤ bytes_read_of old.disk + sum_by row_cost (next_row after pin old)
+  pub query : IsQuery result view old new
+  pub other_calls : (view new.disk).other_calls ≡ (view old.disk).other_calls
+  pub looked_up : ReadsThroughCache view old new
+  pub bytes_read : (view new.disk).bytes_read
+      ≤ (view old.disk).bytes_read + sum_by row_cost (next_row after pin old)

@@ -33,8 +33,7 @@ fn add_next<D: Disk>(
     hasher: &mut Sha256,
 ) -> Result<Option<Key>, Refusal>
     requires { pin ≤ store.old.history.imports }
-    ensures added { IsNextAdded result after pin hasher.old hasher.new
-        D.is_honest D.moments D.failures D.bytes_read D.other_calls store.old store.new }
+    ensures added { IsNextAdded result after pin hasher.old hasher.new D.view store.old store.new }
 {
     let rows = store.rows_after(after, 1, pin)?;
     match rows.first() {
@@ -50,8 +49,7 @@ fn add_next<D: Disk>(
 /// kind, ascending by identifier, then by time. It has one row in memory at a time.
 pub fn digest<D: Disk>(alloc: Global, store: &mut Store<D>, pin: u32) -> Result<[u8; 32], Refusal>
     requires { pin ≤ store.old.history.imports }
-    ensures answer { IsDigestQuery result pin
-        D.is_honest D.moments D.failures D.bytes_read D.other_calls store.old store.new }
+    ensures answer { IsDigestQuery result pin D.view store.old store.new }
 {
     let mut hasher = Sha256::new();
     let mut last = None;

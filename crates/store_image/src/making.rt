@@ -2,6 +2,7 @@
 
 ghost use Rattle.std.specs.Prelude.{◌≡◌, ◌⊎◌, ◌↔◌, ◌+◌, ◌≤◌, [], length, IfOk, IfErr, OnOk};
 ghost use Rattle.disk_model.specs.Disk.{EachImage, LeavesOnly};
+ghost use Rattle.disk_model.specs.View.{Calls, Stays, AtMost};
 ghost use Rattle.blocks.specs.Calls.{MakesCalls};
 ghost use Rattle.blocks.specs.Outside.{StemsWithin};
 ghost use Rattle.blocks.specs.Slots.{slots_range};
@@ -31,13 +32,13 @@ pub struct Made {
 
 /// Looks whether a disk has no byte. `NotEmpty` where it has one.
 pub fn check_empty<D: Disk>(disk: &mut D) -> Result<(), MakeFault>
-    ensures exact { D.is_honest disk.old → IsLookedAt result (D.moments disk.old).state.now }
+    ensures exact { (D.view disk.old).is_honest
+        → IsLookedAt result (D.view disk.old).moments.state.now }
     ensures refused { IfErr result (λ e. (e ≡ faults.NotEmpty) ⊎ (e ≡ faults.DiskFault)) }
-    ensures moments { D.is_honest disk.old → D.moments disk.new ≡ D.moments disk.old }
-    ensures honesty { D.is_honest disk.old ↔ D.is_honest disk.new }
-    ensures failures { CountsMaking result (D.failures disk.old) (D.failures disk.new) }
-    ensures bytes_read { D.bytes_read disk.new ≡ D.bytes_read disk.old }
-    ensures other_calls { D.other_calls disk.new ≤ D.other_calls disk.old + 1 }
+    ensures moments { (D.view disk.old).is_honest
+        → (D.view disk.new).moments ≡ (D.view disk.old).moments }
+    ensures meters { Calls (CountsMaking result) Stays (AtMost 1)
+        (D.view disk.old) (D.view disk.new) }
 {
     if disk.len()? > 0 {
         return Err(MakeFault::NotEmpty);
@@ -49,33 +50,36 @@ pub fn check_empty<D: Disk>(disk: &mut D) -> Result<(), MakeFault>
 /// then it writes. So `OutOfMemory` leaves the disk empty. A stop before it has answered may leave
 /// anything.
 pub fn make<D: Disk>(alloc: Global, disk: &mut D, layout: Layout) -> Result<Made, MakeFault>
-    ensures made { IfOk result (λ made. (made.slot ≡ Slot.A) × (made.directory ≡ empty_listing layout)) }
-    ensures exact { D.is_honest disk.old → IsMade result (D.moments disk.old).state.now }
-    ensures on_disk { D.is_honest disk.old
-        → IfOk result (λ made. IsOnDisk (D.moments disk.new).state made.slot made.directory []) }
+    ensures made { IfOk result (λ made. (made.slot ≡ Slot.A)
+        × (made.directory ≡ empty_listing layout)) }
+    ensures exact { (D.view disk.old).is_honest
+        → IsMade result (D.view disk.old).moments.state.now }
+    ensures on_disk { (D.view disk.old).is_honest
+        → IfOk result
+        (λ made. IsOnDisk (D.view disk.new).moments.state made.slot made.directory []) }
     // Whatever a stop leaves represents the empty history.
-    ensures stands { D.is_honest disk.old
-        → OnOk result (EachImage (D.moments disk.new).state
+    ensures stands { (D.view disk.old).is_honest
+        → OnOk result (EachImage (D.view disk.new).moments.state
         (λ c. Represents c no_history layout 1 [])) }
     // A read then gives the two slots, and nothing behind them.
-    ensures bytes { D.is_honest disk.old → OnOk result (IsNewStore layout (D.moments disk.new).state.now) }
-    ensures refused { D.is_honest disk.old
-        → StaysIfRefused result (D.moments disk.old) (D.moments disk.new) }
+    ensures bytes { (D.view disk.old).is_honest
+        → OnOk result (IsNewStore layout (D.view disk.new).moments.state.now) }
+    ensures refused { (D.view disk.old).is_honest
+        → StaysIfRefused result (D.view disk.old).moments (D.view disk.new).moments }
     // A disk with a byte stays as it is, whatever the answer: where the device fails, too.
-    ensures untouched { D.is_honest disk.old → 1 ≤ length (D.moments disk.old).state.now
-        → D.moments disk.new ≡ D.moments disk.old }
+    ensures untouched { (D.view disk.old).is_honest → 1 ≤ length (D.view disk.old).moments.state.now
+        → (D.view disk.new).moments ≡ (D.view disk.old).moments }
     // Whatever it answers, what a stop may leave doesn't change behind the slots.
-    ensures inside { D.is_honest disk.old
-        → LeavesOnly (D.moments disk.old) (D.moments disk.new)
-        (StemsWithin (D.moments disk.old).state slots_range) }
-    ensures calls { D.is_honest disk.old
-        → MakesCalls result 9 (D.moments disk.old) (D.moments disk.new) }
-    ensures honesty { D.is_honest disk.old ↔ D.is_honest disk.new }
-    ensures failures { CountsMaking result (D.failures disk.old) (D.failures disk.new) }
-    ensures bytes_read { D.bytes_read disk.new ≡ D.bytes_read disk.old }
-    ensures other_calls { D.other_calls disk.new ≤ D.other_calls disk.old + 10 }
+    ensures inside { (D.view disk.old).is_honest
+        → LeavesOnly (D.view disk.old).moments (D.view disk.new).moments
+        (StemsWithin (D.view disk.old).moments.state slots_range) }
+    ensures calls { (D.view disk.old).is_honest
+        → MakesCalls result 9 (D.view disk.old).moments (D.view disk.new).moments }
+    ensures meters { Calls (CountsMaking result) Stays (AtMost 10)
+        (D.view disk.old) (D.view disk.new) }
     // A refusal on any disk: the length was looked at, and nothing else was asked for.
-    ensures looked { LooksIfRefused result (D.other_calls disk.old) (D.other_calls disk.new) }
+    ensures looked { LooksIfRefused result (D.view disk.old).other_calls
+        (D.view disk.new).other_calls }
 {
     check_empty(disk)?;
     let directory = Directory::new(alloc, layout)?;

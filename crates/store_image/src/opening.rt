@@ -3,6 +3,7 @@
 ghost use Rattle.std.specs.Prelude.{◌≡◌, ◌⊎◌, ◌↔◌, ◌+◌, ◌≤◌, length, map};
 ghost use Rattle.std.specs.Prelude.{IfOk, IfErr, MatchResult};
 ghost use Rattle.disk_model.specs.Disk.{IsImage, LeavesOnly, raised_by};
+ghost use Rattle.disk_model.specs.View.{OnlyReads, Calls, AtMost};
 ghost use Rattle.blocks.specs.Slots.{other_read, slots_read};
 ghost use Rattle.store_image.specs.declared.fault.Damage.TheVariants as damages;
 ghost use Rattle.store_image.specs.declared.fault.LoadFault.TheVariants as faults;
@@ -39,49 +40,48 @@ pub fn load<D: Disk, B: SegmentBuilder>(
     alloc: Global,
     disk: &mut D,
 ) -> Result<Loaded<B::Segment>, LoadFault>
-    ensures exact { D.is_honest disk.old
+    ensures exact { (D.view disk.old).is_honest
         → MatchResult result
         (λ l. HasStore l.slot l.directory (map B.sealed l.segments.items)
-        (D.moments disk.old).state.now)
-        (λ e. IsNotOpened e (D.moments disk.old).state.now) }
+        (D.view disk.old).moments.state.now)
+        (λ e. IsNotOpened e (D.view disk.old).moments.state.now) }
     // What was read fits together, on every disk.
     ensures kept { IfOk result (λ l. IsKept l.directory (map B.sealed l.segments.items)) }
     // A stop at any moment leaves what it might have left before.
-    ensures any_moment { D.is_honest disk.old
-        → LeavesOnly (D.moments disk.old) (D.moments disk.new)
-        (IsImage (D.moments disk.old).state) }
+    ensures any_moment { (D.view disk.old).is_honest
+        → LeavesOnly (D.view disk.old).moments (D.view disk.new).moments
+        (IsImage (D.view disk.old).moments.state) }
     // It syncs once and changes nothing else, whatever it answers.
-    ensures synced { D.is_honest disk.old
-        → IsSynced result (D.moments disk.old) (D.moments disk.new) }
+    ensures synced { (D.view disk.old).is_honest
+        → IsSynced result (D.view disk.old).moments (D.view disk.new).moments }
     // So a read gives what it gave before.
-    ensures unchanged { D.is_honest disk.old
-        → (D.moments disk.new).state.now ≡ (D.moments disk.old).state.now }
+    ensures unchanged { (D.view disk.old).is_honest
+        → (D.view disk.new).moments.state.now ≡ (D.view disk.old).moments.state.now }
     // After Ok each stop leaves what was read.
-    ensures on_disk { D.is_honest disk.old
-        → IfOk result (λ l. IsOnDisk (D.moments disk.new).state l.slot l.directory
+    ensures on_disk { (D.view disk.old).is_honest
+        → IfOk result (λ l. IsOnDisk (D.view disk.new).moments.state l.slot l.directory
         (map B.sealed l.segments.items)) }
-    ensures honesty { D.is_honest disk.old ↔ D.is_honest disk.new }
-    ensures failures { CountsLoading result (D.failures disk.old) (D.failures disk.new) }
-    // On every disk it reads the slots, and each byte of the listed segments once.
-    ensures bytes_read { IfOk result (λ l. D.bytes_read disk.new
-        ≤ D.bytes_read disk.old + slots_read + bytes_listed l.directory.entries) }
-    // Beside its reads it makes one sync, and asks for the length once for the slots and once for
-    // each segment.
-    ensures other_calls { IfOk result (λ l. D.other_calls disk.new
-        ≤ D.other_calls disk.old + 2 + length l.directory.entries) }
+    // On every disk it reads the slots, and each byte of the listed segments once. Beside its reads
+    // it makes one sync, and asks for the length once for the slots and once for each segment.
+    ensures meters { Calls (CountsLoading result)
+        (λ before after. IfOk result
+        (λ l. after ≤ before + slots_read + bytes_listed l.directory.entries))
+        (λ before after. IfOk result (λ l. after ≤ before + 2 + length l.directory.entries))
+        (D.view disk.old) (D.view disk.new) }
     // Before it reads it makes one call: a sync that failed isn't tried again.
-    ensures synced_once { (D.other_calls disk.new ≤ D.other_calls disk.old + 1)
-        ⊎ (raised_by (D.bytes_read disk.old) 1 ≤ D.bytes_read disk.new) }
+    ensures synced_once { ((D.view disk.new).other_calls ≤ (D.view disk.old).other_calls + 1)
+        ⊎ (raised_by (D.view disk.old).bytes_read 1 ≤ (D.view disk.new).bytes_read) }
     // After an error it has asked for no more than up to the fault.
     ensures stops { IfErr result
-        (λ e. StopsAt e (D.bytes_read disk.old) (D.bytes_read disk.new)
-        (D.other_calls disk.old) (D.other_calls disk.new)) }
+        (λ e. StopsAt e (D.view disk.old).bytes_read (D.view disk.new).bytes_read
+        (D.view disk.old).other_calls (D.view disk.new).other_calls) }
     // Where no gate is open, it made the sync and nothing else.
     ensures no_store { IfErr result
-        (λ e. e ≡ faults.NotAStore → D.other_calls disk.new ≤ D.other_calls disk.old + 1) }
+        (λ e. e ≡ faults.NotAStore
+        → (D.view disk.new).other_calls ≤ (D.view disk.old).other_calls + 1) }
     // Whatever it answers, it reads the slots and what a directory lists, and nothing else.
-    ensures asked { D.is_honest disk.old → AsksWithin (D.moments disk.old).state.now
-        (D.bytes_read disk.old) (D.bytes_read disk.new) }
+    ensures asked { (D.view disk.old).is_honest → AsksWithin (D.view disk.old).moments.state.now
+        (D.view disk.old).bytes_read (D.view disk.new).bytes_read }
 {
     disk.sync()?;
     let mut content = [0; 4096];
@@ -101,19 +101,16 @@ pub fn load<D: Disk, B: SegmentBuilder>(
 
 /// Looks whether the other slot is whole, beside a directory of this version in the current one.
 fn check_other<D: Disk>(disk: &mut D, slot: Slot, layout: Layout) -> Result<(), LoadFault>
-    ensures exact { D.is_honest disk.old → 16384 ≤ length (D.moments disk.old).state.now
+    ensures exact { (D.view disk.old).is_honest → 16384 ≤ length (D.view disk.old).moments.state.now
         → MatchResult result
-        (λ _. OtherIsWhole layout slot (D.moments disk.old).state.now)
+        (λ _. OtherIsWhole layout slot (D.view disk.old).moments.state.now)
         (λ e. e ≡ faults.Damaged damages.Directory
-        → OtherIsWhole layout slot (D.moments disk.old).state.now → ⊥) }
+        → OtherIsWhole layout slot (D.view disk.old).moments.state.now → ⊥) }
     ensures refused { IfErr result
         (λ e. (e ≡ faults.DiskFault) ⊎ (e ≡ faults.Damaged damages.Directory)) }
-    ensures moments { D.is_honest disk.old → D.moments disk.new ≡ D.moments disk.old }
-    ensures honesty { D.is_honest disk.old ↔ D.is_honest disk.new }
-    ensures failures { CountsLoading result (D.failures disk.old) (D.failures disk.new) }
-    ensures bytes_read { D.bytes_read disk.new ≤ D.bytes_read disk.old + other_read }
-    ensures goes_on { raised_by (D.bytes_read disk.old) 0 ≤ D.bytes_read disk.new }
-    ensures other_calls { D.other_calls disk.new ≡ D.other_calls disk.old }
+    ensures goes_on { raised_by (D.view disk.old).bytes_read 0 ≤ (D.view disk.new).bytes_read }
+    ensures meters { OnlyReads (CountsLoading result) (AtMost other_read)
+        (D.view disk.old) (D.view disk.new) }
 {
     let mut content = [0; 4096];
     if read_other(disk, slot, &mut content)? && !may_precede(layout, &content) {

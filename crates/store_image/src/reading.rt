@@ -4,6 +4,7 @@ ghost use Rattle.std.specs.Prelude.{◌≡◌, ◌↔◌, ℕ, ◌+◌, ◌≤�
 ghost use Rattle.std.specs.Prelude.{IsTrue, IfOk, IfErr, OnOk, MatchResult};
 ghost use Rattle.std.specs.List.{AllByRecursion};
 ghost use Rattle.disk_model.specs.Disk.{raised_by};
+ghost use Rattle.disk_model.specs.View.{OnlyReads, Calls, Stays, AtMost};
 ghost use Rattle.store_image.specs.Private.Reading.{bytes_of};
 ghost use Rattle.directory.specs.Listings.{IsEntry};
 ghost use Rattle.directory.specs.Places.{extent_of};
@@ -48,22 +49,21 @@ pub(crate) fn read_segments<D: Disk, B: SegmentBuilder>(
     requires { AllByRecursion IsEntry entries.now }
     ensures read { IfOk result
         (λ segments. AreRead imports entries.now (map B.sealed segments.items)) }
-    ensures exact { D.is_honest disk.old → MatchResult result
+    ensures exact { (D.view disk.old).is_honest → MatchResult result
         (λ segments. HoldsAll (pieces_of entries.now (map B.sealed segments.items))
-        (D.moments disk.old).state.now)
-        (λ e. AreNotRead e imports entries.now (D.moments disk.old).state.now) }
-    ensures moments { D.is_honest disk.old → D.moments disk.new ≡ D.moments disk.old }
-    ensures honesty { D.is_honest disk.old ↔ D.is_honest disk.new }
-    ensures failures { CountsLoading result (D.failures disk.old) (D.failures disk.new) }
+        (D.view disk.old).moments.state.now)
+        (λ e. AreNotRead e imports entries.now (D.view disk.old).moments.state.now) }
+    ensures moments { (D.view disk.old).is_honest
+        → (D.view disk.new).moments ≡ (D.view disk.old).moments }
+    ensures goes_on { raised_by (D.view disk.old).bytes_read 0 ≤ (D.view disk.new).bytes_read }
     // Whatever it answers, its reads are asked for no more bytes than the segments have.
-    ensures bytes_read { D.bytes_read disk.new ≤ D.bytes_read disk.old + bytes_listed entries.now }
-    ensures goes_on { raised_by (D.bytes_read disk.old) 0 ≤ D.bytes_read disk.new }
     // Beside its reads it asks for the length alone, once for each segment.
-    ensures other_calls { D.other_calls disk.new ≤ D.other_calls disk.old + length entries.now }
+    ensures meters { Calls (CountsLoading result) (AtMost (bytes_listed entries.now))
+        (AtMost (length entries.now)) (D.view disk.old) (D.view disk.new) }
     // Of the segments behind a damaged one it asks for nothing.
     ensures stops { IfErr result
-        (λ e. StopsIn e entries.now (D.bytes_read disk.old) (D.bytes_read disk.new)
-        (D.other_calls disk.old) (D.other_calls disk.new)) }
+        (λ e. StopsIn e entries.now (D.view disk.old).bytes_read (D.view disk.new).bytes_read
+        (D.view disk.old).other_calls (D.view disk.new).other_calls) }
 {
     let mut window = Window::new(alloc)?;
     let mut segments = Vec::with_capacity(alloc, entries.len())?;
@@ -92,15 +92,14 @@ fn read_segment<D: Disk, B: SegmentBuilder>(
     requires { IsEntry entry }
     ensures found { IfOk result (λ segment. IsSegmentOf entry (B.sealed segment)) }
     ensures numbered { IfOk result (λ segment. AreNumbered imports (B.sealed segment)) }
-    ensures exact { D.is_honest disk.old → MatchResult result
-        (λ segment. IsAt (D.moments disk.old).state.now entry (B.sealed segment))
-        (λ e. IsNotReadAt e imports entry (D.moments disk.old).state.now) }
-    ensures moments { D.is_honest disk.old → D.moments disk.new ≡ D.moments disk.old }
-    ensures honesty { D.is_honest disk.old ↔ D.is_honest disk.new }
-    ensures failures { CountsFault result (D.failures disk.old) (D.failures disk.new) }
-    ensures bytes_read { D.bytes_read disk.new ≤ D.bytes_read disk.old + entry.bytes }
-    ensures goes_on { raised_by (D.bytes_read disk.old) 0 ≤ D.bytes_read disk.new }
-    ensures other_calls { D.other_calls disk.new ≤ D.other_calls disk.old + 1 }
+    ensures exact { (D.view disk.old).is_honest → MatchResult result
+        (λ segment. IsAt (D.view disk.old).moments.state.now entry (B.sealed segment))
+        (λ e. IsNotReadAt e imports entry (D.view disk.old).moments.state.now) }
+    ensures moments { (D.view disk.old).is_honest
+        → (D.view disk.new).moments ≡ (D.view disk.old).moments }
+    ensures goes_on { raised_by (D.view disk.old).bytes_read 0 ≤ (D.view disk.new).bytes_read }
+    ensures meters { Calls (CountsFault result) (AtMost entry.bytes) (AtMost 1)
+        (D.view disk.old) (D.view disk.new) }
 {
     check_room(disk, entry)?;
     window.begin(entry.extent(), entry.form);
@@ -111,13 +110,12 @@ fn read_segment<D: Disk, B: SegmentBuilder>(
 /// Whether the disk reaches as far as an entry says, and as many rows may have as many bytes.
 /// So memory is taken for no more places than the disk has records.
 fn check_room<D: Disk>(disk: &mut D, entry: Entry) -> Result<(), RowsFault>
-    ensures exact { D.is_honest disk.old → (imports : ℕ) → MatchResult result (λ _. Unit {0})
-        (λ e. IsNotReadAt e imports entry (D.moments disk.old).state.now) }
-    ensures moments { D.is_honest disk.old → D.moments disk.new ≡ D.moments disk.old }
-    ensures honesty { D.is_honest disk.old ↔ D.is_honest disk.new }
-    ensures failures { CountsFault result (D.failures disk.old) (D.failures disk.new) }
-    ensures bytes_read { D.bytes_read disk.new ≡ D.bytes_read disk.old }
-    ensures other_calls { D.other_calls disk.new ≤ D.other_calls disk.old + 1 }
+    ensures exact { (D.view disk.old).is_honest → (imports : ℕ) → MatchResult result (λ _. Unit {0})
+        (λ e. IsNotReadAt e imports entry (D.view disk.old).moments.state.now) }
+    ensures moments { (D.view disk.old).is_honest
+        → (D.view disk.new).moments ≡ (D.view disk.old).moments }
+    ensures meters { Calls (CountsFault result) Stays (AtMost 1)
+        (D.view disk.old) (D.view disk.new) }
 {
     let end = BLOCK * u64::from(entry.first) + u64::from(entry.bytes);
     if end > disk.len()? {
@@ -144,16 +142,13 @@ fn read_rows<D: Disk, B: SegmentBuilder>(
     requires entry { IsEntry entry }
     ensures found { IfOk result (λ builder. IsSegmentOf entry (B.rows builder)) }
     ensures numbered { IfOk result (λ builder. AreNumbered imports (B.rows builder)) }
-    ensures exact { D.is_honest disk.old → MatchResult result
+    ensures exact { (D.view disk.old).is_honest → MatchResult result
         (λ builder. BeginsWith entry.form (B.rows builder)
-        (bytes_of (extent_of entry) (D.moments disk.old).state.now))
-        (λ e. IsNotReadAt e imports entry (D.moments disk.old).state.now) }
-    ensures moments { D.is_honest disk.old → D.moments disk.new ≡ D.moments disk.old }
-    ensures honesty { D.is_honest disk.old ↔ D.is_honest disk.new }
-    ensures failures { CountsFault result (D.failures disk.old) (D.failures disk.new) }
-    ensures bytes_read { D.bytes_read disk.new ≤ D.bytes_read disk.old + entry.bytes }
-    ensures goes_on { raised_by (D.bytes_read disk.old) 0 ≤ D.bytes_read disk.new }
-    ensures other_calls { D.other_calls disk.new ≡ D.other_calls disk.old }
+        (bytes_of (extent_of entry) (D.view disk.old).moments.state.now))
+        (λ e. IsNotReadAt e imports entry (D.view disk.old).moments.state.now) }
+    ensures goes_on { raised_by (D.view disk.old).bytes_read 0 ≤ (D.view disk.new).bytes_read }
+    ensures meters { OnlyReads (CountsFault result) (AtMost entry.bytes)
+        (D.view disk.old) (D.view disk.new) }
 {
     let mut builder = B::with_capacity(alloc, entry.rows as usize)?;
     let mut to = ReadTo { at: 0, last: None };
@@ -185,23 +180,21 @@ fn read_row<D: Disk, B: SegmentBuilder>(
     ensures from { IfOk result (λ next. window.new.from ≤ next.at) }
     ensures reached { IfOk result (λ next. next.at ≤ window.new.from + window.new.len) }
     ensures within { IfOk result (λ next. next.at ≤ window.old.extent.bytes) }
-    ensures exact { D.is_honest disk.old → Sees window.old (D.moments disk.old).state.now
+    ensures exact { (D.view disk.old).is_honest
+        → Sees window.old (D.view disk.old).moments.state.now
         → MatchResult result
         (λ next. BeginsWith window.old.form (B.rows builder.old)
-        (bytes_of window.old.extent (D.moments disk.old).state.now)
+        (bytes_of window.old.extent (D.view disk.old).moments.state.now)
         → BeginsWith window.old.form (B.rows builder.new)
-        (bytes_of window.old.extent (D.moments disk.old).state.now))
+        (bytes_of window.old.extent (D.view disk.old).moments.state.now))
         (λ e. IsNotNext window.old.form e imports (B.rows builder.old)
-        (bytes_of window.old.extent (D.moments disk.old).state.now)) }
-    ensures sees { D.is_honest disk.old → Sees window.old (D.moments disk.old).state.now
-        → OnOk result (Sees window.new (D.moments disk.old).state.now) }
-    ensures moments { D.is_honest disk.old → D.moments disk.new ≡ D.moments disk.old }
-    ensures honesty { D.is_honest disk.old ↔ D.is_honest disk.new }
-    ensures failures { CountsFault result (D.failures disk.old) (D.failures disk.new) }
-    ensures bytes_read { D.bytes_read disk.new + window.old.asked
-        ≤ D.bytes_read disk.old + window.new.asked }
-    ensures goes_on { raised_by (D.bytes_read disk.old) 0 ≤ D.bytes_read disk.new }
-    ensures other_calls { D.other_calls disk.new ≡ D.other_calls disk.old }
+        (bytes_of window.old.extent (D.view disk.old).moments.state.now)) }
+    ensures sees { (D.view disk.old).is_honest → Sees window.old (D.view disk.old).moments.state.now
+        → OnOk result (Sees window.new (D.view disk.old).moments.state.now) }
+    ensures goes_on { raised_by (D.view disk.old).bytes_read 0 ≤ (D.view disk.new).bytes_read }
+    ensures meters { OnlyReads (CountsFault result)
+        (λ before after. after + window.old.asked ≤ before + window.new.asked)
+        (D.view disk.old) (D.view disk.new) }
 {
     let (row, at) = window.row_at(alloc, disk, to.at)?;
     if row.import > imports {

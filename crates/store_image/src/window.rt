@@ -2,6 +2,7 @@
 
 ghost use Rattle.std.specs.Prelude.{◌≡◌, ◌↔◌, ℕ, ◌+◌, ◌-◌, ◌^◌, ◌<◌, ◌≤◌, List, length, drop};
 ghost use Rattle.std.specs.Prelude.{vec_len, IfOk, IfErr, OnOk, MatchResult};
+ghost use Rattle.disk_model.specs.View.{OnlyReads};
 
 use crate::fault::RowsFault;
 use blocks::{BLOCK, Extent};
@@ -92,18 +93,17 @@ impl Window {
         ensures from { self.new.from ≡ self.old.from }
         ensures len { self.old.len ≤ self.new.len }
         ensures asked { self.old.asked ≤ self.new.asked }
-        ensures sees { D.is_honest disk.old → Sees self.old (D.moments disk.old).state.now
-            → OnOk result (Sees self.new (D.moments disk.old).state.now) }
-        ensures full { D.is_honest disk.old → Sees self.old (D.moments disk.old).state.now
-            → OnOk result (IsFull self.new (D.moments disk.old).state.now) }
-        ensures moments { D.is_honest disk.old → D.moments disk.new ≡ D.moments disk.old }
-        ensures honesty { D.is_honest disk.old ↔ D.is_honest disk.new }
-        ensures failures { CountsEach result (D.failures disk.old) (D.failures disk.new) }
+        ensures sees { (D.view disk.old).is_honest
+            → Sees self.old (D.view disk.old).moments.state.now
+            → OnOk result (Sees self.new (D.view disk.old).moments.state.now) }
+        ensures full { (D.view disk.old).is_honest
+            → Sees self.old (D.view disk.old).moments.state.now
+            → OnOk result (IsFull self.new (D.view disk.old).moments.state.now) }
+        ensures goes_on { raised_by (D.view disk.old).bytes_read 0 ≤ (D.view disk.new).bytes_read }
         // Whatever it answers, its reads are asked for no more bytes than `asked` grows by.
-        ensures bytes_read { D.bytes_read disk.new + self.old.asked
-            ≤ D.bytes_read disk.old + self.new.asked }
-        ensures goes_on { raised_by (D.bytes_read disk.old) 0 ≤ D.bytes_read disk.new }
-        ensures other_calls { D.other_calls disk.new ≡ D.other_calls disk.old }
+        ensures meters { OnlyReads (CountsEach result)
+            (λ before after. after + self.old.asked ≤ before + self.new.asked)
+            (D.view disk.old) (D.view disk.new) }
     {
         let start = self.len as usize;
         let count = (WINDOW - self.len).min(self.extent.bytes - self.asked);
@@ -150,20 +150,21 @@ impl Window {
         ensures is { IfOk result (λ r. IsStamped r.0) }
         ensures next { IfOk result (λ r. r.1 ≡ at + length (record_of r.0)) }
         ensures within { IfOk result (λ r. r.1 ≤ self.old.extent.bytes) }
-        ensures exact { D.is_honest disk.old → Sees self.old (D.moments disk.old).state.now
+        ensures exact { (D.view disk.old).is_honest
+            → Sees self.old (D.view disk.old).moments.state.now
             → MatchResult result
-            (λ r. HasRecord self.old.form (bytes_of self.old.extent (D.moments disk.old).state.now) at r.0)
-            (λ e. IsNoRecord self.old.form e (bytes_of self.old.extent (D.moments disk.old).state.now) at) }
-        ensures sees { D.is_honest disk.old → Sees self.old (D.moments disk.old).state.now
-            → IfOk result (λ _. Sees self.new (D.moments disk.old).state.now) }
-        ensures moments { D.is_honest disk.old → D.moments disk.new ≡ D.moments disk.old }
-        ensures honesty { D.is_honest disk.old ↔ D.is_honest disk.new }
-        ensures failures { CountsFault result (D.failures disk.old) (D.failures disk.new) }
+            (λ r. HasRecord self.old.form
+            (bytes_of self.old.extent (D.view disk.old).moments.state.now) at r.0)
+            (λ e. IsNoRecord self.old.form e
+            (bytes_of self.old.extent (D.view disk.old).moments.state.now) at) }
+        ensures sees { (D.view disk.old).is_honest
+            → Sees self.old (D.view disk.old).moments.state.now
+            → IfOk result (λ _. Sees self.new (D.view disk.old).moments.state.now) }
+        ensures goes_on { raised_by (D.view disk.old).bytes_read 0 ≤ (D.view disk.new).bytes_read }
         // Whatever it answers, its reads are asked for no more bytes than `asked` grows by.
-        ensures bytes_read { D.bytes_read disk.new + self.old.asked
-            ≤ D.bytes_read disk.old + self.new.asked }
-        ensures goes_on { raised_by (D.bytes_read disk.old) 0 ≤ D.bytes_read disk.new }
-        ensures other_calls { D.other_calls disk.new ≡ D.other_calls disk.old }
+        ensures meters { OnlyReads (CountsFault result)
+            (λ before after. after + self.old.asked ≤ before + self.new.asked)
+            (D.view disk.old) (D.view disk.new) }
     {
         match self.row_in(alloc, at) {
             Ok((row, next)) => Ok((row, next)),

@@ -3,7 +3,7 @@ use Rattle.std.proofs.Common.{◌≡◌, ℕ, ◌≤◌, Bool, List, [], ◌∷�
 use Rattle.std.specs.Prelude.{◌==◌}
 use Rattle.std.specs.List.{filter}
 use Rattle.std.proofs.lemmas.Bool.Decides.{nat_tests}
-use Rattle.disk_model.specs.Disk.{IsImage, Moments}
+use Rattle.disk_model.specs.Disk.{IsImage}
 use Rattle.rf2_values.specs.Row.{RowValue}
 use Rattle.history_model.specs.declared.stamped.StampedRow.{StampedRow}
 use Rattle.history_model.specs.History.{History, IsHistory, stamped_cmp, after_release, rows_at}
@@ -16,7 +16,7 @@ use Rattle.history_model.proofs.Releases.{then_is_history}
 use Rattle.history_model.proofs.Receipts.{after_cases, after_old}
 use Rattle.import_check.specs.declared.release.Release.{Release}
 use Rattle.history_store.specs.StoreValue.{StoreValue, IsAcknowledged}
-use Rattle.store_life.specs.DeviceView.{DeviceView}
+use Rattle.disk_model.specs.View.{DiskView}
 use Rattle.store_life.specs.Life.{TakesAll}
 use Rattle.store_life.specs.Laws.{BroughtAlike, EachLifeKeepsItsPins}
 use Rattle.store_life.proofs.Living.{each_life_keeps}
@@ -60,16 +60,16 @@ alike_later h k (release ∷ releases) number is le takes =
     ∙ brought_stays h takes.0.rows number is le
 
 -- what a store holds is a history
-pub held_history : {D : Type 0} (moments : D → Moments) (s : StoreValue D) → IsImage (moments s.disk).state (moments s.disk).state.now → IsAcknowledged moments s → IsHistory s.history
-held_history moments s image ack =
-    let stands = ack.each (moments s.disk).state.now image in
+pub held_history : {D : Type 0} (view : D → DiskView) (s : StoreValue D) → IsImage (view s.disk).moments.state (view s.disk).moments.state.now → IsAcknowledged view s → IsHistory s.history
+held_history view s image ack =
+    let stands = ack.each (view s.disk).moments.state.now image in
     subst (λ (rows : List StampedRow). IsHistory (record { imports = s.history.imports; rows = rows })) (sym stands.rows) stands.says.kept.history
 
-module _ (D : Type 0) (view : DeviceView D) (now_is_image : (disk : D) → view.is_honest disk → IsImage (view.moments disk).state (view.moments disk).state.now) where
+module _ (D : Type 0) (view : D → DiskView) (now_is_image : (disk : D) → (view disk).is_honest → IsImage (view disk).moments.state (view disk).moments.state.now) where
   pub each_life_keeps_its_pins : EachLifeKeepsItsPins D view
   each_life_keeps_its_pins first last events pin up ack lives le =
       let l = each_life_keeps D view first last events up ack lives in
-      let is = held_history view.moments first (now_is_image first.disk up) ack in (
+      let is = held_history view first (now_is_image first.disk up) ack in (
         takes_stays first.history last.history l.0 pin is le l.2,
         λ number few. alike_later first.history last.history l.0 number is (omega (arith, few, le)) l.2,
       )

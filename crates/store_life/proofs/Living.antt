@@ -16,7 +16,7 @@ use Rattle.history_store.specs.declared.refusal.Refusal.TheVariants as store
 use Rattle.history_store.specs.StoreValue.{StoreValue, IsAcknowledged}
 use Rattle.history_store.specs.Answers.{IsOpeningOf}
 use Rattle.history_store.proofs.Reopened.{opened_is_what_is_represented, represented_is_opened}
-use Rattle.store_life.specs.DeviceView.{DeviceView}
+use Rattle.disk_model.specs.View.{DiskView}
 use Rattle.store_life.specs.Life.{Call, Imported, Failed, Other, taken, failing, TakesAll, RepresentsAround, IsCall, StopLeaves, IsStopped, IsReopened, Event, Called, Stopped, IsEvent, IsLife, MayRemain, AreKept, acknowledged, stops, IsSubsequence, RepresentsNext}
 use Rattle.store_life.specs.Laws.{EachLifeKeepsItsImports, KeptAreAcknowledged, EachLifeIsRepresented, EachLifeIsOpened, LivesCompose, EachStopIsOfALife}
 use Rattle.store_life.proofs.Made.{held}
@@ -51,21 +51,21 @@ else_none : (f : Option Release) → option_or f None ≡ f
 else_none None = refl
 else_none (Some release) = refl
 
-module _ {D : Type 0} (view : DeviceView D) where
+module _ {D : Type 0} (view : D → DiskView) where
   -- what is so of a store after calls that followed an opening
   record IsSince (s : StoreValue D) (failed : Option Release) : Type 0 where
-    up : view.is_honest s.disk
-    acknowledged : s.needs_reopen ≡ false → IsAcknowledged view.moments s
+    up : (view s.disk).is_honest
+    acknowledged : s.needs_reopen ≡ false → IsAcknowledged view s
     none_failed : s.needs_reopen ≡ false → failed ≡ None
-    left : EachImage (view.moments s.disk).state (RepresentsBut s.history failed)
+    left : EachImage (view s.disk).moments.state (RepresentsBut s.history failed)
 
-  since_opened : (s : StoreValue D) → view.is_honest s.disk → IsAcknowledged view.moments s → IsSince s None
+  since_opened : (s : StoreValue D) → (view s.disk).is_honest → IsAcknowledged view s → IsSince s None
   since_opened s up ack = record { up = up; acknowledged = λ still. ack; none_failed = λ still. refl; left = held view s ack }
 
   -- a call on a store that is open
-  module _ (old new : StoreValue D) (up : view.is_honest old.disk) (ack : IsAcknowledged view.moments old) where
-    left_by : (call : Call) → IsCall view old call new → EachImage (view.moments new.disk).state (RepresentsAround old.history call)
-    left_by call is = at_end (view.moments old.disk) (view.moments new.disk) (RepresentsAround old.history call) (is.any_moment up ack)
+  module _ (old new : StoreValue D) (up : (view old.disk).is_honest) (ack : IsAcknowledged view old) where
+    left_by : (call : Call) → IsCall view old call new → EachImage (view new.disk).moments.state (RepresentsAround old.history call)
+    left_by call is = at_end (view old.disk).moments (view new.disk).moments (RepresentsAround old.history call) (is.any_moment up ack)
 
     after_made : (call : Call) → IsCall view old call new → IsSince new (failing call)
     after_made (Imported release) is = since_opened new (is.honesty.0 up) (is.acknowledged up ack is.needs_reopen)
@@ -73,13 +73,13 @@ module _ {D : Type 0} (view : DeviceView D) where
       up = is.honesty.0 up;
       acknowledged = is.acknowledged up ack;
       none_failed = λ still. absurd (false≢true (sym still ∙ is.needs_reopen));
-      left = subst (λ (h : History). EachImage (view.moments new.disk).state (RepresentsBut h (Some release))) (sym (is.history up)) (left_by (Failed release) is);
+      left = subst (λ (h : History). EachImage (view new.disk).moments.state (RepresentsBut h (Some release))) (sym (is.history up)) (left_by (Failed release) is);
     }
     after_made Other is = record {
       up = is.honesty.0 up;
       acknowledged = is.acknowledged up ack;
       none_failed = λ still. refl;
-      left = subst (λ (h : History). EachImage (view.moments new.disk).state (RepresentsHistory h)) (sym (is.history up)) (left_by Other is);
+      left = subst (λ (h : History). EachImage (view new.disk).moments.state (RepresentsHistory h)) (sym (is.history up)) (left_by Other is);
     }
 
   after_call : (old new : StoreValue D) (failed : Option Release) (call : Call) → IsSince old failed → IsCall view old call new → IsSince new (option_or failed (failing call))
@@ -127,20 +127,20 @@ module _ (failed : Option Release) (within : Option Call) (h : History) (bytes :
   cut_remains (Failed release) is (inr w) = one_remains release (inr (inr is)) w
   cut_remains Other is s = none_remains s
 
-module _ {D : Type 0} (view : DeviceView D) where
+module _ {D : Type 0} (view : D → DiskView) where
   module _ (s : StoreValue D) (failed : Option Release) (since : IsSince view s failed) (bytes : List ℕ) where
     -- no call was made
-    stays_remains : (within : Option Call) → StopLeaves (view.moments s.disk) (view.moments s.disk) bytes → Remains failed within s.history bytes
+    stays_remains : (within : Option Call) → StopLeaves (view s.disk).moments (view s.disk).moments bytes → Remains failed within s.history bytes
     stays_remains within left =
-        let m = view.moments s.disk in
+        let m = (view s.disk).moments in
         failed_remains failed within s.history bytes failed refl (left_has m m (RepresentsBut s.history failed) bytes (started m (RepresentsBut s.history failed) since.left) left)
 
     -- the store is open when the stop comes, or it isn't
-    by_state : (call : Call) (end : StoreValue D) → IsCall view s call end → StopLeaves (view.moments s.disk) (view.moments end.disk) bytes → (needs : Bool) → s.needs_reopen ≡ needs → Remains failed (Some call) s.history bytes
-    by_state call end is left true needs = stays_remains (Some call) (subst (λ (d : StoreValue D). StopLeaves (view.moments s.disk) (view.moments d.disk) bytes) (is.closed needs).0 left)
+    by_state : (call : Call) (end : StoreValue D) → IsCall view s call end → StopLeaves (view s.disk).moments (view end.disk).moments bytes → (needs : Bool) → s.needs_reopen ≡ needs → Remains failed (Some call) s.history bytes
+    by_state call end is left true needs = stays_remains (Some call) (subst (λ (d : StoreValue D). StopLeaves (view s.disk).moments (view d.disk).moments bytes) (is.closed needs).0 left)
     by_state call end is left false still =
         cut_remains failed (Some call) s.history bytes call refl
-        (left_has (view.moments s.disk) (view.moments end.disk) (RepresentsAround s.history call) bytes (is.any_moment since.up (since.acknowledged still)) left)
+        (left_has (view s.disk).moments (view end.disk).moments (RepresentsAround s.history call) bytes (is.any_moment since.up (since.acknowledged still)) left)
 
     stop_remains : (within : Option Call) → IsStopped view s within bytes → Remains failed within s.history bytes
     stop_remains None left = stays_remains None left
@@ -149,10 +149,10 @@ module _ {D : Type 0} (view : DeviceView D) where
   -- ---- openings
 
   -- whatever openings were cut off or refused before, the store is opened of the bytes
-  reopened : (openings : List (D × D)) (bytes : List ℕ) (s : StoreValue D) → IsReopened view bytes openings s → IsOpeningOf (Ok s) bytes × view.is_honest s.disk × IsAcknowledged view.moments s
+  reopened : (openings : List (D × D)) (bytes : List ℕ) (s : StoreValue D) → IsReopened view bytes openings s → IsOpeningOf (Ok s) bytes × (view s.disk).is_honest × IsAcknowledged view s
   reopened [] bytes s r = (subst (λ (b : List ℕ). IsOpeningOf (Ok s) b) r.1.read r.1.exact, r.1.honesty, r.1.acknowledged)
   reopened (opening ∷ more) bytes s r =
-      let same : r.0 ≡ bytes = r.1.stop r.0 (left_has (view.moments opening.0) (view.moments opening.1) (IsImage (view.moments opening.0).state) r.0 r.1.any_moment r.1.is_left) in
+      let same : r.0 ≡ bytes = r.1.stop r.0 (left_has (view opening.0).moments (view opening.1).moments (IsImage (view opening.0).moments.state) r.0 r.1.any_moment r.1.is_left) in
       reopened more bytes s (subst (λ (b : List ℕ). IsReopened view b more s) same r.2)
 
   -- ---- lives
@@ -205,18 +205,18 @@ module _ {D : Type 0} (view : DeviceView D) where
   abbrev Since : Moments → Moments → Type 0
   Since old new = (states : List DiskState) × (new.state ∷ new.past ≡ states ++ old.state ∷ old.past)
 
-  since_made : (old new : StoreValue D) (failed : Option Release) (call : Call) → IsSince view old failed → IsCall view old call new → Since (view.moments old.disk) (view.moments new.disk)
+  since_made : (old new : StoreValue D) (failed : Option Release) (call : Call) → IsSince view old failed → IsCall view old call new → Since (view old.disk).moments (view new.disk).moments
   since_made old new failed call since is = at_state old.needs_reopen refl where
-    at_state : (needs : Bool) → old.needs_reopen ≡ needs → Since (view.moments old.disk) (view.moments new.disk)
-    at_state true needs = ([], ap (λ (s : StoreValue D). (view.moments s.disk).state ∷ (view.moments s.disk).past) (is.closed needs).0)
+    at_state : (needs : Bool) → old.needs_reopen ≡ needs → Since (view old.disk).moments (view new.disk).moments
+    at_state true needs = ([], ap (λ (s : StoreValue D). (view s.disk).moments.state ∷ (view s.disk).moments.past) (is.closed needs).0)
     at_state false still = let run = is.any_moment since.up (since.acknowledged still) in (run.since, run.grows)
 
-  since_all : (calls : List Call) (s last : StoreValue D) (failed : Option Release) → IsSince view s failed → IsLife view s (map Called calls) last → Since (view.moments s.disk) (view.moments last.disk)
-  since_all [] s last failed since same = ([], ap (λ (d : StoreValue D). (view.moments d.disk).state ∷ (view.moments d.disk).past) same)
+  since_all : (calls : List Call) (s last : StoreValue D) (failed : Option Release) → IsSince view s failed → IsLife view s (map Called calls) last → Since (view s.disk).moments (view last.disk).moments
+  since_all [] s last failed since same = ([], ap (λ (d : StoreValue D). (view d.disk).moments.state ∷ (view d.disk).moments.past) same)
   since_all (call ∷ calls) s last failed since l =
       let first = since_made s l.0 failed call since l.1 in
       let more = since_all calls l.0 last (option_or failed (failing call)) (after_call view s l.0 failed call since l.1) l.2 in
-      let m = view.moments s.disk in
+      let m = (view s.disk).moments in
       (more.0 ++ first.0, more.1 ∙ ap (λ (l : List DiskState). more.0 ++ l) first.1 ∙ sym (append_assoc more.0 first.0 (m.state ∷ m.past)))
 
   -- where a stop came
@@ -224,13 +224,13 @@ module _ {D : Type 0} (view : DeviceView D) where
   Came s calls bytes = (before : List Call) × (within : Option Call) × (behind : List Call) × (mid : StoreValue D)
       × (calls ≡ before ++ option_to_list within ++ behind) × IsLife view s (map Called before) mid × IsStopped view mid within bytes
 
-  module _ (s next last : StoreValue D) (call : Call) (calls : List Call) (bytes : List ℕ) (made : IsCall view s call next) (first : Since (view.moments s.disk) (view.moments next.disk)) (more : Since (view.moments next.disk) (view.moments last.disk))
-      (left : StopLeaves (view.moments s.disk) (view.moments last.disk) bytes) (later : StopLeaves (view.moments next.disk) (view.moments last.disk) bytes → Came next calls bytes) where
+  module _ (s next last : StoreValue D) (call : Call) (calls : List Call) (bytes : List ℕ) (made : IsCall view s call next) (first : Since (view s.disk).moments (view next.disk).moments) (more : Since (view next.disk).moments (view last.disk).moments)
+      (left : StopLeaves (view s.disk).moments (view last.disk).moments bytes) (later : StopLeaves (view next.disk).moments (view last.disk).moments bytes → Came next calls bytes) where
     abbrev m : Moments
-    m = view.moments s.disk
+    m = (view s.disk).moments
 
     abbrev n : Moments
-    n = view.moments next.disk
+    n = (view next.disk).moments
 
     -- the states since are those of the first call and of the others
     whole : left.since ≡ more.0 ++ first.0
@@ -257,9 +257,9 @@ module _ {D : Type 0} (view : DeviceView D) where
     came_in = came_by (parts (subst (λ (l : List DiskState). Contains (m.state ∷ l) left.state) whole left.is_one))
 
   came : (calls : List Call) (s last : StoreValue D) (failed : Option Release) (bytes : List ℕ) → IsSince view s failed → IsLife view s (map Called calls) last
-      → StopLeaves (view.moments s.disk) (view.moments last.disk) bytes → Came s calls bytes
+      → StopLeaves (view s.disk).moments (view last.disk).moments bytes → Came s calls bytes
   came [] s last failed bytes since same left =
-      ([], None, [], s, refl, refl, subst (λ (d : StoreValue D). StopLeaves (view.moments s.disk) (view.moments d.disk) bytes) same left)
+      ([], None, [], s, refl, refl, subst (λ (d : StoreValue D). StopLeaves (view s.disk).moments (view d.disk).moments bytes) same left)
   came (call ∷ calls) s last failed bytes since l left =
       let next = after_call view s l.0 failed call since l.1 in
       let now = option_or failed (failing call) in
@@ -307,7 +307,7 @@ are_acknowledged (Stopped within ∷ events) failed releases kept =
 pub kept_are_acknowledged : KeptAreAcknowledged
 kept_are_acknowledged events releases kept = are_acknowledged events None releases kept
 
-module _ (D : Type 0) (view : DeviceView D) where
+module _ (D : Type 0) (view : D → DiskView) where
   pub each_life_keeps : EachLifeKeepsItsImports D view
   each_life_keeps first last events up ack lives = keeps view events first last None (since_opened view first up ack) lives
 

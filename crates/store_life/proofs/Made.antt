@@ -16,21 +16,21 @@ use Rattle.history_store.specs.StoreValue.{StoreValue, IsAcknowledged}
 use Rattle.history_store.specs.Answers.{IsRefused, IsImportOf, IsImportOnAnyDisk, IsImportRefusal, IsNotTakenByKey, IsBeforeOrAfter, IsReadingOf}
 use Rattle.history_store.specs.Checking.{IsCheckingOnAnyDisk}
 use Rattle.history_store.specs.MergeAnswers.{IsBeginningOf, IsSteppingOf, IsAbandoningOf, IsTrimmingOf}
-use Rattle.store_life.specs.DeviceView.{DeviceView}
+use Rattle.disk_model.specs.View.{DiskView}
 use Rattle.store_life.specs.Life.{Imported, Failed, Other, RepresentsAround, RepresentsNext, IsCall}
 use Rattle.store_life.specs.Calls.{ImportIsACall, CheckIsACall, QueryIsACall, UnchangedIsACall, MergeBeginIsACall, MergeStepIsACall, MergePublishIsACall, UpgradeIsACall, RewriteIsACall, MergeAbandonIsACall, TrimIsACall}
 
 -- ---- calls that leave the history
 
 -- what a stop leaves of an acknowledged store
-pub held : {D : Type 0} (view : DeviceView D) (s : StoreValue D) → IsAcknowledged view.moments s → EachImage (view.moments s.disk).state (RepresentsHistory s.history)
+pub held : {D : Type 0} (view : D → DiskView) (s : StoreValue D) → IsAcknowledged view s → EachImage (view s.disk).moments.state (RepresentsHistory s.history)
 held view s a c image = (s.catalog.layout, (s.catalog.epoch, s.catalog.entries, a.each c image))
 
-module _ {D : Type 0} (view : DeviceView D) (old new : StoreValue D) where
+module _ {D : Type 0} (view : D → DiskView) (old new : StoreValue D) where
   -- a stop at any moment leaves the history
-  kept : (view.is_honest old.disk → new.history ≡ old.history) → (old.needs_reopen ≡ true → new ≡ old) → (view.is_honest old.disk ↔ view.is_honest new.disk)
-      → (view.is_honest old.disk → IsAcknowledged view.moments old → LeavesOnly (view.moments old.disk) (view.moments new.disk) (RepresentsHistory old.history))
-      → (view.is_honest old.disk → IsAcknowledged view.moments old → new.needs_reopen ≡ false → IsAcknowledged view.moments new) → IsCall view old Other new
+  kept : ((view old.disk).is_honest → new.history ≡ old.history) → (old.needs_reopen ≡ true → new ≡ old) → ((view old.disk).is_honest ↔ (view new.disk).is_honest)
+      → ((view old.disk).is_honest → IsAcknowledged view old → LeavesOnly (view old.disk).moments (view new.disk).moments (RepresentsHistory old.history))
+      → ((view old.disk).is_honest → IsAcknowledged view old → new.needs_reopen ≡ false → IsAcknowledged view new) → IsCall view old Other new
   kept history closed honesty any ack = record {
     history = history;
     needs_reopen = tt;
@@ -41,29 +41,29 @@ module _ {D : Type 0} (view : DeviceView D) (old new : StoreValue D) where
   }
 
   -- whatever a stop may leave stays
-  still : new.history ≡ old.history → (old.needs_reopen ≡ true → new ≡ old) → (view.is_honest old.disk ↔ view.is_honest new.disk)
-      → (view.is_honest old.disk → view.moments new.disk ≡ view.moments old.disk) → (view.is_honest old.disk → new.needs_reopen ≡ false → IsAcknowledged view.moments new) → IsCall view old Other new
+  still : new.history ≡ old.history → (old.needs_reopen ≡ true → new ≡ old) → ((view old.disk).is_honest ↔ (view new.disk).is_honest)
+      → ((view old.disk).is_honest → (view new.disk).moments ≡ (view old.disk).moments) → ((view old.disk).is_honest → new.needs_reopen ≡ false → IsAcknowledged view new) → IsCall view old Other new
   still history closed honesty same ack =
       kept (λ h. history) closed honesty
-      (λ h a. stayed (view.moments old.disk) (view.moments new.disk) (RepresentsHistory old.history) (same h) (held view old a))
+      (λ h a. stayed (view old.disk).moments (view new.disk).moments (RepresentsHistory old.history) (same h) (held view old a))
       (λ h a open_still. ack h open_still)
 
   -- the disk isn't used
-  idle : new.history ≡ old.history → new.disk ≡ old.disk → (old.needs_reopen ≡ true → new ≡ old) → (view.is_honest old.disk → new.needs_reopen ≡ false → IsAcknowledged view.moments new) → IsCall view old Other new
+  idle : new.history ≡ old.history → new.disk ≡ old.disk → (old.needs_reopen ≡ true → new ≡ old) → ((view old.disk).is_honest → new.needs_reopen ≡ false → IsAcknowledged view new) → IsCall view old Other new
   idle history disk closed ack =
-      still history closed (λ h. subst view.is_honest (sym disk) h, λ h. subst view.is_honest disk h) (λ h. ap view.moments disk) ack
+      still history closed (λ h. subst (λ d. (view d).is_honest) (sym disk) h, λ h. subst (λ d. (view d).is_honest) disk h) (λ h. ap (λ d. (view d).moments) disk) ack
 
   -- it is, and a stop leaves the history in the version from before
-  busy : new.history ≡ old.history → (view.is_honest old.disk → old.needs_reopen ≡ false → LeavesOnly (view.moments old.disk) (view.moments new.disk) (RepresentsAs old.catalog.layout old.history))
-      → (view.is_honest old.disk → new.needs_reopen ≡ false → IsAcknowledged view.moments new) → (old.needs_reopen ≡ true → new ≡ old) → (view.is_honest old.disk ↔ view.is_honest new.disk) → IsCall view old Other new
+  busy : new.history ≡ old.history → ((view old.disk).is_honest → old.needs_reopen ≡ false → LeavesOnly (view old.disk).moments (view new.disk).moments (RepresentsAs old.catalog.layout old.history))
+      → ((view old.disk).is_honest → new.needs_reopen ≡ false → IsAcknowledged view new) → (old.needs_reopen ≡ true → new ≡ old) → ((view old.disk).is_honest ↔ (view new.disk).is_honest) → IsCall view old Other new
   busy history any ack closed honesty =
       kept (λ h. history) closed honesty
-      (λ h a. weaker (view.moments old.disk) (view.moments new.disk) (RepresentsAs old.catalog.layout old.history) (RepresentsHistory old.history) (λ c s. (old.catalog.layout, s)) (any h a.open_still))
+      (λ h a. weaker (view old.disk).moments (view new.disk).moments (RepresentsAs old.catalog.layout old.history) (RepresentsHistory old.history) (λ c s. (old.catalog.layout, s)) (any h a.open_still))
       (λ h a open_still. ack h open_still)
 
 -- no call at all
-pub unmade : {D : Type 0} (view : DeviceView D) (s : StoreValue D) → IsCall view s Other s
-unmade view s = kept view s s (λ h. refl) (λ needs. refl) (λ h. h, λ h. h) (λ h a. stayed (view.moments s.disk) (view.moments s.disk) (RepresentsHistory s.history) refl (held view s a)) (λ h a open_still. a)
+pub unmade : {D : Type 0} (view : D → DiskView) (s : StoreValue D) → IsCall view s Other s
+unmade view s = kept view s s (λ h. refl) (λ needs. refl) (λ h. h, λ h. h) (λ h a. stayed (view s.disk).moments (view s.disk).moments (RepresentsHistory s.history) refl (held view s a)) (λ h a open_still. a)
 
 -- ---- imports
 
@@ -77,19 +77,19 @@ open_at_fault e s release is cause = at_fault (subst (λ (r : Refusal). IsImport
   at_fault : IsImportRefusal IsNotTakenByKey store.DiskFault s release → s.needs_reopen ≡ false
   at_fault h = h.0
 
-module _ {D : Type 0} (view : DeviceView D) (old new : StoreValue D) (release : Release) (any : view.is_honest old.disk → old.needs_reopen ≡ false → LeavesOnly (view.moments old.disk) (view.moments new.disk) (IsBeforeOrAfter old.catalog.layout old.history release)) (ack : view.is_honest old.disk → new.needs_reopen ≡ false → IsAcknowledged view.moments new) (honesty : view.is_honest old.disk ↔ view.is_honest new.disk) where
+module _ {D : Type 0} (view : D → DiskView) (old new : StoreValue D) (release : Release) (any : (view old.disk).is_honest → old.needs_reopen ≡ false → LeavesOnly (view old.disk).moments (view new.disk).moments (IsBeforeOrAfter old.catalog.layout old.history release)) (ack : (view old.disk).is_honest → new.needs_reopen ≡ false → IsAcknowledged view new) (honesty : (view old.disk).is_honest ↔ (view new.disk).is_honest) where
   before_or_after : (c : List ℕ) → IsBeforeOrAfter old.catalog.layout old.history release c → RepresentsHistory old.history c ⊎ RepresentsNext old.history release c
   before_or_after c (inl s) = inl (old.catalog.layout, s)
   before_or_after c (inr w) = inr (next_layout old.catalog.layout, w)
 
   -- the store took it
-  imported : (receipt : Receipt) → IsImportOnAnyDisk (Ok receipt) old new release → (view.is_honest old.disk → IsImportOf (Ok receipt) old new release) → IsCall view old (Imported release) new
+  imported : (receipt : Receipt) → IsImportOnAnyDisk (Ok receipt) old new release → ((view old.disk).is_honest → IsImportOf (Ok receipt) old new release) → IsCall view old (Imported release) new
   imported receipt at_all answer = record {
     history = λ h. let t = (answer h).0 in (t.accepted, t.history);
     needs_reopen = at_all.2;
     closed = λ needs. absurd (false≢true (sym at_all.1 ∙ needs));
     honesty = honesty;
-    any_moment = λ h a. weaker (view.moments old.disk) (view.moments new.disk) (IsBeforeOrAfter old.catalog.layout old.history release) (RepresentsAround old.history (Imported release)) before_or_after (any h at_all.1);
+    any_moment = λ h a. weaker (view old.disk).moments (view new.disk).moments (IsBeforeOrAfter old.catalog.layout old.history release) (RepresentsAround old.history (Imported release)) before_or_after (any h at_all.1);
     acknowledged = λ h a open_still. ack h open_still;
   }
 
@@ -102,11 +102,11 @@ module _ {D : Type 0} (view : DeviceView D) (old new : StoreValue D) (release : 
         needs_reopen = r.closed is_fault;
         closed = λ needs. absurd (false≢true (sym open_before ∙ needs));
         honesty = honesty;
-        any_moment = λ h a. weaker (view.moments old.disk) (view.moments new.disk) (IsBeforeOrAfter old.catalog.layout old.history release) (RepresentsAround old.history (Failed release)) before_or_after (any h open_before);
+        any_moment = λ h a. weaker (view old.disk).moments (view new.disk).moments (IsBeforeOrAfter old.catalog.layout old.history release) (RepresentsAround old.history (Failed release)) before_or_after (any h open_before);
         acknowledged = λ h a open_still. ack h open_still;
       }
 
-module _ {D : Type 0} (view : DeviceView D) where
+module _ {D : Type 0} (view : D → DiskView) where
   pub import_made : ImportIsACall D view
   import_made old new release (Ok receipt) answer at_all any ack same closed honesty = imported view old new release any ack honesty receipt at_all answer
   import_made old new release (Err store.DiskFault) answer at_all any ack same closed honesty = failed view old new release any ack honesty store.DiskFault refl at_all.0 at_all.1
@@ -119,8 +119,8 @@ module _ {D : Type 0} (view : DeviceView D) where
   same_checked release (Ok receipt) old new kept = kept.1.history
   same_checked release (Err e) old new kept = kept.1.history
 
-  pub check_made : (other_calls : D → ℕ) → CheckIsACall D view other_calls
-  check_made other_calls old new release result c = still view old new (same_checked release result old new c.kept) c.closed c.honesty c.moments c.acknowledged
+  pub check_made : CheckIsACall D view
+  check_made old new release result c = still view old new (same_checked release result old new c.kept) c.closed c.honesty c.moments c.acknowledged
 
   -- ---- questions
 
@@ -157,14 +157,14 @@ module _ {D : Type 0} (view : DeviceView D) where
   pub publish_made : MergePublishIsACall D view
   publish_made old new history any ack closed honesty =
       kept view old new (λ h. history) closed honesty
-      (λ h a. weaker (view.moments old.disk) (view.moments new.disk) (λ c. RepresentsAs old.catalog.layout old.history c ⊎ RepresentsAs (next_layout old.catalog.layout) old.history c) (RepresentsHistory old.history)
+      (λ h a. weaker (view old.disk).moments (view new.disk).moments (λ c. RepresentsAs old.catalog.layout old.history c ⊎ RepresentsAs (next_layout old.catalog.layout) old.history c) (RepresentsHistory old.history)
       (either old.history old.catalog.layout (next_layout old.catalog.layout)) (any h a.open_still))
       (λ h a open_still. ack h open_still)
 
   pub upgrade_made : UpgradeIsACall D view
   upgrade_made old new history any ack closed honesty =
       kept view old new (λ h. history) closed honesty
-      (λ h a. weaker (view.moments old.disk) (view.moments new.disk) (λ c. RepresentsAs old.catalog.layout old.history c ⊎ RepresentsAs layouts.Three old.history c) (RepresentsHistory old.history)
+      (λ h a. weaker (view old.disk).moments (view new.disk).moments (λ c. RepresentsAs old.catalog.layout old.history c ⊎ RepresentsAs layouts.Three old.history c) (RepresentsHistory old.history)
       (either old.history old.catalog.layout layouts.Three) (any h a.open_still))
       (λ h a open_still. ack h open_still)
 

@@ -7,32 +7,32 @@ use Rattle.history_store.specs.Answers.{StoreOr}
 use Rattle.directory.specs.declared.layout.Layout.{Layout}
 use Rattle.history_store.specs.Openings.{IsMaking, IsOpening}
 use Rattle.history_store.proofs.Reopened.{opened_is_what_is_represented}
-use Rattle.store_life.specs.DeviceView.{DeviceView}
+use Rattle.disk_model.specs.View.{DiskView}
 use Rattle.store_life.specs.Life.{IsOpenedFrom}
 use Rattle.store_life.specs.Laws.{EachLifeBegins, EachOpeningIsOfALife, ClosedStoreIsOpened}
 
-module _ {D : Type 0} (view : DeviceView D) (device : D) (up : view.is_honest device) where
-  begins : (layout : Layout) (result : StoreOr D) → (IsMaking layout result view.is_honest view.moments view.failures device ⊎ IsOpening result view.is_honest view.moments view.failures device)
-      → IfOk result (λ s. view.is_honest s.disk × IsAcknowledged view.moments s)
+module _ {D : Type 0} (view : D → DiskView) (device : D) (up : (view device).is_honest) where
+  begins : (layout : Layout) (result : StoreOr D) → (IsMaking layout result view device ⊎ IsOpening result view device)
+      → IfOk result (λ s. (view s.disk).is_honest × IsAcknowledged view s)
   begins layout (Ok s) (inl made) = (made.honesty.0 up, made.acknowledged up)
   begins layout (Ok s) (inr opened) = (opened.honesty.0 up, opened.acknowledged up)
   begins layout (Err e) had = tt
 
-  opened_from : (result : StoreOr D) → IsOpening result view.is_honest view.moments view.failures device
-      → IfOk result (IsOpenedFrom view (view.moments device).state.now device)
+  opened_from : (result : StoreOr D) → IsOpening result view device
+      → IfOk result (IsOpenedFrom view (view device).moments.state.now device)
   opened_from (Ok s) opening = record { is_honest = up; read = refl; exact = opening.exact up; acknowledged = opening.acknowledged up; honesty = opening.honesty.0 up }
   opened_from (Err e) opening = tt
 
-pub each_life_begins : (D : Type 0) (view : DeviceView D) → EachLifeBegins D view
+pub each_life_begins : (D : Type 0) (view : D → DiskView) → EachLifeBegins D view
 each_life_begins D view device layout result up had = begins view device up layout result had
 
-pub each_opening_is_of_a_life : (D : Type 0) (view : DeviceView D) → EachOpeningIsOfALife D view
+pub each_opening_is_of_a_life : (D : Type 0) (view : D → DiskView) → EachOpeningIsOfALife D view
 each_opening_is_of_a_life D view device result up opening = (opened_from view device up result opening, λ left stop is_left. record { is_honest = up; read = refl; stop = stop; any_moment = opening.any_moment up; is_left = is_left })
 
-pub closed_store_is_opened : (D : Type 0) (view : DeviceView D) → ((disk : D) → view.is_honest disk → IsImage (view.moments disk).state (view.moments disk).state.now) → ClosedStoreIsOpened D view
+pub closed_store_is_opened : (D : Type 0) (view : D → DiskView) → ((disk : D) → (view disk).is_honest → IsImage (view disk).moments.state (view disk).moments.state.now) → ClosedStoreIsOpened D view
 closed_store_is_opened D view now_is_image old new up opening =
-    let bytes = (view.moments old.disk).state.now in
+    let bytes = (view old.disk).moments.state.now in
     let image = now_is_image old.disk up in (
-      (bytes, [], record { since = []; grows = refl; state = (view.moments old.disk).state; is_one = (0, omega arith, refl); image = image }, (old.disk, opened_from view old.disk up (Ok new) opening)),
+      (bytes, [], record { since = []; grows = refl; state = (view old.disk).moments.state; is_one = (0, omega arith, refl); image = image }, (old.disk, opened_from view old.disk up (Ok new) opening)),
       λ ack. opened_is_what_is_represented new bytes old.history old.catalog.layout old.catalog.epoch old.catalog.entries (ack.each bytes image) (opening.exact up),
     )

@@ -15,7 +15,7 @@ use Rattle.history_store.specs.Checking.{IsChecking}
 use Rattle.history_store.specs.MergeAnswers.{IsBeginningOf, IsSteppingOf, IsAbandoningOf}
 use Rattle.history_store.specs.MergeAnswers.{IsTrimmingOf}
 use Rattle.history_store.specs.Queries.{IsQuery}
-use Rattle.store_life.specs.DeviceView.{DeviceView}
+use Rattle.disk_model.specs.View.{DiskView}
 use Rattle.store_life.specs.Life.{Call, Imported, Failed, Other, IsCall}
 
 -- which call an import is, by its answer
@@ -25,116 +25,115 @@ call_of (Err refusals.DiskFault) release = Failed release
 call_of (Err refusal) release = Other
 
 -- by `Store::import · answer, kept, any_moment, acknowledged, refused, closed, honesty`
-abbrev pub ImportIsACall : (D : Type 0) → DeviceView D → Type 0
+abbrev pub ImportIsACall : (D : Type 0) → (D → DiskView) → Type 0
 ImportIsACall D view =
     (old new : StoreValue D) (release : Release) (result : Result Receipt Refusal)
-    → (view.is_honest old.disk → IsImportOf result old new release)
+    → ((view old.disk).is_honest → IsImportOf result old new release)
     → IsImportOnAnyDisk result old new release
-    → (view.is_honest old.disk → old.needs_reopen ≡ false
-    → LeavesOnly (view.moments old.disk) (view.moments new.disk)
+    → ((view old.disk).is_honest → old.needs_reopen ≡ false
+    → LeavesOnly (view old.disk).moments (view new.disk).moments
     (IsBeforeOrAfter old.catalog.layout old.history release))
-    → (view.is_honest old.disk → new.needs_reopen ≡ false → IsAcknowledged view.moments new)
-    → (view.is_honest old.disk → KeepsMoments view.moments result old new)
+    → ((view old.disk).is_honest → new.needs_reopen ≡ false → IsAcknowledged view new)
+    → ((view old.disk).is_honest → KeepsMoments view result old new)
     → (old.needs_reopen ≡ true → new ≡ old)
-    → (view.is_honest old.disk ↔ view.is_honest new.disk)
+    → ((view old.disk).is_honest ↔ (view new.disk).is_honest)
     → IsCall view old (call_of result release) new
 
 -- by `Store::check · answer`: it imports nothing, also where the device fails
-abbrev pub CheckIsACall : (D : Type 0) → DeviceView D → (D → ℕ) → Type 0
-CheckIsACall D view other_calls =
+abbrev pub CheckIsACall : (D : Type 0) → (D → DiskView) → Type 0
+CheckIsACall D view =
     (old new : StoreValue D) (release : Release) (result : Result Receipt Refusal)
-    → IsChecking result release view.is_honest view.moments view.failures view.bytes_read
-    other_calls old new → IsCall view old Other new
+    → IsChecking result release view old new → IsCall view old Other new
 
 -- by `query` of the answers of `get`, `history`, `page`, `about`, `search`, `terms`,
 -- `replacements`, `replaces`, `timeline` and `delta` (`IsRowsQuery`), and of `ancestors`
 -- (`IsAncestorsQuery`), and of `store_digest::digest` (`IsDigestQuery`)
-abbrev pub QueryIsACall : (T D : Type 0) → DeviceView D → Type 0
+abbrev pub QueryIsACall : (T D : Type 0) → (D → DiskView) → Type 0
 QueryIsACall T D view = (result : Result T Refusal) (old new : StoreValue D)
-    → IsQuery result view.is_honest view.moments view.failures old new
+    → IsQuery result view old new
     → IsCall view old Other new
 
 -- by `unchanged` of the answers of `children`, `descendants` and `dates` (`IsIndexQuery`), and
 -- where a call only borrows the store
-abbrev pub UnchangedIsACall : (D : Type 0) → DeviceView D → Type 0
+abbrev pub UnchangedIsACall : (D : Type 0) → (D → DiskView) → Type 0
 UnchangedIsACall D view = (old new : StoreValue D) → new ≡ old → IsCall view old Other new
 
 -- by `Store::merge_begin · answer, disk, closed, acknowledged`
-abbrev pub MergeBeginIsACall : (D : Type 0) → DeviceView D → Type 0
+abbrev pub MergeBeginIsACall : (D : Type 0) → (D → DiskView) → Type 0
 MergeBeginIsACall D view = (result : Result ℕ Refusal) (old new : StoreValue D)
     → IsBeginningOf result old new
     → new.disk ≡ old.disk
     → (old.needs_reopen ≡ true → new ≡ old)
-    → (view.is_honest old.disk → new.needs_reopen ≡ false → IsAcknowledged view.moments new)
+    → ((view old.disk).is_honest → new.needs_reopen ≡ false → IsAcknowledged view new)
     → IsCall view old Other new
 
 -- by `Store::merge_step · answer, any_moment, acknowledged, closed, honesty`
-abbrev pub MergeStepIsACall : (D : Type 0) → DeviceView D → Type 0
+abbrev pub MergeStepIsACall : (D : Type 0) → (D → DiskView) → Type 0
 MergeStepIsACall D view = (result : Result ℕ Refusal) (rows : ℕ) (old new : StoreValue D)
     → IsSteppingOf result old new rows
-    → (view.is_honest old.disk → old.needs_reopen ≡ false
-    → LeavesOnly (view.moments old.disk) (view.moments new.disk)
+    → ((view old.disk).is_honest → old.needs_reopen ≡ false
+    → LeavesOnly (view old.disk).moments (view new.disk).moments
     (RepresentsAs old.catalog.layout old.history))
-    → (view.is_honest old.disk → new.needs_reopen ≡ false → IsAcknowledged view.moments new)
+    → ((view old.disk).is_honest → new.needs_reopen ≡ false → IsAcknowledged view new)
     → (old.needs_reopen ≡ true → new ≡ old)
-    → (view.is_honest old.disk ↔ view.is_honest new.disk)
+    → ((view old.disk).is_honest ↔ (view new.disk).is_honest)
     → IsCall view old Other new
 
 -- by `Store::merge_publish · history, any_moment, acknowledged, closed, honesty`
-abbrev pub MergePublishIsACall : (D : Type 0) → DeviceView D → Type 0
+abbrev pub MergePublishIsACall : (D : Type 0) → (D → DiskView) → Type 0
 MergePublishIsACall D view = (old new : StoreValue D)
     → new.history ≡ old.history
-    → (view.is_honest old.disk → old.needs_reopen ≡ false
-    → LeavesOnly (view.moments old.disk) (view.moments new.disk)
+    → ((view old.disk).is_honest → old.needs_reopen ≡ false
+    → LeavesOnly (view old.disk).moments (view new.disk).moments
     (λ c. RepresentsAs old.catalog.layout old.history c
     ⊎ RepresentsAs (next_layout old.catalog.layout) old.history c))
-    → (view.is_honest old.disk → new.needs_reopen ≡ false → IsAcknowledged view.moments new)
+    → ((view old.disk).is_honest → new.needs_reopen ≡ false → IsAcknowledged view new)
     → (old.needs_reopen ≡ true → new ≡ old)
-    → (view.is_honest old.disk ↔ view.is_honest new.disk)
+    → ((view old.disk).is_honest ↔ (view new.disk).is_honest)
     → IsCall view old Other new
 
 -- by `Store::upgrade · history, any_moment, acknowledged, closed, honesty`
-abbrev pub UpgradeIsACall : (D : Type 0) → DeviceView D → Type 0
+abbrev pub UpgradeIsACall : (D : Type 0) → (D → DiskView) → Type 0
 UpgradeIsACall D view = (old new : StoreValue D)
     → new.history ≡ old.history
-    → (view.is_honest old.disk → old.needs_reopen ≡ false
-    → LeavesOnly (view.moments old.disk) (view.moments new.disk)
+    → ((view old.disk).is_honest → old.needs_reopen ≡ false
+    → LeavesOnly (view old.disk).moments (view new.disk).moments
     (λ c. RepresentsAs old.catalog.layout old.history c
     ⊎ RepresentsAs layouts.Three old.history c))
-    → (view.is_honest old.disk → new.needs_reopen ≡ false → IsAcknowledged view.moments new)
+    → ((view old.disk).is_honest → new.needs_reopen ≡ false → IsAcknowledged view new)
     → (old.needs_reopen ≡ true → new ≡ old)
-    → (view.is_honest old.disk ↔ view.is_honest new.disk)
+    → ((view old.disk).is_honest ↔ (view new.disk).is_honest)
     → IsCall view old Other new
 
 -- by `Store::rewrite · history, any_moment, acknowledged, closed, honesty`
-abbrev pub RewriteIsACall : (D : Type 0) → DeviceView D → Type 0
+abbrev pub RewriteIsACall : (D : Type 0) → (D → DiskView) → Type 0
 RewriteIsACall D view = (old new : StoreValue D)
     → new.history ≡ old.history
-    → (view.is_honest old.disk → old.needs_reopen ≡ false
-    → LeavesOnly (view.moments old.disk) (view.moments new.disk)
+    → ((view old.disk).is_honest → old.needs_reopen ≡ false
+    → LeavesOnly (view old.disk).moments (view new.disk).moments
     (RepresentsAs old.catalog.layout old.history))
-    → (view.is_honest old.disk → new.needs_reopen ≡ false → IsAcknowledged view.moments new)
+    → ((view old.disk).is_honest → new.needs_reopen ≡ false → IsAcknowledged view new)
     → (old.needs_reopen ≡ true → new ≡ old)
-    → (view.is_honest old.disk ↔ view.is_honest new.disk)
+    → ((view old.disk).is_honest ↔ (view new.disk).is_honest)
     → IsCall view old Other new
 
 -- by `Store::merge_abandon · answer, disk, closed, acknowledged`
-abbrev pub MergeAbandonIsACall : (D : Type 0) → DeviceView D → Type 0
+abbrev pub MergeAbandonIsACall : (D : Type 0) → (D → DiskView) → Type 0
 MergeAbandonIsACall D view = (result : Result (Unit {0}) Refusal) (old new : StoreValue D)
     → IsAbandoningOf result old new
     → new.disk ≡ old.disk
     → (old.needs_reopen ≡ true → new ≡ old)
-    → (view.is_honest old.disk → new.needs_reopen ≡ false → IsAcknowledged view.moments new)
+    → ((view old.disk).is_honest → new.needs_reopen ≡ false → IsAcknowledged view new)
     → IsCall view old Other new
 
 -- by `Store::trim · answer, any_moment, acknowledged, closed, honesty`
-abbrev pub TrimIsACall : (D : Type 0) → DeviceView D → Type 0
+abbrev pub TrimIsACall : (D : Type 0) → (D → DiskView) → Type 0
 TrimIsACall D view = (result : Result ℕ Refusal) (old new : StoreValue D)
     → IsTrimmingOf result old new
-    → (view.is_honest old.disk → old.needs_reopen ≡ false
-    → LeavesOnly (view.moments old.disk) (view.moments new.disk)
+    → ((view old.disk).is_honest → old.needs_reopen ≡ false
+    → LeavesOnly (view old.disk).moments (view new.disk).moments
     (RepresentsAs old.catalog.layout old.history))
-    → (view.is_honest old.disk → new.needs_reopen ≡ false → IsAcknowledged view.moments new)
+    → ((view old.disk).is_honest → new.needs_reopen ≡ false → IsAcknowledged view new)
     → (old.needs_reopen ≡ true → new ≡ old)
-    → (view.is_honest old.disk ↔ view.is_honest new.disk)
+    → ((view old.disk).is_honest ↔ (view new.disk).is_honest)
     → IsCall view old Other new

@@ -14,7 +14,7 @@ use Rattle.history_store.specs.declared.refusal.Refusal.TheVariants as store
 use Rattle.history_store.specs.StoreValue.{StoreValue, IsAcknowledged}
 use Rattle.history_store.specs.Answers.{IsImportOf, IsOpeningOf, StoreOr, device_of}
 use Rattle.history_store.specs.Openings.{IsMaking, IsOpening}
-use Rattle.store_life.specs.DeviceView.{DeviceView}
+use Rattle.disk_model.specs.View.{DiskView}
 use Rattle.store_life.specs.Life.{Call, TakesAll, StopLeaves, IsStopped, Event, Called, Stopped}
 use Rattle.store_life.specs.Life.{IsOpenedFrom, OpeningLeaves, IsEvent, IsLife, AreKept}
 use Rattle.store_life.specs.Life.{IsSubsequence, acknowledged, stops}
@@ -22,49 +22,49 @@ use Rattle.store_life.specs.Life.{IsSubsequence, acknowledged, stops}
 -- ---- events
 
 -- a life may begin with a store that was made or opened on an honest device
-abbrev pub EachLifeBegins : (D : Type 0) → DeviceView D → Type 0
+abbrev pub EachLifeBegins : (D : Type 0) → (D → DiskView) → Type 0
 EachLifeBegins D view = (device : D) (layout : Layout) (result : StoreOr D)
-    → view.is_honest device
-    → (IsMaking layout result view.is_honest view.moments view.failures device
-    ⊎ IsOpening result view.is_honest view.moments view.failures device)
-    → IfOk result (λ s. view.is_honest s.disk × IsAcknowledged view.moments s)
+    → (view device).is_honest
+    → (IsMaking layout result view device
+    ⊎ IsOpening result view device)
+    → IfOk result (λ s. (view s.disk).is_honest × IsAcknowledged view s)
 
 -- An opening of an honest device is one of those that a life names: where a store is opened, it is
 -- opened from what a read gives; and whatever is answered, where a stop before it leaves what a
 -- read gives, a stop within it leaves what it might have left before.
-abbrev pub EachOpeningIsOfALife : (D : Type 0) → DeviceView D → Type 0
+abbrev pub EachOpeningIsOfALife : (D : Type 0) → (D → DiskView) → Type 0
 EachOpeningIsOfALife D view =
-    (device : D) (result : StoreOr D) → view.is_honest device
-    → IsOpening result view.is_honest view.moments view.failures device
-    → IfOk result (IsOpenedFrom view (view.moments device).state.now device)
+    (device : D) (result : StoreOr D) → (view device).is_honest
+    → IsOpening result view device
+    → IfOk result (IsOpenedFrom view (view device).moments.state.now device)
     × ((left : List ℕ)
-    → EachImage (view.moments device).state (λ c. c ≡ (view.moments device).state.now)
-    → StopLeaves (view.moments device) (view.moments (device_of result)) left
-    → OpeningLeaves view (view.moments device).state.now device (device_of result) left)
+    → EachImage (view device).moments.state (λ c. c ≡ (view device).moments.state.now)
+    → StopLeaves (view device).moments (view (device_of result)).moments left
+    → OpeningLeaves view (view device).moments.state.now device (device_of result) left)
 
 -- A store that is closed, and opened again from its disk without a stop in between, is an event of
 -- a life. Where no call had failed, history, version, epoch and entries are the same, and no merge
 -- goes on: by `Store::close · disk, stands` the store was acknowledged then.
-abbrev pub ClosedStoreIsOpened : (D : Type 0) → DeviceView D → Type 0
-ClosedStoreIsOpened D view = (old new : StoreValue D) → view.is_honest old.disk
-    → IsOpening (Ok new) view.is_honest view.moments view.failures old.disk
+abbrev pub ClosedStoreIsOpened : (D : Type 0) → (D → DiskView) → Type 0
+ClosedStoreIsOpened D view = (old new : StoreValue D) → (view old.disk).is_honest
+    → IsOpening (Ok new) view old.disk
     → IsEvent view old (Stopped None) new
-    × (IsAcknowledged view.moments old → (new.history ≡ old.history)
+    × (IsAcknowledged view old → (new.history ≡ old.history)
     × (new.catalog ≡ record old.catalog { merge = None }))
 
 -- a run of events followed by another is the run of both
-abbrev pub LivesCompose : (D : Type 0) → DeviceView D → Type 0
+abbrev pub LivesCompose : (D : Type 0) → (D → DiskView) → Type 0
 LivesCompose D view = (first mid last : StoreValue D) (events more : List Event)
     → IsLife view first events mid → IsLife view mid more last
     → IsLife view first (events ++ more) last
 
 -- A stop at any moment while calls are made, one after the other, comes between two of them or
 -- cuts one off: those before it were made, and those behind it weren't.
-abbrev pub EachStopIsOfALife : (D : Type 0) → DeviceView D → Type 0
+abbrev pub EachStopIsOfALife : (D : Type 0) → (D → DiskView) → Type 0
 EachStopIsOfALife D view = (first last : StoreValue D) (calls : List Call) (bytes : List ℕ)
-    → view.is_honest first.disk → IsAcknowledged view.moments first
+    → (view first.disk).is_honest → IsAcknowledged view first
     → IsLife view first (map Called calls) last
-    → StopLeaves (view.moments first.disk) (view.moments last.disk) bytes
+    → StopLeaves (view first.disk).moments (view last.disk).moments bytes
     → (before : List Call) × (within : Option Call) × (behind : List Call) × (mid : StoreValue D)
     × (calls ≡ before ++ option_to_list within ++ behind)
     × IsLife view first (map Called before) mid × IsStopped view mid within bytes
@@ -73,9 +73,9 @@ EachStopIsOfALife D view = (first last : StoreValue D) (calls : List Call) (byte
 
 -- Over any number of calls, stops and openings the history is the one from the beginning with each
 -- release whose import was acknowledged, in order, and with at most one other for each stop.
-abbrev pub EachLifeKeepsItsImports : (D : Type 0) → DeviceView D → Type 0
+abbrev pub EachLifeKeepsItsImports : (D : Type 0) → (D → DiskView) → Type 0
 EachLifeKeepsItsImports D view = (first last : StoreValue D) (events : List Event)
-    → view.is_honest first.disk → IsAcknowledged view.moments first
+    → (view first.disk).is_honest → IsAcknowledged view first
     → IsLife view first events last
     → (releases : List Release) × AreKept None events releases
     × TakesAll first.history releases last.history
@@ -90,20 +90,20 @@ KeptAreAcknowledged = (events : List Event) (releases : List Release)
 
 -- Over any number of calls, stops and openings, whatever the next stop leaves represents the
 -- history from the beginning with the releases that the life keeps.
-abbrev pub EachLifeIsRepresented : (D : Type 0) → DeviceView D → Type 0
+abbrev pub EachLifeIsRepresented : (D : Type 0) → (D → DiskView) → Type 0
 EachLifeIsRepresented D view = (first last : StoreValue D) (events : List Event)
     (within : Option Call) (bytes : List ℕ)
-    → view.is_honest first.disk → IsAcknowledged view.moments first
+    → (view first.disk).is_honest → IsAcknowledged view first
     → IsLife view first events last → IsStopped view last within bytes
     → (releases : List Release) × (after : History)
     × AreKept None (events ++ Stopped within ∷ []) releases
     × TakesAll first.history releases after × RepresentsHistory after bytes
 
 -- And it is opened with that history, unless the opening runs out of memory or the device fails.
-abbrev pub EachLifeIsOpened : (D : Type 0) → DeviceView D → Type 0
+abbrev pub EachLifeIsOpened : (D : Type 0) → (D → DiskView) → Type 0
 EachLifeIsOpened D view = (first last : StoreValue D) (events : List Event)
     (within : Option Call) (bytes : List ℕ) (result : StoreOr D)
-    → view.is_honest first.disk → IsAcknowledged view.moments first
+    → (view first.disk).is_honest → IsAcknowledged view first
     → IsLife view first events last
     → IsStopped view last within bytes → IsOpeningOf result bytes
     → MatchResult result
@@ -121,9 +121,9 @@ BroughtAlike number h g = brought_by number h.rows ≡ brought_by number g.rows
 
 -- Over any number of calls, stops and openings, what a number of imports showed in the beginning it
 -- shows still, and each of these imports brought the same rows.
-abbrev pub EachLifeKeepsItsPins : (D : Type 0) → DeviceView D → Type 0
+abbrev pub EachLifeKeepsItsPins : (D : Type 0) → (D → DiskView) → Type 0
 EachLifeKeepsItsPins D view = (first last : StoreValue D) (events : List Event) (pin : ℕ)
-    → view.is_honest first.disk → IsAcknowledged view.moments first
+    → (view first.disk).is_honest → IsAcknowledged view first
     → IsLife view first events last → pin ≤ first.history.imports
     → AgreeUpTo pin last.history first.history
     × ((number : ℕ) → number ≤ pin → BroughtAlike number last.history first.history)

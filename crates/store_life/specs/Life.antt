@@ -10,7 +10,7 @@ use Rattle.directory.specs.declared.layout.Layout.{Layout}
 use Rattle.store_image.specs.Images.{RepresentsHistory}
 use Rattle.history_store.specs.StoreValue.{StoreValue, IsAcknowledged}
 use Rattle.history_store.specs.Answers.{IsAccepted, IsOpeningOf, RepresentsWith}
-use Rattle.store_life.specs.DeviceView.{DeviceView}
+use Rattle.disk_model.specs.View.{DiskView}
 
 -- ---- calls
 
@@ -58,19 +58,19 @@ RepresentsAround h (Failed release) c = RepresentsHistory h c ⊎ RepresentsNext
 RepresentsAround h Other c = RepresentsHistory h c
 
 -- The call was made on the store.
-pub record IsCall {D : Type 0} (view : DeviceView D)
+pub record IsCall {D : Type 0} (view : D → DiskView)
     (old : StoreValue D) (call : Call) (new : StoreValue D) : Type 0 where
-  pub history : view.is_honest old.disk → TakesAll old.history (taken call) new.history
+  pub history : (view old.disk).is_honest → TakesAll old.history (taken call) new.history
   pub needs_reopen : NeedsReopenAfter call new.needs_reopen
   -- a store that has to be opened again stays as it is, and so does its disk
   pub closed : old.needs_reopen ≡ true → (new ≡ old) × (call ≡ Other)
-  pub honesty : view.is_honest old.disk ↔ view.is_honest new.disk
-  pub any_moment : view.is_honest old.disk → IsAcknowledged view.moments old
-      → LeavesOnly (view.moments old.disk) (view.moments new.disk)
+  pub honesty : (view old.disk).is_honest ↔ (view new.disk).is_honest
+  pub any_moment : (view old.disk).is_honest → IsAcknowledged view old
+      → LeavesOnly (view old.disk).moments (view new.disk).moments
       (RepresentsAround old.history call)
   -- as long as no call has failed, a stop after this one leaves what the store holds
-  pub acknowledged : view.is_honest old.disk → IsAcknowledged view.moments old
-      → new.needs_reopen ≡ false → IsAcknowledged view.moments new
+  pub acknowledged : (view old.disk).is_honest → IsAcknowledged view old
+      → new.needs_reopen ≡ false → IsAcknowledged view new
 
 -- ---- stops
 
@@ -86,37 +86,37 @@ pub record StopLeaves (old new : Moments) (bytes : List ℕ) : Type 0 where
 
 -- A stop between two calls may leave these bytes, or a stop before, within or after the call.
 -- That call is named as it would have been answered.
-abbrev pub IsStopped : {D : Type 0} → DeviceView D → StoreValue D → Option Call → List ℕ → Type 0
-IsStopped view s None bytes = StopLeaves (view.moments s.disk) (view.moments s.disk) bytes
+abbrev pub IsStopped : {D : Type 0} → (D → DiskView) → StoreValue D → Option Call → List ℕ → Type 0
+IsStopped view s None bytes = StopLeaves (view s.disk).moments (view s.disk).moments bytes
 IsStopped {D} view s (Some call) bytes = (end : StoreValue D) × IsCall view s call end
-    × StopLeaves (view.moments s.disk) (view.moments end.disk) bytes
+    × StopLeaves (view s.disk).moments (view end.disk).moments bytes
 
 -- ---- openings
 
 -- the store was opened from an honest device, of which a read gave these bytes
-pub record IsOpenedFrom {D : Type 0} (view : DeviceView D) (bytes : List ℕ)
+pub record IsOpenedFrom {D : Type 0} (view : D → DiskView) (bytes : List ℕ)
     (device : D) (s : StoreValue D) : Type 0 where
-  pub is_honest : view.is_honest device
-  pub read : (view.moments device).state.now ≡ bytes
-  pub exact : IsOpeningOf (Ok s) (view.moments device).state.now
-  pub acknowledged : IsAcknowledged view.moments s
-  pub honesty : view.is_honest s.disk
+  pub is_honest : (view device).is_honest
+  pub read : (view device).moments.state.now ≡ bytes
+  pub exact : IsOpeningOf (Ok s) (view device).moments.state.now
+  pub acknowledged : IsAcknowledged view s
+  pub honesty : (view s.disk).is_honest
 
 -- An opening of a device that holds these bytes, for a read and for a stop alike, was refused
 -- or ended by a stop, and left the others: at each moment of an opening a stop leaves what
 -- it might have left before.
-pub record OpeningLeaves {D : Type 0} (view : DeviceView D)
+pub record OpeningLeaves {D : Type 0} (view : D → DiskView)
     (bytes : List ℕ) (device after : D) (left : List ℕ) : Type 0 where
-  pub is_honest : view.is_honest device
-  pub read : (view.moments device).state.now ≡ bytes
-  pub stop : EachImage (view.moments device).state (λ c. c ≡ bytes)
-  pub any_moment : LeavesOnly (view.moments device) (view.moments after)
-      (IsImage (view.moments device).state)
-  pub is_left : StopLeaves (view.moments device) (view.moments after) left
+  pub is_honest : (view device).is_honest
+  pub read : (view device).moments.state.now ≡ bytes
+  pub stop : EachImage (view device).moments.state (λ c. c ≡ bytes)
+  pub any_moment : LeavesOnly (view device).moments (view after).moments
+      (IsImage (view device).moments.state)
+  pub is_left : StopLeaves (view device).moments (view after).moments left
 
 -- A store was opened from the bytes, perhaps after openings that were refused or that
 -- a stop ended. Of each of those the device is named as it was before and after.
-abbrev pub IsReopened : {D : Type 0} → DeviceView D → List ℕ → List (D × D)
+abbrev pub IsReopened : {D : Type 0} → (D → DiskView) → List ℕ → List (D × D)
     → StoreValue D → Type 0
 IsReopened {D} view bytes [] s =
     (device : D) × IsOpenedFrom view bytes device s
@@ -132,13 +132,13 @@ pub data Event : Type 0 where
   Called : Call → Event
   Stopped : Option Call → Event
 
-abbrev pub IsEvent : {D : Type 0} → DeviceView D → StoreValue D → Event → StoreValue D → Type 0
+abbrev pub IsEvent : {D : Type 0} → (D → DiskView) → StoreValue D → Event → StoreValue D → Type 0
 IsEvent view old (Called call) new = IsCall view old call new
 IsEvent {D} view old (Stopped within) new = (bytes : List ℕ) × (openings : List (D × D))
     × IsStopped view old within bytes × IsReopened view bytes openings new
 
 -- events come one after the other
-abbrev pub IsLife : {D : Type 0} → DeviceView D → StoreValue D → List Event → StoreValue D
+abbrev pub IsLife : {D : Type 0} → (D → DiskView) → StoreValue D → List Event → StoreValue D
     → Type 0
 IsLife view first [] last = last ≡ first
 IsLife {D} view first (event ∷ events) last =

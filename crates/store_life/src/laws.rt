@@ -1,6 +1,5 @@
 //! Laws of the definitions, each the contract of a function that does nothing.
 
-ghost use Rattle.store_life.specs.DeviceView.{device_view};
 ghost use Rattle.store_life.specs.Calls.{ImportIsACall, CheckIsACall, QueryIsACall};
 ghost use Rattle.store_life.specs.Calls.{UnchangedIsACall};
 ghost use Rattle.store_life.specs.Calls.{MergeBeginIsACall, MergeStepIsACall, UpgradeIsACall};
@@ -16,93 +15,89 @@ use disk_model::Disk;
 
 /// What `Store::import` ensures makes it a call of a life.
 pub fn import_is_a_call<D: Disk>()
-    ensures { ImportIsACall D (device_view D.is_honest D.moments D.failures D.bytes_read) }
+    ensures { ImportIsACall D D.view }
 {}
 
 /// What `Store::check` ensures makes it a call that leaves the history.
 pub fn check_is_a_call<D: Disk>()
-    ensures { CheckIsACall D (device_view D.is_honest D.moments D.failures D.bytes_read)
-        D.other_calls }
+    ensures { CheckIsACall D D.view }
 {}
 
 /// So does what each question ensures that reads rows.
 pub fn query_is_a_call<T, D: Disk>()
-    ensures { QueryIsACall T D (device_view D.is_honest D.moments D.failures D.bytes_read) }
+    ensures { QueryIsACall T D D.view }
 {}
 
 /// So does what each question ensures that reads none, and every call that only borrows the store
 /// is one, too.
 pub fn unchanged_is_a_call<D: Disk>()
-    ensures { UnchangedIsACall D (device_view D.is_honest D.moments D.failures D.bytes_read) }
+    ensures { UnchangedIsACall D D.view }
 {}
 
 /// So does what `Store::merge_begin` ensures.
 pub fn merge_begin_is_a_call<D: Disk>()
-    ensures { MergeBeginIsACall D (device_view D.is_honest D.moments D.failures D.bytes_read) }
+    ensures { MergeBeginIsACall D D.view }
 {}
 
 /// So does what `Store::merge_step` ensures.
 pub fn merge_step_is_a_call<D: Disk>()
-    ensures { MergeStepIsACall D (device_view D.is_honest D.moments D.failures D.bytes_read) }
+    ensures { MergeStepIsACall D D.view }
 {}
 
 /// So does what `Store::merge_publish` ensures.
 pub fn merge_publish_is_a_call<D: Disk>()
-    ensures { MergePublishIsACall D (device_view D.is_honest D.moments D.failures D.bytes_read) }
+    ensures { MergePublishIsACall D D.view }
 {}
 
 /// So does what `Store::upgrade` ensures.
 pub fn upgrade_is_a_call<D: Disk>()
-    ensures { UpgradeIsACall D (device_view D.is_honest D.moments D.failures D.bytes_read) }
+    ensures { UpgradeIsACall D D.view }
 {}
 
 /// So does what `Store::rewrite` ensures.
 pub fn rewrite_is_a_call<D: Disk>()
-    ensures { RewriteIsACall D (device_view D.is_honest D.moments D.failures D.bytes_read) }
+    ensures { RewriteIsACall D D.view }
 {}
 
 /// So does what `Store::merge_abandon` ensures.
 pub fn merge_abandon_is_a_call<D: Disk>()
-    ensures { MergeAbandonIsACall D (device_view D.is_honest D.moments D.failures D.bytes_read) }
+    ensures { MergeAbandonIsACall D D.view }
 {}
 
 /// So does what `Store::trim` ensures.
 pub fn trim_is_a_call<D: Disk>()
-    ensures { TrimIsACall D (device_view D.is_honest D.moments D.failures D.bytes_read) }
+    ensures { TrimIsACall D D.view }
 {}
 
 /// A life may begin with what `Store::create_in` made and with what `Store::open` opened.
 pub fn each_life_begins<D: Disk>()
-    ensures { EachLifeBegins D (device_view D.is_honest D.moments D.failures D.bytes_read) }
+    ensures { EachLifeBegins D D.view }
 {}
 
 /// Each opening that `Store::open` makes is one of those that a life names.
 pub fn each_opening_is_of_a_life<D: Disk>()
-    ensures { EachOpeningIsOfALife D
-        (device_view D.is_honest D.moments D.failures D.bytes_read) }
+    ensures { EachOpeningIsOfALife D D.view }
 {}
 
 /// A store that was closed by `Store::close` is opened with what it held.
 pub fn closed_store_is_opened<D: Disk>()
-    ensures { ClosedStoreIsOpened D
-        (device_view D.is_honest D.moments D.failures D.bytes_read) }
+    ensures { ClosedStoreIsOpened D D.view }
 {}
 
 /// A run of events followed by another is the run of both.
 pub fn lives_compose<D: Disk>()
-    ensures { LivesCompose D (device_view D.is_honest D.moments D.failures D.bytes_read) }
+    ensures { LivesCompose D D.view }
 {}
 
 /// A stop while calls are made comes between two of them or cuts one off.
 pub fn each_stop_is_of_a_life<D: Disk>()
-    ensures { EachStopIsOfALife D (device_view D.is_honest D.moments D.failures D.bytes_read) }
+    ensures { EachStopIsOfALife D D.view }
 {}
 
 /// Over any number of calls, stops and openings no import that was acknowledged is lost,
 /// and of the others at most one for each stop is kept, and that one whole.
 pub fn each_life_keeps_its_imports<D: Disk>()
-    ensures { EachLifeKeepsItsImports D
-        (device_view D.is_honest D.moments D.failures D.bytes_read) }
+    ensures { EachLifeKeepsItsImports D D.view }
 {}
 
 /// Each release whose import was acknowledged is among those
@@ -114,18 +109,17 @@ pub fn kept_are_acknowledged()
 /// Whatever a stop leaves represents the history with the releases that are kept, after any number
 /// of calls, stops and openings.
 pub fn each_life_is_represented<D: Disk>()
-    ensures { EachLifeIsRepresented D
-        (device_view D.is_honest D.moments D.failures D.bytes_read) }
+    ensures { EachLifeIsRepresented D D.view }
 {}
 
 /// So it is opened with that history.
 pub fn each_life_is_opened<D: Disk>()
-    ensures { EachLifeIsOpened D (device_view D.is_honest D.moments D.failures D.bytes_read) }
+    ensures { EachLifeIsOpened D D.view }
 {}
 
 /// What a pin shows is the same over any number of calls, stops and openings.
 pub fn each_life_keeps_its_pins<D: Disk>()
-    ensures { EachLifeKeepsItsPins D (device_view D.is_honest D.moments D.failures D.bytes_read) }
+    ensures { EachLifeKeepsItsPins D D.view }
 {}
 
 /// A release is answered alike by stores that are alike,

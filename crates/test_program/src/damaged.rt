@@ -15,18 +15,9 @@ struct Spoiled {
 }
 
 impl Disk for Spoiled {
-    ghost use Rattle.disk_model.specs.MemDisk.{memory_moments, failure_count, bytes_read_of};
-    ghost use Rattle.disk_model.specs.MemDisk.{other_calls_of};
+    ghost use Rattle.disk_model.specs.MemDisk.{memory_view};
 
-    ghost moments = { λ spoiled. memory_moments spoiled.disk };
-
-    ghost failures = { λ spoiled. failure_count spoiled.disk };
-
-    ghost bytes_read = { λ spoiled. bytes_read_of spoiled.disk };
-
-    ghost other_calls = { λ spoiled. other_calls_of spoiled.disk };
-
-    ghost is_honest = { λ _. ⊥ };
+    ghost view = { λ spoiled. record (memory_view spoiled.disk) { is_honest = ⊥ } };
 
     ghost now_is_image = { λ _ honest. absurd honest };
 

@@ -1,4 +1,4 @@
-use Rattle.std.proofs.Common.{◌≡◌, ◌+◌, ◌*◌, ◌≤◌, ◌++◌, take, drop, ◌/◌, ◌%◌, List, ℕ, length, refl, sym, ap, subst, ◌∙◌, arith}
+use Rattle.std.proofs.Common.{◌≡◌, ◌+◌, ◌*◌, ◌≤◌, ◌++◌, take, drop, ◌/◌, ◌%◌, List, ℕ, length, refl, sym, ap, subst, ◌∙◌, arith, rules}
 use Rattle.std.proofs.lemmas.Result.{err_from_is_err_and}
 use Rattle.disk_model.specs.Disk.{Moments}
 use Rattle.blocks.specs.Cache.{count_of, AgreesWith}
@@ -10,16 +10,16 @@ use Rattle.blocks.proofs.ranges.read_part.Goals as goal
 pub returns-clause-bytes : goal.returns-clause-bytes
 returns-clause-bytes g c honest agrees =
     let inv = c.loop-done.invariant in
-    let file = (g.D.Disk.moments c.args.disk.now).state.now in
+    let file = (g.D.Disk.view c.args.disk.now).moments.state.now in
     let all : c.loop-done.done ≡ length c.args.into.now = omega (arith, inv.0, inv.1, c.loop-done-test.false) in
     all_read c.args.from file c.loop-done.into (length c.args.into.now) inv.0 (subst (IsReadSoFar c.args.from file c.loop-done.into) all (inv.5 honest agrees).1)
 
 pub returns-then-count-skip-clause-bytes : goal.returns-then-count-skip-clause-bytes
 returns-then-count-skip-clause-bytes g c honest agrees =
     let inv = c.loop-done.invariant in
-    let file = (g.D.Disk.moments c.args.disk.now).state.now in
+    let file = (g.D.Disk.view c.args.disk.now).moments.state.now in
     let at = c.args.from + c.loop-done.done in
-    let same : (g.D.Disk.moments c.loop-done.disk).state.now ≡ file = ap (λ (m : Moments). m.state.now) (inv.3 honest) in
+    let same : (g.D.Disk.view c.loop-done.disk).moments.state.now ≡ file = ap (λ (m : Moments). m.state.now) (inv.3 honest) in
     let counted = c.in_ok-count.ensures.count (inv.2.0 honest) (subst (AgreesWith c.loop-done.cache) (sym same) (inv.5 honest agrees).0) in
     short_read c.args.from file c.args.into.now c.loop-done.done at (at / 4096) (at % 4096) c.min-taken.result c.in_ok-count.count refl (omega arith) (counted ∙ ap (λ l. count_of l (at / 4096)) same)
     (length c.args.into.now) c.if-count-skip.true (omega (arith, c.min-taken.ensures)) (omega (arith, inv.0, c.loop-done-test.true)) (omega (arith, inv.0, c.min-taken.ensures, c.loop-done-test.true))
@@ -27,8 +27,8 @@ returns-then-count-skip-clause-bytes g c honest agrees =
 pub returns-then-count-skip-clause-agrees : goal.returns-then-count-skip-clause-agrees
 returns-then-count-skip-clause-agrees g c honest agrees =
     let inv = c.loop-done.invariant in
-    let file = (g.D.Disk.moments c.args.disk.now).state.now in
-    let same : (g.D.Disk.moments c.loop-done.disk).state.now ≡ file = ap (λ (m : Moments). m.state.now) (inv.3 honest) in
+    let file = (g.D.Disk.view c.args.disk.now).moments.state.now in
+    let same : (g.D.Disk.view c.loop-done.disk).moments.state.now ≡ file = ap (λ (m : Moments). m.state.now) (inv.3 honest) in
     subst (AgreesWith c.read.new.self) same (c.in_ok-count.ensures.agrees (inv.2.0 honest) (subst (AgreesWith c.loop-done.cache) (sym same) (inv.5 honest agrees).0))
 
 pub returns-in_err-count-clause-kept : goal.returns-in_err-count-clause-kept
@@ -53,10 +53,10 @@ loop-done-init g c = (
   (λ h. h, λ h. h),
   λ honest. refl,
   refl,
-  λ honest agrees. (agrees, none_read c.args.from (g.D.Disk.moments c.args.disk.now).state.now c.args.into.now),
+  λ honest agrees. (agrees, none_read c.args.from (g.D.Disk.view c.args.disk.now).moments.state.now c.args.into.now),
   refl,
   λ part. (refl, λ q. refl),
-  none_looked_up c.args.from (length c.args.into.now) c.args.cache.now (g.D.Disk.bytes_read c.args.disk.now),
+  none_looked_up c.args.from (length c.args.into.now) c.args.cache.now (g.D.Disk.view c.args.disk.now).bytes_read,
   refl,
 )
 
@@ -64,17 +64,17 @@ pub loop-done-preserved : goal.loop-done-preserved
 unfolding looked_up_next
 loop-done-preserved g c =
     let inv = c.loop-done.invariant in
-    let file = (g.D.Disk.moments c.args.disk.now).state.now in
+    let file = (g.D.Disk.view c.args.disk.now).moments.state.now in
     let at = c.args.from + c.loop-done.done in
     let room : c.loop-done.done + c.min-taken.result ≤ length c.loop-done.into = omega (arith, inv.0, c.min-taken.ensures, c.loop-done-test.true) in
     let long : length c.copy_part.new.into ≡ length c.loop-done.into = c.copy_part.auto.into in (
       long ∙ inv.0,
       omega (arith, inv.0, room),
-      (λ up. c.in_ok-count.ensures.honesty.0 (inv.2.0 up), λ down. inv.2.1 (c.in_ok-count.ensures.honesty.1 down)),
-      (λ honest. c.in_ok-count.ensures.moments (inv.2.0 honest) ∙ inv.3 honest),
-      c.in_ok-count.ensures.failures ∙ inv.4,
+      (λ up. c.in_ok-count.ensures.meters.honesty.0 (inv.2.0 up), λ down. inv.2.1 (c.in_ok-count.ensures.meters.honesty.1 down)),
+      (λ honest. c.in_ok-count.ensures.meters.moments (inv.2.0 honest) ∙ inv.3 honest),
+      c.in_ok-count.ensures.meters.failures ∙ inv.4,
       (λ honest agrees.
-          let same : (g.D.Disk.moments c.loop-done.disk).state.now ≡ file = ap (λ (m : Moments). m.state.now) (inv.3 honest) in
+          let same : (g.D.Disk.view c.loop-done.disk).moments.state.now ≡ file = ap (λ (m : Moments). m.state.now) (inv.3 honest) in
           let kept = subst (AgreesWith c.loop-done.cache) (sym same) (inv.5 honest agrees).0 in
           let counted = c.in_ok-count.ensures.count (inv.2.0 honest) kept in (
             subst (AgreesWith c.read.new.self) same (c.in_ok-count.ensures.agrees (inv.2.0 honest) kept),
@@ -88,11 +88,11 @@ loop-done-preserved g c =
             (c.in_ok-count.ensures.kept here.0 here.1).2 ∙ still.0,
             keeps_on c.args.cache.now c.loop-done.cache c.read.new.self still.1 (used_keeps c.loop-done.cache c.read.new.self (at / 4096) (c.in_ok-count.ensures.used here.0 here.1)),
           )),
-      looked_up_next c.args.from (length c.args.into.now) c.loop-done.done c.args.cache.now c.loop-done.cache c.read.new.self (g.D.Disk.bytes_read c.args.disk.now) (g.D.Disk.bytes_read c.loop-done.disk) (g.D.Disk.bytes_read c.read.new.disk) inv.8 (omega (arith, inv.0, c.loop-done-test.true))
-          (read_up (at / 4096) c.in_ok-count.count c.read.new.into c.loop-done.cache c.read.new.self (g.D.Disk.bytes_read c.loop-done.disk) (g.D.Disk.bytes_read c.read.new.disk)
-          (λ kept is. (c.in_ok-count.ensures.used kept is, ap g.D.Disk.bytes_read (c.in_ok-count.ensures.kept kept is).2)) c.in_ok-count.ensures.keeps c.in_ok-count.ensures.bytes_read)
+      looked_up_next c.args.from (length c.args.into.now) c.loop-done.done c.args.cache.now c.loop-done.cache c.read.new.self (g.D.Disk.view c.args.disk.now).bytes_read (g.D.Disk.view c.loop-done.disk).bytes_read (g.D.Disk.view c.read.new.disk).bytes_read inv.8 (omega (arith, inv.0, c.loop-done-test.true))
+          (read_up (at / 4096) c.in_ok-count.count c.read.new.into c.loop-done.cache c.read.new.self (g.D.Disk.view c.loop-done.disk).bytes_read (g.D.Disk.view c.read.new.disk).bytes_read
+          (λ kept is. (c.in_ok-count.ensures.used kept is, ap (λ d. (g.D.Disk.view d).bytes_read) (c.in_ok-count.ensures.kept kept is).2)) c.in_ok-count.ensures.keeps c.in_ok-count.ensures.meters.bytes_read)
           c.min-taken.result (omega (arith, inv.0, c.min-taken.ensures)),
-      c.in_ok-count.ensures.other_calls ∙ inv.9,
+      c.in_ok-count.ensures.meters.other_calls ∙ inv.9,
     )
 
 pub returns-in_err-count-clause-looked_up : goal.returns-in_err-count-clause-looked_up
@@ -101,8 +101,8 @@ returns-in_err-count-clause-looked_up g c =
     let at = c.args.from + c.loop-done.done in
     let p = err_from_is_err_and c.from_residual.result c.from_residual.ensures.1 in
     rw p.1 (
-    ended c.args.from (length c.args.into.now) c.loop-done.done c.args.cache.now c.loop-done.cache c.read.new.self (g.D.Disk.bytes_read c.args.disk.now) (g.D.Disk.bytes_read c.loop-done.disk) (g.D.Disk.bytes_read c.read.new.disk) inv.8 (omega (arith, inv.0, c.loop-done-test.true))
-    (failed_up (at / 4096) c.loop-done.cache c.read.new.self (g.D.Disk.bytes_read c.loop-done.disk) (g.D.Disk.bytes_read c.read.new.disk) (λ kept is. let wrong = (c.in_err-count.ensures.kept kept is).0 in cc) c.in_err-count.ensures.unread c.in_err-count.ensures.bytes_read)
+    ended c.args.from (length c.args.into.now) c.loop-done.done c.args.cache.now c.loop-done.cache c.read.new.self (g.D.Disk.view c.args.disk.now).bytes_read (g.D.Disk.view c.loop-done.disk).bytes_read (g.D.Disk.view c.read.new.disk).bytes_read inv.8 (omega (arith, inv.0, c.loop-done-test.true))
+    (failed_up (at / 4096) c.loop-done.cache c.read.new.self (g.D.Disk.view c.loop-done.disk).bytes_read (g.D.Disk.view c.read.new.disk).bytes_read (λ kept is. let wrong = (c.in_err-count.ensures.kept kept is).0 in cc) c.in_err-count.ensures.unread c.in_err-count.ensures.meters.bytes_read)
     p.0
     )
 
@@ -110,20 +110,38 @@ pub returns-then-count-skip-clause-looked_up : goal.returns-then-count-skip-clau
 returns-then-count-skip-clause-looked_up g c =
     let inv = c.loop-done.invariant in
     let at = c.args.from + c.loop-done.done in
-    ended c.args.from (length c.args.into.now) c.loop-done.done c.args.cache.now c.loop-done.cache c.read.new.self (g.D.Disk.bytes_read c.args.disk.now) (g.D.Disk.bytes_read c.loop-done.disk) (g.D.Disk.bytes_read c.read.new.disk) inv.8 (omega (arith, inv.0, c.loop-done-test.true))
-    (read_up (at / 4096) c.in_ok-count.count c.read.new.into c.loop-done.cache c.read.new.self (g.D.Disk.bytes_read c.loop-done.disk) (g.D.Disk.bytes_read c.read.new.disk)
-    (λ kept is. (c.in_ok-count.ensures.used kept is, ap g.D.Disk.bytes_read (c.in_ok-count.ensures.kept kept is).2)) c.in_ok-count.ensures.keeps c.in_ok-count.ensures.bytes_read) _
+    ended c.args.from (length c.args.into.now) c.loop-done.done c.args.cache.now c.loop-done.cache c.read.new.self (g.D.Disk.view c.args.disk.now).bytes_read (g.D.Disk.view c.loop-done.disk).bytes_read (g.D.Disk.view c.read.new.disk).bytes_read inv.8 (omega (arith, inv.0, c.loop-done-test.true))
+    (read_up (at / 4096) c.in_ok-count.count c.read.new.into c.loop-done.cache c.read.new.self (g.D.Disk.view c.loop-done.disk).bytes_read (g.D.Disk.view c.read.new.disk).bytes_read
+    (λ kept is. (c.in_ok-count.ensures.used kept is, ap (λ d. (g.D.Disk.view d).bytes_read) (c.in_ok-count.ensures.kept kept is).2)) c.in_ok-count.ensures.keeps c.in_ok-count.ensures.meters.bytes_read) _
 
 pub returns-clause-looked_up : goal.returns-clause-looked_up
 returns-clause-looked_up g c =
     let inv = c.loop-done.invariant in
-    all_looked_up _ c.args.from (length c.args.into.now) c.loop-done.done c.args.cache.now c.loop-done.cache (g.D.Disk.bytes_read c.args.disk.now) (g.D.Disk.bytes_read c.loop-done.disk) (omega (arith, inv.0, inv.1, c.loop-done-test.false)) inv.8
+    all_looked_up _ c.args.from (length c.args.into.now) c.loop-done.done c.args.cache.now c.loop-done.cache (g.D.Disk.view c.args.disk.now).bytes_read (g.D.Disk.view c.loop-done.disk).bytes_read (omega (arith, inv.0, inv.1, c.loop-done-test.false)) inv.8
 
-pub returns-in_err-count-clause-bytes_read : goal.returns-in_err-count-clause-bytes_read
-returns-in_err-count-clause-bytes_read g c = part_asks _ _ _ _ _ _ _ (returns-in_err-count-clause-looked_up g c)
+pub returns-in_err-count-clause-meters : goal.returns-in_err-count-clause-meters
+returns-in_err-count-clause-meters g c = record {
+  moments = search rules;
+  honesty = search rules;
+  failures = search rules;
+  bytes_read = part_asks _ _ _ _ _ _ _ (returns-in_err-count-clause-looked_up g c);
+  other_calls = search rules;
+}
 
-pub returns-then-count-skip-clause-bytes_read : goal.returns-then-count-skip-clause-bytes_read
-returns-then-count-skip-clause-bytes_read g c = part_asks _ _ _ _ _ _ _ (returns-then-count-skip-clause-looked_up g c)
+pub returns-then-count-skip-clause-meters : goal.returns-then-count-skip-clause-meters
+returns-then-count-skip-clause-meters g c = record {
+  moments = search rules;
+  honesty = search rules;
+  failures = search rules;
+  bytes_read = part_asks _ _ _ _ _ _ _ (returns-then-count-skip-clause-looked_up g c);
+  other_calls = search rules;
+}
 
-pub returns-clause-bytes_read : goal.returns-clause-bytes_read
-returns-clause-bytes_read g c = part_asks _ _ _ _ _ _ _ (returns-clause-looked_up g c)
+pub returns-clause-meters : goal.returns-clause-meters
+returns-clause-meters g c = record {
+  moments = search rules;
+  honesty = search rules;
+  failures = search rules;
+  bytes_read = part_asks _ _ _ _ _ _ _ (returns-clause-looked_up g c);
+  other_calls = search rules;
+}

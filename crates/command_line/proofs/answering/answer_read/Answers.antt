@@ -3,12 +3,12 @@ use Rattle.line_server.specs.StateValue.{StateValue, fresh}
 use Rattle.line_server.specs.Replies.{Server, server}
 use Rattle.line_server.specs.Sources.{SourceView}
 use Rattle.line_server.specs.Turns.{Turn, IsTurn}
-use Rattle.store_life.specs.DeviceView.{DeviceView}
+use Rattle.disk_model.specs.View.{DiskView}
 use Rattle.history_store.specs.StoreValue.{StoreValue}
 use Rattle.command_line.proofs.answering.answer_read.Goals as goal
 
 -- a line that was answered from a state that is the fresh one was answered from the fresh one
-from_fresh : {D : Type 0} → (source : SourceView) (view : DeviceView D) (turn : Turn)
+from_fresh : {D : Type 0} → (source : SourceView) (view : D → DiskView) (turn : Turn)
     (store : StoreValue D) (new : Server D) (state : StateValue) → state ≡ fresh
     → IsTurn source view (server state store) turn new
     → IsTurn source view (server fresh store) turn new

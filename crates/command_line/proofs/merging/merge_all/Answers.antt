@@ -1,28 +1,27 @@
 use Rattle.std.proofs.Common.{refl}
-use Rattle.store_life.specs.DeviceView.{device_view}
 use Rattle.store_life.proofs.Made.{rewrite_made}
 use Rattle.command_line.proofs.merging.merge_all.Goals as goal
 
 pub returns-after-anew : goal.returns-after-anew
 returns-after-anew g c =
-    let view = device_view g.D.Disk.is_honest g.D.Disk.moments g.D.Disk.failures g.D.Disk.bytes_read in
+    let view = g.D.Disk.view in
     let r = c.rewrite.ensures in
     record {
       result = c.rewrite.result;
       mid = c.rewrite.new.self;
       rewriting = r.answer;
-      call = rewrite_made view _ _ r.history r.any_moment r.acknowledged r.closed r.honesty;
+      call = rewrite_made view _ _ r.history r.any_moment r.acknowledged r.closed r.meters.honesty;
       goes_on = rw c.in-Ok.is c.merge_lines.ensures;
     }
 
 pub returns-in-Err : goal.returns-in-Err
 returns-in-Err g c =
-    let view = device_view g.D.Disk.is_honest g.D.Disk.moments g.D.Disk.failures g.D.Disk.bytes_read in
+    let view = g.D.Disk.view in
     let r = c.rewrite.ensures in
     record {
       result = c.rewrite.result;
       mid = c.rewrite.new.self;
       rewriting = r.answer;
-      call = rewrite_made view _ _ r.history r.any_moment r.acknowledged r.closed r.honesty;
+      call = rewrite_made view _ _ r.history r.any_moment r.acknowledged r.closed r.meters.honesty;
       goes_on = rw c.in-Err.is (c.refuse.ensures, refl);
     }

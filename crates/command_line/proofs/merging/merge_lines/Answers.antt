@@ -1,5 +1,4 @@
 use Rattle.std.proofs.Common.{ap}
-use Rattle.store_life.specs.DeviceView.{device_view}
 use Rattle.line_server.specs.Replies.{server}
 use Rattle.command_line.specs.Tasks.{status_line}
 use Rattle.command_line.proofs.Merged.{asked_status, told_refusal}
@@ -16,11 +15,11 @@ returns g c =
     elim c.match-merge_to.branch [
       | in-Ok w ↦
           let t = w.carry_out-outcome.ensures.turn status_line w.status_request.ensures in
-          asked_status (device_view g.D.Disk.is_honest g.D.Disk.moments g.D.Disk.failures g.D.Disk.bytes_read) c.args.most _ _ w.carry_out-outcome.new.state w.carry_out-outcome.new.store c.args.store.now
+          asked_status g.D.Disk.view c.args.most _ _ w.carry_out-outcome.new.state w.carry_out-outcome.new.store c.args.store.now
           t.0 _ _ from w.in-Ok.ensures.merged t.1 t.2
           (c.tell.ensures t.0.outcome (rw w.outcome-is t.3)) (ap (λ s. s.disk) w.store-is)
       | in-Err w ↦
           let h = w.in-Err.ensures.merged in
-          told_refusal (device_view g.D.Disk.is_honest g.D.Disk.moments g.D.Disk.failures g.D.Disk.bytes_read) c.args.most _ c.merge_to.new.state c.merge_to.new.store c.args.store.now h.0 _ _ from h.2
+          told_refusal g.D.Disk.view c.args.most _ c.merge_to.new.state c.merge_to.new.store c.args.store.now h.0 _ _ from h.2
           (c.tell.ensures h.0.outcome (rw w.outcome-is (refusal_told w.in-Err.halt h.0.outcome h.1))) (ap (λ s. s.disk) w.store-is)
     ]

@@ -1,5 +1,4 @@
 use Rattle.std.proofs.Common.{◌≡◌, ◌-◌, ◌*◌}
-use Rattle.store_life.specs.DeviceView.{device_view}
 use Rattle.line_server.specs.Pins.{AreWithin}
 use Rattle.line_server.specs.Replies.{server}
 use Rattle.command_line.specs.Merging.{rows_left, segments_of}
@@ -9,7 +8,7 @@ use Rattle.command_line.proofs.merging.take_rows.Given as goal
 -- lines of the merge were answered, of as many segments, and each took its rows
 abbrev pub invariant-loop : goal.invariant-loop
 invariant-loop g l =
-    HaveMerged (device_view g.D.Disk.is_honest g.D.Disk.moments g.D.Disk.failures g.D.Disk.bytes_read) (server l.fn.state l.fn.store) (server l.state l.store)
+    HaveMerged g.D.Disk.view (server l.fn.state l.fn.store) (server l.state l.store)
     × (segments_of (server l.state l.store) ≡ segments_of (server l.fn.state l.fn.store))
     × AreWithin l.store.history.imports l.state.pins
     × IsMerging (server l.state l.store)

@@ -1,9 +1,8 @@
-use Rattle.store_life.specs.DeviceView.{device_view}
 use Rattle.command_line.proofs.OnlyRead.{queried}
 use Rattle.command_line.proofs.warning.has_own_row.Goals as goal
 
 pub returns-in_err-rows : goal.returns-in_err-rows
-returns-in_err-rows g c = queried (device_view g.D.Disk.is_honest g.D.Disk.moments g.D.Disk.failures g.D.Disk.bytes_read) _ _ _ c.in_err-rows.ensures.answer.query
+returns-in_err-rows g c = queried g.D.Disk.view _ _ _ c.in_err-rows.ensures.answer.query
 
 pub returns : goal.returns
-returns g c = queried (device_view g.D.Disk.is_honest g.D.Disk.moments g.D.Disk.failures g.D.Disk.bytes_read) _ _ _ c.in_ok-rows.ensures.answer.query
+returns g c = queried g.D.Disk.view _ _ _ c.in_ok-rows.ensures.answer.query

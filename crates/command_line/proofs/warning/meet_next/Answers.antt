@@ -1,12 +1,11 @@
-use Rattle.store_life.specs.DeviceView.{device_view}
 use Rattle.command_line.proofs.OnlyRead.{queried}
 use Rattle.command_line.proofs.warning.meet_next.Goals as goal
 
 pub returns-in_err-rows : goal.returns-in_err-rows
-returns-in_err-rows g c = queried (device_view g.D.Disk.is_honest g.D.Disk.moments g.D.Disk.failures g.D.Disk.bytes_read) _ _ _ c.in_err-rows.ensures.answer.query
+returns-in_err-rows g c = queried g.D.Disk.view _ _ _ c.in_err-rows.ensures.answer.query
 
 pub returns-in-Some : goal.returns-in-Some
-returns-in-Some g c = queried (device_view g.D.Disk.is_honest g.D.Disk.moments g.D.Disk.failures g.D.Disk.bytes_read) _ _ _ c.in_ok-rows.ensures.answer.query
+returns-in-Some g c = queried g.D.Disk.view _ _ _ c.in_ok-rows.ensures.answer.query
 
 pub returns : goal.returns
-returns g c = queried (device_view g.D.Disk.is_honest g.D.Disk.moments g.D.Disk.failures g.D.Disk.bytes_read) _ _ _ c.in_ok-rows.ensures.answer.query
+returns g c = queried g.D.Disk.view _ _ _ c.in_ok-rows.ensures.answer.query

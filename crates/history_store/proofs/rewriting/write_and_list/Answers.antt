@@ -25,17 +25,17 @@ returns-in_err-listed-clause-any_moment g c up =
     let wrote = c.in_ok-write_rows.ensures in
     let d = c.args.directory.now in
     let lists = c.args.index.now in
-    joined (g.D.Disk.moments c.args.disk.now) (g.D.Disk.moments c.write_rows.new.disk) (g.D.Disk.moments c.sync_and_publish.new.disk) (RepresentsAs d.layout (history_of d lists)) (wrote.any_moment up)
-    (leaves_listed d c.args.entry c.requires.anew lists c.requires.held.kept (g.D.Disk.is_honest c.write_rows.new.disk) (g.D.Disk.moments c.write_rows.new.disk) (g.D.Disk.moments c.sync_and_publish.new.disk) c.write_rows.new.cache c.args.slot c.args.next.now
-    (wrote.held c.args.slot c.requires.held) (wrote.honesty.0 up) c.requires.epochs_left (wrote.written up) c.requires.next c.sync_and_publish.ensures.any_moment)
+    joined (g.D.Disk.view c.args.disk.now).moments (g.D.Disk.view c.write_rows.new.disk).moments (g.D.Disk.view c.sync_and_publish.new.disk).moments (RepresentsAs d.layout (history_of d lists)) (wrote.any_moment up)
+    (leaves_listed d c.args.entry c.requires.anew lists c.requires.held.kept (g.D.Disk.view c.write_rows.new.disk).is_honest (g.D.Disk.view c.write_rows.new.disk).moments (g.D.Disk.view c.sync_and_publish.new.disk).moments c.write_rows.new.cache c.args.slot c.args.next.now
+    (wrote.held c.args.slot c.requires.held) (wrote.meters.honesty.0 up) c.requires.epochs_left (wrote.written up) c.requires.next c.sync_and_publish.ensures.any_moment)
 
 pub returns-clause-listed : goal.returns-clause-listed
 returns-clause-listed g c =
     let wrote = c.in_ok-write_rows.ensures in
     let listed = c.in_ok-listed.ensures in
     held_listed c.args.directory.now c.args.entry c.requires.anew c.args.index.now c.requires.held.kept
-    (g.D.Disk.is_honest c.write_rows.new.disk) (g.D.Disk.is_honest c.sync_and_publish.new.disk) (g.D.Disk.moments c.write_rows.new.disk).state (g.D.Disk.moments c.sync_and_publish.new.disk).state c.write_rows.new.cache c.forget.new.self c.args.slot c.in_ok-listed.listed c.args.next.now
-    (wrote.held c.args.slot c.requires.held) listed.honesty.1 (g.met.D.Disk.now_is_image c.write_rows.new.disk) c.requires.epochs_left (λ up. wrote.written (wrote.honesty.1 up)) c.requires.next listed.next
+    (g.D.Disk.view c.write_rows.new.disk).is_honest (g.D.Disk.view c.sync_and_publish.new.disk).is_honest (g.D.Disk.view c.write_rows.new.disk).moments.state (g.D.Disk.view c.sync_and_publish.new.disk).moments.state c.write_rows.new.cache c.forget.new.self c.args.slot c.in_ok-listed.listed c.args.next.now
+    (wrote.held c.args.slot c.requires.held) listed.meters.honesty.1 (g.met.D.Disk.now_is_image c.write_rows.new.disk) c.requires.epochs_left (λ up. wrote.written (wrote.meters.honesty.1 up)) c.requires.next listed.next
     listed.on_disk listed.elsewhere (subst (λ x. Forgets (is_in x) c.write_rows.new.cache c.forget.new.self) c.extent.ensures c.forget.ensures)
 
 pub returns-clause-any_moment : goal.returns-clause-any_moment
@@ -43,12 +43,12 @@ returns-clause-any_moment g c up =
     let wrote = c.in_ok-write_rows.ensures in
     let d = c.args.directory.now in
     let lists = c.args.index.now in
-    joined (g.D.Disk.moments c.args.disk.now) (g.D.Disk.moments c.write_rows.new.disk) (g.D.Disk.moments c.sync_and_publish.new.disk) (RepresentsAs d.layout (history_of d lists)) (wrote.any_moment up)
-    (leaves_listed d c.args.entry c.requires.anew lists c.requires.held.kept (g.D.Disk.is_honest c.write_rows.new.disk) (g.D.Disk.moments c.write_rows.new.disk) (g.D.Disk.moments c.sync_and_publish.new.disk) c.write_rows.new.cache c.args.slot c.args.next.now
-    (wrote.held c.args.slot c.requires.held) (wrote.honesty.0 up) c.requires.epochs_left (wrote.written up) c.requires.next c.sync_and_publish.ensures.any_moment)
+    joined (g.D.Disk.view c.args.disk.now).moments (g.D.Disk.view c.write_rows.new.disk).moments (g.D.Disk.view c.sync_and_publish.new.disk).moments (RepresentsAs d.layout (history_of d lists)) (wrote.any_moment up)
+    (leaves_listed d c.args.entry c.requires.anew lists c.requires.held.kept (g.D.Disk.view c.write_rows.new.disk).is_honest (g.D.Disk.view c.write_rows.new.disk).moments (g.D.Disk.view c.sync_and_publish.new.disk).moments c.write_rows.new.cache c.args.slot c.args.next.now
+    (wrote.held c.args.slot c.requires.held) (wrote.meters.honesty.0 up) c.requires.epochs_left (wrote.written up) c.requires.next c.sync_and_publish.ensures.any_moment)
 
 pub returns-clause-elsewhere : goal.returns-clause-elsewhere
 returns-clause-elsewhere g c up =
     let wrote = c.in_ok-write_rows.ensures in
-    elsewhere_joined (byte_range (extent_of c.args.entry) ∷ []) (slots_range ∷ []) (g.D.Disk.moments c.args.disk.now).state.now (g.D.Disk.moments c.write_rows.new.disk).state.now (g.D.Disk.moments c.sync_and_publish.new.disk).state.now
-    (wrote.elsewhere up) (in_slots (other c.args.slot) (g.D.Disk.moments c.write_rows.new.disk).state.now (g.D.Disk.moments c.sync_and_publish.new.disk).state.now (c.in_ok-listed.ensures.elsewhere (wrote.honesty.0 up)))
+    elsewhere_joined (byte_range (extent_of c.args.entry) ∷ []) (slots_range ∷ []) (g.D.Disk.view c.args.disk.now).moments.state.now (g.D.Disk.view c.write_rows.new.disk).moments.state.now (g.D.Disk.view c.sync_and_publish.new.disk).moments.state.now
+    (wrote.elsewhere up) (in_slots (other c.args.slot) (g.D.Disk.view c.write_rows.new.disk).moments.state.now (g.D.Disk.view c.sync_and_publish.new.disk).moments.state.now (c.in_ok-listed.ensures.elsewhere (wrote.meters.honesty.0 up)))

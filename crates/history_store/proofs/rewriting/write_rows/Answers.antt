@@ -1,6 +1,6 @@
 use Rattle.std.specs.Prelude.{Err}
 use Rattle.std.specs.Int.{div_ceil}
-use Rattle.std.proofs.Common.{◌≡◌, ◌+◌, ◌*◌, ◌∙◌, ◌∷◌, [], ℕ, List, length, take, drop, false, refl, sym, ap, subst, arith}
+use Rattle.std.proofs.Common.{◌≡◌, ◌+◌, ◌*◌, ◌∙◌, ◌∷◌, [], ℕ, List, length, take, drop, false, refl, sym, ap, subst, arith, rules}
 use Rattle.std.proofs.lemmas.List.{take_all, take_rest}
 use Rattle.std.proofs.lemmas.Result.{err_from_is_err_and}
 use Rattle.disk_model.proofs.MomentSteps.{joined}
@@ -25,8 +25,8 @@ pub loop-part-init : goal.loop-part-init
 loop-part-init g c = record {
   held = λ slot held. held;
   any_moment = λ up. not_called _ _ c.requires.slot c.args.directory.now c.args.index.now refl (c.requires.held.on_disk up refl);
-  written = λ up rows is. none_begins c.args.entry.form (extent_of c.args.entry) (g.D.Disk.moments c.args.disk.now).state.now;
-  elsewhere = λ up. elsewhere_none (byte_range (extent_of c.args.entry) ∷ []) (g.D.Disk.moments c.args.disk.now).state.now;
+  written = λ up rows is. none_begins c.args.entry.form (extent_of c.args.entry) (g.D.Disk.view c.args.disk.now).moments.state.now;
+  elsewhere = λ up. elsewhere_none (byte_range (extent_of c.args.entry) ∷ []) (g.D.Disk.view c.args.disk.now).moments.state.now;
   calls = λ up. omega arith;
   honesty = (λ up. up, λ up. up);
   failures = refl;
@@ -49,22 +49,24 @@ returns-in_err-taken-clause-calls g c up =
     let end : c.div_ceil-part-end.result ≡ div_ceil c.args.entry.rows 1000 = c.div_ceil-part-end.ensures ∙ ap (λ n. div_ceil n 1000) count in
     omega (arith, c.loop-part.invariant.calls up, c.loop-part-test.true, end)
 
-pub returns-in_err-taken-clause-other_calls : goal.returns-in_err-taken-clause-other_calls
-returns-in_err-taken-clause-other_calls g c =
+pub returns-in_err-taken-clause-meters : goal.returns-in_err-taken-clause-meters
+returns-in_err-taken-clause-meters g c = record {
+  honesty = search rules;
+  failures = search rules;
+  bytes_read =
+    let d = c.args.directory.now in
+    let kept = c.requires.held.kept in
+    let o = only d c.args.entry c.requires.anew c.args.index.now kept in
+    let cost = its_cost d c.args.entry c.requires.anew c.args.index.now kept c.places.result.now c.list-places.result.now c.places.ensures c.list-places.ensures o.rows o.lists_are in
+    omega (arith, c.loop-part.invariant.bytes_read, cost_front (c.loop-part.part * 1000) c.list-places.result.now, cost);
+  other_calls =
     let d = c.args.directory.now in
     let kept = c.requires.held.kept in
     let o = only d c.args.entry c.requires.anew c.args.index.now kept in
     let count = its_count d c.args.entry c.requires.anew c.args.index.now kept c.places.result.now c.list-places.result.now c.places.ensures c.list-places.ensures o.rows o.lists_are in
     let end : c.div_ceil-part-end.result ≡ div_ceil c.args.entry.rows 1000 = c.div_ceil-part-end.ensures ∙ ap (λ n. div_ceil n 1000) count in
-    omega (arith, c.loop-part.invariant.other_calls, c.loop-part-test.true, end)
-
-pub returns-in_err-taken-clause-bytes_read : goal.returns-in_err-taken-clause-bytes_read
-returns-in_err-taken-clause-bytes_read g c =
-    let d = c.args.directory.now in
-    let kept = c.requires.held.kept in
-    let o = only d c.args.entry c.requires.anew c.args.index.now kept in
-    let cost = its_cost d c.args.entry c.requires.anew c.args.index.now kept c.places.result.now c.list-places.result.now c.places.ensures c.list-places.ensures o.rows o.lists_are in
-    omega (arith, c.loop-part.invariant.bytes_read, cost_front (c.loop-part.part * 1000) c.list-places.result.now, cost)
+    omega (arith, c.loop-part.invariant.other_calls, c.loop-part-test.true, end);
+}
 
 pub write_taken-requires-clause-ascending : goal.write_taken-requires-clause-ascending
 write_taken-requires-clause-ascending g c =
@@ -94,7 +96,7 @@ returns-in_err-write_taken-clause-undamaged g c up =
     let still = inv.honesty.0 up in
     let k = c.loop-part.part * 1000 in
     let stand = its_part_stands d c.args.entry c.requires.anew lists kept c.places.result.now c.list-places.result.now c.places.ensures c.list-places.ensures o.rows o.lists_are k 1000 c.deref.result.now (c.deref.ensures.value ∙ c.in_ok-taken.ensures ∙ ap (λ l. as_taken (take 1000 l)) (take_rest c.list-places.result.now (c.loop-part.part * 1000))) in
-    let file = there (g.D.Disk.is_honest c.loop-part.disk) (g.D.Disk.moments c.loop-part.disk).state c.loop-part.cache c.requires.slot d lists false (inv.held c.requires.slot c.requires.held) still refl (g.met.D.Disk.now_is_image c.loop-part.disk still) in
+    let file = there (g.D.Disk.view c.loop-part.disk).is_honest (g.D.Disk.view c.loop-part.disk).moments.state c.loop-part.cache c.requires.slot d lists false (inv.held c.requires.slot c.requires.held) still refl (g.met.D.Disk.now_is_image c.loop-part.disk still) in
     let p = err_from_is_err_and c.from_residual-in_err-write_taken.result c.from_residual-in_err-write_taken.ensures.1 in
     rw (p.1, p.2) (c.in_err-write_taken.ensures.undamaged still ((inv.held c.requires.slot c.requires.held).agrees still refl) (take 1000 (drop k o.rows)) (lists, file, stand))
 
@@ -105,9 +107,9 @@ returns-in_err-write_taken-clause-held g c slot was =
     let inv = c.loop-part.invariant in
     let ahead = is_ahead d c.args.entry c.requires.anew c.requires.held.kept.listing in
     let p = err_from_is_err_and c.from_residual-in_err-write_taken.result c.from_residual-in_err-write_taken.ensures.1 in
-    rw (p.1, p.2) (held_after (g.D.Disk.is_honest c.loop-part.disk) (g.D.Disk.is_honest c.write_taken.new.disk) (g.D.Disk.moments c.loop-part.disk).state (g.D.Disk.moments c.write_taken.new.disk).state c.loop-part.cache c.write_taken.new.cache slot d lists _ (inv.held slot was)
-    c.write_taken.ensures.honesty.1 (λ up on. c.write_taken.ensures.on_disk up slot d lists on ahead)
-    (λ up still. unless (Err c.in_err-write_taken.field-0.0) (AgreesWith c.write_taken.new.cache (g.D.Disk.moments c.write_taken.new.disk).state.now) (c.in_err-write_taken.ensures.agrees up ((inv.held slot was).agrees up refl)) still))
+    rw (p.1, p.2) (held_after (g.D.Disk.view c.loop-part.disk).is_honest (g.D.Disk.view c.write_taken.new.disk).is_honest (g.D.Disk.view c.loop-part.disk).moments.state (g.D.Disk.view c.write_taken.new.disk).moments.state c.loop-part.cache c.write_taken.new.cache slot d lists _ (inv.held slot was)
+    c.write_taken.ensures.meters.honesty.1 (λ up on. c.write_taken.ensures.on_disk up slot d lists on ahead)
+    (λ up still. unless (Err c.in_err-write_taken.field-0.0) (AgreesWith c.write_taken.new.cache (g.D.Disk.view c.write_taken.new.disk).moments.state.now) (c.in_err-write_taken.ensures.agrees up ((inv.held slot was).agrees up refl)) still))
 
 pub returns-in_err-write_taken-clause-any_moment : goal.returns-in_err-write_taken-clause-any_moment
 returns-in_err-write_taken-clause-any_moment g c up =
@@ -115,7 +117,7 @@ returns-in_err-write_taken-clause-any_moment g c up =
     let lists = c.args.index.now in
     let inv = c.loop-part.invariant in
     let still = inv.honesty.0 up in
-    joined (g.D.Disk.moments c.args.disk.now) (g.D.Disk.moments c.loop-part.disk) (g.D.Disk.moments c.write_taken.new.disk) (RepresentsAs d.layout (history_of d lists)) (inv.any_moment up)
+    joined (g.D.Disk.view c.args.disk.now).moments (g.D.Disk.view c.loop-part.disk).moments (g.D.Disk.view c.write_taken.new.disk).moments (RepresentsAs d.layout (history_of d lists)) (inv.any_moment up)
     (c.write_taken.ensures.any_moment still c.requires.slot d lists ((inv.held c.requires.slot c.requires.held).on_disk still refl) (is_ahead d c.args.entry c.requires.anew c.requires.held.kept.listing))
 
 pub returns-in_err-write_taken-clause-calls : goal.returns-in_err-write_taken-clause-calls
@@ -127,17 +129,11 @@ returns-in_err-write_taken-clause-calls g c up =
     let end : c.div_ceil-part-end.result ≡ div_ceil c.args.entry.rows 1000 = c.div_ceil-part-end.ensures ∙ ap (λ n. div_ceil n 1000) count in
     omega (arith, c.write_taken.ensures.calls (c.loop-part.invariant.honesty.0 up), c.loop-part.invariant.calls up, c.loop-part-test.true, end)
 
-pub returns-in_err-write_taken-clause-other_calls : goal.returns-in_err-write_taken-clause-other_calls
-returns-in_err-write_taken-clause-other_calls g c =
-    let d = c.args.directory.now in
-    let kept = c.requires.held.kept in
-    let o = only d c.args.entry c.requires.anew c.args.index.now kept in
-    let count = its_count d c.args.entry c.requires.anew c.args.index.now kept c.places.result.now c.list-places.result.now c.places.ensures c.list-places.ensures o.rows o.lists_are in
-    let end : c.div_ceil-part-end.result ≡ div_ceil c.args.entry.rows 1000 = c.div_ceil-part-end.ensures ∙ ap (λ n. div_ceil n 1000) count in
-    omega (arith, c.write_taken.ensures.other_calls, c.loop-part.invariant.other_calls, c.loop-part-test.true, end)
-
-pub returns-in_err-write_taken-clause-bytes_read : goal.returns-in_err-write_taken-clause-bytes_read
-returns-in_err-write_taken-clause-bytes_read g c =
+pub returns-in_err-write_taken-clause-meters : goal.returns-in_err-write_taken-clause-meters
+returns-in_err-write_taken-clause-meters g c = record {
+  honesty = search rules;
+  failures = search rules;
+  bytes_read =
     let d = c.args.directory.now in
     let kept = c.requires.held.kept in
     let o = only d c.args.entry c.requires.anew c.args.index.now kept in
@@ -145,7 +141,15 @@ returns-in_err-write_taken-clause-bytes_read g c =
     let k = c.loop-part.part * 1000 in
     let cost = its_cost d c.args.entry c.requires.anew c.args.index.now kept c.places.result.now places c.places.ensures c.list-places.ensures o.rows o.lists_are in
     let part = ap cost_at (c.deref.ensures.value ∙ c.in_ok-taken.ensures ∙ ap (λ l. as_taken (take 1000 l)) (take_rest places k)) in
-    omega (arith, c.write_taken.ensures.bytes_read, c.loop-part.invariant.bytes_read, part, cost_on k 1000 places, cost_front (k + 1000) places, cost)
+    omega (arith, c.write_taken.ensures.meters.bytes_read, c.loop-part.invariant.bytes_read, part, cost_on k 1000 places, cost_front (k + 1000) places, cost);
+  other_calls =
+    let d = c.args.directory.now in
+    let kept = c.requires.held.kept in
+    let o = only d c.args.entry c.requires.anew c.args.index.now kept in
+    let count = its_count d c.args.entry c.requires.anew c.args.index.now kept c.places.result.now c.list-places.result.now c.places.ensures c.list-places.ensures o.rows o.lists_are in
+    let end : c.div_ceil-part-end.result ≡ div_ceil c.args.entry.rows 1000 = c.div_ceil-part-end.ensures ∙ ap (λ n. div_ceil n 1000) count in
+    omega (arith, c.write_taken.ensures.meters.other_calls, c.loop-part.invariant.other_calls, c.loop-part-test.true, end);
+}
 
 pub loop-part-preserved : goal.loop-part-preserved
 loop-part-preserved g c =
@@ -161,25 +165,25 @@ loop-part-preserved g c =
     let ahead = is_ahead d entry c.requires.anew kept.listing in
     let taken = c.deref.ensures.value ∙ c.in_ok-taken.ensures ∙ ap (λ l. as_taken (take 1000 l)) (take_rest places k) in
     record {
-      held = λ slot was. held_after (g.D.Disk.is_honest c.loop-part.disk) (g.D.Disk.is_honest c.write_taken.new.disk) (g.D.Disk.moments c.loop-part.disk).state (g.D.Disk.moments c.write_taken.new.disk).state c.loop-part.cache c.write_taken.new.cache slot d lists false (inv.held slot was)
-          wrote.honesty.1 (λ up on. wrote.on_disk up slot d lists on ahead) (λ up still. wrote.agrees up ((inv.held slot was).agrees up refl));
+      held = λ slot was. held_after (g.D.Disk.view c.loop-part.disk).is_honest (g.D.Disk.view c.write_taken.new.disk).is_honest (g.D.Disk.view c.loop-part.disk).moments.state (g.D.Disk.view c.write_taken.new.disk).moments.state c.loop-part.cache c.write_taken.new.cache slot d lists false (inv.held slot was)
+          wrote.meters.honesty.1 (λ up on. wrote.on_disk up slot d lists on ahead) (λ up still. wrote.agrees up ((inv.held slot was).agrees up refl));
       any_moment = λ up.
-          joined (g.D.Disk.moments c.args.disk.now) (g.D.Disk.moments c.loop-part.disk) (g.D.Disk.moments c.write_taken.new.disk) (RepresentsAs d.layout (history_of d lists)) (inv.any_moment up)
+          joined (g.D.Disk.view c.args.disk.now).moments (g.D.Disk.view c.loop-part.disk).moments (g.D.Disk.view c.write_taken.new.disk).moments (RepresentsAs d.layout (history_of d lists)) (inv.any_moment up)
           (wrote.any_moment (inv.honesty.0 up) c.requires.slot d lists ((inv.held c.requires.slot c.requires.held).on_disk (inv.honesty.0 up) refl) ahead);
       written = λ up rows is.
           let still = inv.honesty.0 up in
           let stand = its_part_stands d entry c.requires.anew lists kept c.places.result.now places c.places.ensures c.list-places.ensures rows is k 1000 c.deref.result.now taken in
-          let file = there (g.D.Disk.is_honest c.loop-part.disk) (g.D.Disk.moments c.loop-part.disk).state c.loop-part.cache c.requires.slot d lists false (inv.held c.requires.slot c.requires.held) still refl (g.met.D.Disk.now_is_image c.loop-part.disk still) in
+          let file = there (g.D.Disk.view c.loop-part.disk).is_honest (g.D.Disk.view c.loop-part.disk).moments.state c.loop-part.cache c.requires.slot d lists false (inv.held c.requires.slot c.requires.held) still refl (g.met.D.Disk.now_is_image c.loop-part.disk still) in
           let at = its_part_at d entry c.requires.anew lists kept c.places.result.now places c.places.ensures c.list-places.ensures rows is k 1000 c.deref.result.now taken c.index-places-from.result (parts_before (length places) c.div_ceil-part-end.result c.loop-part.part c.div_ceil-part-end.ensures c.loop-part-test.true) in
           let here = wrote.written still ((inv.held c.requires.slot c.requires.held).agrees still refl) (take 1000 (drop k rows)) (lists, file, stand) (segment_in entry.form (take k rows)) (length-segment_in entry.form (take k rows) ∙ sym at) (inv.written up rows is) in
           let segment = its_segment d entry c.requires.anew lists kept c.places.result.now places c.places.ensures c.list-places.ensures rows is in
-          subst (λ (b : List ℕ). BeginsWith (extent_of entry) b (g.D.Disk.moments c.write_taken.new.disk).state.now) (sym (ap (λ n. segment_in entry.form (take n rows)) more ∙ part_joins rows segment.is.ascending k 1000 entry.form)) here;
-      elsewhere = λ up. elsewhere_on (byte_range (extent_of entry) ∷ []) (g.D.Disk.moments c.args.disk.now).state.now (g.D.Disk.moments c.loop-part.disk).state.now (g.D.Disk.moments c.write_taken.new.disk).state.now (inv.elsewhere up) (wrote.elsewhere (inv.honesty.0 up));
+          subst (λ (b : List ℕ). BeginsWith (extent_of entry) b (g.D.Disk.view c.write_taken.new.disk).moments.state.now) (sym (ap (λ n. segment_in entry.form (take n rows)) more ∙ part_joins rows segment.is.ascending k 1000 entry.form)) here;
+      elsewhere = λ up. elsewhere_on (byte_range (extent_of entry) ∷ []) (g.D.Disk.view c.args.disk.now).moments.state.now (g.D.Disk.view c.loop-part.disk).moments.state.now (g.D.Disk.view c.write_taken.new.disk).moments.state.now (inv.elsewhere up) (wrote.elsewhere (inv.honesty.0 up));
       calls = λ up. omega (arith, wrote.calls (inv.honesty.0 up), inv.calls up);
-      honesty = (λ up. wrote.honesty.0 (inv.honesty.0 up), λ down. inv.honesty.1 (wrote.honesty.1 down));
-      failures = wrote.failures ∙ inv.failures;
-      bytes_read = omega (arith, wrote.bytes_read, inv.bytes_read, ap cost_at taken, cost_on k 1000 places, ap (λ n. cost_at (as_taken (take n places))) more);
-      other_calls = omega (arith, wrote.other_calls, inv.other_calls);
+      honesty = (λ up. wrote.meters.honesty.0 (inv.honesty.0 up), λ down. inv.honesty.1 (wrote.meters.honesty.1 down));
+      failures = wrote.meters.failures ∙ inv.failures;
+      bytes_read = omega (arith, wrote.meters.bytes_read, inv.bytes_read, ap cost_at taken, cost_on k 1000 places, ap (λ n. cost_at (as_taken (take n places))) more);
+      other_calls = omega (arith, wrote.meters.other_calls, inv.other_calls);
       capacity = wrote.capacity ∙ inv.capacity;
     }
 
@@ -192,7 +196,7 @@ returns-clause-written g c up rows is =
     let behind = parts_behind (length places) c.div_ceil-part-end.result c.loop-part.part c.div_ceil-part-end.ensures (omega (arith, c.loop-part-test.false)) in
     let count = its_count d c.args.entry c.requires.anew c.args.index.now kept c.places.result.now places c.places.ensures c.list-places.ensures rows is in
     let segment = its_segment d c.args.entry c.requires.anew c.args.index.now kept c.places.result.now places c.places.ensures c.list-places.ensures rows is in
-    subst (λ (l : List StampedRow). BeginsWith (extent_of c.args.entry) (segment_in c.args.entry.form l) (g.D.Disk.moments c.loop-part.disk).state.now) (take_all k rows (omega (arith, behind, count, segment.count))) (c.loop-part.invariant.written up rows is)
+    subst (λ (l : List StampedRow). BeginsWith (extent_of c.args.entry) (segment_in c.args.entry.form l) (g.D.Disk.view c.loop-part.disk).moments.state.now) (take_all k rows (omega (arith, behind, count, segment.count))) (c.loop-part.invariant.written up rows is)
 
 pub returns-clause-calls : goal.returns-clause-calls
 returns-clause-calls g c up =
@@ -203,19 +207,21 @@ returns-clause-calls g c up =
     let end : c.div_ceil-part-end.result ≡ div_ceil c.args.entry.rows 1000 = c.div_ceil-part-end.ensures ∙ ap (λ n. div_ceil n 1000) count in
     omega (arith, c.loop-part.invariant.calls up, c.loop-part.auto.part-end, end)
 
-pub returns-clause-other_calls : goal.returns-clause-other_calls
-returns-clause-other_calls g c =
+pub returns-clause-meters : goal.returns-clause-meters
+returns-clause-meters g c = record {
+  honesty = search rules;
+  failures = search rules;
+  bytes_read =
+    let d = c.args.directory.now in
+    let kept = c.requires.held.kept in
+    let o = only d c.args.entry c.requires.anew c.args.index.now kept in
+    let cost = its_cost d c.args.entry c.requires.anew c.args.index.now kept c.places.result.now c.list-places.result.now c.places.ensures c.list-places.ensures o.rows o.lists_are in
+    omega (arith, c.loop-part.invariant.bytes_read, cost_front (c.loop-part.part * 1000) c.list-places.result.now, cost);
+  other_calls =
     let d = c.args.directory.now in
     let kept = c.requires.held.kept in
     let o = only d c.args.entry c.requires.anew c.args.index.now kept in
     let count = its_count d c.args.entry c.requires.anew c.args.index.now kept c.places.result.now c.list-places.result.now c.places.ensures c.list-places.ensures o.rows o.lists_are in
     let end : c.div_ceil-part-end.result ≡ div_ceil c.args.entry.rows 1000 = c.div_ceil-part-end.ensures ∙ ap (λ n. div_ceil n 1000) count in
-    omega (arith, c.loop-part.invariant.other_calls, c.loop-part.auto.part-end, end)
-
-pub returns-clause-bytes_read : goal.returns-clause-bytes_read
-returns-clause-bytes_read g c =
-    let d = c.args.directory.now in
-    let kept = c.requires.held.kept in
-    let o = only d c.args.entry c.requires.anew c.args.index.now kept in
-    let cost = its_cost d c.args.entry c.requires.anew c.args.index.now kept c.places.result.now c.list-places.result.now c.places.ensures c.list-places.ensures o.rows o.lists_are in
-    omega (arith, c.loop-part.invariant.bytes_read, cost_front (c.loop-part.part * 1000) c.list-places.result.now, cost)
+    omega (arith, c.loop-part.invariant.other_calls, c.loop-part.auto.part-end, end);
+}

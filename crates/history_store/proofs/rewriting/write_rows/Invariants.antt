@@ -20,14 +20,14 @@ abbrev pub invariant-loop-part : goal.invariant-loop-part
 invariant-loop-part g l =
     let disk = g.D.Disk in
     record {
-      held : (slot : Slot) → IsHeld (disk.is_honest l.fn.disk) (disk.moments l.fn.disk).state l.fn.cache slot l.directory l.index false → IsHeld (disk.is_honest l.disk) (disk.moments l.disk).state l.cache slot l.directory l.index false;
-      any_moment : disk.is_honest l.fn.disk → LeavesOnly (disk.moments l.fn.disk) (disk.moments l.disk) (RepresentsAs l.directory.layout (history_of l.directory l.index));
-      written : disk.is_honest l.fn.disk → (rows : List StampedRow) → l.index ≡ rows ∷ [] → BeginsWith (extent_of l.entry) (segment_in l.entry.form (take (l.part * 1000) rows)) (disk.moments l.disk).state.now;
-      elsewhere : disk.is_honest l.fn.disk → SameOutside (byte_range (extent_of l.entry) ∷ []) (disk.moments l.fn.disk).state.now (disk.moments l.disk).state.now;
-      calls : disk.is_honest l.fn.disk → call_count (disk.moments l.disk) ≤ call_count (disk.moments l.fn.disk) + l.part;
-      honesty : disk.is_honest l.fn.disk ↔ disk.is_honest l.disk;
-      failures : disk.failures l.disk ≡ disk.failures l.fn.disk;
-      bytes_read : disk.bytes_read l.disk ≤ disk.bytes_read l.fn.disk + cost_at (as_taken (take (l.part * 1000) l.places));
-      other_calls : disk.other_calls l.disk ≤ disk.other_calls l.fn.disk + l.part;
+      held : (slot : Slot) → IsHeld (disk.view l.fn.disk).is_honest (disk.view l.fn.disk).moments.state l.fn.cache slot l.directory l.index false → IsHeld (disk.view l.disk).is_honest (disk.view l.disk).moments.state l.cache slot l.directory l.index false;
+      any_moment : (disk.view l.fn.disk).is_honest → LeavesOnly (disk.view l.fn.disk).moments (disk.view l.disk).moments (RepresentsAs l.directory.layout (history_of l.directory l.index));
+      written : (disk.view l.fn.disk).is_honest → (rows : List StampedRow) → l.index ≡ rows ∷ [] → BeginsWith (extent_of l.entry) (segment_in l.entry.form (take (l.part * 1000) rows)) (disk.view l.disk).moments.state.now;
+      elsewhere : (disk.view l.fn.disk).is_honest → SameOutside (byte_range (extent_of l.entry) ∷ []) (disk.view l.fn.disk).moments.state.now (disk.view l.disk).moments.state.now;
+      calls : (disk.view l.fn.disk).is_honest → call_count (disk.view l.disk).moments ≤ call_count (disk.view l.fn.disk).moments + l.part;
+      honesty : (disk.view l.fn.disk).is_honest ↔ (disk.view l.disk).is_honest;
+      failures : (disk.view l.disk).failures ≡ (disk.view l.fn.disk).failures;
+      bytes_read : (disk.view l.disk).bytes_read ≤ (disk.view l.fn.disk).bytes_read + cost_at (as_taken (take (l.part * 1000) l.places));
+      other_calls : (disk.view l.disk).other_calls ≤ (disk.view l.fn.disk).other_calls + l.part;
       capacity : l.cache.cap ≡ l.fn.cache.cap;
     }

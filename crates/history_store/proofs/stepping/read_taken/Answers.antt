@@ -38,14 +38,14 @@ loop-t-preserved g c =
       agrees = λ up agrees.
           let agrees_still = subst (λ (m : Moments). AgreesWith l.cache m.state.now) (sym (so_far.moments up)) (so_far.agrees up agrees) in
           subst (λ (m : Moments). AgreesWith c.read_row.new.cache m.state.now) (so_far.moments up) (read.agrees (so_far.honesty.0 up) agrees_still);
-      moments = λ up. read.moments (so_far.honesty.0 up) ∙ so_far.moments up;
-      honesty = (λ up. read.honesty.0 (so_far.honesty.0 up), λ down. so_far.honesty.1 (read.honesty.1 down));
-      failures = read.failures ∙ so_far.failures;
-      other_calls = read.other_calls ∙ so_far.other_calls;
-      looked_up = some_more (is_listed a.entries.now) a.cache.now l.cache c.read_row.new.cache (g.D.Disk.bytes_read a.disk.now) (g.D.Disk.bytes_read l.disk) (g.D.Disk.bytes_read c.read_row.new.disk) so_far.looked_up read.looked_up;
+      moments = λ up. read.meters.moments (so_far.honesty.0 up) ∙ so_far.moments up;
+      honesty = (λ up. read.meters.honesty.0 (so_far.honesty.0 up), λ down. so_far.honesty.1 (read.meters.honesty.1 down));
+      failures = read.meters.failures ∙ so_far.failures;
+      other_calls = read.meters.other_calls ∙ so_far.other_calls;
+      looked_up = some_more (is_listed a.entries.now) a.cache.now l.cache c.read_row.new.cache (g.D.Disk.view a.disk.now).bytes_read (g.D.Disk.view l.disk).bytes_read (g.D.Disk.view c.read_row.new.disk).bytes_read so_far.looked_up read.looked_up;
       bytes_read =
           let more = take_more a.taken.now l.t-index t c.loop-t-test.true ∙ ap (λ (x : Taken). take l.t-index a.taken.now ++ x ∷ []) (sym c.t-item.is) in
-          omega (arith, so_far.bytes_read, read.bytes_read, ap cost_at more ∙ cost_push (take l.t-index a.taken.now) t);
+          omega (arith, so_far.bytes_read, read.meters.bytes_read, ap cost_at more ∙ cost_push (take l.t-index a.taken.now) t);
     }
 
 pub returns-in_err-row-clause-found : goal.returns-in_err-row-clause-found
@@ -80,26 +80,44 @@ returns-in_err-push-clause-agrees g c = λ up agrees.
     subst (λ (m : Moments). AgreesWith c.read_row.new.cache m.state.now) (so_far.moments up) (c.in_ok-row.ensures.agrees (so_far.honesty.0 up) agrees_still)
 
 pub returns-in_err-row-clause-looked_up : goal.returns-in_err-row-clause-looked_up
-returns-in_err-row-clause-looked_up g c = some_more (is_listed c.args.entries.now) c.args.cache.now c.loop-t.cache c.read_row.new.cache (g.D.Disk.bytes_read c.args.disk.now) (g.D.Disk.bytes_read c.loop-t.disk) (g.D.Disk.bytes_read c.read_row.new.disk) c.loop-t.invariant.looked_up c.in_err-row.ensures.looked_up
+returns-in_err-row-clause-looked_up g c = some_more (is_listed c.args.entries.now) c.args.cache.now c.loop-t.cache c.read_row.new.cache (g.D.Disk.view c.args.disk.now).bytes_read (g.D.Disk.view c.loop-t.disk).bytes_read (g.D.Disk.view c.read_row.new.disk).bytes_read c.loop-t.invariant.looked_up c.in_err-row.ensures.looked_up
 
 pub returns-in_err-push-clause-looked_up : goal.returns-in_err-push-clause-looked_up
-returns-in_err-push-clause-looked_up g c = some_more (is_listed c.args.entries.now) c.args.cache.now c.loop-t.cache c.read_row.new.cache (g.D.Disk.bytes_read c.args.disk.now) (g.D.Disk.bytes_read c.loop-t.disk) (g.D.Disk.bytes_read c.read_row.new.disk) c.loop-t.invariant.looked_up c.in_ok-row.ensures.looked_up
+returns-in_err-push-clause-looked_up g c = some_more (is_listed c.args.entries.now) c.args.cache.now c.loop-t.cache c.read_row.new.cache (g.D.Disk.view c.args.disk.now).bytes_read (g.D.Disk.view c.loop-t.disk).bytes_read (g.D.Disk.view c.read_row.new.disk).bytes_read c.loop-t.invariant.looked_up c.in_ok-row.ensures.looked_up
 
-pub returns-in_err-row-clause-bytes_read : goal.returns-in_err-row-clause-bytes_read
-returns-in_err-row-clause-bytes_read g c =
+pub returns-in_err-row-clause-meters : goal.returns-in_err-row-clause-meters
+returns-in_err-row-clause-meters g c = record {
+  moments = search rules;
+  honesty = search rules;
+  failures = search rules;
+  bytes_read =
     let l = c.loop-t in
     let taken = c.args.taken.now in
     let t = c.t-item.result in
     let more = take_more taken l.t-index t c.loop-t-test.true ∙ ap (λ (x : Taken). take l.t-index taken ++ x ∷ []) (sym c.t-item.is) in
-    omega (arith, l.invariant.bytes_read, c.in_err-row.ensures.bytes_read, ap cost_at more ∙ cost_push (take l.t-index taken) t, cost_take (l.t-index + 1) taken)
+    omega (arith, l.invariant.bytes_read, c.in_err-row.ensures.meters.bytes_read, ap cost_at more ∙ cost_push (take l.t-index taken) t, cost_take (l.t-index + 1) taken);
+  other_calls = search rules;
+}
 
-pub returns-in_err-push-clause-bytes_read : goal.returns-in_err-push-clause-bytes_read
-returns-in_err-push-clause-bytes_read g c =
+pub returns-in_err-push-clause-meters : goal.returns-in_err-push-clause-meters
+returns-in_err-push-clause-meters g c = record {
+  moments = search rules;
+  honesty = search rules;
+  failures = search rules;
+  bytes_read =
     let l = c.loop-t in
     let taken = c.args.taken.now in
     let t = c.t-item.result in
     let more = take_more taken l.t-index t c.loop-t-test.true ∙ ap (λ (x : Taken). take l.t-index taken ++ x ∷ []) (sym c.t-item.is) in
-    omega (arith, l.invariant.bytes_read, c.in_ok-row.ensures.bytes_read, ap cost_at more ∙ cost_push (take l.t-index taken) t, cost_take (l.t-index + 1) taken)
+    omega (arith, l.invariant.bytes_read, c.in_ok-row.ensures.meters.bytes_read, ap cost_at more ∙ cost_push (take l.t-index taken) t, cost_take (l.t-index + 1) taken);
+  other_calls = search rules;
+}
 
-pub returns-clause-bytes_read : goal.returns-clause-bytes_read
-returns-clause-bytes_read g c = omega (arith, c.loop-t.invariant.bytes_read, cost_take c.loop-t.t-index c.args.taken.now)
+pub returns-clause-meters : goal.returns-clause-meters
+returns-clause-meters g c = record {
+  moments = search rules;
+  honesty = search rules;
+  failures = search rules;
+  bytes_read = omega (arith, c.loop-t.invariant.bytes_read, cost_take c.loop-t.t-index c.args.taken.now);
+  other_calls = search rules;
+}

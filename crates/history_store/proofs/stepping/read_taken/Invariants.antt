@@ -11,14 +11,14 @@ abbrev pub invariant-loop-t : goal.invariant-loop-t
 invariant-loop-t g l =
     let disk = g.D.Disk in
     record {
-      found : disk.is_honest l.fn.disk → AgreesWith l.fn.cache (disk.moments l.fn.disk).state.now → (lists : List (List StampedRow)) (want : List StampedRow) → AreThere l.entries lists (disk.moments l.fn.disk).state.now
+      found : (disk.view l.fn.disk).is_honest → AgreesWith l.fn.cache (disk.view l.fn.disk).moments.state.now → (lists : List (List StampedRow)) (want : List StampedRow) → AreThere l.entries lists (disk.view l.fn.disk).moments.state.now
           → AllZip (StandsIn lists l.i l.j) l.taken want → l.rows.items ≡ take l.t-index want;
       read : AllZip IsReadAt (take l.t-index l.taken) l.rows.items;
-      agrees : disk.is_honest l.fn.disk → AgreesWith l.fn.cache (disk.moments l.fn.disk).state.now → AgreesWith l.cache (disk.moments l.fn.disk).state.now;
-      moments : disk.is_honest l.fn.disk → disk.moments l.disk ≡ disk.moments l.fn.disk;
-      honesty : disk.is_honest l.fn.disk ↔ disk.is_honest l.disk;
-      failures : disk.failures l.disk ≡ disk.failures l.fn.disk;
-      looked_up : LooksUpSome (is_listed l.entries) l.fn.cache l.cache (disk.bytes_read l.fn.disk) (disk.bytes_read l.disk);
-      other_calls : disk.other_calls l.disk ≡ disk.other_calls l.fn.disk;
-      bytes_read : disk.bytes_read l.disk ≤ disk.bytes_read l.fn.disk + cost_at (take l.t-index l.taken);
+      agrees : (disk.view l.fn.disk).is_honest → AgreesWith l.fn.cache (disk.view l.fn.disk).moments.state.now → AgreesWith l.cache (disk.view l.fn.disk).moments.state.now;
+      moments : (disk.view l.fn.disk).is_honest → (disk.view l.disk).moments ≡ (disk.view l.fn.disk).moments;
+      honesty : (disk.view l.fn.disk).is_honest ↔ (disk.view l.disk).is_honest;
+      failures : (disk.view l.disk).failures ≡ (disk.view l.fn.disk).failures;
+      looked_up : LooksUpSome (is_listed l.entries) l.fn.cache l.cache (disk.view l.fn.disk).bytes_read (disk.view l.disk).bytes_read;
+      other_calls : (disk.view l.disk).other_calls ≡ (disk.view l.fn.disk).other_calls;
+      bytes_read : (disk.view l.disk).bytes_read ≤ (disk.view l.fn.disk).bytes_read + cost_at (take l.t-index l.taken);
     }

@@ -1,5 +1,5 @@
 use Rattle.std.specs.Prelude.{OnOk}
-use Rattle.std.proofs.Common.{inl, ◌∙◌, refl, sym, subst, arith}
+use Rattle.std.proofs.Common.{inl, ◌∙◌, refl, sym, subst, arith, rules}
 use Rattle.std.proofs.lemmas.Result.{err_from_is_err_and}
 use Rattle.disk_model.specs.Disk.{Moments, LeavesOnly}
 use Rattle.blocks.specs.declared.extent.Extent.{Extent}
@@ -17,36 +17,36 @@ returns-in_err-bytes-clause-undamaged g c up agrees want read =
     rw (p.1, p.2) (c.in_err-bytes.ensures.found up agrees want read)
 
 pub returns-in_err-bytes-clause-any_moment : goal.returns-in_err-bytes-clause-any_moment
-returns-in_err-bytes-clause-any_moment g c up slot d lists on ahead = not_called _ _ slot d lists (c.read_part.ensures.moments up) on
+returns-in_err-bytes-clause-any_moment g c up slot d lists on ahead = not_called _ _ slot d lists (c.read_part.ensures.meters.moments up) on
 
 pub returns-in_err-bytes-clause-agrees : goal.returns-in_err-bytes-clause-agrees
 returns-in_err-bytes-clause-agrees g c up agrees =
-    unless_given c.from_residual.result (AgreesWith c.read_part.new.cache (g.D.Disk.moments c.read_part.new.disk).state.now)
-    (agrees_still (g.D.Disk.moments c.args.disk.now) (g.D.Disk.moments c.read_part.new.disk) c.read_part.new.cache (c.read_part.ensures.moments up) (c.read_part.ensures.agrees up agrees))
+    unless_given c.from_residual.result (AgreesWith c.read_part.new.cache (g.D.Disk.view c.read_part.new.disk).moments.state.now)
+    (agrees_still (g.D.Disk.view c.args.disk.now).moments (g.D.Disk.view c.read_part.new.disk).moments c.read_part.new.cache (c.read_part.ensures.meters.moments up) (c.read_part.ensures.agrees up agrees))
 
 pub returns-in_err-bytes-clause-capacity : goal.returns-in_err-bytes-clause-capacity
 returns-in_err-bytes-clause-capacity g c = capacity_stays _ _ _ _ _ c.in_err-bytes.ensures.looked_up
 
 pub returns-clause-any_moment : goal.returns-clause-any_moment
 returns-clause-any_moment g c up slot d lists on ahead =
-    let old = g.D.Disk.moments c.args.disk.now in
-    let mid = g.D.Disk.moments c.read_part.new.disk in
+    let old = (g.D.Disk.view c.args.disk.now).moments in
+    let mid = (g.D.Disk.view c.read_part.new.disk).moments in
     let read = c.read_part.ensures in
-    subst (λ (x : Moments). LeavesOnly x (g.D.Disk.moments c.write_part.new.disk) (RepresentsAs d.layout (history_of d lists))) (read.moments up)
-    (c.write_part.ensures.any_moment (read.honesty.0 up) slot d lists (on_still old mid slot d lists (read.moments up) on) (subst (λ (e : Extent). IsAhead e d.entries) (sym c.extent.ensures) ahead))
+    subst (λ (x : Moments). LeavesOnly x (g.D.Disk.view c.write_part.new.disk).moments (RepresentsAs d.layout (history_of d lists))) (read.meters.moments up)
+    (c.write_part.ensures.any_moment (read.meters.honesty.0 up) slot d lists (on_still old mid slot d lists (read.meters.moments up) on) (subst (λ (e : Extent). IsAhead e d.entries) (sym c.extent.ensures) ahead))
 
 pub returns-clause-on_disk : goal.returns-clause-on_disk
 returns-clause-on_disk g c up slot d lists on ahead =
-    let old = g.D.Disk.moments c.args.disk.now in
-    let mid = g.D.Disk.moments c.read_part.new.disk in
+    let old = (g.D.Disk.view c.args.disk.now).moments in
+    let mid = (g.D.Disk.view c.read_part.new.disk).moments in
     let read = c.read_part.ensures in
-    c.write_part.ensures.on_disk (read.honesty.0 up) slot d lists (on_still old mid slot d lists (read.moments up) on) (subst (λ (e : Extent). IsAhead e d.entries) (sym c.extent.ensures) ahead)
+    c.write_part.ensures.on_disk (read.meters.honesty.0 up) slot d lists (on_still old mid slot d lists (read.meters.moments up) on) (subst (λ (e : Extent). IsAhead e d.entries) (sym c.extent.ensures) ahead)
 
 pub returns-clause-agrees : goal.returns-clause-agrees
 returns-clause-agrees g c up agrees =
     let read = c.read_part.ensures in
-    unless_written c.write_part.result (AgreesWith c.write_part.new.cache (g.D.Disk.moments c.write_part.new.disk).state.now) c.write_part.ensures.refused
-    (c.write_part.ensures.agrees (read.honesty.0 up) (agrees_still (g.D.Disk.moments c.args.disk.now) (g.D.Disk.moments c.read_part.new.disk) c.read_part.new.cache (read.moments up) (read.agrees up agrees)))
+    unless_written c.write_part.result (AgreesWith c.write_part.new.cache (g.D.Disk.view c.write_part.new.disk).moments.state.now) c.write_part.ensures.refused
+    (c.write_part.ensures.agrees (read.meters.honesty.0 up) (agrees_still (g.D.Disk.view c.args.disk.now).moments (g.D.Disk.view c.read_part.new.disk).moments c.read_part.new.cache (read.meters.moments up) (read.agrees up agrees)))
 
 pub returns-clause-capacity : goal.returns-clause-capacity
 returns-clause-capacity g c = c.write_part.ensures.capacity ∙ capacity_stays _ _ _ _ _ c.in_ok-bytes.ensures.looked_up
@@ -58,8 +58,13 @@ pub returns-clause-looked_up : goal.returns-clause-looked_up
 returns-clause-looked_up g c =
     let mid = c.read_part.new.cache in
     let new = c.write_part.new.cache in
-    part_stepped c.write_part.result _ _ _ mid new _ _ _ c.in_ok-bytes.ensures.looked_up c.write_part.ensures.bytes_read
+    part_stepped c.write_part.result _ _ _ mid new _ _ _ c.in_ok-bytes.ensures.looked_up c.write_part.ensures.meters.bytes_read
     (subst (λ (e : Extent). OnOk c.write_part.result (Forgets (is_in e) mid new)) c.extent.ensures c.write_part.ensures.forgets) c.write_part.ensures.keeps
 
-pub returns-clause-bytes_read : goal.returns-clause-bytes_read
-returns-clause-bytes_read g c = omega (arith, c.in_ok-bytes.ensures.bytes_read, c.write_part.ensures.bytes_read)
+pub returns-clause-meters : goal.returns-clause-meters
+returns-clause-meters g c = record {
+  honesty = search rules;
+  failures = search rules;
+  bytes_read = omega (arith, c.in_ok-bytes.ensures.meters.bytes_read, c.write_part.ensures.meters.bytes_read);
+  other_calls = search rules;
+}

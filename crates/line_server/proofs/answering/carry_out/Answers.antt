@@ -1,7 +1,6 @@
 use Rattle.std.proofs.Common.{sym, ◌∙◌}
 use Rattle.std.proofs.lemmas.Bool.{false≢true}
 use Rattle.line_server.specs.Sources.{source_view}
-use Rattle.store_life.specs.DeviceView.{device_view}
 use Rattle.line_commands.specs.Requests.{command_of}
 use Rattle.line_server.specs.Replies.{server}
 use Rattle.line_server.proofs.Responding.{nothing_asked, held_back}
@@ -10,7 +9,7 @@ use Rattle.line_server.proofs.answering.carry_out.Goals as goal
 pub returns-in-Err-clause-turn : goal.returns-in-Err-clause-turn
 returns-in-Err-clause-turn g c = λ line reads.
     let is = rw c.in-Err.is at reads in
-    nothing_asked (source_view (g.S.Source.is_honest c.args.source.now) (g.S.Source.releases c.args.source.now)) (device_view g.D.Disk.is_honest g.D.Disk.moments g.D.Disk.failures g.D.Disk.bytes_read) line c.in-Err.reason (server c.args.state.now c.args.store.now) is
+    nothing_asked (source_view (g.S.Source.is_honest c.args.source.now) (g.S.Source.releases c.args.source.now)) g.D.Disk.view line c.in-Err.reason (server c.args.state.now c.args.store.now) is
 
 pub respond-requires-clause-session : goal.respond-requires-clause-session
 respond-requires-clause-session g c = let asks = rw c.in-Ok.is at c.requires.read.1 in asks.is_session
@@ -37,4 +36,4 @@ returns-in-Err-respond-clause-unasked g c = λ line reads only.
 pub returns-then-holds_back-clause-turn : goal.returns-then-holds_back-clause-turn
 returns-then-holds_back-clause-turn g c = λ line reads.
     let asks = rw c.in-Ok.is at reads in
-    held_back (source_view (g.S.Source.is_honest c.args.source.now) (g.S.Source.releases c.args.source.now)) (device_view g.D.Disk.is_honest g.D.Disk.moments g.D.Disk.failures g.D.Disk.bytes_read) line c.in-Ok.request.session (command_of c.in-Ok.request.command) (server c.args.state.now c.args.store.now) asks (c.holds_back.ensures.0 c.if-holds_back.true)
+    held_back (source_view (g.S.Source.is_honest c.args.source.now) (g.S.Source.releases c.args.source.now)) g.D.Disk.view line c.in-Ok.request.session (command_of c.in-Ok.request.command) (server c.args.state.now c.args.store.now) asks (c.holds_back.ensures.0 c.if-holds_back.true)

@@ -1,13 +1,12 @@
 use Rattle.std.proofs.Common.{ℕ, ◌≤◌, ◌<◌, subst}
-use Rattle.store_life.specs.DeviceView.{device_view}
 use Rattle.line_commands.specs.Requests.{question_of}
 use Rattle.line_server.proofs.Responding.{asked_behind, above_all}
 use Rattle.line_server.proofs.asking.ask_at.Goals as goal
 
 pub returns-then-number-imports : goal.returns-then-number-imports
 returns-then-number-imports g c =
-    above_all (device_view g.D.Disk.is_honest g.D.Disk.moments g.D.Disk.failures g.D.Disk.bytes_read) c.args.number (question_of c.args.question.now) c.args.store.now c.args.store.now (subst (λ (n : ℕ). n < c.args.number) c.imports.ensures c.if-number-imports.true)
+    above_all g.D.Disk.view c.args.number (question_of c.args.question.now) c.args.store.now c.args.store.now (subst (λ (n : ℕ). n < c.args.number) c.imports.ensures c.if-number-imports.true)
 
 pub returns : goal.returns
 returns g c =
-    asked_behind (device_view g.D.Disk.is_honest g.D.Disk.moments g.D.Disk.failures g.D.Disk.bytes_read) c.args.number (question_of c.args.question.now) c.args.store.now c.ask.new.store c.ask.result (subst (λ (n : ℕ). c.args.number ≤ n) c.imports.ensures c.if-number-imports.false) c.ask.ensures
+    asked_behind g.D.Disk.view c.args.number (question_of c.args.question.now) c.args.store.now c.ask.new.store c.ask.result (subst (λ (n : ℕ). c.args.number ≤ n) c.imports.ensures c.if-number-imports.false) c.ask.ensures

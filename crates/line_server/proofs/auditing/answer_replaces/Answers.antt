@@ -1,5 +1,4 @@
 use Rattle.std.proofs.Common.{ap, ◌∙◌, List, Ok}
-use Rattle.store_life.specs.DeviceView.{device_view}
 use Rattle.std.proofs.lemmas.Result.{err_from_is_err_and}
 use Rattle.rf2_values.specs.Row.{RowValue}
 use Rattle.line_commands.specs.Questions.{Replaces}
@@ -10,13 +9,13 @@ use Rattle.line_server.proofs.auditing.answer_replaces.Goals as goal
 pub returns-in_err-found : goal.returns-in_err-found
 returns-in_err-found g c =
     let p = err_from_is_err_and c.from_residual.result c.from_residual.ensures.1 in
-    rw (p.1, p.2) (rows_unfound (device_view g.D.Disk.is_honest g.D.Disk.moments g.D.Disk.failures g.D.Disk.bytes_read) (Replaces c.args.id c.args.as_of.date) c.args.as_of.pin c.args.store.now c.replaces.new.self tt c.in_err-found.field-0.0 c.in_err-found.ensures.answer)
+    rw (p.1, p.2) (rows_unfound g.D.Disk.view (Replaces c.args.id c.args.as_of.date) c.args.as_of.pin c.args.store.now c.replaces.new.self tt c.in_err-found.field-0.0 c.in_err-found.ensures.answer)
 
 pub returns-in_err-reply_rows : goal.returns-in_err-reply_rows
 returns-in_err-reply_rows g c =
     let p = err_from_is_err_and c.from_residual-in_err-reply_rows.result c.from_residual-in_err-reply_rows.ensures.1 in
-    rw (p.1, p.2) (rows_untold (device_view g.D.Disk.is_honest g.D.Disk.moments g.D.Disk.failures g.D.Disk.bytes_read) (Replaces c.args.id c.args.as_of.date) c.args.as_of.pin c.args.store.now c.replaces.new.self tt c.in_ok-found.found c.in_ok-found.ensures.answer)
+    rw (p.1, p.2) (rows_untold g.D.Disk.view (Replaces c.args.id c.args.as_of.date) c.args.as_of.pin c.args.store.now c.replaces.new.self tt c.in_ok-found.found c.in_ok-found.ensures.answer)
 
 pub returns : goal.returns
 returns g c =
-    rows_found (device_view g.D.Disk.is_honest g.D.Disk.moments g.D.Disk.failures g.D.Disk.bytes_read) (Replaces c.args.id c.args.as_of.date) c.args.as_of.pin c.args.store.now c.replaces.new.self tt c.in_ok-found.found c.in_ok-reply_rows.field-0 c.in_ok-found.ensures.answer (λ answer e. e) (c.in_ok-reply_rows.ensures ∙ ap (λ (xs : List RowValue). reply_value (Ok (Rows xs))) c.deref.ensures.value)
+    rows_found g.D.Disk.view (Replaces c.args.id c.args.as_of.date) c.args.as_of.pin c.args.store.now c.replaces.new.self tt c.in_ok-found.found c.in_ok-reply_rows.field-0 c.in_ok-found.ensures.answer (λ answer e. e) (c.in_ok-reply_rows.ensures ∙ ap (λ (xs : List RowValue). reply_value (Ok (Rows xs))) c.deref.ensures.value)

@@ -1,6 +1,5 @@
 use Rattle.std.proofs.Common.{◌≡◌, List, ℕ, ◌++◌, take}
 use Rattle.line_server.specs.Sources.{source_view}
-use Rattle.store_life.specs.DeviceView.{device_view}
 use Rattle.line_server.specs.Pins.{AreWithin}
 use Rattle.line_server.specs.Replies.{server}
 use Rattle.line_server.specs.Steps.{kept}
@@ -12,7 +11,7 @@ use Rattle.line_server.proofs.feeding.feed.Given as goal
 abbrev pub invariant-loop-byte : goal.invariant-loop-byte
 invariant-loop-byte g l =
     ((part : List ℕ) → IsUnended part → l.fn.line ≡ kept part
-    → Progress (source_view (g.S.Source.is_honest l.fn.source) (g.S.Source.releases l.fn.source)) (device_view g.D.Disk.is_honest g.D.Disk.moments g.D.Disk.failures g.D.Disk.bytes_read) (g.W.Write.contents l.fn.writer) (g.W.Write.contents l.writer)
+    → Progress (source_view (g.S.Source.is_honest l.fn.source) (g.S.Source.releases l.fn.source)) g.D.Disk.view (g.W.Write.contents l.fn.writer) (g.W.Write.contents l.writer)
     (server l.fn.state l.fn.store) (server l.state l.store) (part ++ take l.byte-index l.piece) l.line l.answered)
     × AreWithin l.store.history.imports l.state.pins
     × (g.S.Source.is_honest l.fn.source → g.S.Source.is_honest l.source × (g.S.Source.releases l.source ≡ g.S.Source.releases l.fn.source))

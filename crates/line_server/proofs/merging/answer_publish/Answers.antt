@@ -1,5 +1,4 @@
 use Rattle.std.proofs.lemmas.Result.{err_from_is_err_and}
-use Rattle.store_life.specs.DeviceView.{device_view}
 use Rattle.store_life.proofs.Made.{publish_made}
 use Rattle.line_server.proofs.MergeTold.{published, not_published}
 use Rattle.line_server.proofs.merging.answer_publish.Goals as goal
@@ -8,13 +7,13 @@ pub returns-in_err-merge_publish : goal.returns-in_err-merge_publish
 returns-in_err-merge_publish g c =
     let p = err_from_is_err_and c.from_residual.result c.from_residual.ensures.1 in
     let e = c.in_err-merge_publish.ensures in
-    let view = device_view g.D.Disk.is_honest g.D.Disk.moments g.D.Disk.failures g.D.Disk.bytes_read in
-    let made = publish_made view c.args.store.now c.merge_publish.new.self e.history e.any_moment e.acknowledged e.closed e.honesty in
-    rw (p.1, p.2) (not_published view c.args.store.now c.merge_publish.new.self c.in_err-merge_publish.field-0.0 made e.bytes_read e.answer e.failures e.refused)
+    let view = g.D.Disk.view in
+    let made = publish_made view c.args.store.now c.merge_publish.new.self e.history e.any_moment e.acknowledged e.closed e.meters.honesty in
+    rw (p.1, p.2) (not_published view c.args.store.now c.merge_publish.new.self c.in_err-merge_publish.field-0.0 made e.meters.bytes_read e.answer e.meters.failures e.refused)
 
 pub returns : goal.returns
 returns g c =
     let e = c.in_ok-merge_publish.ensures in
-    let view = device_view g.D.Disk.is_honest g.D.Disk.moments g.D.Disk.failures g.D.Disk.bytes_read in
-    let made = publish_made view c.args.store.now c.merge_publish.new.self e.history e.any_moment e.acknowledged e.closed e.honesty in
-    published view c.args.store.now c.merge_publish.new.self c.reply_done.result made e.bytes_read e.answer e.history e.failures c.reply_done.ensures
+    let view = g.D.Disk.view in
+    let made = publish_made view c.args.store.now c.merge_publish.new.self e.history e.any_moment e.acknowledged e.closed e.meters.honesty in
+    published view c.args.store.now c.merge_publish.new.self c.reply_done.result made e.meters.bytes_read e.answer e.history e.meters.failures c.reply_done.ensures

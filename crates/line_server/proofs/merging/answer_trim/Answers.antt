@@ -1,6 +1,5 @@
 use Rattle.std.proofs.Common.{Ok, Err}
 use Rattle.std.proofs.lemmas.Result.{err_from_is_err_and}
-use Rattle.store_life.specs.DeviceView.{device_view}
 use Rattle.store_life.proofs.Made.{trim_made}
 use Rattle.line_server.proofs.MergeTold.{trimmed, not_trimmed}
 use Rattle.line_server.proofs.merging.answer_trim.Goals as goal
@@ -9,13 +8,13 @@ pub returns-in_err-_bytes : goal.returns-in_err-_bytes
 returns-in_err-_bytes g c =
     let p = err_from_is_err_and c.from_residual.result c.from_residual.ensures.1 in
     let e = c.in_err-_bytes.ensures in
-    let view = device_view g.D.Disk.is_honest g.D.Disk.moments g.D.Disk.failures g.D.Disk.bytes_read in
-    let made = trim_made view (Err c.in_err-_bytes.field-0.0) c.args.store.now c.trim.new.self e.answer e.any_moment e.acknowledged e.closed e.honesty in
-    rw (p.1, p.2) (not_trimmed view c.args.store.now c.trim.new.self c.in_err-_bytes.field-0.0 made e.bytes_read e.answer e.failures)
+    let view = g.D.Disk.view in
+    let made = trim_made view (Err c.in_err-_bytes.field-0.0) c.args.store.now c.trim.new.self e.answer e.any_moment e.acknowledged e.closed e.meters.honesty in
+    rw (p.1, p.2) (not_trimmed view c.args.store.now c.trim.new.self c.in_err-_bytes.field-0.0 made e.meters.bytes_read e.answer e.meters.failures)
 
 pub returns : goal.returns
 returns g c =
     let e = c.in_ok-_bytes.ensures in
-    let view = device_view g.D.Disk.is_honest g.D.Disk.moments g.D.Disk.failures g.D.Disk.bytes_read in
-    let made = trim_made view (Ok c.in_ok-_bytes._bytes) c.args.store.now c.trim.new.self e.answer e.any_moment e.acknowledged e.closed e.honesty in
-    trimmed view c.args.store.now c.trim.new.self c.in_ok-_bytes._bytes c.reply_done.result made e.bytes_read e.answer e.failures e.now c.reply_done.ensures
+    let view = g.D.Disk.view in
+    let made = trim_made view (Ok c.in_ok-_bytes._bytes) c.args.store.now c.trim.new.self e.answer e.any_moment e.acknowledged e.closed e.meters.honesty in
+    trimmed view c.args.store.now c.trim.new.self c.in_ok-_bytes._bytes c.reply_done.result made e.meters.bytes_read e.answer e.meters.failures e.now c.reply_done.ensures

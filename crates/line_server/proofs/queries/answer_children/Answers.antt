@@ -1,5 +1,4 @@
 use Rattle.std.proofs.Common.{ap, ◌∙◌, List, ℕ, Ok}
-use Rattle.store_life.specs.DeviceView.{device_view}
 use Rattle.std.proofs.lemmas.Result.{err_from_is_err_and}
 use Rattle.line_commands.specs.Questions.{Children}
 use Rattle.line_server.specs.ReplyValue.{Ids, reply_value}
@@ -10,16 +9,16 @@ pub returns-in_err-found : goal.returns-in_err-found
 returns-in_err-found g c =
     let p = err_from_is_err_and c.from_residual.result c.from_residual.ensures.1 in
     let e = c.in_err-found.ensures.answer in
-    rw (p.1, p.2, e.unchanged) (index_unfound (device_view g.D.Disk.is_honest g.D.Disk.moments g.D.Disk.failures g.D.Disk.bytes_read) c.args.as_of.pin c.args.store.now (Children c.args.concept c.args.as_of.date) tt c.in_err-found.field-0.0 e.refused)
+    rw (p.1, p.2, e.unchanged) (index_unfound g.D.Disk.view c.args.as_of.pin c.args.store.now (Children c.args.concept c.args.as_of.date) tt c.in_err-found.field-0.0 e.refused)
 
 pub returns-in_err-reply_ids : goal.returns-in_err-reply_ids
 returns-in_err-reply_ids g c =
     let p = err_from_is_err_and c.from_residual-in_err-reply_ids.result c.from_residual-in_err-reply_ids.ensures.1 in
     let e = c.in_ok-found.ensures.answer in
-    rw (p.1, p.2, e.unchanged) (index_untold (device_view g.D.Disk.is_honest g.D.Disk.moments g.D.Disk.failures g.D.Disk.bytes_read) c.args.as_of.pin c.args.store.now (Children c.args.concept c.args.as_of.date) tt e.found.0)
+    rw (p.1, p.2, e.unchanged) (index_untold g.D.Disk.view c.args.as_of.pin c.args.store.now (Children c.args.concept c.args.as_of.date) tt e.found.0)
 
 pub returns : goal.returns
 returns g c =
     let e = c.in_ok-found.ensures.answer in
-    rw e.unchanged (index_found (device_view g.D.Disk.is_honest g.D.Disk.moments g.D.Disk.failures g.D.Disk.bytes_read) c.args.as_of.pin c.args.store.now (Children c.args.concept c.args.as_of.date) tt (Ids c.in_ok-found.found.items) c.in_ok-reply_ids.field-0 e.found.0 (ap Ids e.found.1)
+    rw e.unchanged (index_found g.D.Disk.view c.args.as_of.pin c.args.store.now (Children c.args.concept c.args.as_of.date) tt (Ids c.in_ok-found.found.items) c.in_ok-reply_ids.field-0 e.found.0 (ap Ids e.found.1)
     (c.in_ok-reply_ids.ensures ∙ ap (λ (xs : List ℕ). reply_value (Ok (Ids xs))) c.deref.ensures.value))

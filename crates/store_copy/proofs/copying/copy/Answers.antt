@@ -27,41 +27,41 @@ write_copy-requires-clause-kept g c =
 pub returns-in_err-write_copy-clause-any_moment : goal.returns-in_err-write_copy-clause-any_moment
 returns-in_err-write_copy-clause-any_moment g c = λ s t.
     let l = c.in_ok-of.field-0 in
-    let file = (g.S.Disk.moments c.args.source.now).state.now in
-    let m0 = g.T.Disk.moments c.args.target.now in
-    let m1 = g.T.Disk.moments c.check_empty.new.disk in
-    let m2 = g.T.Disk.moments c.write_copy.new.target in
+    let file = (g.S.Disk.view c.args.source.now).moments.state.now in
+    let m0 = (g.T.Disk.view c.args.target.now).moments in
+    let m1 = (g.T.Disk.view c.check_empty.new.disk).moments in
+    let m2 = (g.T.Disk.view c.write_copy.new.target).moments in
     let same = c.check_empty.ensures.moments t in
     let none = ap (λ (m : Moments). length m.state.now) same ∙ c.in_ok-check_empty.ensures.exact t in
     let has = c.in_ok-of.ensures.read s in
     let planned = c.in_ok-of.ensures.planned in
-    let held = held_still c.args.imports l.of l.segments.items l.copy planned l.slot file has c.entries-from.result.now c.as_slice.result.now (g.S.Disk.moments c.read_and_plan.new.source).state.now c.entries-from.ensures.entries c.as_slice.ensures.value (c.read_and_plan.ensures.now s) in
+    let held = held_still c.args.imports l.of l.segments.items l.copy planned l.slot file has c.entries-from.result.now c.as_slice.result.now (g.S.Disk.view c.read_and_plan.new.source).moments.state.now c.entries-from.ensures.entries c.as_slice.ensures.value (c.read_and_plan.ensures.now s) in
     copy_run c.args.imports l.of l.segments.items l.copy planned l.slot file has m0 m1 m2 c.as_slice.result.now same c.as_slice.ensures.value
-    (c.write_copy.ensures.any_moment (c.read_and_plan.ensures.honesty.0 s) (c.check_empty.ensures.honesty.0 t) held none)
+    (c.write_copy.ensures.any_moment (c.read_and_plan.ensures.meters.honesty.0 s) (c.check_empty.ensures.meters.honesty.0 t) held none)
 
 pub returns-clause-any_moment : goal.returns-clause-any_moment
 returns-clause-any_moment g c = λ s t.
     let l = c.in_ok-of.field-0 in
-    let file = (g.S.Disk.moments c.args.source.now).state.now in
-    let m0 = g.T.Disk.moments c.args.target.now in
-    let m1 = g.T.Disk.moments c.check_empty.new.disk in
-    let m2 = g.T.Disk.moments c.write_copy.new.target in
+    let file = (g.S.Disk.view c.args.source.now).moments.state.now in
+    let m0 = (g.T.Disk.view c.args.target.now).moments in
+    let m1 = (g.T.Disk.view c.check_empty.new.disk).moments in
+    let m2 = (g.T.Disk.view c.write_copy.new.target).moments in
     let same = c.check_empty.ensures.moments t in
     let none = ap (λ (m : Moments). length m.state.now) same ∙ c.in_ok-check_empty.ensures.exact t in
     let has = c.in_ok-of.ensures.read s in
     let planned = c.in_ok-of.ensures.planned in
-    let held = held_still c.args.imports l.of l.segments.items l.copy planned l.slot file has c.entries-from.result.now c.as_slice.result.now (g.S.Disk.moments c.read_and_plan.new.source).state.now c.entries-from.ensures.entries c.as_slice.ensures.value (c.read_and_plan.ensures.now s) in
+    let held = held_still c.args.imports l.of l.segments.items l.copy planned l.slot file has c.entries-from.result.now c.as_slice.result.now (g.S.Disk.view c.read_and_plan.new.source).moments.state.now c.entries-from.ensures.entries c.as_slice.ensures.value (c.read_and_plan.ensures.now s) in
     copy_run c.args.imports l.of l.segments.items l.copy planned l.slot file has m0 m1 m2 c.as_slice.result.now same c.as_slice.ensures.value
-    (c.write_copy.ensures.any_moment (c.read_and_plan.ensures.honesty.0 s) (c.check_empty.ensures.honesty.0 t) held none)
+    (c.write_copy.ensures.any_moment (c.read_and_plan.ensures.meters.honesty.0 s) (c.check_empty.ensures.meters.honesty.0 t) held none)
 
 pub returns-clause-copied : goal.returns-clause-copied
 returns-clause-copied g c = λ s t.
     let l = c.in_ok-of.field-0 in
-    let file = (g.S.Disk.moments c.args.source.now).state.now in
+    let file = (g.S.Disk.view c.args.source.now).moments.state.now in
     let same = c.check_empty.ensures.moments t in
     let none = ap (λ (m : Moments). length m.state.now) same ∙ c.in_ok-check_empty.ensures.exact t in
     let has = c.in_ok-of.ensures.read s in
     let planned = c.in_ok-of.ensures.planned in
-    let held = held_still c.args.imports l.of l.segments.items l.copy planned l.slot file has c.entries-from.result.now c.as_slice.result.now (g.S.Disk.moments c.read_and_plan.new.source).state.now c.entries-from.ensures.entries c.as_slice.ensures.value (c.read_and_plan.ensures.now s) in
-    has_copied c.args.imports l.of l.segments.items l.copy planned l.slot file has (g.T.Disk.moments c.write_copy.new.target).state c.as_slice.result.now c.as_slice.ensures.value
-    (c.in_ok-write_copy.ensures.on_disk (c.read_and_plan.ensures.honesty.0 s) (c.check_empty.ensures.honesty.0 t) held none)
+    let held = held_still c.args.imports l.of l.segments.items l.copy planned l.slot file has c.entries-from.result.now c.as_slice.result.now (g.S.Disk.view c.read_and_plan.new.source).moments.state.now c.entries-from.ensures.entries c.as_slice.ensures.value (c.read_and_plan.ensures.now s) in
+    has_copied c.args.imports l.of l.segments.items l.copy planned l.slot file has (g.T.Disk.view c.write_copy.new.target).moments.state c.as_slice.result.now c.as_slice.ensures.value
+    (c.in_ok-write_copy.ensures.on_disk (c.read_and_plan.ensures.meters.honesty.0 s) (c.check_empty.ensures.meters.honesty.0 t) held none)

@@ -17,7 +17,7 @@ use Rattle.store_copy.proofs.copying.read_and_plan.Goals as goal
 
 pub returns-in_err-imports-clause-refused : goal.returns-in_err-imports-clause-refused
 returns-in_err-imports-clause-refused g c = λ honest.
-    let file = (g.S.Disk.moments c.args.source.now).state.now in
+    let file = (g.S.Disk.view c.args.source.now).moments.state.now in
     let l = c.in_ok-slot.field-0 in
     let of : Shown file = record { slot = l.slot; directory = l.directory; lists = l.segments.items; is = subst (λ (r : List (List StampedRow)). HasStore l.slot l.directory r file) (map-id l.segments.items) (c.in_ok-slot.ensures.exact honest) } in
     let p = err_from_is_err_and c.from_residual-in_err-imports.result c.from_residual-in_err-imports.ensures.1 in
@@ -40,7 +40,7 @@ plan-requires-clause-few g c =
 
 pub returns-in_err-copy-clause-refused : goal.returns-in_err-copy-clause-refused
 returns-in_err-copy-clause-refused g c = λ honest.
-    let file = (g.S.Disk.moments c.args.source.now).state.now in
+    let file = (g.S.Disk.view c.args.source.now).moments.state.now in
     let l = c.in_ok-slot.field-0 in
     let of : Shown file = record { slot = l.slot; directory = l.directory; lists = l.segments.items; is = subst (λ (r : List (List StampedRow)). HasStore l.slot l.directory r file) (map-id l.segments.items) (c.in_ok-slot.ensures.exact honest) } in
     let p = err_from_is_err_and c.from_residual-in_err-copy.result c.from_residual-in_err-copy.ensures.1 in

@@ -7,7 +7,7 @@ use Rattle.store_copy.proofs.reading.read_row.Goals.{then-next-len-via-then-next
 
 pub returns-then-next-len-clause-found : goal.returns-then-next-len-clause-found
 returns-then-next-len-clause-found g c = λ honest s there wrong.
-    let file = (g.S.Disk.moments c.args.source.now).state.now in
+    let file = (g.S.Disk.view c.args.source.now).moments.state.now in
     let at = c.args.at in
     let same : 4096 * c.from.result + c.from-2.result ≡ 4096 * c.args.entry.first + at.at = omega (arith, c.from.ensures, c.from-2.ensures) in
     let read = c.as_slice.ensures.value ∙ c.in_ok-bytes.ensures.bytes honest ∙ ap (λ k. take at.bytes (drop k file)) same in
@@ -19,7 +19,7 @@ returns-then-next-len-clause-found g c = λ honest s there wrong.
 
 pub returns-in-Ok-clause-found : goal.returns-in-Ok-clause-found
 returns-in-Ok-clause-found g c = λ honest s there.
-    let file = (g.S.Disk.moments c.args.source.now).state.now in
+    let file = (g.S.Disk.view c.args.source.now).moments.state.now in
     let at = c.args.at in
     let same : 4096 * c.from.result + c.from-2.result ≡ 4096 * c.args.entry.first + at.at = omega (arith, c.from.ensures, c.from-2.ensures) in
     let read = c.as_slice.ensures.value ∙ c.in_ok-bytes.ensures.bytes honest ∙ ap (λ k. take at.bytes (drop k file)) same in
@@ -27,7 +27,7 @@ returns-in-Ok-clause-found g c = λ honest s there.
 
 pub returns-clause-found : goal.returns-clause-found
 returns-clause-found g c = λ honest s there wrong.
-    let file = (g.S.Disk.moments c.args.source.now).state.now in
+    let file = (g.S.Disk.view c.args.source.now).moments.state.now in
     let at = c.args.at in
     let same : 4096 * c.from.result + c.from-2.result ≡ 4096 * c.args.entry.first + at.at = omega (arith, c.from.ensures, c.from-2.ensures) in
     let read = c.as_slice.ensures.value ∙ c.in_ok-bytes.ensures.bytes honest ∙ ap (λ k. take at.bytes (drop k file)) same in

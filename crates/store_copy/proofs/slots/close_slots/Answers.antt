@@ -7,37 +7,37 @@ use Rattle.store_copy.proofs.slots.close_slots.Goals as goal
 
 pub returns-in_err-write_and_sync-clause-any_moment : goal.returns-in_err-write_and_sync-clause-any_moment
 returns-in_err-write_and_sync-clause-any_moment g c = λ honest none.
-    let old = g.T.Disk.moments c.args.target.now in
-    let mid = g.T.Disk.moments c.sync.new.self in
-    let still = c.sync.ensures.honesty.0 honest in
+    let old = (g.T.Disk.view c.args.target.now).moments in
+    let mid = (g.T.Disk.view c.sync.new.self).moments in
+    let still = c.sync.ensures.meters.honesty.0 honest in
     let start = synced old old mid (λ f. IsImage old.state f ⊎ NoStore f) c.sync.result (started old (λ f. IsImage old.state f ⊎ NoStore f) (λ f image. inl image)) (g.met.T.Disk.now_is_image c.args.target.now honest) (c.sync.ensures.made honest) (c.sync.ensures.failed honest) in
-    first_zeros old mid none (c.in_ok-sync.ensures.made honest) (g.T.Disk.moments c.write_and_sync.new.disk) 0 (replicate 8193 0) refl (length-replicate {A = ℕ} 8193 0) (λ i lt. get_or-replicate {A = ℕ} 8193 i 0 0 lt)
+    first_zeros old mid none (c.in_ok-sync.ensures.made honest) (g.T.Disk.view c.write_and_sync.new.disk).moments 0 (replicate 8193 0) refl (length-replicate {A = ℕ} 8193 0) (λ i lt. get_or-replicate {A = ℕ} 8193 i 0 0 lt)
     (IsImage old.state) (g.met.T.Disk.now_is_image c.sync.new.self still) start (c.write_and_sync.ensures.any_moment still)
 
 pub returns-clause-any_moment : goal.returns-clause-any_moment
 returns-clause-any_moment g c = λ honest none.
-    let old = g.T.Disk.moments c.args.target.now in
-    let mid = g.T.Disk.moments c.sync.new.self in
-    let next = g.T.Disk.moments c.write_and_sync.new.disk in
-    let still = c.sync.ensures.honesty.0 honest in
-    let on = c.write_and_sync.ensures.honesty.0 still in
+    let old = (g.T.Disk.view c.args.target.now).moments in
+    let mid = (g.T.Disk.view c.sync.new.self).moments in
+    let next = (g.T.Disk.view c.write_and_sync.new.disk).moments in
+    let still = c.sync.ensures.meters.honesty.0 honest in
+    let on = c.write_and_sync.ensures.meters.honesty.0 still in
     let start = synced old old mid (λ f. IsImage old.state f ⊎ NoStore f) c.sync.result (started old (λ f. IsImage old.state f ⊎ NoStore f) (λ f image. inl image)) (g.met.T.Disk.now_is_image c.args.target.now honest) (c.sync.ensures.made honest) (c.sync.ensures.failed honest) in
     let so_far = first_zeros old mid none (c.in_ok-sync.ensures.made honest) next 0 (replicate 8193 0) refl (length-replicate {A = ℕ} 8193 0) (λ i lt. get_or-replicate {A = ℕ} 8193 i 0 0 lt)
     (IsImage old.state) (g.met.T.Disk.now_is_image c.sync.new.self still) start (c.write_and_sync.ensures.any_moment still) in
     let shut = zeros_shut old mid none (c.in_ok-sync.ensures.made honest) next 0 (replicate 8193 0) refl (length-replicate {A = ℕ} 8193 0) (λ i lt. get_or-replicate {A = ℕ} 8193 i 0 0 lt) (c.in_ok-write_and_sync.ensures.on_disk still) in
-    last_zeros c.write_at.result (IsImage old.state) old next (g.T.Disk.moments c.write_at.new.self) 8193 (replicate 8191 0) (omega arith) so_far (g.met.T.Disk.now_is_image c.write_and_sync.new.disk on) shut (c.write_at.ensures.made on) (c.write_at.ensures.failed on)
+    last_zeros c.write_at.result (IsImage old.state) old next (g.T.Disk.view c.write_at.new.self).moments 8193 (replicate 8191 0) (omega arith) so_far (g.met.T.Disk.now_is_image c.write_and_sync.new.disk on) shut (c.write_at.ensures.made on) (c.write_at.ensures.failed on)
 
 pub returns-clause-shut : goal.returns-clause-shut
 returns-clause-shut g c = λ honest none.
-    let old = g.T.Disk.moments c.args.target.now in
-    let mid = g.T.Disk.moments c.sync.new.self in
-    let next = g.T.Disk.moments c.write_and_sync.new.disk in
-    let still = c.sync.ensures.honesty.0 honest in
-    let on = c.write_and_sync.ensures.honesty.0 still in
+    let old = (g.T.Disk.view c.args.target.now).moments in
+    let mid = (g.T.Disk.view c.sync.new.self).moments in
+    let next = (g.T.Disk.view c.write_and_sync.new.disk).moments in
+    let still = c.sync.ensures.meters.honesty.0 honest in
+    let on = c.write_and_sync.ensures.meters.honesty.0 still in
     let shut = zeros_shut old mid none (c.in_ok-sync.ensures.made honest) next 0 (replicate 8193 0) refl (length-replicate {A = ℕ} 8193 0) (λ i lt. get_or-replicate {A = ℕ} 8193 i 0 0 lt) (c.in_ok-write_and_sync.ensures.on_disk still) in
-    last_shut c.write_at.result next (g.T.Disk.moments c.write_at.new.self) 8193 (replicate 8191 0) (omega arith) (g.met.T.Disk.now_is_image c.write_and_sync.new.disk on) shut (c.write_at.ensures.made on)
+    last_shut c.write_at.result next (g.T.Disk.view c.write_at.new.self).moments 8193 (replicate 8191 0) (omega arith) (g.met.T.Disk.now_is_image c.write_and_sync.new.disk on) shut (c.write_at.ensures.made on)
 
 pub returns-clause-long : goal.returns-clause-long
 returns-clause-long g c = λ honest none.
-    let on = c.write_and_sync.ensures.honesty.0 (c.sync.ensures.honesty.0 honest) in
-    last_long c.write_at.result (g.T.Disk.moments c.write_and_sync.new.disk) (g.T.Disk.moments c.write_at.new.self) 8193 (replicate 8191 0) refl (length-replicate {A = ℕ} 8191 0) (c.write_at.ensures.made on)
+    let on = c.write_and_sync.ensures.meters.honesty.0 (c.sync.ensures.meters.honesty.0 honest) in
+    last_long c.write_at.result (g.T.Disk.view c.write_and_sync.new.disk).moments (g.T.Disk.view c.write_at.new.self).moments 8193 (replicate 8191 0) refl (length-replicate {A = ℕ} 8191 0) (c.write_at.ensures.made on)

@@ -12,16 +12,16 @@ use Rattle.store_copy.proofs.writing.copy_segment.Given as goal
 -- the rows so far are written, or pending
 abbrev pub invariant-loop-place : goal.invariant-loop-place
 invariant-loop-place g l = record {
-  source : g.S.Disk.is_honest l.initial.source ↔ g.S.Disk.is_honest l.source;
-  target : g.T.Disk.is_honest l.initial.target ↔ g.T.Disk.is_honest l.target;
-  moments : g.S.Disk.is_honest l.initial.source → g.S.Disk.moments l.source ≡ g.S.Disk.moments l.initial.source;
-  source_failures : g.S.Disk.failures l.source ≡ g.S.Disk.failures l.initial.source;
-  target_failures : g.T.Disk.failures l.target ≡ g.T.Disk.failures l.initial.target;
-  other_calls : g.S.Disk.other_calls l.source ≡ g.S.Disk.other_calls l.initial.source;
-  bytes_read : g.T.Disk.bytes_read l.target ≡ g.T.Disk.bytes_read l.initial.target;
+  source : (g.S.Disk.view l.initial.source).is_honest ↔ (g.S.Disk.view l.source).is_honest;
+  target : (g.T.Disk.view l.initial.target).is_honest ↔ (g.T.Disk.view l.target).is_honest;
+  moments : (g.S.Disk.view l.initial.source).is_honest → (g.S.Disk.view l.source).moments ≡ (g.S.Disk.view l.initial.source).moments;
+  source_failures : (g.S.Disk.view l.source).failures ≡ (g.S.Disk.view l.initial.source).failures;
+  target_failures : (g.T.Disk.view l.target).failures ≡ (g.T.Disk.view l.initial.target).failures;
+  other_calls : (g.S.Disk.view l.source).other_calls ≡ (g.S.Disk.view l.initial.source).other_calls;
+  bytes_read : (g.T.Disk.view l.target).bytes_read ≡ (g.T.Disk.view l.initial.target).bytes_read;
   len : l.pending.written + length l.pending.bytes.items ≡ length (segment_of (up_to l.imports (take l.place-index l.segment)));
-  run : g.T.Disk.is_honest l.initial.target → LeavesOnly (g.T.Disk.moments l.initial.target) (g.T.Disk.moments l.target) (StemsWithin (g.T.Disk.moments l.initial.target).state (byte_range (extent_of l.to)));
-  elsewhere : g.T.Disk.is_honest l.initial.target → SameOutside (byte_range (extent_of l.to) ∷ []) (g.T.Disk.moments l.initial.target).state.now (g.T.Disk.moments l.target).state.now;
-  pending : g.S.Disk.is_honest l.initial.source → g.T.Disk.is_honest l.initial.target → IsAt (g.S.Disk.moments l.initial.source).state.now l.from l.segment
-      → ArePending l.to.form (extent_of l.to) (up_to l.imports (take l.place-index l.segment)) l.pending.written l.pending.bytes.items (g.T.Disk.moments l.target).state.now;
+  run : (g.T.Disk.view l.initial.target).is_honest → LeavesOnly (g.T.Disk.view l.initial.target).moments (g.T.Disk.view l.target).moments (StemsWithin (g.T.Disk.view l.initial.target).moments.state (byte_range (extent_of l.to)));
+  elsewhere : (g.T.Disk.view l.initial.target).is_honest → SameOutside (byte_range (extent_of l.to) ∷ []) (g.T.Disk.view l.initial.target).moments.state.now (g.T.Disk.view l.target).moments.state.now;
+  pending : (g.S.Disk.view l.initial.source).is_honest → (g.T.Disk.view l.initial.target).is_honest → IsAt (g.S.Disk.view l.initial.source).moments.state.now l.from l.segment
+      → ArePending l.to.form (extent_of l.to) (up_to l.imports (take l.place-index l.segment)) l.pending.written l.pending.bytes.items (g.T.Disk.view l.target).moments.state.now;
 }

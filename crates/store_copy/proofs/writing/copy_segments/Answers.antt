@@ -16,14 +16,14 @@ returns-in-Err-clause-found g c = λ s are held.
     let inv = c.loop-i.invariant in
     let lt : c.loop-i.i < length c.args.segments.now = omega (arith, c.loop-i-test.true) in
     subst IsFailure (sym c.in_segment.ensures)
-    (fails_in _ c.in-Err.fault (c.in-Err.ensures.found (inv.source.0 s) (segment_still (g.S.Disk.moments c.args.source.now) (g.S.Disk.moments c.loop-i.source) c.args.from.now c.args.segments.now c.loop-i.i _ rows (inv.moments s) are held lt c.index-segments-i.is)))
+    (fails_in _ c.in-Err.fault (c.in-Err.ensures.found (inv.source.0 s) (segment_still (g.S.Disk.view c.args.source.now).moments (g.S.Disk.view c.loop-i.source).moments c.args.from.now c.args.segments.now c.loop-i.i _ rows (inv.moments s) are held lt c.index-segments-i.is)))
 
 pub returns-in-Err-clause-any_moment : goal.returns-in-Err-clause-any_moment
 returns-in-Err-clause-any_moment g c = λ t shut.
     let to = c.in-Some.to.now in
     let inv = c.loop-i.invariant in
     let first = (first_entry c.loop-i.left.now c.in-Some.behind.now to c.in-Some.ensures.cases.0 inv.entries).0.first in
-    run_shut (g.T.Disk.moments c.args.target.now) (g.T.Disk.moments c.loop-i.target) (g.T.Disk.moments c.copy_segment.new.target) (byte_range (extent_of to)) (omega (arith, first)) (inv.run t shut) (c.copy_segment.ensures.any_moment (inv.target.0 t))
+    run_shut (g.T.Disk.view c.args.target.now).moments (g.T.Disk.view c.loop-i.target).moments (g.T.Disk.view c.copy_segment.new.target).moments (byte_range (extent_of to)) (omega (arith, first)) (inv.run t shut) (c.copy_segment.ensures.any_moment (inv.target.0 t))
 
 pub loop-i-preserved : goal.loop-i-preserved
 loop-i-preserved g c =
@@ -38,12 +38,12 @@ loop-i-preserved g c =
     let same = c.imports-imports.ensures in
     let count = ap (λ k. length (up_to k rows)) same in
     let all = c.size_up_to.ensures.rows in
-    let old = g.T.Disk.moments c.args.target.now in
-    let mid = g.T.Disk.moments c.loop-i.target in
+    let old = (g.T.Disk.view c.args.target.now).moments in
+    let mid = (g.T.Disk.view c.loop-i.target).moments in
     elim c.if-size_up_to-gt0.branch [
       | then-size_up_to-gt0+in-Some+in-Ok w ↦
           let done = w.in-Ok.ensures in
-          let new = g.T.Disk.moments w.copy_segment.new.target in
+          let new = (g.T.Disk.view w.copy_segment.new.target).moments in
           let to = w.in-Some.to.now in
           let behind = w.in-Some.behind.now in
           let split = w.in-Some.ensures.cases.0 in
@@ -51,19 +51,19 @@ loop-i-preserved g c =
           let first = each.0.first in
           let some : 1 ≤ length (up_to n rows) = omega (arith, w.if-size_up_to-gt0.true, all, count) in
           rw (w.source-is, w.target-is, w.left-is) (record {
-            source = (λ h. done.source_honesty.0 (inv.source.0 h), λ h. inv.source.1 (done.source_honesty.1 h));
-            target = (λ h. done.target_honesty.0 (inv.target.0 h), λ h. inv.target.1 (done.target_honesty.1 h));
-            moments = λ h. done.moments (inv.source.0 h) ∙ inv.moments h;
-            source_failures = done.source_failures ∙ inv.source_failures;
-            target_failures = done.target_failures ∙ inv.target_failures;
-            other_calls = done.other_calls ∙ inv.other_calls;
-            bytes_read = done.bytes_read ∙ inv.bytes_read;
+            source = (λ h. done.source_meters.honesty.0 (inv.source.0 h), λ h. inv.source.1 (done.source_meters.honesty.1 h));
+            target = (λ h. done.target_meters.honesty.0 (inv.target.0 h), λ h. inv.target.1 (done.target_meters.honesty.1 h));
+            moments = λ h. done.source_meters.moments (inv.source.0 h) ∙ inv.moments h;
+            source_failures = done.source_meters.failures ∙ inv.source_failures;
+            target_failures = done.target_meters.failures ∙ inv.target_failures;
+            other_calls = done.source_meters.other_calls ∙ inv.other_calls;
+            bytes_read = done.target_meters.bytes_read ∙ inv.bytes_read;
             left = left_some form n lists i rows lt is some c.loop-i.left.now behind to inv.left split;
             entries = each.1;
             long = λ h. let so_far = inv.long h in let more = (done.elsewhere (inv.target.0 h)).no_shorter in omega (arith, so_far, more);
             run = λ h shut. run_shut old mid new (byte_range (extent_of to)) (omega (arith, first)) (inv.run h shut) (done.any_moment (inv.target.0 h));
             held = λ s t are held.
-                let written = done.written (inv.source.0 s) (inv.target.0 t) (segment_still (g.S.Disk.moments c.args.source.now) (g.S.Disk.moments c.loop-i.source) c.args.from.now lists i _ rows (inv.moments s) are held lt is) in
+                let written = done.written (inv.source.0 s) (inv.target.0 t) (segment_still (g.S.Disk.view c.args.source.now).moments (g.S.Disk.view c.loop-i.source).moments c.args.from.now lists i _ rows (inv.moments s) are held lt is) in
                 let begins = subst (λ k. BeginsWith (extent_of to) (segment_in to.form (up_to k rows)) new.state.now) same written in
                 held_some form n lists i rows lt is some to mid.state.now new.state.now (entry_is form n lists i rows lt is some c.loop-i.left.now behind to inv.left split) each.0 (done.elsewhere (inv.target.0 t)) begins (inv.held s t are held);
           })

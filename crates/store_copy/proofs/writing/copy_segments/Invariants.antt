@@ -12,17 +12,17 @@ use Rattle.store_copy.proofs.writing.copy_segments.Given as goal
 -- the segments so far are written, and the others are left
 abbrev pub invariant-loop-i : goal.invariant-loop-i
 invariant-loop-i g l = record {
-  source : g.S.Disk.is_honest l.initial.source ↔ g.S.Disk.is_honest l.source;
-  target : g.T.Disk.is_honest l.initial.target ↔ g.T.Disk.is_honest l.target;
-  moments : g.S.Disk.is_honest l.initial.source → g.S.Disk.moments l.source ≡ g.S.Disk.moments l.initial.source;
-  source_failures : g.S.Disk.failures l.source ≡ g.S.Disk.failures l.initial.source;
-  target_failures : g.T.Disk.failures l.target ≡ g.T.Disk.failures l.initial.target;
-  other_calls : g.S.Disk.other_calls l.source ≡ g.S.Disk.other_calls l.initial.source;
-  bytes_read : g.T.Disk.bytes_read l.target ≡ g.T.Disk.bytes_read l.initial.target;
+  source : (g.S.Disk.view l.initial.source).is_honest ↔ (g.S.Disk.view l.source).is_honest;
+  target : (g.T.Disk.view l.initial.target).is_honest ↔ (g.T.Disk.view l.target).is_honest;
+  moments : (g.S.Disk.view l.initial.source).is_honest → (g.S.Disk.view l.source).moments ≡ (g.S.Disk.view l.initial.source).moments;
+  source_failures : (g.S.Disk.view l.source).failures ≡ (g.S.Disk.view l.initial.source).failures;
+  target_failures : (g.T.Disk.view l.target).failures ≡ (g.T.Disk.view l.initial.target).failures;
+  other_calls : (g.S.Disk.view l.source).other_calls ≡ (g.S.Disk.view l.initial.source).other_calls;
+  bytes_read : (g.T.Disk.view l.target).bytes_read ≡ (g.T.Disk.view l.initial.target).bytes_read;
   left : Done (form_of l.copy.layout) l.copy.imports l.segments l.i l.left;
   entries : AllByRecursion IsEntry l.left;
-  long : g.T.Disk.is_honest l.initial.target → length (g.T.Disk.moments l.initial.target).state.now ≤ length (g.T.Disk.moments l.target).state.now;
-  run : g.T.Disk.is_honest l.initial.target → EachImage (g.T.Disk.moments l.initial.target).state IsShut → LeavesOnly (g.T.Disk.moments l.initial.target) (g.T.Disk.moments l.target) IsShut;
-  held : g.S.Disk.is_honest l.initial.source → g.T.Disk.is_honest l.initial.target → AreSegments l.from l.segments → HoldsAll (pieces_of l.from l.segments) (g.S.Disk.moments l.initial.source).state.now
-      → HoldsAll (pieces_of (entries_from (form_of l.copy.layout) 4 (lists_up_to l.copy.imports (take l.i l.segments))) (lists_up_to l.copy.imports (take l.i l.segments))) (g.T.Disk.moments l.target).state.now;
+  long : (g.T.Disk.view l.initial.target).is_honest → length (g.T.Disk.view l.initial.target).moments.state.now ≤ length (g.T.Disk.view l.target).moments.state.now;
+  run : (g.T.Disk.view l.initial.target).is_honest → EachImage (g.T.Disk.view l.initial.target).moments.state IsShut → LeavesOnly (g.T.Disk.view l.initial.target).moments (g.T.Disk.view l.target).moments IsShut;
+  held : (g.S.Disk.view l.initial.source).is_honest → (g.T.Disk.view l.initial.target).is_honest → AreSegments l.from l.segments → HoldsAll (pieces_of l.from l.segments) (g.S.Disk.view l.initial.source).moments.state.now
+      → HoldsAll (pieces_of (entries_from (form_of l.copy.layout) 4 (lists_up_to l.copy.imports (take l.i l.segments))) (lists_up_to l.copy.imports (take l.i l.segments))) (g.T.Disk.view l.target).moments.state.now;
 }

@@ -8,6 +8,6 @@ pub returns-in-Some : goal.returns-in-Some
 returns-in-Some g c = record {
   added =
       let d = g.D.Disk in
-      row_added d.is_honest d.moments d.failures d.bytes_read d.other_calls c.args.pin c.args.after c.args.store.now c.rows_after.new.self row_items c.in_ok-rows.rows c.in-Some.row.now c.key.result c.args.hasher.now c.add_row.new.hasher c.in_ok-rows.ensures.answer
+      row_added d.view c.args.pin c.args.after c.args.store.now c.rows_after.new.self row_items c.in_ok-rows.rows c.in-Some.row.now c.key.result c.args.hasher.now c.add_row.new.hasher c.in_ok-rows.ensures.answer
       (ap (λ items. slice_get items 0) (sym c.deref.ensures.value) ∙ sym c.in-Some.ensures.value) c.key.ensures.key c.in_ok-add_row-in-Some.ensures;
 }

@@ -5,29 +5,29 @@ use Rattle.store_digest.proofs.digesting.digest.Goals as goal
 pub rows-init : goal.rows-init
 rows-init g c =
     let d = g.D.Disk in
-    begun d.is_honest d.moments d.failures d.bytes_read d.other_calls c.args.pin c.args.store.now c.new-hasher.result c.new-hasher.ensures
+    begun d.view c.args.pin c.args.store.now c.new-hasher.result c.new-hasher.ensures
 
 pub returns-in_err-key : goal.returns-in_err-key
 returns-in_err-key g c =
     let d = g.D.Disk in
     let p = err_from_is_err_and c.from_residual.result c.from_residual.ensures.1 in
     record {
-      answer = rw (p.1, p.2) (stopped d.is_honest d.moments d.failures d.bytes_read d.other_calls c.args.pin c.args.store.now c.rows.store c.add_next.new.store c.rows.hasher c.add_next.new.hasher c.rows.last c.rows.invariant _ c.in_err-key.ensures.added);
+      answer = rw (p.1, p.2) (stopped d.view c.args.pin c.args.store.now c.rows.store c.add_next.new.store c.rows.hasher c.add_next.new.hasher c.rows.last c.rows.invariant _ c.in_err-key.ensures.added);
     }
 
 pub rows-smaller : goal.rows-smaller
 rows-smaller g c =
     let d = g.D.Disk in
-    fewer d.is_honest d.moments d.failures d.bytes_read d.other_calls c.args.pin c.args.store.now c.rows.store c.add_next.new.store c.rows.hasher c.add_next.new.hasher c.rows.last c.rows.invariant g.met.D.Disk.now_is_image c.in-Some.key (rw c.in-Some.is at c.in_ok-key.ensures.added)
+    fewer d.view c.args.pin c.args.store.now c.rows.store c.add_next.new.store c.rows.hasher c.add_next.new.hasher c.rows.last c.rows.invariant g.met.D.Disk.now_is_image c.in-Some.key (rw c.in-Some.is at c.in_ok-key.ensures.added)
 
 pub rows-preserved : goal.rows-preserved
 rows-preserved g c =
     let d = g.D.Disk in
-    gone_on d.is_honest d.moments d.failures d.bytes_read d.other_calls c.args.pin c.args.store.now c.rows.store c.add_next.new.store c.rows.hasher c.add_next.new.hasher c.rows.last c.rows.invariant g.met.D.Disk.now_is_image c.in-Some.key (rw c.in-Some.is at c.in_ok-key.ensures.added)
+    gone_on d.view c.args.pin c.args.store.now c.rows.store c.add_next.new.store c.rows.hasher c.add_next.new.hasher c.rows.last c.rows.invariant g.met.D.Disk.now_is_image c.in-Some.key (rw c.in-Some.is at c.in_ok-key.ensures.added)
 
 pub returns : goal.returns
 returns g c = record {
   answer =
       let d = g.D.Disk in
-      ended d.is_honest d.moments d.failures d.bytes_read d.other_calls c.args.pin c.args.store.now c.rows.store c.add_next.new.store c.rows.hasher c.add_next.new.hasher c.rows.last c.rows.invariant (rw c.in_default.is at c.in_ok-key.ensures.added) c.finalize.result c.finalize.ensures;
+      ended d.view c.args.pin c.args.store.now c.rows.store c.add_next.new.store c.rows.hasher c.add_next.new.hasher c.rows.last c.rows.invariant (rw c.in_default.is at c.in_ok-key.ensures.added) c.finalize.result c.finalize.ensures;
 }

@@ -7,7 +7,7 @@ use Rattle.store_digest.proofs.digesting.digest.Given as goal
 abbrev pub invariant-rows : goal.invariant-rows
 invariant-rows g l =
     let d = g.D.Disk in
-    IsDigesting d.is_honest d.moments d.failures d.bytes_read d.other_calls l.pin l.fn.store l.store l.hasher l.last
+    IsDigesting d.view l.pin l.fn.store l.store l.hasher l.last
 
 abbrev pub decreases-rows : goal.decreases-rows
 decreases-rows g l = length (filter (is_after l.last) (shown_of l.pin l.fn.store))

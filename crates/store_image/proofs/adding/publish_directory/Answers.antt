@@ -28,7 +28,7 @@ returns-clause-inside g c honest = c.publish.ensures.inside honest
 
 pub returns-in_err-published-clause-calls : goal.returns-in_err-published-clause-calls
 returns-in_err-published-clause-calls g c honest =
-    let old = g.D.Disk.moments c.args.disk.now in
-    let new = g.D.Disk.moments c.publish.new.disk in
+    let old = (g.D.Disk.view c.args.disk.now).moments in
+    let new = (g.D.Disk.view c.publish.new.disk).moments in
     let few : call_count new ≤ call_count old + 6 = at_most c.publish.result 6 old new (c.publish.ensures.calls honest) in
     let p = err_from_is_err_and c.from_residual.result c.from_residual.ensures.1 in rw p.1 few

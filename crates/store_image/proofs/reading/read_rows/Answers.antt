@@ -1,4 +1,4 @@
-use Rattle.std.proofs.Common.{◌≡◌, ℕ, ◌≤◌, List, length, refl, sym, ap, subst, ◌∙◌, arith}
+use Rattle.std.proofs.Common.{◌≡◌, ℕ, ◌≤◌, List, length, refl, sym, ap, subst, ◌∙◌, arith, rules}
 use Rattle.std.proofs.lemmas.Result.{err_from_is_err_and}
 use Rattle.disk_model.specs.Disk.{Moments}
 use Rattle.blocks.specs.declared.extent.Extent.{Extent}
@@ -43,7 +43,7 @@ returns-in_err-to-clause-exact g c honest =
     let e = c.in_err-to.field-0.0 in
     let same = same_now _ _ (inv.moments honest) in
     let sees = subst (Sees c.rows.window) (sym same) (inv.sees honest) in
-    let why = subst (λ (x : Extent). IsNotNext c.args.entry.form e c.args.imports rows (bytes_of x (g.D.Disk.moments c.rows.disk).state.now)) inv.extent (subst (λ (f : Form). IsNotNext f e c.args.imports rows (bytes_of c.rows.window.extent (g.D.Disk.moments c.rows.disk).state.now)) inv.form (c.in_err-to.ensures.exact (inv.honesty.0 honest) sees)) in
+    let why = subst (λ (x : Extent). IsNotNext c.args.entry.form e c.args.imports rows (bytes_of x (g.D.Disk.view c.rows.disk).moments.state.now)) inv.extent (subst (λ (f : Form). IsNotNext f e c.args.imports rows (bytes_of c.rows.window.extent (g.D.Disk.view c.rows.disk).moments.state.now)) inv.form (c.in_err-to.ensures.exact (inv.honesty.0 honest) sees)) in
     let left = c.rows-test.true in
     let count = inv.count in
     rw (p.1, p.2) (not_next e c.args.imports c.args.entry rows _ (subst (λ (f : List ℕ). IsNotNext c.args.entry.form e c.args.imports rows (bytes_of (extent_of c.args.entry) f)) same why) (inv.begins honest) (omega (arith, left, count)))
@@ -68,17 +68,17 @@ rows-preserved g c =
           subst (Sees c.read_row.new.window) same (read.sees (inv.honesty.0 honest) (subst (Sees c.rows.window) (sym same) (inv.sees honest)));
       begins = λ honest.
           let same = same_now _ _ (inv.moments honest) in
-          let later : List ℕ = (g.D.Disk.moments c.rows.disk).state.now in
+          let later : List ℕ = (g.D.Disk.view c.rows.disk).moments.state.now in
           let P : List StampedRow → Extent → List ℕ → Type 0 = λ rows x f. BeginsWith entry.form rows (bytes_of x f) in
           let before = subst (λ (x : Extent). P (g.B.SegmentBuilder.rows c.rows.builder) x later) (sym inv.extent) (subst (λ (f : List ℕ). P (g.B.SegmentBuilder.rows c.rows.builder) (extent_of entry) f) (sym same) (inv.begins honest)) in
           let after = subst (λ (f : Form). BeginsWith f (g.B.SegmentBuilder.rows c.rows.builder) (bytes_of c.rows.window.extent later) → BeginsWith f (g.B.SegmentBuilder.rows c.read_row.new.builder) (bytes_of c.rows.window.extent later)) inv.form (read.exact (inv.honesty.0 honest) (subst (Sees c.rows.window) (sym same) (inv.sees honest))) before in
           subst (λ (f : List ℕ). P (g.B.SegmentBuilder.rows c.read_row.new.builder) (extent_of entry) f) same (subst (λ (x : Extent). P (g.B.SegmentBuilder.rows c.read_row.new.builder) x later) inv.extent after);
-      moments = λ honest. read.moments (inv.honesty.0 honest) ∙ inv.moments honest;
-      honesty = (λ h. read.honesty.0 (inv.honesty.0 h), λ h. inv.honesty.1 (read.honesty.1 h));
-      failures = read.failures ∙ inv.failures;
-      bytes_read = omega (arith, inv.bytes_read, read.bytes_read);
+      moments = λ honest. read.meters.moments (inv.honesty.0 honest) ∙ inv.moments honest;
+      honesty = (λ h. read.meters.honesty.0 (inv.honesty.0 h), λ h. inv.honesty.1 (read.meters.honesty.1 h));
+      failures = read.meters.failures ∙ inv.failures;
+      bytes_read = omega (arith, inv.bytes_read, read.meters.bytes_read);
       goes_on = omega (arith, inv.goes_on, read.goes_on);
-      other_calls = read.other_calls ∙ inv.other_calls;
+      other_calls = read.meters.other_calls ∙ inv.other_calls;
     }
 
 pub returns-then-to-entry-clause-exact : goal.returns-then-to-entry-clause-exact
@@ -89,23 +89,41 @@ returns-then-to-entry-clause-exact g c honest =
     let count = inv.count in
     wrong_end c.rows.to c.args.imports c.args.entry (g.B.SegmentBuilder.rows c.rows.builder) _ inv.read (omega (arith, ended, most, count)) c.if-to-entry.true (inv.begins honest)
 
-pub returns-in_err-to-clause-bytes_read : goal.returns-in_err-to-clause-bytes_read
-returns-in_err-to-clause-bytes_read g c =
+pub returns-in_err-to-clause-meters : goal.returns-in_err-to-clause-meters
+returns-in_err-to-clause-meters g c = record {
+  moments = search rules;
+  honesty = search rules;
+  failures = search rules;
+  bytes_read =
     let inv = c.rows.invariant in
     let extent = ap (λ (x : Extent). x.bytes) (c.in_err-to.ensures.extent ∙ inv.extent) in
-    omega (arith, inv.bytes_read, c.in_err-to.ensures.bytes_read, c.read_row.new.window.within, extent)
+    omega (arith, inv.bytes_read, c.in_err-to.ensures.meters.bytes_read, c.read_row.new.window.within, extent);
+  other_calls = search rules;
+}
 
-pub returns-then-to-entry-clause-bytes_read : goal.returns-then-to-entry-clause-bytes_read
-returns-then-to-entry-clause-bytes_read g c =
+pub returns-then-to-entry-clause-meters : goal.returns-then-to-entry-clause-meters
+returns-then-to-entry-clause-meters g c = record {
+  moments = search rules;
+  honesty = search rules;
+  failures = search rules;
+  bytes_read =
     let inv = c.rows.invariant in
     let extent = ap (λ (x : Extent). x.bytes) inv.extent in
-    omega (arith, inv.bytes_read, c.rows.window.within, extent)
+    omega (arith, inv.bytes_read, c.rows.window.within, extent);
+  other_calls = search rules;
+}
 
-pub returns-clause-bytes_read : goal.returns-clause-bytes_read
-returns-clause-bytes_read g c =
+pub returns-clause-meters : goal.returns-clause-meters
+returns-clause-meters g c = record {
+  moments = search rules;
+  honesty = search rules;
+  failures = search rules;
+  bytes_read =
     let inv = c.rows.invariant in
     let extent = ap (λ (x : Extent). x.bytes) inv.extent in
-    omega (arith, inv.bytes_read, c.rows.window.within, extent)
+    omega (arith, inv.bytes_read, c.rows.window.within, extent);
+  other_calls = search rules;
+}
 
 pub returns-clause-found : goal.returns-clause-found
 returns-clause-found g c =

@@ -8,7 +8,7 @@ use Rattle.store_image.proofs.reading.read_rows.Given as goal
 -- so many rows are read, and the segment's bytes begin with their records
 abbrev pub invariant-rows : goal.invariant-rows
 invariant-rows g l =
-    let old = g.D.Disk.moments l.fn.disk in
+    let old = (g.D.Disk.view l.fn.disk).moments in
     let rows = g.B.SegmentBuilder.rows l.builder in
     record {
       read : AreReadTo l.to l.fn.imports rows;
@@ -18,12 +18,12 @@ invariant-rows g l =
       from : l.window.from ≤ l.to.at;
       reached : l.to.at ≤ l.window.from + l.window.len;
       within : l.to.at ≤ l.fn.entry.bytes;
-      sees : g.D.Disk.is_honest l.fn.disk → Sees l.window old.state.now;
-      begins : g.D.Disk.is_honest l.fn.disk → BeginsWith l.fn.entry.form rows (bytes_of (extent_of l.fn.entry) old.state.now);
-      moments : g.D.Disk.is_honest l.fn.disk → g.D.Disk.moments l.disk ≡ old;
-      honesty : g.D.Disk.is_honest l.fn.disk ↔ g.D.Disk.is_honest l.disk;
-      failures : g.D.Disk.failures l.disk ≡ g.D.Disk.failures l.fn.disk;
-      bytes_read : g.D.Disk.bytes_read l.disk ≤ g.D.Disk.bytes_read l.fn.disk + l.window.asked;
-      goes_on : raised_by (g.D.Disk.bytes_read l.fn.disk) 0 ≤ g.D.Disk.bytes_read l.disk;
-      other_calls : g.D.Disk.other_calls l.disk ≡ g.D.Disk.other_calls l.fn.disk;
+      sees : (g.D.Disk.view l.fn.disk).is_honest → Sees l.window old.state.now;
+      begins : (g.D.Disk.view l.fn.disk).is_honest → BeginsWith l.fn.entry.form rows (bytes_of (extent_of l.fn.entry) old.state.now);
+      moments : (g.D.Disk.view l.fn.disk).is_honest → (g.D.Disk.view l.disk).moments ≡ old;
+      honesty : (g.D.Disk.view l.fn.disk).is_honest ↔ (g.D.Disk.view l.disk).is_honest;
+      failures : (g.D.Disk.view l.disk).failures ≡ (g.D.Disk.view l.fn.disk).failures;
+      bytes_read : (g.D.Disk.view l.disk).bytes_read ≤ (g.D.Disk.view l.fn.disk).bytes_read + l.window.asked;
+      goes_on : raised_by (g.D.Disk.view l.fn.disk).bytes_read 0 ≤ (g.D.Disk.view l.disk).bytes_read;
+      other_calls : (g.D.Disk.view l.disk).other_calls ≡ (g.D.Disk.view l.fn.disk).other_calls;
     }

@@ -21,7 +21,7 @@ pub returns-clause-exact : goal.returns-clause-exact
 returns-clause-exact g c honest =
     let entry = c.args.entry in
     let rows = g.B.SegmentBuilder.rows c.in_ok-builder.builder in
-    let file = (g.D.Disk.moments c.args.disk.now).state.now in
+    let file = (g.D.Disk.view c.args.disk.now).moments.state.now in
     let room = c.in_ok-check_room.ensures in
-    let begins = subst (λ (m : Moments). BeginsWith entry.form rows (bytes_of (extent_of entry) m.state.now)) (room.moments honest) (c.in_ok-builder.ensures.exact (room.honesty.0 honest)) in
+    let begins = subst (λ (m : Moments). BeginsWith entry.form rows (bytes_of (extent_of entry) m.state.now)) (room.moments honest) (c.in_ok-builder.ensures.exact (room.meters.honesty.0 honest)) in
     subst (λ (l : List StampedRow). IsAt file entry l) (sym c.seal.ensures) (at_found file entry rows c.requires c.in_ok-builder.ensures.found begins)

@@ -1,6 +1,6 @@
 use Rattle.std.specs.Prelude.{map}
 use Rattle.std.specs.List.{AllByRecursion}
-use Rattle.std.proofs.Common.{◌≡◌, ◌++◌, ℕ, List, [], ◌∷◌, get_or, take, sym, ap, subst, ◌∙◌, arith, take_all, length-take}
+use Rattle.std.proofs.Common.{◌≡◌, ◌++◌, ℕ, List, [], ◌∷◌, get_or, take, sym, ap, subst, ◌∙◌, arith, take_all, length-take, rules}
 use Rattle.std.proofs.lemmas.List.{length-map}
 use Rattle.disk_model.specs.Disk.{Moments}
 use Rattle.directory.specs.declared.entry.Entry.{Entry}
@@ -39,7 +39,7 @@ returns-in-Err-clause-exact g c honest =
     let lists = map g.B.SegmentBuilder.sealed c.loop-entry.segments.items in
     let e = c.in-Err.fault in
     let lt = c.loop-entry-test.true in
-    let now : List ℕ = (g.D.Disk.moments c.args.disk.now).state.now in
+    let now : List ℕ = (g.D.Disk.view c.args.disk.now).moments.state.now in
     let why = subst (IsNotReadAt e c.args.imports (get_or entries i none)) (same_now _ _ (inv.moments honest)) (c.in-Err.ensures.exact (inv.honesty.0 honest)) in
     let there : AreThere c.args.imports (take i entries) lists now = record { segments = inv.segments; numbered = inv.numbered; held = inv.held honest } in
     let count = segments_count (take i entries) lists inv.segments in
@@ -67,11 +67,11 @@ loop-entry-preserved g c =
           let there = subst (λ (f : List ℕ). IsAt f (get_or entries i none) rows) (same_now _ _ (inv.moments honest)) (read.exact (inv.honesty.0 honest)) in
           more_held entries i none lists more rows lt more_is _ inv.segments (inv.held honest) there;
       moments = λ honest. read.moments (inv.honesty.0 honest) ∙ inv.moments honest;
-      honesty = (λ h. read.honesty.0 (inv.honesty.0 h), λ h. inv.honesty.1 (read.honesty.1 h));
-      failures = read.failures ∙ inv.failures;
-      bytes_read = omega (arith, inv.bytes_read, read.bytes_read, bytes_more entries i none lt);
+      honesty = (λ h. read.meters.honesty.0 (inv.honesty.0 h), λ h. inv.honesty.1 (read.meters.honesty.1 h));
+      failures = read.meters.failures ∙ inv.failures;
+      bytes_read = omega (arith, inv.bytes_read, read.meters.bytes_read, bytes_more entries i none lt);
       goes_on = omega (arith, inv.goes_on, read.goes_on);
-      other_calls = omega (arith, inv.other_calls, read.other_calls);
+      other_calls = omega (arith, inv.other_calls, read.meters.other_calls);
     }
 
 pub are_apart-requires : goal.are_apart-requires
@@ -89,7 +89,7 @@ returns-then-not-branch-clause-exact g c honest =
     let ended = c.loop-entry-test.false in
     let whole : take i entries ≡ entries = take_all i entries (omega (arith, ended)) in
     let are = subst (λ (l : List Entry). AreSegments l lists) whole inv.segments in
-    let now : List ℕ = (g.D.Disk.moments c.args.disk.now).state.now in
+    let now : List ℕ = (g.D.Disk.view c.args.disk.now).moments.state.now in
     let held = subst (λ (l : List Entry). HoldsAll (pieces_of l lists) now) whole (inv.held honest) in
     let there : AreThere c.args.imports entries lists now = record { segments = are; numbered = inv.numbered; held = held } in
     record {
@@ -120,31 +120,56 @@ returns-clause-read g c =
 
 -- ---- the bytes that were read
 
-pub returns-in-Err-clause-bytes_read : goal.returns-in-Err-clause-bytes_read
+pub returns-in-Err-clause-meters : goal.returns-in-Err-clause-meters
 unfolding none
-returns-in-Err-clause-bytes_read g c =
+returns-in-Err-clause-meters g c = record {
+  honesty = search rules;
+  failures = search rules;
+  bytes_read =
     let entries = c.args.entries.now in
     let i = c.loop-entry.entry-index in
-    omega (arith, c.loop-entry.invariant.bytes_read, c.in-Err.ensures.bytes_read, bytes_up_to entries i none c.loop-entry-test.true)
+    omega (arith, c.loop-entry.invariant.bytes_read, c.in-Err.ensures.meters.bytes_read, bytes_up_to entries i none c.loop-entry-test.true);
+  other_calls = search rules;
+}
 
-pub returns-in_err-push-clause-bytes_read : goal.returns-in_err-push-clause-bytes_read
+pub returns-in_err-push-clause-meters : goal.returns-in_err-push-clause-meters
 unfolding none
-returns-in_err-push-clause-bytes_read g c =
+returns-in_err-push-clause-meters g c = record {
+  honesty = search rules;
+  failures = search rules;
+  bytes_read =
     let entries = c.args.entries.now in
     let i = c.loop-entry.entry-index in
-    omega (arith, c.loop-entry.invariant.bytes_read, c.in-Ok.ensures.bytes_read, bytes_up_to entries i none c.loop-entry-test.true)
+    omega (arith, c.loop-entry.invariant.bytes_read, c.in-Ok.ensures.meters.bytes_read, bytes_up_to entries i none c.loop-entry-test.true);
+  other_calls = search rules;
+}
 
-pub returns-in_err-are_apart-clause-bytes_read : goal.returns-in_err-are_apart-clause-bytes_read
-returns-in_err-are_apart-clause-bytes_read g c =
-    omega (arith, c.loop-entry.invariant.bytes_read, bytes_within c.args.entries.now c.loop-entry.entry-index)
+pub returns-in_err-are_apart-clause-meters : goal.returns-in_err-are_apart-clause-meters
+returns-in_err-are_apart-clause-meters g c = record {
+  honesty = search rules;
+  failures = search rules;
+  bytes_read =
+    omega (arith, c.loop-entry.invariant.bytes_read, bytes_within c.args.entries.now c.loop-entry.entry-index);
+  other_calls = search rules;
+}
 
-pub returns-then-not-branch-clause-bytes_read : goal.returns-then-not-branch-clause-bytes_read
-returns-then-not-branch-clause-bytes_read g c =
-    omega (arith, c.loop-entry.invariant.bytes_read, bytes_within c.args.entries.now c.loop-entry.entry-index)
+pub returns-then-not-branch-clause-meters : goal.returns-then-not-branch-clause-meters
+returns-then-not-branch-clause-meters g c = record {
+  honesty = search rules;
+  failures = search rules;
+  bytes_read =
+    omega (arith, c.loop-entry.invariant.bytes_read, bytes_within c.args.entries.now c.loop-entry.entry-index);
+  other_calls = search rules;
+}
 
-pub returns-clause-bytes_read : goal.returns-clause-bytes_read
-returns-clause-bytes_read g c =
-    omega (arith, c.loop-entry.invariant.bytes_read, bytes_within c.args.entries.now c.loop-entry.entry-index)
+pub returns-clause-meters : goal.returns-clause-meters
+returns-clause-meters g c = record {
+  honesty = search rules;
+  failures = search rules;
+  bytes_read =
+    omega (arith, c.loop-entry.invariant.bytes_read, bytes_within c.args.entries.now c.loop-entry.entry-index);
+  other_calls = search rules;
+}
 
 -- ---- where it stops
 
@@ -159,4 +184,4 @@ returns-in-Err-clause-stops g c =
     let long = length-map c.loop-entry.segments.items g.B.SegmentBuilder.sealed in
     let front = length-take i entries in
     let number = c.len-number.ensures in
-    rw (c.in_segment.ensures) (stops_in c.in-Err.fault _ entries i none _ (g.D.Disk.bytes_read c.loop-entry.disk) _ _ _ lt (omega (arith, count, long, front, lt, number)) inv.bytes_read c.in-Err.ensures.bytes_read (omega (arith, inv.other_calls, c.in-Err.ensures.other_calls)))
+    rw (c.in_segment.ensures) (stops_in c.in-Err.fault _ entries i none _ (g.D.Disk.view c.loop-entry.disk).bytes_read _ _ _ lt (omega (arith, count, long, front, lt, number)) inv.bytes_read c.in-Err.ensures.meters.bytes_read (omega (arith, inv.other_calls, c.in-Err.ensures.meters.other_calls)))

@@ -1,6 +1,5 @@
 use Rattle.store_life.proofs.Living.{each_stop_came}
-use Rattle.store_life.specs.DeviceView.{device_view}
 use Rattle.store_life.proofs.laws.each_stop_is_of_a_life.Goals as goal
 
 pub returns : goal.returns
-returns g c = each_stop_came _ (device_view g.D.Disk.is_honest g.D.Disk.moments g.D.Disk.failures g.D.Disk.bytes_read)
+returns g c = each_stop_came _ g.D.Disk.view

@@ -1,6 +1,5 @@
 use Rattle.store_life.proofs.Made.{trim_made}
-use Rattle.store_life.specs.DeviceView.{device_view}
 use Rattle.store_life.proofs.laws.trim_is_a_call.Goals as goal
 
 pub returns : goal.returns
-returns g c = trim_made (device_view g.D.Disk.is_honest g.D.Disk.moments g.D.Disk.failures g.D.Disk.bytes_read)
+returns g c = trim_made g.D.Disk.view

@@ -14,19 +14,19 @@ use Rattle.history_store.proofs.store.Store.find_new_rows.Goals as goal
 pub invariant_of-self : goal.invariant_of-self
 invariant_of-self g c =
     let sound = lent_sound _ _ _ _ _ _ _ c.self.invariant.0 c.places.result.now c.new-reader.result.shown.now c.imports-pin.result c.places.ensures c.new-reader.ensures.shown c.imports-pin.ensures in
-    held_left g.D.Disk.is_honest g.D.Disk.moments _ _ _ _ _ _ _ _ _ _ c.self.invariant.0 c.new-reader.ensures.disk c.new-reader.ensures.cache c.new-reader.ensures.entries c.new-reader.ensures.shown c.self.inside.merge c.find_new_rows.new.reader.disk.now c.find_new_rows.new.reader.cache.now c.self.invariant.1 c.find_new_rows.ensures.stays.0
-    (λ up still. (c.find_new_rows.ensures.honesty (reader_honest g.D.Disk.is_honest g.D.Disk.moments _ _ _ _ _ _ _ _ _ _ c.self.invariant.0 c.new-reader.ensures.disk c.new-reader.ensures.cache c.new-reader.ensures.entries c.new-reader.ensures.shown up still (g.met.D.Disk.now_is_image c.self.inside.disk up)) sound.0 sound.1).1)
+    held_left g.D.Disk.view _ _ _ _ _ _ _ _ _ _ c.self.invariant.0 c.new-reader.ensures.disk c.new-reader.ensures.cache c.new-reader.ensures.entries c.new-reader.ensures.shown c.self.inside.merge c.find_new_rows.new.reader.disk.now c.find_new_rows.new.reader.cache.now c.self.invariant.1 c.find_new_rows.ensures.stays.0
+    (λ up still. (c.find_new_rows.ensures.honesty (reader_honest g.D.Disk.view _ _ _ _ _ _ _ _ _ _ c.self.invariant.0 c.new-reader.ensures.disk c.new-reader.ensures.cache c.new-reader.ensures.entries c.new-reader.ensures.shown up still (g.met.D.Disk.now_is_image c.self.inside.disk up)) sound.0 sound.1).1)
 
 pub invariant_of-self-else-matches : goal.invariant_of-self-else-matches
 invariant_of-self-else-matches g c =
     let sound = lent_sound _ _ _ _ _ _ _ c.self.invariant.0 c.places.result.now c.new-reader.result.shown.now c.imports-pin.result c.places.ensures c.new-reader.ensures.shown c.imports-pin.ensures in
-    held_left g.D.Disk.is_honest g.D.Disk.moments _ _ _ _ _ _ _ _ _ _ c.self.invariant.0 c.new-reader.ensures.disk c.new-reader.ensures.cache c.new-reader.ensures.entries c.new-reader.ensures.shown c.self.inside.merge c.find_new_rows.new.reader.disk.now c.find_new_rows.new.reader.cache.now c.self.invariant.1 c.find_new_rows.ensures.stays.0
-    (λ up still. (c.find_new_rows.ensures.honesty (reader_honest g.D.Disk.is_honest g.D.Disk.moments _ _ _ _ _ _ _ _ _ _ c.self.invariant.0 c.new-reader.ensures.disk c.new-reader.ensures.cache c.new-reader.ensures.entries c.new-reader.ensures.shown up still (g.met.D.Disk.now_is_image c.self.inside.disk up)) sound.0 sound.1).1)
+    held_left g.D.Disk.view _ _ _ _ _ _ _ _ _ _ c.self.invariant.0 c.new-reader.ensures.disk c.new-reader.ensures.cache c.new-reader.ensures.entries c.new-reader.ensures.shown c.self.inside.merge c.find_new_rows.new.reader.disk.now c.find_new_rows.new.reader.cache.now c.self.invariant.1 c.find_new_rows.ensures.stays.0
+    (λ up still. (c.find_new_rows.ensures.honesty (reader_honest g.D.Disk.view _ _ _ _ _ _ _ _ _ _ c.self.invariant.0 c.new-reader.ensures.disk c.new-reader.ensures.cache c.new-reader.ensures.entries c.new-reader.ensures.shown up still (g.met.D.Disk.now_is_image c.self.inside.disk up)) sound.0 sound.1).1)
 
 pub returns-in-Ok-clause-accepted : goal.returns-in-Ok-clause-accepted
 returns-in-Ok-clause-accepted g c =
     let still = subst (λ (s : StoreValue g.row.D.Denot). s.needs_reopen ≡ false) (sym c.self.view_is) c.requires.still in
-    rw (← c.self.view_is) (λ up. subst (λ l. IsAcceptedAs (rows_of l) c.args.release c.in-Ok.fresh) c.new-reader.ensures.shown (c.in-Ok.ensures.accepted (reader_honest g.D.Disk.is_honest g.D.Disk.moments _ _ _ _ _ _ _ _ _ _ c.self.invariant.0 c.new-reader.ensures.disk c.new-reader.ensures.cache c.new-reader.ensures.entries c.new-reader.ensures.shown up still (g.met.D.Disk.now_is_image c.self.inside.disk up)) (lent_sound _ _ _ _ _ _ _ c.self.invariant.0 c.places.result.now c.new-reader.result.shown.now c.imports-pin.result c.places.ensures c.new-reader.ensures.shown c.imports-pin.ensures).0 (lent_sound _ _ _ _ _ _ _ c.self.invariant.0 c.places.result.now c.new-reader.result.shown.now c.imports-pin.result c.places.ensures c.new-reader.ensures.shown c.imports-pin.ensures).1))
+    rw (← c.self.view_is) (λ up. subst (λ l. IsAcceptedAs (rows_of l) c.args.release c.in-Ok.fresh) c.new-reader.ensures.shown (c.in-Ok.ensures.accepted (reader_honest g.D.Disk.view _ _ _ _ _ _ _ _ _ _ c.self.invariant.0 c.new-reader.ensures.disk c.new-reader.ensures.cache c.new-reader.ensures.entries c.new-reader.ensures.shown up still (g.met.D.Disk.now_is_image c.self.inside.disk up)) (lent_sound _ _ _ _ _ _ _ c.self.invariant.0 c.places.result.now c.new-reader.result.shown.now c.imports-pin.result c.places.ensures c.new-reader.ensures.shown c.imports-pin.ensures).0 (lent_sound _ _ _ _ _ _ _ c.self.invariant.0 c.places.result.now c.new-reader.result.shown.now c.imports-pin.result c.places.ensures c.new-reader.ensures.shown c.imports-pin.ensures).1))
 
 pub returns-in-Ok-clause-brings : goal.returns-in-Ok-clause-brings
 returns-in-Ok-clause-brings g c =
@@ -38,32 +38,32 @@ returns-after-matches-clause-refused g c =
     rw (← c.self.view_is) (
       c.in-Err.fault,
       c.from.ensures,
-      subst (λ l. IsRefusal (g.D.Disk.is_honest c.self.inside.disk) (rows_of l) c.args.release c.in-Err.fault) c.new-reader.ensures.shown
-          (refused_less _ _ _ _ c.in-Err.fault (λ up. ((reader_honest g.D.Disk.is_honest g.D.Disk.moments _ _ _ _ _ _ _ _ _ _ c.self.invariant.0 c.new-reader.ensures.disk c.new-reader.ensures.cache c.new-reader.ensures.entries c.new-reader.ensures.shown up still (g.met.D.Disk.now_is_image c.self.inside.disk up)), (lent_sound _ _ _ _ _ _ _ c.self.invariant.0 c.places.result.now c.new-reader.result.shown.now c.imports-pin.result c.places.ensures c.new-reader.ensures.shown c.imports-pin.ensures).0, (lent_sound _ _ _ _ _ _ _ c.self.invariant.0 c.places.result.now c.new-reader.result.shown.now c.imports-pin.result c.places.ensures c.new-reader.ensures.shown c.imports-pin.ensures).1)) c.in-Err.ensures.refused),
+      subst (λ l. IsRefusal (g.D.Disk.view c.self.inside.disk).is_honest (rows_of l) c.args.release c.in-Err.fault) c.new-reader.ensures.shown
+          (refused_less _ _ _ _ c.in-Err.fault (λ up. ((reader_honest g.D.Disk.view _ _ _ _ _ _ _ _ _ _ c.self.invariant.0 c.new-reader.ensures.disk c.new-reader.ensures.cache c.new-reader.ensures.entries c.new-reader.ensures.shown up still (g.met.D.Disk.now_is_image c.self.inside.disk up)), (lent_sound _ _ _ _ _ _ _ c.self.invariant.0 c.places.result.now c.new-reader.result.shown.now c.imports-pin.result c.places.ensures c.new-reader.ensures.shown c.imports-pin.ensures).0, (lent_sound _ _ _ _ _ _ _ c.self.invariant.0 c.places.result.now c.new-reader.result.shown.now c.imports-pin.result c.places.ensures c.new-reader.ensures.shown c.imports-pin.ensures).1)) c.in-Err.ensures.refused),
     )
 
 pub returns-in-Ok-clause-bytes_read : goal.returns-in-Ok-clause-bytes_read
 returns-in-Ok-clause-bytes_read g c = rw (← c.self.view_is) (λ rows are.
     let least = c.in-Ok.ensures.work (lent_sound _ _ _ _ _ _ _ c.self.invariant.0 c.places.result.now c.new-reader.result.shown.now c.imports-pin.result c.places.ensures c.new-reader.ensures.shown c.imports-pin.ensures).0 (lent_sound _ _ _ _ _ _ _ c.self.invariant.0 c.places.result.now c.new-reader.result.shown.now c.imports-pin.result c.places.ensures c.new-reader.ensures.shown c.imports-pin.ensures).1 rows are in
-    let from = ap g.D.Disk.bytes_read c.new-reader.ensures.disk in
+    let from = ap (λ d. (g.D.Disk.view d).bytes_read) c.new-reader.ensures.disk in
     let sum = ap (λ l. sum_by row_cost (already_known (rows_of l) rows)) c.new-reader.ensures.shown in
     omega (arith, least, from, sum))
 
 pub returns-in-Ok-clause-bytes_unread : goal.returns-in-Ok-clause-bytes_unread
 returns-in-Ok-clause-bytes_unread g c = rw (← c.self.view_is) (λ unread.
     let least = c.in-Ok.ensures.work_unread unread in
-    let from = ap g.D.Disk.bytes_read c.new-reader.ensures.disk in
+    let from = ap (λ d. (g.D.Disk.view d).bytes_read) c.new-reader.ensures.disk in
     omega (arith, least, from))
 
 pub returns-after-matches-clause-bytes_read : goal.returns-after-matches-clause-bytes_read
 returns-after-matches-clause-bytes_read g c = rw (← c.self.view_is) (λ rows are.
     let least = c.in-Err.ensures.work (lent_sound _ _ _ _ _ _ _ c.self.invariant.0 c.places.result.now c.new-reader.result.shown.now c.imports-pin.result c.places.ensures c.new-reader.ensures.shown c.imports-pin.ensures).0 (lent_sound _ _ _ _ _ _ _ c.self.invariant.0 c.places.result.now c.new-reader.result.shown.now c.imports-pin.result c.places.ensures c.new-reader.ensures.shown c.imports-pin.ensures).1 rows are in
-    let from = ap g.D.Disk.bytes_read c.new-reader.ensures.disk in
+    let from = ap (λ d. (g.D.Disk.view d).bytes_read) c.new-reader.ensures.disk in
     let sum = ap (λ l. sum_by row_cost (already_known (rows_of l) rows)) c.new-reader.ensures.shown in
     grind (arith, least, from, sum))
 
 pub returns-after-matches-clause-bytes_unread : goal.returns-after-matches-clause-bytes_unread
 returns-after-matches-clause-bytes_unread g c = rw (← c.self.view_is) (λ unread.
     let least = c.in-Err.ensures.work_unread unread in
-    let from = ap g.D.Disk.bytes_read c.new-reader.ensures.disk in
+    let from = ap (λ d. (g.D.Disk.view d).bytes_read) c.new-reader.ensures.disk in
     grind (arith, least, from))

@@ -9,7 +9,7 @@ pub invariant_of-self : goal.invariant_of-self
 invariant_of-self g c =
     let r = c.new-reader.ensures in
     let now = c.history-read.new.reader in
-    held_after g.D.Disk.is_honest g.D.Disk.moments _ _ _ _ _ _ _ _ _ _ c.self.invariant.0 r.disk r.cache r.entries r.shown c.self.inside.merge now.disk.now now.cache.now now.entries.now now.shown.now c.self.invariant.1 c.history-read.ensures.stays.0
+    held_after g.D.Disk.view _ _ _ _ _ _ _ _ _ _ c.self.invariant.0 r.disk r.cache r.entries r.shown c.self.inside.merge now.disk.now now.cache.now now.entries.now now.shown.now c.self.invariant.1 c.history-read.ensures.stays.0
     (g.met.D.Disk.now_is_image c.self.inside.disk) c.history-read.ensures.honesty
 
 pub returns : goal.returns
@@ -18,14 +18,14 @@ returns g c = record {
       let r = c.new-reader.ensures in
       let e = c.history-read.ensures in
       let a = c.answered.ensures in
-      rows_answered g.D.Disk.is_honest g.D.Disk.moments g.D.Disk.failures g.D.Disk.bytes_read g.D.Disk.other_calls row_items (versions c.args.kind c.args.id) c.args.pin
+      rows_answered g.D.Disk.view row_items (versions c.args.kind c.args.id) c.args.pin
       (Lists c.places.result.now) _ c.answered.new.self c.self.inside.index c.new-reader.result.shown.now c.new-reader.result.entries.now
       c.new-reader.result.disk.now c.history-read.new.reader.disk.now c.new-reader.result.cache.now c.history-read.new.reader.cache.now c.history-read.result c.answered.result
       refl c.if-self.false r.disk r.cache r.entries r.shown
-      c.places.ensures (λ up. reader_honest g.D.Disk.is_honest g.D.Disk.moments _ _ _ _ _ _ _ _ _ _ c.self.invariant.0 r.disk r.cache r.entries r.shown up c.if-self.false (g.met.D.Disk.now_is_image c.self.inside.disk up))
+      c.places.ensures (λ up. reader_honest g.D.Disk.view _ _ _ _ _ _ _ _ _ _ c.self.invariant.0 r.disk r.cache r.entries r.shown up c.if-self.false (g.met.D.Disk.now_is_image c.self.inside.disk up))
       e.found e.keys e.undamaged e.work e.work_always
       e.disk_faults e.stays.0 e.stays.5 e.stays.6 a.same a.left a.disk a.cache a.acknowledged);
 }
 
 pub returns-then-self : goal.returns-then-self
-returns-then-self g c = record { answer = rw (← c.self.view_is) (closed_rows g.D.Disk.is_honest g.D.Disk.moments g.D.Disk.failures g.D.Disk.bytes_read g.D.Disk.other_calls row_items (versions c.args.kind c.args.id) c.args.pin _ c.if-self.true) }
+returns-then-self g c = record { answer = rw (← c.self.view_is) (closed_rows g.D.Disk.view row_items (versions c.args.kind c.args.id) c.args.pin _ c.if-self.true) }

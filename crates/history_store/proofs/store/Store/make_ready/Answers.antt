@@ -32,24 +32,24 @@ returns-then-is_empty-clause-checking g c =
     let len : vec_len c.in_ok-fresh.fresh.rows ≡ length c.in_ok-fresh.fresh.rows.items = search (rules) in
     let none = nothing c.in_ok-fresh.fresh.rows.items (grind (arith, nat_tests, len, c.if-is_empty.ensures)) in
     let e = c.in_ok-fresh.ensures in
-    let standing : g.D.Disk.is_honest c.find_new_rows.new.self.disk → c.find_new_rows.new.self.needs_reopen ≡ false → IsAcknowledged g.D.Disk.moments c.find_new_rows.new.self =
+    let standing : (g.D.Disk.view c.find_new_rows.new.self.disk).is_honest → c.find_new_rows.new.self.needs_reopen ≡ false → IsAcknowledged g.D.Disk.view c.find_new_rows.new.self =
     rw (← c.self-2.view_is) (λ honest still. record { open_still = still; each = held_stands _ _ _ _ _ _ _ c.self-2.invariant.0 honest still }) in
-    let ready = ready_at (g.D.Disk.is_honest c.args.self.now.disk) _ c.args.self.now _ c.find_new_rows.new.self c.args.release c.in_ok-fresh.fresh (nexts.WithoutSegment c.in_ok-directory.directory) _ _ c.self.view_is (admitted _ _ _ _ (c.if-is_spent.ensures.left refl) c.if-is_for_later.ensures refl) c.self-2.view_is c.self-2.invariant.0.kept.history e.still e.brings e.accepted (ap (λ n. n + 1) c.imports.ensures) (c.len.ensures ∙ len) (none, c.in_ok-directory.ensures) in
-    checked_after g.D.Disk.is_honest g.D.Disk.moments g.D.Disk.failures g.D.Disk.bytes_read g.D.Disk.other_calls c.args.self.now c.find_new_rows.new.self c.args.release _
-    (record { still = e.still; version = not_later _ c.args.self.now c.args.release c.self.view_is (admitted _ _ _ _ (c.if-is_spent.ensures.left refl) c.if-is_for_later.ensures refl); moments = e.moments; acknowledged = standing; honesty = e.honesty; failures = e.failures; other_calls = e.other_calls; looked_up = e.looked_up; bytes_read = e.bytes_read; bytes_unread = e.bytes_unread })
-    (foreseen _ c.find_new_rows.new.self c.args.release _ ready c.args.self.now e.still) (foreseen_at_all _ c.find_new_rows.new.self c.args.release _ ready c.args.self.now e.still) e.failures
+    let ready = ready_at (g.D.Disk.view c.args.self.now.disk).is_honest _ c.args.self.now _ c.find_new_rows.new.self c.args.release c.in_ok-fresh.fresh (nexts.WithoutSegment c.in_ok-directory.directory) _ _ c.self.view_is (admitted _ _ _ _ (c.if-is_spent.ensures.left refl) c.if-is_for_later.ensures refl) c.self-2.view_is c.self-2.invariant.0.kept.history e.still e.brings e.accepted (ap (λ n. n + 1) c.imports.ensures) (c.len.ensures ∙ len) (none, c.in_ok-directory.ensures) in
+    checked_after g.D.Disk.view c.args.self.now c.find_new_rows.new.self c.args.release _
+    (record { still = e.still; version = not_later _ c.args.self.now c.args.release c.self.view_is (admitted _ _ _ _ (c.if-is_spent.ensures.left refl) c.if-is_for_later.ensures refl); moments = e.meters.moments; acknowledged = standing; honesty = e.meters.honesty; failures = e.meters.failures; other_calls = e.meters.other_calls; looked_up = e.looked_up; bytes_read = e.bytes_read; bytes_unread = e.bytes_unread })
+    (foreseen _ c.find_new_rows.new.self c.args.release _ ready c.args.self.now e.still) (foreseen_at_all _ c.find_new_rows.new.self c.args.release _ ready c.args.self.now e.still) e.meters.failures
 
 pub returns-clause-checking : goal.returns-clause-checking
 returns-clause-checking g c =
     let len : vec_len c.in_ok-fresh.fresh.rows ≡ length c.in_ok-fresh.fresh.rows.items = search (rules) in
     let some : 1 ≤ length c.in_ok-fresh.fresh.rows.items = grind (arith, nat_tests, len, c.if-is_empty.ensures) in
     let e = c.in_ok-fresh.ensures in
-    let standing : g.D.Disk.is_honest c.find_new_rows.new.self.disk → c.find_new_rows.new.self.needs_reopen ≡ false → IsAcknowledged g.D.Disk.moments c.find_new_rows.new.self =
+    let standing : (g.D.Disk.view c.find_new_rows.new.self.disk).is_honest → c.find_new_rows.new.self.needs_reopen ≡ false → IsAcknowledged g.D.Disk.view c.find_new_rows.new.self =
     rw (← c.self-2.view_is) (λ honest still. record { open_still = still; each = held_stands _ _ _ _ _ _ _ c.self-2.invariant.0 honest still }) in
-    let ready = ready_at (g.D.Disk.is_honest c.args.self.now.disk) _ c.args.self.now _ c.find_new_rows.new.self c.args.release c.in_ok-fresh.fresh (nexts.WithSegment c.in_ok-prepared.prepared) _ _ c.self.view_is (admitted _ _ _ _ (c.if-is_spent.ensures.left refl) c.if-is_for_later.ensures refl) c.self-2.view_is c.self-2.invariant.0.kept.history e.still e.brings e.accepted (ap (λ n. n + 1) c.imports.ensures) (c.len.ensures ∙ len) (some, c.in_ok-prepared.ensures.prepared) in
-    checked_after g.D.Disk.is_honest g.D.Disk.moments g.D.Disk.failures g.D.Disk.bytes_read g.D.Disk.other_calls c.args.self.now c.find_new_rows.new.self c.args.release _
-    (record { still = e.still; version = not_later _ c.args.self.now c.args.release c.self.view_is (admitted _ _ _ _ (c.if-is_spent.ensures.left refl) c.if-is_for_later.ensures refl); moments = e.moments; acknowledged = standing; honesty = e.honesty; failures = e.failures; other_calls = e.other_calls; looked_up = e.looked_up; bytes_read = e.bytes_read; bytes_unread = e.bytes_unread })
-    (foreseen _ c.find_new_rows.new.self c.args.release _ ready c.args.self.now e.still) (foreseen_at_all _ c.find_new_rows.new.self c.args.release _ ready c.args.self.now e.still) e.failures
+    let ready = ready_at (g.D.Disk.view c.args.self.now.disk).is_honest _ c.args.self.now _ c.find_new_rows.new.self c.args.release c.in_ok-fresh.fresh (nexts.WithSegment c.in_ok-prepared.prepared) _ _ c.self.view_is (admitted _ _ _ _ (c.if-is_spent.ensures.left refl) c.if-is_for_later.ensures refl) c.self-2.view_is c.self-2.invariant.0.kept.history e.still e.brings e.accepted (ap (λ n. n + 1) c.imports.ensures) (c.len.ensures ∙ len) (some, c.in_ok-prepared.ensures.prepared) in
+    checked_after g.D.Disk.view c.args.self.now c.find_new_rows.new.self c.args.release _
+    (record { still = e.still; version = not_later _ c.args.self.now c.args.release c.self.view_is (admitted _ _ _ _ (c.if-is_spent.ensures.left refl) c.if-is_for_later.ensures refl); moments = e.meters.moments; acknowledged = standing; honesty = e.meters.honesty; failures = e.meters.failures; other_calls = e.meters.other_calls; looked_up = e.looked_up; bytes_read = e.bytes_read; bytes_unread = e.bytes_unread })
+    (foreseen _ c.find_new_rows.new.self c.args.release _ ready c.args.self.now e.still) (foreseen_at_all _ c.find_new_rows.new.self c.args.release _ ready c.args.self.now e.still) e.meters.failures
 
 pub returns-in_err-prepared-clause-checking : goal.returns-in_err-prepared-clause-checking
 returns-in_err-prepared-clause-checking g c =
@@ -58,21 +58,21 @@ returns-in_err-prepared-clause-checking g c =
     let why = c.in_err-prepared.ensures.refused in
     let refused = unprepared_refused c.args.self.now _ _ _ _ e.still why in
     let other : c.in_err-prepared.field-0.0 ≡ refusals.DiskFault → ⊥ = not_device _ _ _ why in
-    let standing : g.D.Disk.is_honest c.find_new_rows.new.self.disk → c.find_new_rows.new.self.needs_reopen ≡ false → IsAcknowledged g.D.Disk.moments c.find_new_rows.new.self =
+    let standing : (g.D.Disk.view c.find_new_rows.new.self.disk).is_honest → c.find_new_rows.new.self.needs_reopen ≡ false → IsAcknowledged g.D.Disk.view c.find_new_rows.new.self =
     rw (← c.self-2.view_is) (λ honest still. record { open_still = still; each = held_stands _ _ _ _ _ _ _ c.self-2.invariant.0 honest still }) in
-    rw (p.1, p.2) (checked_after g.D.Disk.is_honest g.D.Disk.moments g.D.Disk.failures g.D.Disk.bytes_read g.D.Disk.other_calls c.args.self.now c.find_new_rows.new.self c.args.release _
-    (record { still = e.still; version = not_later _ c.args.self.now c.args.release c.self.view_is (admitted _ _ _ _ (c.if-is_spent.ensures.left refl) c.if-is_for_later.ensures refl); moments = e.moments; acknowledged = standing; honesty = e.honesty; failures = e.failures; other_calls = e.other_calls; looked_up = e.looked_up; bytes_read = e.bytes_read; bytes_unread = e.bytes_unread })
+    rw (p.1, p.2) (checked_after g.D.Disk.view c.args.self.now c.find_new_rows.new.self c.args.release _
+    (record { still = e.still; version = not_later _ c.args.self.now c.args.release c.self.view_is (admitted _ _ _ _ (c.if-is_spent.ensures.left refl) c.if-is_for_later.ensures refl); moments = e.meters.moments; acknowledged = standing; honesty = e.meters.honesty; failures = e.meters.failures; other_calls = e.meters.other_calls; looked_up = e.looked_up; bytes_read = e.bytes_read; bytes_unread = e.bytes_unread })
     (λ honest.
     let at = at_mid _ c.args.self.now _ c.find_new_rows.new.self c.args.release c.in_ok-fresh.fresh c.self.view_is (admitted _ _ _ _ (c.if-is_spent.ensures.left refl) c.if-is_for_later.ensures refl) c.self-2.view_is c.self-2.invariant.0.kept.history e.still (e.accepted honest) in
     (not_prepared c.args.self.now _ c.find_new_rows.new.self c.args.release c.in_ok-fresh.fresh _ c.self-2.view_is e.still at why, refused))
     (not_prepared_at_all _ c.args.self.now _ c.find_new_rows.new.self c.args.release c.in_ok-fresh.fresh _ c.self.view_is (admitted _ _ _ _ (c.if-is_spent.ensures.left refl) c.if-is_for_later.ensures refl) c.self-2.view_is e.still e.brings why, refused)
-    (counted_but _ _ _ other e.failures))
+    (counted_but _ _ _ other e.meters.failures))
 
 pub returns-in_err-fresh-clause-checking : goal.returns-in_err-fresh-clause-checking
 returns-in_err-fresh-clause-checking g c =
     let p = err_from_is_err_and c.from_residual.result c.from_residual.ensures.1 in
     let e = c.in_err-fresh.ensures in
-    let stood : g.D.Disk.is_honest c.args.self.now.disk → c.args.self.now.needs_reopen ≡ false → IsAcknowledged g.D.Disk.moments c.args.self.now =
+    let stood : (g.D.Disk.view c.args.self.now.disk).is_honest → c.args.self.now.needs_reopen ≡ false → IsAcknowledged g.D.Disk.view c.args.self.now =
     rw (← c.self.view_is) (λ honest still. record { open_still = still; each = held_stands _ _ _ _ _ _ _ c.self.invariant.0 honest still }) in
-    rw (p.1, p.2) (turned_back g.D.Disk.is_honest g.D.Disk.moments g.D.Disk.failures g.D.Disk.bytes_read g.D.Disk.other_calls c.args.self.now c.find_new_rows.new.self c.args.release _ c.in_err-fresh.field-0.0 c.self.view_is c.if-self.false
-    (admitted _ _ _ _ (c.if-is_spent.ensures.left refl) c.if-is_for_later.ensures refl) stood e.refused e.closed e.moments e.honesty e.failures e.other_calls e.looked_up e.bytes_read e.bytes_unread)
+    rw (p.1, p.2) (turned_back g.D.Disk.view c.args.self.now c.find_new_rows.new.self c.args.release _ c.in_err-fresh.field-0.0 c.self.view_is c.if-self.false
+    (admitted _ _ _ _ (c.if-is_spent.ensures.left refl) c.if-is_for_later.ensures refl) stood e.refused e.closed e.meters.moments e.meters.honesty e.meters.failures e.meters.other_calls e.looked_up e.bytes_read e.bytes_unread)

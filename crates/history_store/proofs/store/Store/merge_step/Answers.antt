@@ -1,6 +1,6 @@
 use Rattle.std.specs.Prelude.{Option, Some, Ok, Err}
 use Rattle.std.specs.Option.{option_to_list}
-use Rattle.std.proofs.Common.{◌≡◌, ◌≢◌, ◌+◌, ◌≤◌, map, refl, sym, ap, subst, ◌∙◌}
+use Rattle.std.proofs.Common.{◌≡◌, ◌≢◌, ◌+◌, ◌≤◌, map, refl, sym, ap, subst, ◌∙◌, rules}
 use Rattle.disk_model.proofs.MomentSteps.{stayed}
 use Rattle.history_store.specs.declared.refusal.Refusal.TheVariants as refusals
 use Rattle.blocks.specs.Extents.{byte_range}
@@ -31,10 +31,10 @@ pub invariant_of-self-in-Ok : goal.invariant_of-self-in-Ok
 invariant_of-self-in-Ok g c =
     let s = c.self.inside in
     let new = c.step-stepped.new in
-    let lent = held_lent (g.D.Disk.is_honest s.disk) (g.D.Disk.moments s.disk).state s.cache s.slot s.directory s.index s.needs_reopen c.self.invariant.0 c.if-self.false in
-    same_lists (g.D.Disk.is_honest new.disk) (g.D.Disk.moments new.disk).state new.cache s.slot s.directory s.index new.index (Some new.merge) s.needs_reopen c.step-stepped.ensures.index (
-      held_back (g.D.Disk.is_honest new.disk) (g.D.Disk.moments new.disk).state new.cache s.slot s.directory s.index _ s.needs_reopen (c.in-Ok.ensures.held s.slot lent) (sym c.if-self.false),
-      merge_back (g.D.Disk.is_honest new.disk) (g.D.Disk.moments new.disk).state.now s.directory s.index new.merge _ s.needs_reopen c.in-Ok.ensures.merge (sym c.if-self.false),
+    let lent = held_lent (g.D.Disk.view s.disk).is_honest (g.D.Disk.view s.disk).moments.state s.cache s.slot s.directory s.index s.needs_reopen c.self.invariant.0 c.if-self.false in
+    same_lists (g.D.Disk.view new.disk).is_honest (g.D.Disk.view new.disk).moments.state new.cache s.slot s.directory s.index new.index (Some new.merge) s.needs_reopen c.step-stepped.ensures.index (
+      held_back (g.D.Disk.view new.disk).is_honest (g.D.Disk.view new.disk).moments.state new.cache s.slot s.directory s.index _ s.needs_reopen (c.in-Ok.ensures.held s.slot lent) (sym c.if-self.false),
+      merge_back (g.D.Disk.view new.disk).is_honest (g.D.Disk.view new.disk).moments.state.now s.directory s.index new.merge _ s.needs_reopen c.in-Ok.ensures.merge (sym c.if-self.false),
     )
 
 pub invariant_of-self-else-matches : goal.invariant_of-self-else-matches
@@ -43,10 +43,10 @@ invariant_of-self-else-matches g c =
     let new = c.step-stepped.new in
     let other : c.in-Err.refusal ≢ refusals.DiskFault = elim c.match-matches.branch [ in-DiskFault w ↦ absurd (let off = c.if-matches.false in let on = w.matches-is in cc) | in_default-matches w ↦ λ is. w.in_default-matches.not-DiskFault is ] in
     let open_still = no_fault c.in-Err.refusal c.in-Err.ensures.step.0 other ∙ sym c.if-self.false in
-    let lent = held_lent (g.D.Disk.is_honest s.disk) (g.D.Disk.moments s.disk).state s.cache s.slot s.directory s.index s.needs_reopen c.self.invariant.0 c.if-self.false in
-    same_lists (g.D.Disk.is_honest new.disk) (g.D.Disk.moments new.disk).state new.cache s.slot s.directory s.index new.index (Some new.merge) s.needs_reopen c.step-stepped.ensures.index (
-      held_back (g.D.Disk.is_honest new.disk) (g.D.Disk.moments new.disk).state new.cache s.slot s.directory s.index _ s.needs_reopen (c.in-Err.ensures.held s.slot lent) open_still,
-      merge_back (g.D.Disk.is_honest new.disk) (g.D.Disk.moments new.disk).state.now s.directory s.index new.merge _ s.needs_reopen c.in-Err.ensures.merge open_still,
+    let lent = held_lent (g.D.Disk.view s.disk).is_honest (g.D.Disk.view s.disk).moments.state s.cache s.slot s.directory s.index s.needs_reopen c.self.invariant.0 c.if-self.false in
+    same_lists (g.D.Disk.view new.disk).is_honest (g.D.Disk.view new.disk).moments.state new.cache s.slot s.directory s.index new.index (Some new.merge) s.needs_reopen c.step-stepped.ensures.index (
+      held_back (g.D.Disk.view new.disk).is_honest (g.D.Disk.view new.disk).moments.state new.cache s.slot s.directory s.index _ s.needs_reopen (c.in-Err.ensures.held s.slot lent) open_still,
+      merge_back (g.D.Disk.view new.disk).is_honest (g.D.Disk.view new.disk).moments.state.now s.directory s.index new.merge _ s.needs_reopen c.in-Err.ensures.merge open_still,
     )
 
 pub returns-in-Ok-clause-answer : goal.returns-in-Ok-clause-answer
@@ -57,9 +57,9 @@ pub returns-in-Ok-clause-acknowledged : goal.returns-in-Ok-clause-acknowledged
 returns-in-Ok-clause-acknowledged g c =
     let s = c.self.inside in
     let new = c.step-stepped.new in
-    let lent = held_lent (g.D.Disk.is_honest s.disk) (g.D.Disk.moments s.disk).state s.cache s.slot s.directory s.index s.needs_reopen c.self.invariant.0 c.if-self.false in
-    let held = held_back (g.D.Disk.is_honest new.disk) (g.D.Disk.moments new.disk).state new.cache s.slot s.directory s.index _ s.needs_reopen (c.in-Ok.ensures.held s.slot lent) (sym c.if-self.false) in
-    rw (← c.self.view_is) (λ honest still. record { open_still = still; each = held_stands _ _ _ _ _ _ _ (subst (λ l. IsHeld (g.D.Disk.is_honest new.disk) (g.D.Disk.moments new.disk).state new.cache s.slot s.directory l s.needs_reopen) (sym c.step-stepped.ensures.index) held) (c.step-stepped.ensures.honesty.0 honest) still })
+    let lent = held_lent (g.D.Disk.view s.disk).is_honest (g.D.Disk.view s.disk).moments.state s.cache s.slot s.directory s.index s.needs_reopen c.self.invariant.0 c.if-self.false in
+    let held = held_back (g.D.Disk.view new.disk).is_honest (g.D.Disk.view new.disk).moments.state new.cache s.slot s.directory s.index _ s.needs_reopen (c.in-Ok.ensures.held s.slot lent) (sym c.if-self.false) in
+    rw (← c.self.view_is) (λ honest still. record { open_still = still; each = held_stands _ _ _ _ _ _ _ (subst (λ l. IsHeld (g.D.Disk.view new.disk).is_honest (g.D.Disk.view new.disk).moments.state new.cache s.slot s.directory l s.needs_reopen) (sym c.step-stepped.ensures.index) held) (c.step-stepped.ensures.meters.honesty.0 honest) still })
 
 pub returns-then-matches-clause-answer : goal.returns-then-matches-clause-answer
 returns-then-matches-clause-answer g c =
@@ -77,13 +77,13 @@ returns-else-matches-clause-acknowledged g c =
     let new = c.step-stepped.new in
     let other : c.in-Err.refusal ≢ refusals.DiskFault = elim c.match-matches.branch [ in-DiskFault w ↦ absurd (let off = c.if-matches.false in let on = w.matches-is in cc) | in_default-matches w ↦ λ is. w.in_default-matches.not-DiskFault is ] in
     let open_still = no_fault c.in-Err.refusal c.in-Err.ensures.step.0 other ∙ sym c.if-self.false in
-    let lent = held_lent (g.D.Disk.is_honest s.disk) (g.D.Disk.moments s.disk).state s.cache s.slot s.directory s.index s.needs_reopen c.self.invariant.0 c.if-self.false in
-    let held = held_back (g.D.Disk.is_honest new.disk) (g.D.Disk.moments new.disk).state new.cache s.slot s.directory s.index _ s.needs_reopen (c.in-Err.ensures.held s.slot lent) open_still in
-    rw (← c.self.view_is) (λ honest still. record { open_still = still; each = held_stands _ _ _ _ _ _ _ (subst (λ l. IsHeld (g.D.Disk.is_honest new.disk) (g.D.Disk.moments new.disk).state new.cache s.slot s.directory l s.needs_reopen) (sym c.step-stepped.ensures.index) held) (c.step-stepped.ensures.honesty.0 honest) still })
+    let lent = held_lent (g.D.Disk.view s.disk).is_honest (g.D.Disk.view s.disk).moments.state s.cache s.slot s.directory s.index s.needs_reopen c.self.invariant.0 c.if-self.false in
+    let held = held_back (g.D.Disk.view new.disk).is_honest (g.D.Disk.view new.disk).moments.state new.cache s.slot s.directory s.index _ s.needs_reopen (c.in-Err.ensures.held s.slot lent) open_still in
+    rw (← c.self.view_is) (λ honest still. record { open_still = still; each = held_stands _ _ _ _ _ _ _ (subst (λ l. IsHeld (g.D.Disk.view new.disk).is_honest (g.D.Disk.view new.disk).moments.state new.cache s.slot s.directory l s.needs_reopen) (sym c.step-stepped.ensures.index) held) (c.step-stepped.ensures.meters.honesty.0 honest) still })
 
 pub returns-in-Ok-clause-elsewhere : goal.returns-in-Ok-clause-elsewhere
 returns-in-Ok-clause-elsewhere g c =
-    rw (← c.self.view_is) (λ honest. subst (λ (o : Option MergeInProgress). SameOutside (map byte_range (option_to_list (reserved_by (merge_of o)))) (g.D.Disk.moments c.self.inside.disk).state.now (g.D.Disk.moments c.step-stepped.new.disk).state.now)
+    rw (← c.self.view_is) (λ honest. subst (λ (o : Option MergeInProgress). SameOutside (map byte_range (option_to_list (reserved_by (merge_of o)))) (g.D.Disk.view c.self.inside.disk).moments.state.now (g.D.Disk.view c.step-stepped.new.disk).moments.state.now)
     c.in-Some.ensures.value (c.in-Ok.ensures.elsewhere honest))
 
 -- ---- what it writes
@@ -98,7 +98,7 @@ returns-in-Ok-clause-wrote g c =
     let m = c.in-Some.merge in
     let value = c.in-Some.ensures.value in
     rw (← c.self.view_is) (λ honest still some going.
-    wrote_shown (Ok c.left-left.result) c.args.n s.directory s.index s.merge m (g.D.Disk.moments s.disk) (g.D.Disk.moments c.step-stepped.new.disk) value
+    wrote_shown (Ok c.left-left.result) c.args.n s.directory s.index s.merge m (g.D.Disk.view s.disk).moments (g.D.Disk.view c.step-stepped.new.disk).moments value
     (wrote_ok tt c.left-left.result c.args.n _ _ _ _ (c.in-Ok.ensures.wrote honest some (some_rows s.directory s.merge m value going))))
 
 pub returns-then-matches-clause-wrote : goal.returns-then-matches-clause-wrote
@@ -107,7 +107,7 @@ returns-then-matches-clause-wrote g c =
     let m = c.in-Some.merge in
     let value = c.in-Some.ensures.value in
     rw (← c.self.view_is) (λ honest still some going.
-    wrote_shown (Err c.in-Err.refusal) c.args.n s.directory s.index s.merge m (g.D.Disk.moments s.disk) (g.D.Disk.moments c.step-stepped.new.disk) value
+    wrote_shown (Err c.in-Err.refusal) c.args.n s.directory s.index s.merge m (g.D.Disk.view s.disk).moments (g.D.Disk.view c.step-stepped.new.disk).moments value
     (wrote_err c.in-Err.refusal c.args.n _ _ _ _ (c.in-Err.ensures.wrote honest some (some_rows s.directory s.merge m value going))))
 
 pub returns-else-matches-clause-wrote : goal.returns-else-matches-clause-wrote
@@ -116,7 +116,7 @@ returns-else-matches-clause-wrote g c =
     let m = c.in-Some.merge in
     let value = c.in-Some.ensures.value in
     rw (← c.self.view_is) (λ honest still some going.
-    wrote_shown (Err c.in-Err.refusal) c.args.n s.directory s.index s.merge m (g.D.Disk.moments s.disk) (g.D.Disk.moments c.step-stepped.new.disk) value
+    wrote_shown (Err c.in-Err.refusal) c.args.n s.directory s.index s.merge m (g.D.Disk.view s.disk).moments (g.D.Disk.view c.step-stepped.new.disk).moments value
     (wrote_err c.in-Err.refusal c.args.n _ _ _ _ (c.in-Err.ensures.wrote honest some (some_rows s.directory s.merge m value going))))
 
 -- ---- what is looked up
@@ -131,37 +131,52 @@ pub returns-in-Ok-clause-looked_up : goal.returns-in-Ok-clause-looked_up
 returns-in-Ok-clause-looked_up g c =
     let s = c.self.inside in
     let new = c.step-stepped.new in
-    rw (← c.self.view_is) (subst (λ (o : Option MergeInProgress). LooksUpAndForgets (is_listed s.directory.entries) (reserved_by (merge_of o)) s.cache new.cache (g.D.Disk.bytes_read s.disk) (g.D.Disk.bytes_read new.disk))
+    rw (← c.self.view_is) (subst (λ (o : Option MergeInProgress). LooksUpAndForgets (is_listed s.directory.entries) (reserved_by (merge_of o)) s.cache new.cache (g.D.Disk.view s.disk).bytes_read (g.D.Disk.view new.disk).bytes_read)
     c.in-Some.ensures.value c.step-stepped.ensures.looked_up)
 
 pub returns-then-matches-clause-looked_up : goal.returns-then-matches-clause-looked_up
 returns-then-matches-clause-looked_up g c =
     let s = c.self.inside in
     let new = c.step-stepped.new in
-    rw (← c.self.view_is) (subst (λ (o : Option MergeInProgress). LooksUpAndForgets (is_listed s.directory.entries) (reserved_by (merge_of o)) s.cache new.cache (g.D.Disk.bytes_read s.disk) (g.D.Disk.bytes_read new.disk))
+    rw (← c.self.view_is) (subst (λ (o : Option MergeInProgress). LooksUpAndForgets (is_listed s.directory.entries) (reserved_by (merge_of o)) s.cache new.cache (g.D.Disk.view s.disk).bytes_read (g.D.Disk.view new.disk).bytes_read)
     c.in-Some.ensures.value c.step-stepped.ensures.looked_up)
 
 pub returns-else-matches-clause-looked_up : goal.returns-else-matches-clause-looked_up
 returns-else-matches-clause-looked_up g c =
     let s = c.self.inside in
     let new = c.step-stepped.new in
-    rw (← c.self.view_is) (subst (λ (o : Option MergeInProgress). LooksUpAndForgets (is_listed s.directory.entries) (reserved_by (merge_of o)) s.cache new.cache (g.D.Disk.bytes_read s.disk) (g.D.Disk.bytes_read new.disk))
+    rw (← c.self.view_is) (subst (λ (o : Option MergeInProgress). LooksUpAndForgets (is_listed s.directory.entries) (reserved_by (merge_of o)) s.cache new.cache (g.D.Disk.view s.disk).bytes_read (g.D.Disk.view new.disk).bytes_read)
     c.in-Some.ensures.value c.step-stepped.ensures.looked_up)
 
-pub returns-in-Ok-clause-bytes_read : goal.returns-in-Ok-clause-bytes_read
-returns-in-Ok-clause-bytes_read g c =
+pub returns-in-Ok-clause-meters : goal.returns-in-Ok-clause-meters
+returns-in-Ok-clause-meters g c = record {
+  honesty = search rules;
+  failures = search rules;
+  bytes_read =
     let s = c.self.inside in
     let new = c.step-stepped.new in
-    rw (← c.self.view_is) (subst (λ (o : Option MergeInProgress). g.D.Disk.bytes_read new.disk ≤ g.D.Disk.bytes_read s.disk + step_cost c.args.n (merge_of o)) c.in-Some.ensures.value c.step-stepped.ensures.bytes_read)
+    rw (← c.self.view_is) (subst (λ (o : Option MergeInProgress). (g.D.Disk.view new.disk).bytes_read ≤ (g.D.Disk.view s.disk).bytes_read + step_cost c.args.n (merge_of o)) c.in-Some.ensures.value c.step-stepped.ensures.meters.bytes_read);
+  other_calls = search rules;
+}
 
-pub returns-then-matches-clause-bytes_read : goal.returns-then-matches-clause-bytes_read
-returns-then-matches-clause-bytes_read g c =
+pub returns-then-matches-clause-meters : goal.returns-then-matches-clause-meters
+returns-then-matches-clause-meters g c = record {
+  honesty = search rules;
+  failures = search rules;
+  bytes_read =
     let s = c.self.inside in
     let new = c.step-stepped.new in
-    rw (← c.self.view_is) (subst (λ (o : Option MergeInProgress). g.D.Disk.bytes_read new.disk ≤ g.D.Disk.bytes_read s.disk + step_cost c.args.n (merge_of o)) c.in-Some.ensures.value c.step-stepped.ensures.bytes_read)
+    rw (← c.self.view_is) (subst (λ (o : Option MergeInProgress). (g.D.Disk.view new.disk).bytes_read ≤ (g.D.Disk.view s.disk).bytes_read + step_cost c.args.n (merge_of o)) c.in-Some.ensures.value c.step-stepped.ensures.meters.bytes_read);
+  other_calls = search rules;
+}
 
-pub returns-else-matches-clause-bytes_read : goal.returns-else-matches-clause-bytes_read
-returns-else-matches-clause-bytes_read g c =
+pub returns-else-matches-clause-meters : goal.returns-else-matches-clause-meters
+returns-else-matches-clause-meters g c = record {
+  honesty = search rules;
+  failures = search rules;
+  bytes_read =
     let s = c.self.inside in
     let new = c.step-stepped.new in
-    rw (← c.self.view_is) (subst (λ (o : Option MergeInProgress). g.D.Disk.bytes_read new.disk ≤ g.D.Disk.bytes_read s.disk + step_cost c.args.n (merge_of o)) c.in-Some.ensures.value c.step-stepped.ensures.bytes_read)
+    rw (← c.self.view_is) (subst (λ (o : Option MergeInProgress). (g.D.Disk.view new.disk).bytes_read ≤ (g.D.Disk.view s.disk).bytes_read + step_cost c.args.n (merge_of o)) c.in-Some.ensures.value c.step-stepped.ensures.meters.bytes_read);
+  other_calls = search rules;
+}

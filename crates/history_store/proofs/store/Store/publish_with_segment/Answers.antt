@@ -35,11 +35,11 @@ pub invariant_of-self : goal.invariant_of-self
 invariant_of-self g c =
     let for = subst (λ (s : StoreValue g.row.D.Denot). IsPreparedFor s c.args.prepared) (sym c.self.view_is) c.requires.prepared in
     let added = is_added _ c.self.inside.directory c.self.inside.index c.args.prepared c.self.invariant.0.kept refl refl refl refl refl for in (
-      held_added _ (g.D.Disk.is_honest c.add_segment.new.disk) _ (g.D.Disk.moments c.add_segment.new.disk).state c.self.inside.cache c.forget.new.self c.forget-in-Ok.new.self _ c.in-Ok.slot c.self.inside.directory c.args.prepared.directory c.args.prepared.entry c.self.inside.index c.add.new.self c.args.prepared.index c.self.inside.needs_reopen c.self.invariant.0 c.add_segment.ensures.honesty.1 added c.in-Ok.ensures.next
+      held_added _ (g.D.Disk.view c.add_segment.new.disk).is_honest _ (g.D.Disk.view c.add_segment.new.disk).moments.state c.self.inside.cache c.forget.new.self c.forget-in-Ok.new.self _ c.in-Ok.slot c.self.inside.directory c.args.prepared.directory c.args.prepared.entry c.self.inside.index c.add.new.self c.args.prepared.index c.self.inside.needs_reopen c.self.invariant.0 c.add_segment.ensures.meters.honesty.1 added c.in-Ok.ensures.next
           (λ honest given lists segment on is same. c.in-Ok.ensures.on_disk honest given lists segment on is (c.deref.ensures.value ∙ for.prepared.bytes_are ∙ ap (segment_in c.args.prepared.entry.form) (sym same)))
           c.in-Ok.ensures.elsewhere (subst (λ x. Forgets (is_in x) c.self.inside.cache c.forget.new.self) c.extent.ensures c.forget.ensures) (subst (λ x. Forgets (is_in x) c.forget.new.self c.forget-in-Ok.new.self) c.extent-in-Ok.ensures c.forget-in-Ok.ensures)
           c.add.ensures,
-      merge_added _ (g.D.Disk.is_honest c.add_segment.new.disk) _ (g.D.Disk.moments c.add_segment.new.disk).state.now (other c.self.inside.slot) c.self.inside.directory c.args.prepared.directory c.args.prepared.entry c.self.inside.index c.add.new.self c.args.prepared.index c.self.inside.merge c.self.inside.needs_reopen c.self.invariant.1 c.add_segment.ensures.honesty.1
+      merge_added _ (g.D.Disk.view c.add_segment.new.disk).is_honest _ (g.D.Disk.view c.add_segment.new.disk).moments.state.now (other c.self.inside.slot) c.self.inside.directory c.args.prepared.directory c.args.prepared.entry c.self.inside.index c.add.new.self c.args.prepared.index c.self.inside.merge c.self.inside.needs_reopen c.self.invariant.1 c.add_segment.ensures.meters.honesty.1
           (ap (λ (l : DirectoryValue). l.entries) for.prepared.directory_is) (ap (λ (l : DirectoryValue). l.layout) for.prepared.directory_is) for.prepared.entry_is for.prepared.at_fit c.in-Ok.ensures.elsewhere
           c.add.ensures,
     )
@@ -62,11 +62,11 @@ pub returns-in-Ok-clause-acknowledged : goal.returns-in-Ok-clause-acknowledged
 returns-in-Ok-clause-acknowledged g c =
     let for = subst (λ (s : StoreValue g.row.D.Denot). IsPreparedFor s c.args.prepared) (sym c.self.view_is) c.requires.prepared in
     let added = is_added _ c.self.inside.directory c.self.inside.index c.args.prepared c.self.invariant.0.kept refl refl refl refl refl for in
-    let held = held_added _ (g.D.Disk.is_honest c.add_segment.new.disk) _ (g.D.Disk.moments c.add_segment.new.disk).state c.self.inside.cache c.forget.new.self c.forget-in-Ok.new.self _ c.in-Ok.slot c.self.inside.directory c.args.prepared.directory c.args.prepared.entry c.self.inside.index c.add.new.self c.args.prepared.index c.self.inside.needs_reopen c.self.invariant.0 c.add_segment.ensures.honesty.1 added c.in-Ok.ensures.next
+    let held = held_added _ (g.D.Disk.view c.add_segment.new.disk).is_honest _ (g.D.Disk.view c.add_segment.new.disk).moments.state c.self.inside.cache c.forget.new.self c.forget-in-Ok.new.self _ c.in-Ok.slot c.self.inside.directory c.args.prepared.directory c.args.prepared.entry c.self.inside.index c.add.new.self c.args.prepared.index c.self.inside.needs_reopen c.self.invariant.0 c.add_segment.ensures.meters.honesty.1 added c.in-Ok.ensures.next
     (λ honest given lists segment on is same. c.in-Ok.ensures.on_disk honest given lists segment on is (c.deref.ensures.value ∙ for.prepared.bytes_are ∙ ap (segment_in c.args.prepared.entry.form) (sym same)))
     c.in-Ok.ensures.elsewhere (subst (λ x. Forgets (is_in x) c.self.inside.cache c.forget.new.self) c.extent.ensures c.forget.ensures) (subst (λ x. Forgets (is_in x) c.forget.new.self c.forget-in-Ok.new.self) c.extent-in-Ok.ensures c.forget-in-Ok.ensures)
     c.add.ensures in
-    rw (← c.self.view_is) (λ honest still. record { open_still = still; each = held_stands _ _ _ _ _ _ _ held (c.add_segment.ensures.honesty.0 honest) still })
+    rw (← c.self.view_is) (λ honest still. record { open_still = still; each = held_stands _ _ _ _ _ _ _ held (c.add_segment.ensures.meters.honesty.0 honest) still })
 
 pub returns-in-Err-clause-any_moment : goal.returns-in-Err-clause-any_moment
 returns-in-Err-clause-any_moment g c =

@@ -14,8 +14,8 @@ use Rattle.history_store.proofs.store.Store.publish_without_segment.Goals as goa
 pub invariant_of-self : goal.invariant_of-self
 invariant_of-self g c =
     let same = subst (λ (s : StoreValue g.row.D.Denot). IsRepeated (directory_of s) c.args.next) (sym c.self.view_is) c.requires.next in (
-      held_repeated _ (g.D.Disk.is_honest c.publish_directory.new.disk) _ (g.D.Disk.moments c.publish_directory.new.disk).state c.self.inside.cache c.forget.new.self _ c.in-Ok.slot c.self.inside.directory c.args.next _ _ c.self.invariant.0 c.publish_directory.ensures.honesty.1 (subst IsListing c.next.view_is c.next.invariant.is) same c.in-Ok.ensures.next c.in-Ok.ensures.on_disk c.in-Ok.ensures.elsewhere (subst (λ x. Forgets (is_in x) c.self.inside.cache c.forget.new.self) c.extent.ensures c.forget.ensures),
-      merge_repeated _ (g.D.Disk.is_honest c.publish_directory.new.disk) _ (g.D.Disk.moments c.publish_directory.new.disk).state.now (other c.self.inside.slot) c.self.inside.directory c.args.next c.self.inside.index c.self.inside.merge c.self.inside.needs_reopen c.self.invariant.1 c.publish_directory.ensures.honesty.1 same.entries same.comes.layout c.in-Ok.ensures.elsewhere,
+      held_repeated _ (g.D.Disk.view c.publish_directory.new.disk).is_honest _ (g.D.Disk.view c.publish_directory.new.disk).moments.state c.self.inside.cache c.forget.new.self _ c.in-Ok.slot c.self.inside.directory c.args.next _ _ c.self.invariant.0 c.publish_directory.ensures.meters.honesty.1 (subst IsListing c.next.view_is c.next.invariant.is) same c.in-Ok.ensures.next c.in-Ok.ensures.on_disk c.in-Ok.ensures.elsewhere (subst (λ x. Forgets (is_in x) c.self.inside.cache c.forget.new.self) c.extent.ensures c.forget.ensures),
+      merge_repeated _ (g.D.Disk.view c.publish_directory.new.disk).is_honest _ (g.D.Disk.view c.publish_directory.new.disk).moments.state.now (other c.self.inside.slot) c.self.inside.directory c.args.next c.self.inside.index c.self.inside.merge c.self.inside.needs_reopen c.self.invariant.1 c.publish_directory.ensures.meters.honesty.1 same.entries same.comes.layout c.in-Ok.ensures.elsewhere,
     )
 
 pub returns-in-Ok-clause-any_moment : goal.returns-in-Ok-clause-any_moment
@@ -27,8 +27,8 @@ returns-in-Ok-clause-any_moment g c =
 pub returns-in-Ok-clause-acknowledged : goal.returns-in-Ok-clause-acknowledged
 returns-in-Ok-clause-acknowledged g c =
     let same = subst (λ (s : StoreValue g.row.D.Denot). IsRepeated (directory_of s) c.args.next) (sym c.self.view_is) c.requires.next in
-    let held = held_repeated _ (g.D.Disk.is_honest c.publish_directory.new.disk) _ (g.D.Disk.moments c.publish_directory.new.disk).state c.self.inside.cache c.forget.new.self _ c.in-Ok.slot c.self.inside.directory c.args.next _ _ c.self.invariant.0 c.publish_directory.ensures.honesty.1 (subst IsListing c.next.view_is c.next.invariant.is) same c.in-Ok.ensures.next c.in-Ok.ensures.on_disk c.in-Ok.ensures.elsewhere (subst (λ x. Forgets (is_in x) c.self.inside.cache c.forget.new.self) c.extent.ensures c.forget.ensures) in
-    rw (← c.self.view_is) (λ honest still. record { open_still = still; each = held_stands _ _ _ _ _ _ _ held (c.publish_directory.ensures.honesty.0 honest) still })
+    let held = held_repeated _ (g.D.Disk.view c.publish_directory.new.disk).is_honest _ (g.D.Disk.view c.publish_directory.new.disk).moments.state c.self.inside.cache c.forget.new.self _ c.in-Ok.slot c.self.inside.directory c.args.next _ _ c.self.invariant.0 c.publish_directory.ensures.meters.honesty.1 (subst IsListing c.next.view_is c.next.invariant.is) same c.in-Ok.ensures.next c.in-Ok.ensures.on_disk c.in-Ok.ensures.elsewhere (subst (λ x. Forgets (is_in x) c.self.inside.cache c.forget.new.self) c.extent.ensures c.forget.ensures) in
+    rw (← c.self.view_is) (λ honest still. record { open_still = still; each = held_stands _ _ _ _ _ _ _ held (c.publish_directory.ensures.meters.honesty.0 honest) still })
 
 pub returns-in-Err-clause-any_moment : goal.returns-in-Err-clause-any_moment
 returns-in-Err-clause-any_moment g c =

@@ -40,8 +40,8 @@ invariant_of-self g c =
     let s = c.self.inside in
     let new = c.write_and_list.new in
     let none = no_merge_of_one s.directory s.index s.merge c.in-Some.old c.in-Some.ensures.found.alone c.self.invariant.1.merging in (
-      held_back (g.D.Disk.is_honest new.disk) (g.D.Disk.moments new.disk).state new.cache c.in-Ok.slot c.in_ok-next.next s.index _ s.needs_reopen c.in-Ok.ensures.listed (sym c.if-self.false),
-      has_no_merge (g.D.Disk.is_honest new.disk) (g.D.Disk.moments new.disk).state.now c.in_ok-next.next s.index s.merge s.needs_reopen none,
+      held_back (g.D.Disk.view new.disk).is_honest (g.D.Disk.view new.disk).moments.state new.cache c.in-Ok.slot c.in_ok-next.next s.index _ s.needs_reopen c.in-Ok.ensures.listed (sym c.if-self.false),
+      has_no_merge (g.D.Disk.view new.disk).is_honest (g.D.Disk.view new.disk).moments.state.now c.in_ok-next.next s.index s.merge s.needs_reopen none,
     )
 
 pub invariant_of-self-else-matches : goal.invariant_of-self-else-matches
@@ -50,8 +50,8 @@ invariant_of-self-else-matches g c =
     let new = c.write_and_list.new in
     let other : c.in-Err.refusal ≢ refusals.DiskFault = elim c.match-matches.branch [ in-DiskFault w ↦ absurd (let off = c.if-matches.false in let on = w.matches-is in cc) | in_default-matches w ↦ λ is. w.in_default-matches.not-DiskFault is ] in
     let none = no_merge_of_one s.directory s.index s.merge c.in-Some.old c.in-Some.ensures.found.alone c.self.invariant.1.merging in (
-      held_back (g.D.Disk.is_honest new.disk) (g.D.Disk.moments new.disk).state new.cache s.slot s.directory s.index _ s.needs_reopen c.in-Err.ensures.held (no_device c.in-Err.refusal c.in-Err.ensures.refused other ∙ sym c.if-self.false),
-      has_no_merge (g.D.Disk.is_honest new.disk) (g.D.Disk.moments new.disk).state.now s.directory s.index s.merge s.needs_reopen none,
+      held_back (g.D.Disk.view new.disk).is_honest (g.D.Disk.view new.disk).moments.state new.cache s.slot s.directory s.index _ s.needs_reopen c.in-Err.ensures.held (no_device c.in-Err.refusal c.in-Err.ensures.refused other ∙ sym c.if-self.false),
+      has_no_merge (g.D.Disk.view new.disk).is_honest (g.D.Disk.view new.disk).moments.state.now s.directory s.index s.merge s.needs_reopen none,
     )
 
 pub returns-after-matches-clause-any_moment : goal.returns-after-matches-clause-any_moment
@@ -69,6 +69,6 @@ returns-after-matches-clause-acknowledged g c =
           let s = c.self.inside in
           let new = c.write_and_list.new in
           let other : c.in-Err.refusal ≢ refusals.DiskFault = elim c.match-matches.branch [ in-DiskFault v ↦ absurd (let off = w.if-matches.false in let on = v.matches-is in cc) | in_default-matches v ↦ λ is. v.in_default-matches.not-DiskFault is ] in
-          let held = held_back (g.D.Disk.is_honest new.disk) (g.D.Disk.moments new.disk).state new.cache s.slot s.directory s.index _ s.needs_reopen c.in-Err.ensures.held (no_device c.in-Err.refusal c.in-Err.ensures.refused other ∙ sym c.if-self.false) in
-          rw (w.self-is, ← c.self.view_is) (λ honest still. record { open_still = still; each = held_stands _ _ _ _ _ _ _ held (c.in-Err.ensures.honesty.0 honest) still })
+          let held = held_back (g.D.Disk.view new.disk).is_honest (g.D.Disk.view new.disk).moments.state new.cache s.slot s.directory s.index _ s.needs_reopen c.in-Err.ensures.held (no_device c.in-Err.refusal c.in-Err.ensures.refused other ∙ sym c.if-self.false) in
+          rw (w.self-is, ← c.self.view_is) (λ honest still. record { open_still = still; each = held_stands _ _ _ _ _ _ _ held (c.in-Err.ensures.meters.honesty.0 honest) still })
     ]

@@ -7,6 +7,6 @@ use Rattle.history_store.proofs.store.Store.terms.Goals as goal
 pub returns : goal.returns
 returns g c = record {
   answer =
-      subst (λ wanted. IsRowsQuery c.search.result row_items wanted c.args.as_of.pin g.D.Disk.is_honest g.D.Disk.moments g.D.Disk.failures g.D.Disk.bytes_read g.D.Disk.other_calls c.args.self.now c.search.new.self)
+      subst (λ wanted. IsRowsQuery c.search.result row_items wanted c.args.as_of.pin g.D.Disk.view c.args.self.now c.search.new.self)
       (λ i rows. search_from_the_first c.args.prefix.now c.args.as_of.date c.args.limit rows i) c.search.ensures.answer;
 }

@@ -20,9 +20,9 @@ pub invariant_of-self : goal.invariant_of-self
 invariant_of-self g c =
     let end = end_is c.self.inside.directory c.self.inside.merge c.entries.result.now c.reserved.result c.end_of-end.result c.entries.ensures.entries c.reserved.ensures c.end_of-end.ensures.end in
     let below = kept_below c.self.inside.directory c.self.inside.merge c.end_of-end.result end in (
-      trimmed_held _ (g.D.Disk.is_honest c.trim.new.disk) _ (g.D.Disk.moments c.trim.new.disk).state c.self.inside.cache c.forget_from.new.self c.self.inside.slot c.self.inside.directory c.self.inside.index c.self.inside.needs_reopen c.end_of-end.result c.self.invariant.0 c.trim.ensures.honesty.1
+      trimmed_held _ (g.D.Disk.view c.trim.new.disk).is_honest _ (g.D.Disk.view c.trim.new.disk).moments.state c.self.inside.cache c.forget_from.new.self c.self.inside.slot c.self.inside.directory c.self.inside.index c.self.inside.needs_reopen c.end_of-end.result c.self.invariant.0 c.trim.ensures.meters.honesty.1
           (λ honest on. c.trim.ensures.on_disk honest c.self.inside.slot c.self.inside.directory c.self.inside.index on below) c.in-Ok.ensures.now c.forget_from.ensures,
-      trimmed_merge _ (g.D.Disk.is_honest c.trim.new.disk) _ (g.D.Disk.moments c.trim.new.disk).state.now c.self.inside.directory c.self.inside.index c.self.inside.merge c.self.inside.needs_reopen c.end_of-end.result c.self.invariant.1 c.trim.ensures.honesty.1 end c.in-Ok.ensures.now,
+      trimmed_merge _ (g.D.Disk.view c.trim.new.disk).is_honest _ (g.D.Disk.view c.trim.new.disk).moments.state.now c.self.inside.directory c.self.inside.index c.self.inside.merge c.self.inside.needs_reopen c.end_of-end.result c.self.invariant.1 c.trim.ensures.meters.honesty.1 end c.in-Ok.ensures.now,
     )
 
 pub returns-in-Ok-clause-any_moment : goal.returns-in-Ok-clause-any_moment
@@ -41,9 +41,9 @@ pub returns-in-Ok-clause-acknowledged : goal.returns-in-Ok-clause-acknowledged
 returns-in-Ok-clause-acknowledged g c =
     let end = end_is c.self.inside.directory c.self.inside.merge c.entries.result.now c.reserved.result c.end_of-end.result c.entries.ensures.entries c.reserved.ensures c.end_of-end.ensures.end in
     let below = kept_below c.self.inside.directory c.self.inside.merge c.end_of-end.result end in
-    let held = trimmed_held _ (g.D.Disk.is_honest c.trim.new.disk) _ (g.D.Disk.moments c.trim.new.disk).state c.self.inside.cache c.forget_from.new.self c.self.inside.slot c.self.inside.directory c.self.inside.index c.self.inside.needs_reopen c.end_of-end.result c.self.invariant.0 c.trim.ensures.honesty.1
+    let held = trimmed_held _ (g.D.Disk.view c.trim.new.disk).is_honest _ (g.D.Disk.view c.trim.new.disk).moments.state c.self.inside.cache c.forget_from.new.self c.self.inside.slot c.self.inside.directory c.self.inside.index c.self.inside.needs_reopen c.end_of-end.result c.self.invariant.0 c.trim.ensures.meters.honesty.1
     (λ honest on. c.trim.ensures.on_disk honest c.self.inside.slot c.self.inside.directory c.self.inside.index on below) c.in-Ok.ensures.now c.forget_from.ensures in
-    rw (← c.self.view_is) (λ honest still. record { open_still = still; each = held_stands _ _ _ _ _ _ _ held (c.trim.ensures.honesty.0 honest) still })
+    rw (← c.self.view_is) (λ honest still. record { open_still = still; each = held_stands _ _ _ _ _ _ _ held (c.trim.ensures.meters.honesty.0 honest) still })
 
 pub returns-in-Ok-clause-forgets : goal.returns-in-Ok-clause-forgets
 returns-in-Ok-clause-forgets g c =

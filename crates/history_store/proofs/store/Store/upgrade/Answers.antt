@@ -27,7 +27,7 @@ publish_without_segment-requires-clause-next g c =
 
 pub returns-then-is_three-clause-any_moment : goal.returns-then-is_three-clause-any_moment
 returns-then-is_three-clause-any_moment g c =
-    let each : g.D.Disk.is_honest c.args.self.now.disk → c.args.self.now.needs_reopen ≡ false → EachImage (g.D.Disk.moments c.args.self.now.disk).state (RepresentsAs c.args.self.now.catalog.layout c.args.self.now.history) = rw (← c.self.view_is) (λ up still f image. (_, _, held_stands _ _ _ _ _ _ _ c.self.invariant.0 up still f image)) in
+    let each : (g.D.Disk.view c.args.self.now.disk).is_honest → c.args.self.now.needs_reopen ≡ false → EachImage (g.D.Disk.view c.args.self.now.disk).moments.state (RepresentsAs c.args.self.now.catalog.layout c.args.self.now.history) = rw (← c.self.view_is) (λ up still f image. (_, _, held_stands _ _ _ _ _ _ _ c.self.invariant.0 up still f image)) in
     λ honest still. stayed _ _ _ refl (λ f image. inl (each honest still f image))
 
 pub returns-then-is_three-clause-inside : goal.returns-then-is_three-clause-inside
@@ -36,7 +36,7 @@ returns-then-is_three-clause-inside g c =
 
 pub returns-then-epoch-clause-any_moment : goal.returns-then-epoch-clause-any_moment
 returns-then-epoch-clause-any_moment g c =
-    let each : g.D.Disk.is_honest c.args.self.now.disk → c.args.self.now.needs_reopen ≡ false → EachImage (g.D.Disk.moments c.args.self.now.disk).state (RepresentsAs c.args.self.now.catalog.layout c.args.self.now.history) = rw (← c.self.view_is) (λ up still f image. (_, _, held_stands _ _ _ _ _ _ _ c.self.invariant.0 up still f image)) in
+    let each : (g.D.Disk.view c.args.self.now.disk).is_honest → c.args.self.now.needs_reopen ≡ false → EachImage (g.D.Disk.view c.args.self.now.disk).moments.state (RepresentsAs c.args.self.now.catalog.layout c.args.self.now.history) = rw (← c.self.view_is) (λ up still f image. (_, _, held_stands _ _ _ _ _ _ _ c.self.invariant.0 up still f image)) in
     λ honest still. stayed _ _ _ refl (λ f image. inl (each honest still f image))
 
 pub returns-then-epoch-clause-inside : goal.returns-then-epoch-clause-inside
@@ -45,7 +45,7 @@ returns-then-epoch-clause-inside g c =
 
 pub returns-in_err-next-clause-any_moment : goal.returns-in_err-next-clause-any_moment
 returns-in_err-next-clause-any_moment g c =
-    let each : g.D.Disk.is_honest c.args.self.now.disk → c.args.self.now.needs_reopen ≡ false → EachImage (g.D.Disk.moments c.args.self.now.disk).state (RepresentsAs c.args.self.now.catalog.layout c.args.self.now.history) = rw (← c.self.view_is) (λ up still f image. (_, _, held_stands _ _ _ _ _ _ _ c.self.invariant.0 up still f image)) in
+    let each : (g.D.Disk.view c.args.self.now.disk).is_honest → c.args.self.now.needs_reopen ≡ false → EachImage (g.D.Disk.view c.args.self.now.disk).moments.state (RepresentsAs c.args.self.now.catalog.layout c.args.self.now.history) = rw (← c.self.view_is) (λ up still f image. (_, _, held_stands _ _ _ _ _ _ _ c.self.invariant.0 up still f image)) in
     λ honest still. stayed _ _ _ refl (λ f image. inl (each honest still f image))
 
 pub returns-in_err-next-clause-inside : goal.returns-in_err-next-clause-inside
@@ -89,7 +89,7 @@ pub returns-clause-calls : goal.returns-clause-calls
 returns-clause-calls g c =
     let older : c.self.inside.directory.layout ≢ layouts.Three = λ e. c.is_three.ensures.older c.if-is_three.false (c.layout.ensures ∙ e) in
     let other = subst (λ (s : StoreValue g.row.D.Denot). s.catalog.layout ≢ layouts.Three) c.self.view_is older in
-    λ honest. calls_upgraded c.publish_without_segment.result c.args.self.now.catalog.layout (g.D.Disk.moments c.args.self.now.disk) (g.D.Disk.moments c.publish_without_segment.new.self.disk) other (c.publish_without_segment.ensures.calls honest)
+    λ honest. calls_upgraded c.publish_without_segment.result c.args.self.now.catalog.layout (g.D.Disk.view c.args.self.now.disk).moments (g.D.Disk.view c.publish_without_segment.new.self.disk).moments other (c.publish_without_segment.ensures.calls honest)
 
 pub returns-clause-idle : goal.returns-clause-idle
 returns-clause-idle g c =

@@ -5,7 +5,7 @@ use Rattle.store_image.proofs.window.Window.fill.Goals as goal
 pub returns-clause-sees : goal.returns-clause-sees
 returns-clause-sees g c honest sees =
     let w = c.args.self.now in
-    let file : List ℕ = (g.D.Disk.moments c.args.disk.now).state.now in
+    let file : List ℕ = (g.D.Disk.view c.args.disk.now).moments.state.now in
     let shown : List ℕ = c.as_mut_slice.result.now in
     let into : List ℕ = c.read_at.new.into in
     let count = c.min-count.result in
@@ -31,7 +31,7 @@ returns-clause-sees g c honest sees =
 pub returns-clause-full : goal.returns-clause-full
 returns-clause-full g c honest sees =
     let w = c.args.self.now in
-    let file : List ℕ = (g.D.Disk.moments c.args.disk.now).state.now in
+    let file : List ℕ = (g.D.Disk.view c.args.disk.now).moments.state.now in
     let shown : List ℕ = c.as_mut_slice.result.now in
     let into : List ℕ = c.read_at.new.into in
     let count = c.min-count.result in
