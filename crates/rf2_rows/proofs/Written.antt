@@ -1,11 +1,10 @@
 -- What is written of a row, column by column, is its line.
-use Rattle.std.proofs.Common.{◌≡◌, ◌≤◌, ℕ, List, [], ◌∷◌, ◌++◌, length, take, Result, Ok, Err, refl, sym, ap, ◌∙◌, arith, append_assoc, cond}
+use Rattle.std.proofs.Common.{◌≡◌, ℕ, List, [], ◌∷◌, ◌++◌, Result, Ok, Err, sym, ap, ◌∙◌, append_assoc}
 use Rattle.std.specs.Prelude.{OnOk, is_ok, decimal, if◌then◌else◌}
-use Rattle.std.proofs.lemmas.List.{take-append-le, length-take}
 use Rattle.rf2_values.specs.declared.row.Body.{Body}
 use Rattle.rf2_values.specs.declared.row.Body.TheVariants as body
 use Rattle.rf2_values.specs.declared.row.RefsetMember.{RefsetMember}
-use Rattle.rf2_values.specs.Text.{IsFurther, further_columns}
+use Rattle.rf2_values.specs.Text.{IsFurther}
 use Rattle.rf2_values.specs.Private.{tabbed}
 use Rattle.rf2_values.specs.Row.{body_columns, line_of}
 use Rattle.rf2_values.proofs.FurtherColumns.{tabbed_further}
@@ -34,11 +33,3 @@ line_put start id time flag modul own =
     ∙ append_assoc (start ++ id) (9 ∷ time) (9 ∷ (flag ++ 9 ∷ (modul ++ tabbed own)))
     ∙ append_assoc start id (9 ∷ (time ++ 9 ∷ (flag ++ 9 ∷ (modul ++ tabbed own))))
     ∙ ap (λ (t : List ℕ). start ++ t) (sym (joined id [] (time ∷ flag ∷ modul ∷ own)))
-
--- what is appended, or isn't, lets what was there stay in front
-pub put_behind : {E : Type 0} (r : Result Unit E) (old new added start : List ℕ) → new ≡ (if is_ok r then old ++ added else old)
-    → take (length start) old ≡ start → take (length start) new ≡ start
-put_behind (Err e) old new added start put there = ap (take (length start)) put ∙ there
-put_behind (Ok x) old new added start put there =
-    let within : length start ≤ length old = omega (arith, length-take (length start) old, ap (length {A = ℕ}) there) in
-    ap (take (length start)) put ∙ take-append-le (length start) old added within ∙ there
