@@ -13,7 +13,7 @@ use Rattle.store_image.specs.Images.{RepresentsAs, RepresentsHistory}
 use Rattle.history_store.specs.declared.refusal.Refusal.{Refusal}
 use Rattle.history_store.specs.declared.refusal.Refusal.TheVariants as store
 use Rattle.history_store.specs.StoreValue.{StoreValue, IsAcknowledged}
-use Rattle.history_store.specs.Answers.{IsRefused, IsImportOf, IsImportOnAnyDisk, IsImportRefusal, IsNotTakenByKey, IsBeforeOrAfter, IsReadingOf}
+use Rattle.history_store.specs.Answers.{IsRefused, IsImportOf, IsImportOnAnyDisk, IsRefusedFor, IsNotTakenByKey, IsBeforeOrAfter, IsReadingOf}
 use Rattle.history_store.specs.Checking.{IsCheckingOnAnyDisk}
 use Rattle.history_store.specs.MergeAnswers.{IsBeginningOf, IsSteppingOf, IsAbandoningOf, IsTrimmingOf}
 use Rattle.store_life.specs.DeviceView.{DeviceView}
@@ -72,9 +72,9 @@ is_fault store.DiskFault = true
 is_fault _ = false
 
 -- a store that has to be opened again isn't blamed on the device
-open_at_fault : {D : Type 0} (e : Refusal) (s : StoreValue D) (release : Release) → e ≡ store.DiskFault → IsImportRefusal IsNotTakenByKey e s release → s.needs_reopen ≡ false
-open_at_fault e s release is cause = at_fault (subst (λ (r : Refusal). IsImportRefusal IsNotTakenByKey r s release) is cause) where
-  at_fault : IsImportRefusal IsNotTakenByKey store.DiskFault s release → s.needs_reopen ≡ false
+open_at_fault : {D : Type 0} (e : Refusal) (s : StoreValue D) (release : Release) → e ≡ store.DiskFault → IsRefusedFor (IsNotTakenByKey s.history s.catalog release) e s → s.needs_reopen ≡ false
+open_at_fault e s release is cause = at_fault (subst (λ (r : Refusal). IsRefusedFor (IsNotTakenByKey s.history s.catalog release) r s) is cause) where
+  at_fault : IsRefusedFor (IsNotTakenByKey s.history s.catalog release) store.DiskFault s → s.needs_reopen ≡ false
   at_fault h = h.0
 
 module _ {D : Type 0} (view : DeviceView D) (old new : StoreValue D) (release : Release) (any : view.is_honest old.disk → old.needs_reopen ≡ false → LeavesOnly (view.moments old.disk) (view.moments new.disk) (IsBeforeOrAfter old.catalog.layout old.history release)) (ack : view.is_honest old.disk → new.needs_reopen ≡ false → IsAcknowledged view.moments new) (honesty : view.is_honest old.disk ↔ view.is_honest new.disk) where
@@ -94,7 +94,7 @@ module _ {D : Type 0} (view : DeviceView D) (old new : StoreValue D) (release : 
   }
 
   -- the device failed
-  failed : (e : Refusal) → e ≡ store.DiskFault → IsImportRefusal IsNotTakenByKey e old release → IsRefused e old new → IsCall view old (Failed release) new
+  failed : (e : Refusal) → e ≡ store.DiskFault → IsRefusedFor (IsNotTakenByKey old.history old.catalog release) e old → IsRefused e old new → IsCall view old (Failed release) new
   failed e is_fault cause r =
       let open_before = open_at_fault e old release is_fault cause in
       record {
