@@ -57,13 +57,6 @@ IsNotMade refusals.DiskFault bytes = Unit {0}
 IsNotMade refusals.NotEmpty bytes = 1 ≤ length bytes
 IsNotMade _ bytes = ⊥
 
--- the refusals of `create`, on any disk
-abbrev pub IsMakingCause : Refusal → Type 0
-IsMakingCause refusals.OutOfMemory = Unit {0}
-IsMakingCause refusals.DiskFault = Unit {0}
-IsMakingCause refusals.NotEmpty = Unit {0}
-IsMakingCause _ = ⊥
-
 -- a new store in this version: nothing is imported, and it has no segment
 pub record IsNew {D : Type 0} (layout : Layout) (s : StoreValue D) : Type 0 where
   pub history : s.history ≡ no_history
@@ -90,14 +83,6 @@ IsMakingOf layout (Err e) bytes = IsNotMade e.0 bytes
 abbrev pub IsNotOpened : Refusal → List ℕ → Type 0
 IsNotOpened refusal bytes =
     (fault : LoadFault) × (refusal ≡ of_loading fault) × IsNotLoaded fault bytes
-
--- the refusals of `open`, on any disk
-abbrev pub IsOpeningCause : Refusal → Type 0
-IsOpeningCause refusals.OutOfMemory = Unit {0}
-IsOpeningCause refusals.DiskFault = Unit {0}
-IsOpeningCause refusals.NotAStore = Unit {0}
-IsOpeningCause (refusals.Unreadable damage) = Unit {0}
-IsOpeningCause _ = ⊥
 
 -- the store holds what the bytes represent
 pub record IsOpened {D : Type 0} (s : StoreValue D) (bytes : List ℕ) : Type 0 where

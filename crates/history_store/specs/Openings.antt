@@ -8,12 +8,12 @@ use Rattle.directory.specs.declared.layout.Layout.{Layout}
 use Rattle.store_image.specs.Answers.{IsNewStore}
 use Rattle.store_image.specs.Asked.{StopsAt}
 use Rattle.store_image.specs.declared.fault.LoadFault.{LoadFault}
+use Rattle.store_image.specs.declared.fault.MakeFault.{MakeFault}
 use Rattle.history_store.specs.declared.refusal.Refusal.{Refusal}
-use Rattle.history_store.specs.Refusals.{of_loading}
+use Rattle.history_store.specs.Refusals.{of_loading, of_making}
 use Rattle.history_store.specs.StoreValue.{IsAcknowledged, no_blocks}
-use Rattle.history_store.specs.Answers.{StoreOr, IsNew, IsReady, IsMakingOf, IsMakingCause}
-use Rattle.history_store.specs.Answers.{IsOpeningOf, IsOpeningCause, HandsBack, SyncsOnce}
-use Rattle.history_store.specs.Answers.{CountsOpening, device_of}
+use Rattle.history_store.specs.Answers.{StoreOr, IsNew, IsReady, IsMakingOf, IsOpeningOf}
+use Rattle.history_store.specs.Answers.{HandsBack, SyncsOnce, CountsOpening, device_of}
 
 -- A store was made in this version on a device, or it is said why there is none and the device
 -- comes back.
@@ -23,7 +23,7 @@ pub record IsMaking {D : Type 0} (layout : Layout) (result : StoreOr D) (is_hone
   pub exact : is_honest device → IsMakingOf layout result (moments_of device).state.now
   -- on every device what is made is a new store, and it is refused with 1, 2 or 4 alone
   pub new : IfOk result (IsNew layout)
-  pub causes : IfErr result (λ e. IsMakingCause e.0)
+  pub causes : IfErr result (λ e. (fault : MakeFault) × (e.0 ≡ of_making fault))
   -- refused for any other reason than the device, it leaves whatever a stop may leave as it was
   pub refused : is_honest device → HandsBack moments_of result device
   -- a device with a byte stays as it is, whatever the answer: where the device fails, too
@@ -52,7 +52,7 @@ pub record IsOpening {D : Type 0} (result : StoreOr D) (is_honest : D → Type 0
   pub exact : is_honest device → IsOpeningOf result (moments_of device).state.now
   -- on every device what is opened is a history, and it is refused with 1, 2, 7 or 8 alone
   pub ready : IfOk result IsReady
-  pub causes : IfErr result (λ e. IsOpeningCause e.0)
+  pub causes : IfErr result (λ e. (fault : LoadFault) × (e.0 ≡ of_loading fault))
   -- a stop at any moment leaves what it might have left before
   pub any_moment : is_honest device → LeavesOnly (moments_of device)
       (moments_of (device_of result)) (IsImage (moments_of device).state)

@@ -11,7 +11,9 @@ ghost use Rattle.as_of_index.specs.Places.{max_lists};
 ghost use Rattle.store_image.specs.OnDisk.{IsOnDisk};
 ghost use Rattle.directory.specs.Listings.{empty_listing};
 ghost use Rattle.store_image.specs.Answers.{IsNewStore};
-ghost use Rattle.history_store.specs.Answers.{Counts, IsMakingCause, IsNotMade};
+ghost use Rattle.store_image.specs.declared.fault.MakeFault.{MakeFault};
+ghost use Rattle.history_store.specs.Answers.{Counts, IsNotMade};
+ghost use Rattle.history_store.specs.Refusals.{of_making};
 ghost use Rattle.history_store.specs.StoreValue.{no_blocks};
 ghost use Rattle.history_store.specs.declared.refusal.Refusal.TheVariants as refusals;
 
@@ -67,7 +69,7 @@ pub(crate) fn start<D: Disk>(
         → D.moments disk.new ≡ D.moments disk.old }
     ensures why { D.is_honest disk.old
         → IfErr result (λ e. IsNotMade e (D.moments disk.old).state.now) }
-    ensures causes { IfErr result (λ e. IsMakingCause e) }
+    ensures causes { IfErr result (λ e. (fault : MakeFault) × (e ≡ of_making fault)) }
     ensures refused { D.is_honest disk.old → IfErr result (λ e. e ≢ refusals.DiskFault
         → D.moments disk.new ≡ D.moments disk.old) }
     ensures inside { D.is_honest disk.old

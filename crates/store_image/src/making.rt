@@ -10,7 +10,7 @@ ghost use Rattle.store_image.specs.declared.fault.MakeFault.TheVariants as fault
 ghost use Rattle.store_image.specs.Images.{Represents};
 ghost use Rattle.store_image.specs.OnDisk.{IsOnDisk};
 ghost use Rattle.directory.specs.Listings.{empty_listing};
-ghost use Rattle.store_image.specs.Answers.{IsLookedAt, IsMade, IsNewStore};
+ghost use Rattle.store_image.specs.Answers.{IsMade, IsNewStore};
 ghost use Rattle.store_image.specs.Answers.{CountsMaking, StaysIfRefused, LooksIfRefused};
 
 use crate::content::content_of;
@@ -31,7 +31,7 @@ pub struct Made {
 
 /// Looks whether a disk has no byte. `NotEmpty` where it has one.
 pub fn check_empty<D: Disk>(disk: &mut D) -> Result<(), MakeFault>
-    ensures exact { D.is_honest disk.old → IsLookedAt result (D.moments disk.old).state.now }
+    ensures exact { D.is_honest disk.old → IsMade result (D.moments disk.old).state.now }
     ensures refused { IfErr result (λ e. (e ≡ faults.NotEmpty) ⊎ (e ≡ faults.DiskFault)) }
     ensures moments { D.is_honest disk.old → D.moments disk.new ≡ D.moments disk.old }
     ensures honesty { D.is_honest disk.old ↔ D.is_honest disk.new }
