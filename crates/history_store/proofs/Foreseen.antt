@@ -162,7 +162,7 @@ would_be h after catalog next release receipt taken = record {
   catalog_is = taken.catalog_is;
 }
 
-one_receipt : (h after end : History) (catalog next last : Catalog) (release : Release) (r q : Receipt) → IsTaken h after catalog next release r → IsTaken h end catalog last release q → q ≡ r
+pub one_receipt : (h after end : History) (catalog next last : Catalog) (release : Release) (r q : Receipt) → IsTaken h after catalog next release r → IsTaken h end catalog last release q → q ≡ r
 one_receipt h after end catalog next last release r q first second =
     let rows = one_list release second.accepted.rows first.accepted.rows second.accepted.is_release first.accepted.is_release in
     let same = one_receipt_for_a_release h first.accepted.rows q.number q.new q.repeated r.number r.new r.repeated (subst (λ (l : List RowValue). ReceiptOf h l q.number q.new q.repeated) rows second.receipt_is) first.receipt_is in
@@ -198,11 +198,11 @@ stays_so old checked release e refused other why = each e refused other why wher
 -- ---- the import behind a check that was refused
 
 module _ {D : Type 0} (checked : StoreValue D) (release : Release) where
-  refused_again : (e f : Refusal) → IsRefusedFor (IsNotTaken checked.history checked.catalog release) e checked → IsRefusedFor (IsNotTaken checked.history checked.catalog release) f checked → (f ≡ e) ⊎ (HasFailed (Err e) ⊎ HasFailed (Err f))
+  pub refused_again : (e f : Refusal) → IsRefusedFor (IsNotTaken checked.history checked.catalog release) e checked → IsRefusedFor (IsNotTaken checked.history checked.catalog release) f checked → (f ≡ e) ⊎ (HasFailed (Err e) ⊎ HasFailed (Err f))
   refused_again refusals.ReopenNeeded f why also = inl (closed_refusal checked release f why also)
   refused_again e f why also = one_refusal checked.history checked.catalog release e f why.1 (open_refusal checked release f why.0 also)
 
-  not_taken_then : (new : StoreValue D) (e : Refusal) (q : Receipt) → IsRefusedFor (IsNotTaken checked.history checked.catalog release) e checked → IsImportOf (Ok q) checked new release → HasFailed (Err e)
+  pub not_taken_then : (new : StoreValue D) (e : Refusal) (q : Receipt) → IsRefusedFor (IsNotTaken checked.history checked.catalog release) e checked → IsImportOf (Ok q) checked new release → HasFailed (Err e)
   not_taken_then new e q why is = taken_anyway checked.history checked.catalog release (would_be checked.history new.history checked.catalog new.catalog release q is.0) e (open_refusal checked release e is.1 why)
 
 -- the device failed, or it didn't
