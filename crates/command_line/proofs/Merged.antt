@@ -15,6 +15,7 @@ use Rattle.directory.specs.declared.layout.Layout.TheVariants as layouts
 use Rattle.history_store.specs.Rewriting.{HasOnlyPlain}
 use Rattle.history_store.specs.Catalog.{Catalog, Merge as CatalogMerge, plain_count}
 use Rattle.history_store.specs.Merging.{IsBegun, IsStepped, IsPublished, GoesOn, IsFinished}
+use Rattle.history_store.specs.Answers.{IsRefusedFor}
 use Rattle.history_store.specs.MergeAnswers.{IsNotBegun, IsNotStepped, IsNotPublished, IsNotTrimmed}
 use Rattle.history_store.specs.StoreValue.{StoreValue}
 use Rattle.line_commands.specs.Commands.{Command, Merge, Step, Publish, Trim, Status}
@@ -99,25 +100,25 @@ halts_so refusal halts (inr r) = halts r
 not_closed : {D : Type 0} (s : StoreValue D) → s.needs_reopen ≡ true → s.needs_reopen ≡ false → ⊥
 not_closed s closed open_still = false≢true (sym open_still ∙ closed)
 
-not_begun : {D : Type 0} (e : Refusal) (s : StoreValue D) → IsNotBegun e s → s.needs_reopen ≡ false → s.catalog.merge ≡ None → 2 ≤ length s.catalog.entries → IsHalt (Err (refusals.Store e))
+not_begun : {D : Type 0} (e : Refusal) (s : StoreValue D) → IsRefusedFor (IsNotBegun s.catalog) e s → s.needs_reopen ≡ false → s.catalog.merge ≡ None → 2 ≤ length s.catalog.entries → IsHalt (Err (refusals.Store e))
 not_begun store.ReopenNeeded s h open_still none two = absurd (not_closed s h open_still)
 not_begun store.MergeBusy s h open_still none two = let no : Some h.1.0 ≡ None = sym h.1.1 ∙ none in cc
-not_begun store.NothingToMerge s h open_still none two = let few = h.2 in absurd (omega (arith, few, two))
+not_begun store.NothingToMerge s h open_still none two = let few = h.1.1 in absurd (omega (arith, few, two))
 not_begun store.Full s h open_still none two = tt
-not_begun _ s h open_still none two = absurd h
+not_begun _ s h open_still none two = absurd h.1.1
 
-not_stepped : {D : Type 0} (e : Refusal) (s : StoreValue D) (n : ℕ) → IsNotStepped e s n → s.needs_reopen ≡ false → GoesOn s.catalog → IsHalt (Err (refusals.Store e))
+not_stepped : {D : Type 0} (e : Refusal) (s : StoreValue D) (n : ℕ) → IsRefusedFor (IsNotStepped n s.catalog) e s → s.needs_reopen ≡ false → GoesOn s.catalog → IsHalt (Err (refusals.Store e))
 not_stepped store.ReopenNeeded s n h open_still on = absurd (not_closed s h open_still)
 not_stepped store.NoMerge s n h open_still on = let no : Some on.0 ≡ None = sym on.1 ∙ h.1 in cc
 not_stepped store.OutOfMemory s n h open_still on = tt
 not_stepped store.DiskFault s n h open_still on = tt
 not_stepped store.Damaged s n h open_still on = tt
-not_stepped _ s n h open_still on = absurd h
+not_stepped _ s n h open_still on = absurd h.1
 
 abbrev left_in : Option CatalogMerge → ℕ
 left_in merge = unwrap_or (option_map (λ m. m.left) merge) 0
 
-not_published : {D : Type 0} (e : Refusal) (s : StoreValue D) → IsNotPublished e s → s.needs_reopen ≡ false → IsFinished s.catalog → IsHalt (Err (refusals.Store e))
+not_published : {D : Type 0} (e : Refusal) (s : StoreValue D) → IsRefusedFor (IsNotPublished s.catalog) e s → s.needs_reopen ≡ false → IsFinished s.catalog → IsHalt (Err (refusals.Store e))
 not_published store.ReopenNeeded s h open_still done = absurd (not_closed s h open_still)
 not_published store.NoMerge s h open_still done = let no : Some done.0 ≡ None = sym done.1 ∙ h.1 in cc
 not_published store.MergeUnfinished s h open_still done =
@@ -128,7 +129,7 @@ not_published store.MergeUnfinished s h open_still done =
     absurd (omega (arith, one, two, some, none))
 not_published store.CountSpent s h open_still done = tt
 not_published store.DiskFault s h open_still done = tt
-not_published _ s h open_still done = absurd h
+not_published _ s h open_still done = absurd h.1
 
 not_trimmed : {D : Type 0} (e : Refusal) (s : StoreValue D) → IsNotTrimmed e s → s.needs_reopen ≡ false → IsHalt (Err (refusals.Store e))
 not_trimmed store.ReopenNeeded s h open_still = absurd (not_closed s h open_still)

@@ -27,7 +27,7 @@ use Rattle.history_store.specs.StoreValue.{StoreValue, IsAcknowledged}
 use Rattle.history_store.specs.Prepared.{IsNotSpent, IsForLater, IsAdmitted}
 use Rattle.history_store.specs.Queries.{ReadsThroughCache}
 use Rattle.store_image.specs.Images.{Represents}
-use Rattle.history_store.specs.Answers.{Counts, CountsRefusal, IsImportRefusal, IsNotTaken, IsNotTakenByKey, IsRefused, IsStill}
+use Rattle.history_store.specs.Answers.{Counts, CountsRefusal, IsRefusedFor, IsNotTaken, IsNotTakenByKey, IsRefused, IsStill}
 use Rattle.history_store.specs.Refusals.{refusal_of}
 use Rattle.history_store.specs.Private.Answers.{IsNotFresh}
 use Rattle.history_store.specs.Checking.{IsChecking, IsCheckingOf, IsCheckingOnAnyDisk}
@@ -49,9 +49,9 @@ not_device rows catalog e why device = subst (λ x. IsUnprepared x rows catalog)
 -- ---- the new rows of a release are not had
 
 module _ {D : Type 0} (honest : Type 0) (s : StoreValue D) (release : Release) (still : s.needs_reopen ≡ false) (admits : IsAdmitted s.history s.catalog release) where
-  pub not_fresh : (e : Refusal) → IsNotFresh honest e (full s.history) release → honest → IsImportRefusal IsNotTaken e s release
-  not_fresh e why up = subst (λ (x : Refusal). IsImportRefusal IsNotTaken x s release) (sym why.1) (each why.0 why.2) where
-    each : (fault : ImportFault) → IsRefusal honest (full s.history) release fault → IsImportRefusal IsNotTaken (refusal_of fault) s release
+  pub not_fresh : (e : Refusal) → IsNotFresh honest e (full s.history) release → honest → IsRefusedFor (IsNotTaken s.history s.catalog release) e s
+  not_fresh e why up = subst (λ (x : Refusal). IsRefusedFor (IsNotTaken s.history s.catalog release) x s) (sym why.1) (each why.0 why.2) where
+    each : (fault : ImportFault) → IsRefusal honest (full s.history) release fault → IsRefusedFor (IsNotTaken s.history s.catalog release) (refusal_of fault) s
     each importfault.OutOfMemory refused = (still, admits)
     each (importfault.Known readfault.OutOfMemory) refused = (still, admits)
     each (importfault.Known readfault.DiskFault) refused = (still, (admits, refused.0))
@@ -59,9 +59,9 @@ module _ {D : Type 0} (honest : Type 0) (s : StoreValue D) (release : Release) (
     each (importfault.Row file line fault) refused = (still, (admits, refused))
     each (importfault.Contradiction file line key) refused = (still, (admits, (key, refused.1 up)))
 
-  pub not_fresh_at_all : (e : Refusal) → IsNotFresh honest e (full s.history) release → IsImportRefusal IsNotTakenByKey e s release
-  not_fresh_at_all e why = subst (λ (x : Refusal). IsImportRefusal IsNotTakenByKey x s release) (sym why.1) (each why.0 why.2) where
-    each : (fault : ImportFault) → IsRefusal honest (full s.history) release fault → IsImportRefusal IsNotTakenByKey (refusal_of fault) s release
+  pub not_fresh_at_all : (e : Refusal) → IsNotFresh honest e (full s.history) release → IsRefusedFor (IsNotTakenByKey s.history s.catalog release) e s
+  not_fresh_at_all e why = subst (λ (x : Refusal). IsRefusedFor (IsNotTakenByKey s.history s.catalog release) x s) (sym why.1) (each why.0 why.2) where
+    each : (fault : ImportFault) → IsRefusal honest (full s.history) release fault → IsRefusedFor (IsNotTakenByKey s.history s.catalog release) (refusal_of fault) s
     each importfault.OutOfMemory refused = (still, admits)
     each (importfault.Known readfault.OutOfMemory) refused = (still, admits)
     each (importfault.Known readfault.DiskFault) refused = (still, (admits, refused.0))

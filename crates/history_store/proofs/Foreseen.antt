@@ -18,7 +18,7 @@ use Rattle.history_store.specs.declared.refusal.Refusal.TheVariants as refusals
 use Rattle.history_store.specs.Catalog.{Catalog, IsCatalogAfter, IsPlaced, HasNoEntry, HasNoPlace}
 use Rattle.history_store.specs.StoreValue.{StoreValue, last_import, last_epoch}
 use Rattle.history_store.specs.Prepared.{IsNotSpent}
-use Rattle.history_store.specs.Answers.{IsTaken, IsNotTaken, WouldBeTaken, IsImportRefusal, IsRefused, IsStill, IsImportOf}
+use Rattle.history_store.specs.Answers.{IsTaken, IsNotTaken, WouldBeTaken, IsRefusedFor, IsRefused, IsStill, IsImportOf}
 use Rattle.history_store.specs.Checking.{HasFailed, CheckedIsImported}
 
 -- ---- at one history and one catalog a release has one answer
@@ -52,7 +52,7 @@ module _ (h : History) (catalog : Catalog) (release : Release) (taken : WouldBeT
   same_rows : (others : List RowValue) → IsReleaseOf release others → new_rows h others ≡ new_rows h taken.accepted.rows
   same_rows others is = ap (new_rows h) (one_list release others taken.accepted.rows is taken.accepted.is_release)
 
-  taken_anyway : (e : Refusal) → IsNotTaken e h catalog release → HasFailed (Err e)
+  taken_anyway : (e : Refusal) → IsNotTaken h catalog release e → HasFailed (Err e)
   taken_anyway refusals.OutOfMemory why = tt
   taken_anyway refusals.DiskFault why = tt
   taken_anyway refusals.LaterVersion why = taken.room.version why.1
@@ -68,10 +68,10 @@ module _ (h : History) (catalog : Catalog) (release : Release) where
   abbrev OneRefusal : Refusal → Refusal → Type 0
   OneRefusal e f = (f ≡ e) ⊎ (HasFailed (Err e) ⊎ HasFailed (Err f))
 
-  contradicts : (file line : ℕ) → IsNotTaken (refusals.Contradiction file line) h catalog release → IsRead release
+  contradicts : (file line : ℕ) → IsNotTaken h catalog release (refusals.Contradiction file line) → IsRead release
   contradicts file line why = record { lists = why.1.1.lists; spelled = why.1.1.spelled }
 
-  spent_alone : (f : Refusal) → IsNotTaken refusals.CountSpent h catalog release → IsNotTaken f h catalog release → OneRefusal refusals.CountSpent f
+  spent_alone : (f : Refusal) → IsNotTaken h catalog release refusals.CountSpent → IsNotTaken h catalog release f → OneRefusal refusals.CountSpent f
   spent_alone refusals.OutOfMemory why also = inr (inr tt)
   spent_alone refusals.DiskFault why also = inr (inr tt)
   spent_alone refusals.CountSpent why also = inl refl
@@ -82,7 +82,7 @@ module _ (h : History) (catalog : Catalog) (release : Release) where
   spent_alone refusals.Full why also = absurd (not_both h.imports catalog.epoch also.room.room why)
   spent_alone _ why also = absurd also
 
-  later_alone : (f : Refusal) → IsNotTaken refusals.LaterVersion h catalog release → IsNotTaken f h catalog release → OneRefusal refusals.LaterVersion f
+  later_alone : (f : Refusal) → IsNotTaken h catalog release refusals.LaterVersion → IsNotTaken h catalog release f → OneRefusal refusals.LaterVersion f
   later_alone refusals.OutOfMemory why also = inr (inr tt)
   later_alone refusals.DiskFault why also = inr (inr tt)
   later_alone refusals.CountSpent why also = absurd (not_both h.imports catalog.epoch why.0 also)
@@ -93,7 +93,7 @@ module _ (h : History) (catalog : Catalog) (release : Release) where
   later_alone refusals.Full why also = absurd (also.room.version why.1)
   later_alone _ why also = absurd also
 
-  fault_alone : (file line : ℕ) (fault : LineFault) (f : Refusal) → IsNotTaken (refusals.Line file line fault) h catalog release → IsNotTaken f h catalog release → OneRefusal (refusals.Line file line fault) f
+  fault_alone : (file line : ℕ) (fault : LineFault) (f : Refusal) → IsNotTaken h catalog release (refusals.Line file line fault) → IsNotTaken h catalog release f → OneRefusal (refusals.Line file line fault) f
   fault_alone file line fault refusals.OutOfMemory why also = inr (inr tt)
   fault_alone file line fault refusals.DiskFault why also = inr (inr tt)
   fault_alone file line fault refusals.LaterVersion why also = absurd (why.0.version also.1)
@@ -106,7 +106,7 @@ module _ (h : History) (catalog : Catalog) (release : Release) where
   fault_alone file line fault refusals.Full why also = absurd (read_has_no_fault release file line fault (was_read release also.accepted.rows also.accepted.is_release) why.1)
   fault_alone file line fault _ why also = absurd also
 
-  contradiction_alone : (file line : ℕ) (f : Refusal) → IsNotTaken (refusals.Contradiction file line) h catalog release → IsNotTaken f h catalog release → OneRefusal (refusals.Contradiction file line) f
+  contradiction_alone : (file line : ℕ) (f : Refusal) → IsNotTaken h catalog release (refusals.Contradiction file line) → IsNotTaken h catalog release f → OneRefusal (refusals.Contradiction file line) f
   contradiction_alone file line refusals.OutOfMemory why also = inr (inr tt)
   contradiction_alone file line refusals.DiskFault why also = inr (inr tt)
   contradiction_alone file line refusals.LaterVersion why also = absurd (why.0.version also.1)
@@ -119,7 +119,7 @@ module _ (h : History) (catalog : Catalog) (release : Release) where
   contradiction_alone file line refusals.Full why also = absurd (consistent_has_none (full h) release also.accepted.rows also.accepted.is_release also.accepted.consistent file line why.1.0 why.1.1)
   contradiction_alone file line _ why also = absurd also
 
-  entry_alone : (f : Refusal) → IsNotTaken refusals.TooManySegments h catalog release → IsNotTaken f h catalog release → OneRefusal refusals.TooManySegments f
+  entry_alone : (f : Refusal) → IsNotTaken h catalog release refusals.TooManySegments → IsNotTaken h catalog release f → OneRefusal refusals.TooManySegments f
   entry_alone refusals.OutOfMemory why also = inr (inr tt)
   entry_alone refusals.DiskFault why also = inr (inr tt)
   entry_alone refusals.LaterVersion why also = absurd (why.room.version also.1)
@@ -130,7 +130,7 @@ module _ (h : History) (catalog : Catalog) (release : Release) where
   entry_alone refusals.Full why also = absurd (omega (arith, why.lacks.all_taken, also.lacks.few))
   entry_alone _ why also = absurd also
 
-  place_alone : (f : Refusal) → IsNotTaken refusals.Full h catalog release → IsNotTaken f h catalog release → OneRefusal refusals.Full f
+  place_alone : (f : Refusal) → IsNotTaken h catalog release refusals.Full → IsNotTaken h catalog release f → OneRefusal refusals.Full f
   place_alone refusals.OutOfMemory why also = inr (inr tt)
   place_alone refusals.DiskFault why also = inr (inr tt)
   place_alone refusals.LaterVersion why also = absurd (why.room.version also.1)
@@ -141,7 +141,7 @@ module _ (h : History) (catalog : Catalog) (release : Release) where
   place_alone refusals.Full why also = inl refl
   place_alone _ why also = absurd also
 
-  one_refusal : (e f : Refusal) → IsNotTaken e h catalog release → IsNotTaken f h catalog release → OneRefusal e f
+  one_refusal : (e f : Refusal) → IsNotTaken h catalog release e → IsNotTaken h catalog release f → OneRefusal e f
   one_refusal refusals.OutOfMemory f why also = inr (inl tt)
   one_refusal refusals.DiskFault f why also = inr (inl tt)
   one_refusal refusals.CountSpent f why also = spent_alone f why also
@@ -162,28 +162,28 @@ would_be h after catalog next release receipt taken = record {
   catalog_is = taken.catalog_is;
 }
 
-one_receipt : (h after end : History) (catalog next last : Catalog) (release : Release) (r q : Receipt) → IsTaken h after catalog next release r → IsTaken h end catalog last release q → q ≡ r
+pub one_receipt : (h after end : History) (catalog next last : Catalog) (release : Release) (r q : Receipt) → IsTaken h after catalog next release r → IsTaken h end catalog last release q → q ≡ r
 one_receipt h after end catalog next last release r q first second =
     let rows = one_list release second.accepted.rows first.accepted.rows second.accepted.is_release first.accepted.is_release in
     let same = one_receipt_for_a_release h first.accepted.rows q.number q.new q.repeated r.number r.new r.repeated (subst (λ (l : List RowValue). ReceiptOf h l q.number q.new q.repeated) rows second.receipt_is) first.receipt_is in
     λ i. record { number = same.0 i; new = same.1 i; repeated = same.2 i }
 
 -- an open store refuses because of the release, of its counts or of its places
-open_refusal : {D : Type 0} (s : StoreValue D) (release : Release) (e : Refusal) → s.needs_reopen ≡ false → IsImportRefusal IsNotTaken e s release → IsNotTaken e s.history s.catalog release
+open_refusal : {D : Type 0} (s : StoreValue D) (release : Release) (e : Refusal) → s.needs_reopen ≡ false → IsRefusedFor (IsNotTaken s.history s.catalog release) e s → IsNotTaken s.history s.catalog release e
 open_refusal s release refusals.ReopenNeeded still why = absurd (false≢true (sym still ∙ why))
 open_refusal s release _ still why = why.1
 
-closed_refusal : {D : Type 0} (s : StoreValue D) (release : Release) (f : Refusal) → s.needs_reopen ≡ true → IsImportRefusal IsNotTaken f s release → f ≡ refusals.ReopenNeeded
+closed_refusal : {D : Type 0} (s : StoreValue D) (release : Release) (f : Refusal) → s.needs_reopen ≡ true → IsRefusedFor (IsNotTaken s.history s.catalog release) f s → f ≡ refusals.ReopenNeeded
 closed_refusal s release refusals.ReopenNeeded closed why = refl
 closed_refusal s release _ closed why = absurd (false≢true (sym why.0 ∙ closed))
 
 -- a refusal but for the device says what the store was, and the store stays
-stays_so : {D : Type 0} (old checked : StoreValue D) (release : Release) (e : Refusal) → IsRefused e old checked → (e ≡ refusals.DiskFault → ⊥) → IsImportRefusal IsNotTaken e old release → IsImportRefusal IsNotTaken e checked release
+stays_so : {D : Type 0} (old checked : StoreValue D) (release : Release) (e : Refusal) → IsRefused e old checked → (e ≡ refusals.DiskFault → ⊥) → IsRefusedFor (IsNotTaken old.history old.catalog release) e old → IsRefusedFor (IsNotTaken checked.history checked.catalog release) e checked
 stays_so old checked release e refused other why = each e refused other why where
-  moved : (x : Refusal) → IsRefused x old checked → IsNotTaken x old.history old.catalog release → IsNotTaken x checked.history checked.catalog release
-  moved x is reason = subst (λ (h : History). IsNotTaken x h checked.catalog release) (sym is.history) (subst (λ (c : Catalog). IsNotTaken x old.history c release) (sym is.catalog) reason)
+  moved : (x : Refusal) → IsRefused x old checked → IsNotTaken old.history old.catalog release x → IsNotTaken checked.history checked.catalog release x
+  moved x is reason = subst (λ (h : History). IsNotTaken h checked.catalog release x) (sym is.history) (subst (λ (c : Catalog). IsNotTaken old.history c release x) (sym is.catalog) reason)
 
-  each : (x : Refusal) → IsRefused x old checked → (x ≡ refusals.DiskFault → ⊥) → IsImportRefusal IsNotTaken x old release → IsImportRefusal IsNotTaken x checked release
+  each : (x : Refusal) → IsRefused x old checked → (x ≡ refusals.DiskFault → ⊥) → IsRefusedFor (IsNotTaken old.history old.catalog release) x old → IsRefusedFor (IsNotTaken checked.history checked.catalog release) x checked
   each refusals.DiskFault is other reason = absurd (other refl)
   each refusals.ReopenNeeded is other reason = is.still other ∙ reason
   each refusals.OutOfMemory is other reason = (is.still other ∙ reason.0, moved refusals.OutOfMemory is reason.1)
@@ -198,11 +198,11 @@ stays_so old checked release e refused other why = each e refused other why wher
 -- ---- the import behind a check that was refused
 
 module _ {D : Type 0} (checked : StoreValue D) (release : Release) where
-  refused_again : (e f : Refusal) → IsImportRefusal IsNotTaken e checked release → IsImportRefusal IsNotTaken f checked release → (f ≡ e) ⊎ (HasFailed (Err e) ⊎ HasFailed (Err f))
+  pub refused_again : (e f : Refusal) → IsRefusedFor (IsNotTaken checked.history checked.catalog release) e checked → IsRefusedFor (IsNotTaken checked.history checked.catalog release) f checked → (f ≡ e) ⊎ (HasFailed (Err e) ⊎ HasFailed (Err f))
   refused_again refusals.ReopenNeeded f why also = inl (closed_refusal checked release f why also)
   refused_again e f why also = one_refusal checked.history checked.catalog release e f why.1 (open_refusal checked release f why.0 also)
 
-  not_taken_then : (new : StoreValue D) (e : Refusal) (q : Receipt) → IsImportRefusal IsNotTaken e checked release → IsImportOf (Ok q) checked new release → HasFailed (Err e)
+  pub not_taken_then : (new : StoreValue D) (e : Refusal) (q : Receipt) → IsRefusedFor (IsNotTaken checked.history checked.catalog release) e checked → IsImportOf (Ok q) checked new release → HasFailed (Err e)
   not_taken_then new e q why is = taken_anyway checked.history checked.catalog release (would_be checked.history new.history checked.catalog new.catalog release q is.0) e (open_refusal checked release e is.1 why)
 
 -- the device failed, or it didn't

@@ -19,7 +19,7 @@ use Rattle.history_store.specs.declared.refusal.Refusal.TheVariants as refusals
 use Rattle.history_store.specs.Catalog.{Catalog, HasNoEntry, HasNoPlace}
 use Rattle.history_store.specs.StoreValue.{StoreValue, last_import, last_epoch}
 use Rattle.history_store.specs.Prepared.{IsNotSpent, IsForLater, IsAdmitted}
-use Rattle.history_store.specs.Answers.{IsTakenByKey, IsNotTakenByKey, LacksByKey, IsImportRefusal, IsImportOnAnyDisk}
+use Rattle.history_store.specs.Answers.{IsTakenByKey, IsNotTakenByKey, LacksByKey, IsRefusedFor, IsImportOnAnyDisk}
 use Rattle.history_store.specs.Checking.{DependsOnReading, CheckedIsImportedOnAnyDisk}
 use Rattle.history_store.proofs.Foreseen.{not_both, was_read, has_entry, has_place}
 
@@ -108,7 +108,7 @@ module _ (h : History) (catalog : Catalog) (release : Release) where
 abbrev Cause : {D : Type 0} → StoreValue D → Release → Refusal → Type 0
 Cause s release e = ((e ≡ refusals.ReopenNeeded) × (s.needs_reopen ≡ true)) ⊎ ((s.needs_reopen ≡ false) × (IsOutByKey e s.history s.catalog release ⊎ DependsOnReading (Err e)))
 
-cause : {D : Type 0} (s : StoreValue D) (release : Release) (e : Refusal) → IsImportRefusal IsNotTakenByKey e s release → Cause s release e
+cause : {D : Type 0} (s : StoreValue D) (release : Release) (e : Refusal) → IsRefusedFor (IsNotTakenByKey s.history s.catalog release) e s → Cause s release e
 cause s release refusals.ReopenNeeded why = inl (refl, why)
 cause s release refusals.CountSpent why = inr (why.0, inl why.1)
 cause s release refusals.LaterVersion why = inr (why.0, inl why.1)

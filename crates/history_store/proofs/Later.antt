@@ -7,7 +7,7 @@ use Rattle.import_check.specs.declared.release.Release.{Release}
 use Rattle.history_store.specs.declared.refusal.Refusal.{Refusal}
 use Rattle.history_store.specs.declared.refusal.Refusal.TheVariants as refusals
 use Rattle.history_store.specs.StoreValue.{StoreValue}
-use Rattle.history_store.specs.Answers.{IsImportRefusal, IsNotTakenByKey, IsImportOnAnyDisk}
+use Rattle.history_store.specs.Answers.{IsRefusedFor, IsNotTakenByKey, IsImportOnAnyDisk}
 use Rattle.history_store.specs.Checking.{IsCheckingOnAnyDisk, IsTooEarly, LaterIsRefused}
 use Rattle.history_store.proofs.Foreseen.{not_both}
 
@@ -27,7 +27,7 @@ is_later_answer (Ok receipt) = false
 is_later_answer (Err e) = is_later e
 
 module _ {D : Type 0} (s : StoreValue D) (release : Release) where
-  why : (e : Refusal) → is_later e ≡ true → IsImportRefusal IsNotTakenByKey e s release → IsTooEarly s release
+  why : (e : Refusal) → is_later e ≡ true → IsRefusedFor (IsNotTakenByKey s.history s.catalog release) e s → IsTooEarly s release
   why refusals.LaterVersion is refused = (refused.0, refused.1.0, refused.1.1)
   why refusals.OutOfMemory is refused = absurd (false≢true is)
   why refusals.DiskFault is refused = absurd (false≢true is)
@@ -46,7 +46,7 @@ module _ {D : Type 0} (s : StoreValue D) (release : Release) where
   why (refusals.Line file line fault) is refused = absurd (false≢true is)
   why (refusals.Contradiction file line) is refused = absurd (false≢true is)
 
-  that : (e : Refusal) → IsTooEarly s release → IsImportRefusal IsNotTakenByKey e s release → e ≡ refusals.LaterVersion
+  that : (e : Refusal) → IsTooEarly s release → IsRefusedFor (IsNotTakenByKey s.history s.catalog release) e s → e ≡ refusals.LaterVersion
   that refusals.LaterVersion early refused = refl
   that refusals.OutOfMemory early refused = absurd (refused.1.version early.2)
   that refusals.DiskFault early refused = absurd (refused.1.0.version early.2)

@@ -30,7 +30,7 @@ mod TakenByKey
 mod Checked
 mod Listing
 mod ReadyImports
-mod Foreseen
+pub mod Foreseen
 mod ForeseenByKey
 mod Later
 mod KeptBlocks

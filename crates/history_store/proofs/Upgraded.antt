@@ -20,6 +20,7 @@ use Rattle.history_store.specs.Catalog.{Catalog, catalog_of}
 use Rattle.history_store.specs.StoreValue.{StoreValue}
 use Rattle.history_store.specs.Private.StoreValue.{directory_of, with_imports}
 use Rattle.history_store.specs.Private.Answers.{IsStep}
+use Rattle.history_store.specs.Answers.{IsRefusedFor}
 use Rattle.history_store.specs.Upgrading.{MayBeUpgraded, IsNotUpgraded, IsUpgradingOf, upgrade_calls}
 use Rattle.history_store.specs.Queries.{ForgetsWritten}
 use Rattle.history_store.specs.Written.{added_entries, added_ranges}
@@ -38,7 +39,7 @@ upgraded_or_not (Ok done) old new next may still is step = (
   inr (may, step.1 ∙ ap (λ (l : DirectoryValue). catalog_of l old.catalog.merge) is),
   record { history = step.0 ∙ ap (λ (l : DirectoryValue). with_imports old.history l.imports) is; was_open = still; open_still = step.2 },
 )
-upgraded_or_not {D} (Err e) old new next may still is step = (subst (λ (x : Refusal). IsNotUpgraded x old) (sym step.0) (still, may), step.1)
+upgraded_or_not {D} (Err e) old new next may still is step = (subst (λ (x : Refusal). IsRefusedFor (IsNotUpgraded old.catalog) x old) (sym step.0) (still, may), step.1)
 
 pub same_history : {D : Type 0} (r : Result (Unit {0}) Refusal) (old new : StoreValue D) (next : DirectoryValue) → next ≡ next_in layouts.Three (directory_of old)
     → IsStep r old new (with_imports old.history next.imports) (catalog_of next old.catalog.merge) → new.history ≡ old.history

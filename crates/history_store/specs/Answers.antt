@@ -57,13 +57,6 @@ IsNotMade refusals.DiskFault bytes = Unit {0}
 IsNotMade refusals.NotEmpty bytes = 1 ≤ length bytes
 IsNotMade _ bytes = ⊥
 
--- the refusals of `create`, on any disk
-abbrev pub IsMakingCause : Refusal → Type 0
-IsMakingCause refusals.OutOfMemory = Unit {0}
-IsMakingCause refusals.DiskFault = Unit {0}
-IsMakingCause refusals.NotEmpty = Unit {0}
-IsMakingCause _ = ⊥
-
 -- a new store in this version: nothing is imported, and it has no segment
 pub record IsNew {D : Type 0} (layout : Layout) (s : StoreValue D) : Type 0 where
   pub history : s.history ≡ no_history
@@ -90,14 +83,6 @@ IsMakingOf layout (Err e) bytes = IsNotMade e.0 bytes
 abbrev pub IsNotOpened : Refusal → List ℕ → Type 0
 IsNotOpened refusal bytes =
     (fault : LoadFault) × (refusal ≡ of_loading fault) × IsNotLoaded fault bytes
-
--- the refusals of `open`, on any disk
-abbrev pub IsOpeningCause : Refusal → Type 0
-IsOpeningCause refusals.OutOfMemory = Unit {0}
-IsOpeningCause refusals.DiskFault = Unit {0}
-IsOpeningCause refusals.NotAStore = Unit {0}
-IsOpeningCause (refusals.Unreadable damage) = Unit {0}
-IsOpeningCause _ = ⊥
 
 -- the store holds what the bytes represent
 pub record IsOpened {D : Type 0} (s : StoreValue D) (bytes : List ℕ) : Type 0 where
@@ -176,41 +161,41 @@ pub record WouldBeTaken (h : History) (catalog : Catalog) (release : Release) : 
 -- The device is asked for known rows once each file is a release file, and not before.
 abbrev pub WhyNotTaken : (Lacks : (List StampedRow → Catalog → Type 0) → Type 0)
     → (Contradicts : ℕ → ℕ → Type 0) → (Damaged : Type 0)
-    → Refusal → History → Catalog → Release → Type 0
-WhyNotTaken Lacks Contradicts Damaged refusals.OutOfMemory h catalog release =
+    → History → Catalog → Release → Refusal → Type 0
+WhyNotTaken Lacks Contradicts Damaged h catalog release refusals.OutOfMemory =
     IsAdmitted h catalog release
-WhyNotTaken Lacks Contradicts Damaged refusals.DiskFault h catalog release =
+WhyNotTaken Lacks Contradicts Damaged h catalog release refusals.DiskFault =
     IsAdmitted h catalog release × IsRead release
-WhyNotTaken Lacks Contradicts Damaged refusals.CountSpent h catalog release =
+WhyNotTaken Lacks Contradicts Damaged h catalog release refusals.CountSpent =
     (h.imports ≡ last_import) ⊎ (catalog.epoch ≡ last_epoch)
-WhyNotTaken Lacks Contradicts Damaged refusals.LaterVersion h catalog release =
+WhyNotTaken Lacks Contradicts Damaged h catalog release refusals.LaterVersion =
     IsNotSpent h.imports catalog.epoch × IsForLater catalog.layout release
-WhyNotTaken Lacks Contradicts Damaged (refusals.Line file line fault) h catalog release =
+WhyNotTaken Lacks Contradicts Damaged h catalog release (refusals.Line file line fault) =
     IsAdmitted h catalog release × IsFaultOfRelease release file line fault
-WhyNotTaken Lacks Contradicts Damaged (refusals.Contradiction file line) h catalog release =
+WhyNotTaken Lacks Contradicts Damaged h catalog release (refusals.Contradiction file line) =
     IsAdmitted h catalog release × Contradicts file line
-WhyNotTaken Lacks Contradicts Damaged refusals.TooManySegments h catalog release = Lacks HasNoEntry
-WhyNotTaken Lacks Contradicts Damaged refusals.Full h catalog release = Lacks HasNoPlace
-WhyNotTaken Lacks Contradicts Damaged refusals.Damaged h catalog release = Damaged
-WhyNotTaken Lacks Contradicts Damaged _ h catalog release = ⊥
+WhyNotTaken Lacks Contradicts Damaged h catalog release refusals.TooManySegments = Lacks HasNoEntry
+WhyNotTaken Lacks Contradicts Damaged h catalog release refusals.Full = Lacks HasNoPlace
+WhyNotTaken Lacks Contradicts Damaged h catalog release refusals.Damaged = Damaged
+WhyNotTaken Lacks Contradicts Damaged h catalog release _ = ⊥
 
 -- on an honest device
-abbrev pub IsNotTaken : Refusal → History → Catalog → Release → Type 0
-IsNotTaken e h catalog release = WhyNotTaken (WouldBeTakenBut h catalog release)
+abbrev pub IsNotTaken : History → Catalog → Release → Refusal → Type 0
+IsNotTaken h catalog release e = WhyNotTaken (WouldBeTakenBut h catalog release)
     (λ file line. (key : Key) × HasContradiction (full h) release file line key) ⊥
-    e h catalog release
+    h catalog release e
 
 -- On every device: whether a row contradicts the known ones is said on an honest one alone.
-abbrev pub IsNotTakenByKey : Refusal → History → Catalog → Release → Type 0
-IsNotTakenByKey e h catalog release = WhyNotTaken (LacksByKey h catalog release)
+abbrev pub IsNotTakenByKey : History → Catalog → Release → Refusal → Type 0
+IsNotTakenByKey h catalog release e = WhyNotTaken (LacksByKey h catalog release)
     (λ file line. IsRead release) (IsAdmitted h catalog release × IsRead release)
-    e h catalog release
+    h catalog release e
 
--- why an import is refused: after a failed call the store has to be opened again first
-abbrev pub IsImportRefusal : {D : Type 0} → (Refusal → History → Catalog → Release → Type 0)
-    → Refusal → StoreValue D → Release → Type 0
-IsImportRefusal Why refusals.ReopenNeeded s release = s.needs_reopen ≡ true
-IsImportRefusal Why e s release = (s.needs_reopen ≡ false) × Why e s.history s.catalog release
+-- why a call is refused: after a failed one the store has to be opened again first, and else this
+-- is why
+abbrev pub IsRefusedFor : {D : Type 0} → (Refusal → Type 0) → Refusal → StoreValue D → Type 0
+IsRefusedFor Why refusals.ReopenNeeded s = s.needs_reopen ≡ true
+IsRefusedFor Why e s = (s.needs_reopen ≡ false) × Why e
 
 -- history and catalog stay, and a failure of the device alone closes the store
 pub record IsRefused {D : Type 0} (e : Refusal) (old new : StoreValue D) : Type 0 where
@@ -232,7 +217,8 @@ abbrev pub IsImportOf : {D : Type 0} → Result Receipt Refusal → StoreValue D
 IsImportOf (Ok receipt) old new release =
     IsTaken old.history new.history old.catalog new.catalog release receipt
     × (old.needs_reopen ≡ false) × (new.needs_reopen ≡ false)
-IsImportOf (Err e) old new release = IsImportRefusal IsNotTaken e old release × IsRefused e old new
+IsImportOf (Err e) old new release =
+    IsRefusedFor (IsNotTaken old.history old.catalog release) e old × IsRefused e old new
 
 -- the bytes represent the history with an accepted release, in this version
 abbrev pub RepresentsWith : Layout → History → Release → List ℕ → Type 0
@@ -278,4 +264,4 @@ IsImportOnAnyDisk (Ok receipt) old new release =
     IsTakenByKey old.history new.history old.catalog new.catalog release receipt
     × (old.needs_reopen ≡ false) × (new.needs_reopen ≡ false)
 IsImportOnAnyDisk (Err e) old new release =
-    IsImportRefusal IsNotTakenByKey e old release × IsRefused e old new
+    IsRefusedFor (IsNotTakenByKey old.history old.catalog release) e old × IsRefused e old new

@@ -18,7 +18,7 @@ use Rattle.history_store.specs.StoreValue.{StoreValue, IsAcknowledged}
 use Rattle.history_store.specs.Prepared.{IsNotSpent, IsForLater}
 use Rattle.history_store.specs.Queries.{ReadsThroughCache}
 use Rattle.history_store.specs.Answers.{Counts, IsTaken, IsTakenByKey, IsRefused, IsStill}
-use Rattle.history_store.specs.Answers.{IsImportRefusal, IsNotTaken, IsNotTakenByKey}
+use Rattle.history_store.specs.Answers.{IsRefusedFor, IsNotTaken, IsNotTakenByKey}
 use Rattle.history_store.specs.Answers.{IsImportOf, IsImportOnAnyDisk}
 
 -- The receipt and the reasons are those of an import, but nothing is taken. A disk that is full, or
@@ -29,7 +29,7 @@ IsCheckingOf (Ok receipt) old new release =
     ((after : History) × (next : Catalog)
     × IsTaken old.history after old.catalog next release receipt) × IsStill old new
 IsCheckingOf (Err e) old new release =
-    IsImportRefusal IsNotTaken e old release × IsRefused e old new
+    IsRefusedFor (IsNotTaken old.history old.catalog release) e old × IsRefused e old new
 
 -- the same on every disk
 abbrev pub IsCheckingOnAnyDisk : {D : Type 0} → Result Receipt Refusal → StoreValue D
@@ -38,7 +38,7 @@ IsCheckingOnAnyDisk (Ok receipt) old new release =
     ((after : History) × (next : Catalog)
     × IsTakenByKey old.history after old.catalog next release receipt) × IsStill old new
 IsCheckingOnAnyDisk (Err e) old new release =
-    IsImportRefusal IsNotTakenByKey e old release × IsRefused e old new
+    IsRefusedFor (IsNotTakenByKey old.history old.catalog release) e old × IsRefused e old new
 
 -- A release was checked. Whatever is answered, history and catalog stay, and a failed device alone
 -- closes the store. A store that has to be opened again leaves everything as it is, and so does one

@@ -9,12 +9,12 @@ use Rattle.directory.specs.declared.layout.Layout.{Layout}
 use Rattle.store_image.specs.Answers.{IsNewStore}
 use Rattle.store_image.specs.Asked.{StopsAt}
 use Rattle.store_image.specs.declared.fault.LoadFault.{LoadFault}
+use Rattle.store_image.specs.declared.fault.MakeFault.{MakeFault}
 use Rattle.history_store.specs.declared.refusal.Refusal.{Refusal}
-use Rattle.history_store.specs.Refusals.{of_loading}
+use Rattle.history_store.specs.Refusals.{of_loading, of_making}
 use Rattle.history_store.specs.StoreValue.{IsAcknowledged, no_blocks}
-use Rattle.history_store.specs.Answers.{StoreOr, IsNew, IsReady, IsMakingOf, IsMakingCause}
-use Rattle.history_store.specs.Answers.{IsOpeningOf, IsOpeningCause, HandsBack, SyncsOnce}
-use Rattle.history_store.specs.Answers.{CountsOpening, device_of}
+use Rattle.history_store.specs.Answers.{StoreOr, IsNew, IsReady, IsMakingOf, IsOpeningOf}
+use Rattle.history_store.specs.Answers.{HandsBack, SyncsOnce, CountsOpening, device_of}
 
 -- A store was made in this version on a device, or it is said why there is none and the device
 -- comes back.
@@ -24,7 +24,7 @@ pub record IsMaking {D : Type 0} (layout : Layout) (result : StoreOr D) (view : 
   pub exact : (view device).is_honest → IsMakingOf layout result (view device).moments.state.now
   -- on every device what is made is a new store, and it is refused with 1, 2 or 4 alone
   pub new : IfOk result (IsNew layout)
-  pub causes : IfErr result (λ e. IsMakingCause e.0)
+  pub causes : IfErr result (λ e. (fault : MakeFault) × (e.0 ≡ of_making fault))
   -- refused for any other reason than the device, it leaves whatever a stop may leave as it was
   pub refused : (view device).is_honest → HandsBack view result device
   -- a device with a byte stays as it is, whatever the answer: where the device fails, too
@@ -55,7 +55,7 @@ pub record IsOpening {D : Type 0} (result : StoreOr D) (view : D
   pub exact : (view device).is_honest → IsOpeningOf result (view device).moments.state.now
   -- on every device what is opened is a history, and it is refused with 1, 2, 7 or 8 alone
   pub ready : IfOk result IsReady
-  pub causes : IfErr result (λ e. IsOpeningCause e.0)
+  pub causes : IfErr result (λ e. (fault : LoadFault) × (e.0 ≡ of_loading fault))
   -- a stop at any moment leaves what it might have left before
   pub any_moment : (view device).is_honest → LeavesOnly (view device).moments
       (view (device_of result)).moments (IsImage (view device).moments.state)

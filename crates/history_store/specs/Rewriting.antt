@@ -15,7 +15,7 @@ use Rattle.history_store.specs.declared.refusal.Refusal.{Refusal}
 use Rattle.history_store.specs.declared.refusal.Refusal.TheVariants as refusals
 use Rattle.history_store.specs.Catalog.{Catalog}
 use Rattle.history_store.specs.StoreValue.{StoreValue, last_epoch}
-use Rattle.history_store.specs.Answers.{IsRefused}
+use Rattle.history_store.specs.Answers.{IsRefused, IsRefusedFor}
 use Rattle.history_store.specs.MergeAnswers.{IsDone}
 
 -- the version is 3, and this is its only segment, which has no checksums
@@ -61,22 +61,21 @@ pub record HasNoPlaceBeside (catalog : Catalog) : Type 0 where
   pub none : place_beside entry catalog.entries ≡ None
 
 -- why the only segment isn't written anew
-abbrev pub IsNotRewritten : {D : Type 0} → Refusal → StoreValue D → Type 0
-IsNotRewritten refusals.ReopenNeeded s = s.needs_reopen ≡ true
-IsNotRewritten refusals.OutOfMemory s = (s.needs_reopen ≡ false) × MayBeRewritten s.catalog
-IsNotRewritten refusals.DiskFault s = (s.needs_reopen ≡ false) × MayBeRewritten s.catalog
-IsNotRewritten refusals.Damaged s = (s.needs_reopen ≡ false) × MayBeRewritten s.catalog
-IsNotRewritten refusals.Full s = (s.needs_reopen ≡ false) × HasNoPlaceBeside s.catalog
-IsNotRewritten refusals.CountSpent s = (s.needs_reopen ≡ false)
-    × HasOnlyPlain s.catalog × (s.catalog.epoch ≡ last_epoch)
-IsNotRewritten _ s = ⊥
+abbrev pub IsNotRewritten : Catalog → Refusal → Type 0
+IsNotRewritten catalog refusals.OutOfMemory = MayBeRewritten catalog
+IsNotRewritten catalog refusals.DiskFault = MayBeRewritten catalog
+IsNotRewritten catalog refusals.Damaged = MayBeRewritten catalog
+IsNotRewritten catalog refusals.Full = HasNoPlaceBeside catalog
+IsNotRewritten catalog refusals.CountSpent = HasOnlyPlain catalog × (catalog.epoch ≡ last_epoch)
+IsNotRewritten catalog _ = ⊥
 
 -- what that answers, and the store after it: without such a segment nothing changes
 abbrev pub IsRewritingOf : {D : Type 0} → Result Bool Refusal → StoreValue D → StoreValue D → Type 0
 IsRewritingOf (Ok true) old new = IsRewritten old.catalog new.catalog × IsDone old new
 IsRewritingOf (Ok false) old new = (HasOnlyPlain old.catalog → ⊥) × (old.needs_reopen ≡ false)
     × (new ≡ old)
-IsRewritingOf (Err e) old new = IsNotRewritten e old × IsRefused e old new
+IsRewritingOf (Err e) old new =
+    IsRefusedFor (IsNotRewritten old.catalog) e old × IsRefused e old new
 
 -- the bytes of these segments, and those of the slots
 abbrev pub written_ranges : List Entry → List (ℕ × ℕ)

@@ -22,13 +22,9 @@ pub record StoreValue (D : Type 0) : Type 0 where
   pub needs_reopen : Bool
   pub cache : LruCache ℕ (List ℕ)
 
--- for how many blocks there is room
-abbrev pub cache_blocks : ℕ
-cache_blocks = 1024
-
--- no block is kept
+-- no block is kept, and there is room for 1,024
 abbrev pub no_blocks : LruCache ℕ (List ℕ)
-no_blocks = lru_cache [] cache_blocks
+no_blocks = lru_cache [] 1024
 
 -- no call has failed, and whatever a stop leaves represents what the store holds
 pub record IsAcknowledged {D : Type 0} (view : D → DiskView) (s : StoreValue D) : Type 0 where

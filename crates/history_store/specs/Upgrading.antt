@@ -1,12 +1,12 @@
 -- What an upgrade to version 3 of the layout answers.
-use Rattle.std.specs.Prelude.{◌≡◌, ◌≢◌, ◌⊎◌, ℕ, ◌+◌, ◌<◌, true, false, Result, Ok, Err}
+use Rattle.std.specs.Prelude.{◌≡◌, ◌≢◌, ◌⊎◌, ℕ, ◌+◌, ◌<◌, Result, Ok, Err}
 use Rattle.directory.specs.declared.layout.Layout.{Layout}
 use Rattle.directory.specs.declared.layout.Layout.TheVariants as layouts
 use Rattle.history_store.specs.declared.refusal.Refusal.{Refusal}
 use Rattle.history_store.specs.declared.refusal.Refusal.TheVariants as refusals
 use Rattle.history_store.specs.Catalog.{Catalog}
 use Rattle.history_store.specs.StoreValue.{StoreValue, last_epoch}
-use Rattle.history_store.specs.Answers.{IsRefused}
+use Rattle.history_store.specs.Answers.{IsRefused, IsRefusedFor}
 use Rattle.history_store.specs.MergeAnswers.{IsDone}
 
 -- the store isn't of version 3, and an epoch is left for that
@@ -22,19 +22,19 @@ IsUpgraded catalog next = ((catalog.layout ≡ layouts.Three) × (next ≡ catal
     × (next ≡ record catalog { layout = layouts.Three; epoch = catalog.epoch + 1 }))
 
 -- why a store isn't upgraded
-abbrev pub IsNotUpgraded : {D : Type 0} → Refusal → StoreValue D → Type 0
-IsNotUpgraded refusals.ReopenNeeded s = s.needs_reopen ≡ true
-IsNotUpgraded refusals.OutOfMemory s = (s.needs_reopen ≡ false) × MayBeUpgraded s.catalog
-IsNotUpgraded refusals.DiskFault s = (s.needs_reopen ≡ false) × MayBeUpgraded s.catalog
-IsNotUpgraded refusals.CountSpent s = (s.needs_reopen ≡ false)
-    × (s.catalog.layout ≢ layouts.Three) × (s.catalog.epoch ≡ last_epoch)
-IsNotUpgraded _ s = ⊥
+abbrev pub IsNotUpgraded : Catalog → Refusal → Type 0
+IsNotUpgraded catalog refusals.OutOfMemory = MayBeUpgraded catalog
+IsNotUpgraded catalog refusals.DiskFault = MayBeUpgraded catalog
+IsNotUpgraded catalog refusals.CountSpent =
+    (catalog.layout ≢ layouts.Three) × (catalog.epoch ≡ last_epoch)
+IsNotUpgraded catalog _ = ⊥
 
 -- what an upgrade answers, and the store after it
 abbrev pub IsUpgradingOf : {D : Type 0} → Result (Unit {0}) Refusal → StoreValue D → StoreValue D
     → Type 0
 IsUpgradingOf (Ok done) old new = IsUpgraded old.catalog new.catalog × IsDone old new
-IsUpgradingOf (Err e) old new = IsNotUpgraded e old × IsRefused e old new
+IsUpgradingOf (Err e) old new =
+    IsRefusedFor (IsNotUpgraded old.catalog) e old × IsRefused e old new
 
 -- how many changing calls an upgrade makes: the six of a publication
 abbrev pub upgrade_calls : Layout → ℕ

@@ -5,7 +5,8 @@ ghost use Rattle.std.specs.Prelude.{nat_lt, Some, slice_get};
 ghost use Rattle.store_image.specs.Kept.{IsKept};
 ghost use Rattle.directory.specs.Listings.{IsListing};
 ghost use Rattle.history_store.specs.Merging.{AreFewest, rows_of_segment};
-ghost use Rattle.history_store.specs.Private.Beginning.{AreLong, IsNewMerge, IsUnbegun};
+ghost use Rattle.history_store.specs.MergeAnswers.{IsUnbegun};
+ghost use Rattle.history_store.specs.Private.Beginning.{AreLong, IsNewMerge};
 
 use crate::merge_in_progress::MergeInProgress;
 use crate::refusal::Refusal;

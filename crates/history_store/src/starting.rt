@@ -12,7 +12,9 @@ ghost use Rattle.as_of_index.specs.Places.{max_lists};
 ghost use Rattle.store_image.specs.OnDisk.{IsOnDisk};
 ghost use Rattle.directory.specs.Listings.{empty_listing};
 ghost use Rattle.store_image.specs.Answers.{IsNewStore};
-ghost use Rattle.history_store.specs.Answers.{Counts, IsMakingCause, IsNotMade};
+ghost use Rattle.store_image.specs.declared.fault.MakeFault.{MakeFault};
+ghost use Rattle.history_store.specs.Answers.{Counts, IsNotMade};
+ghost use Rattle.history_store.specs.Refusals.{of_making};
 ghost use Rattle.history_store.specs.StoreValue.{no_blocks};
 ghost use Rattle.history_store.specs.declared.refusal.Refusal.TheVariants as refusals;
 
@@ -69,7 +71,7 @@ pub(crate) fn start<D: Disk>(
         → (D.view disk.new).moments ≡ (D.view disk.old).moments }
     ensures why { (D.view disk.old).is_honest
         → IfErr result (λ e. IsNotMade e (D.view disk.old).moments.state.now) }
-    ensures causes { IfErr result (λ e. IsMakingCause e) }
+    ensures causes { IfErr result (λ e. (fault : MakeFault) × (e ≡ of_making fault)) }
     ensures refused { (D.view disk.old).is_honest → IfErr result (λ e. e ≢ refusals.DiskFault
         → (D.view disk.new).moments ≡ (D.view disk.old).moments) }
     ensures inside { (D.view disk.old).is_honest

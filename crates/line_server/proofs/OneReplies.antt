@@ -27,7 +27,7 @@ use Rattle.import_check.specs.Release.{files_of}
 use Rattle.line_server.specs.ReplyValue.{Answer, Done}
 use Rattle.line_server.specs.StateValue.{met_after}
 use Rattle.line_server.specs.Replies.{Server, Same, SameStore, IsChecked, import_words, imports_seen, left_of, IsAnswer, IsImported, IsClosed, IsStoreRefusal, IsOutcome, NamesRelease, Replies}
-use Rattle.store_life.specs.Laws.{IsSureImport}
+use Rattle.history_store.specs.Checking.{HasFailed}
 use Rattle.line_server.specs.Laws.{OneReply, AreAlike, IsSure}
 use Rattle.store_life.proofs.AlikeReleases.{import_alike}
 use Rattle.line_server.proofs.AskedOf.{OutcomeAt, outcome_at}
@@ -234,14 +234,14 @@ pub record NoRelease {D : Type 0} (releases : Releases) (name : List ℕ) (x : R
 
 pub record WithRelease {D : Type 0} (honest : Type 0) (releases : Releases) (name : List ℕ) (x : Result Answer LineRefusal) (old new : Server D) : Type 0 where
   pub result : Result Receipt Refusal
-  pub sure : IsSureImport result
+  pub sure : HasFailed result → ⊥
   pub imported : IsImported honest releases name result old new
   pub is : x ≡ said result
 
 -- a check with a release
 pub record WithCheck {D : Type 0} (honest : Type 0) (releases : Releases) (name : List ℕ) (x : Result Answer LineRefusal) (old new : Server D) : Type 0 where
   pub result : Result Receipt Refusal
-  pub sure : IsSureImport result
+  pub sure : HasFailed result → ⊥
   pub checked : IsChecked honest releases name result old new
   pub is : x ≡ said result
 
@@ -255,13 +255,13 @@ same_release releases name a b same = ap (λ (c : Catalog). releases (scope_of c
 
 pub import_told : {D : Type 0} (honest : Type 0) (releases : Releases) (session : ℕ) (name : List ℕ) (x : Result Answer LineRefusal) (old new : Server D) → IsSure x → IsOutcome honest releases session (Import name) x old new
     → NoRelease releases name x old new ⊎ WithRelease honest releases name x old new
-import_told honest releases session name (Ok x) old new u h = inr (record { result = Ok h.0; sure = tt; imported = h.1; is = ap Ok h.2 })
+import_told honest releases session name (Ok x) old new u h = inr (record { result = Ok h.0; sure = λ failed. failed; imported = h.1; is = ap Ok h.2 })
 import_told honest releases session name (Err refusals.NoFolder) old new u h = inl (named releases name old new h)
 import_told honest releases session name (Err refusals.PinRange) old new u h = absurd h.0
 import_told honest releases session name (Err (refusals.Unread reason)) old new u h = absurd h
 import_told honest releases session name (Err (refusals.Store store.OutOfMemory)) old new u h = absurd u
 import_told honest releases session name (Err (refusals.Store store.DiskFault)) old new u h = absurd u
-import_told honest releases session name (Err (refusals.Store e)) old new u h = inr (record { result = Err e; sure = tt; imported = h; is = refl })
+import_told honest releases session name (Err (refusals.Store e)) old new u h = inr (record { result = Err e; sure = λ failed. failed; imported = h; is = refl })
 
 module _ {D : Type 0} (releases : Releases) (a b after next : Server D) (honest also : Type 0) (up : honest) (so : also) (same : Same a b) where
   one_imported : (name : List ℕ) (x y : Result Answer LineRefusal)
@@ -279,25 +279,25 @@ module _ {D : Type 0} (releases : Releases) (a b after next : Server D) (honest 
 
 pub check_told : {D : Type 0} (honest : Type 0) (releases : Releases) (session : ℕ) (name : List ℕ) (x : Result Answer LineRefusal) (old new : Server D) → IsSure x → IsOutcome honest releases session (Check name) x old new
     → NoRelease releases name x old new ⊎ WithCheck honest releases name x old new
-check_told honest releases session name (Ok x) old new u h = inr (record { result = Ok h.0; sure = tt; checked = h.1; is = ap Ok h.2 })
+check_told honest releases session name (Ok x) old new u h = inr (record { result = Ok h.0; sure = λ failed. failed; checked = h.1; is = ap Ok h.2 })
 check_told honest releases session name (Err refusals.NoFolder) old new u h = inl (named releases name old new h)
 check_told honest releases session name (Err refusals.PinRange) old new u h = absurd h.0
 check_told honest releases session name (Err (refusals.Unread reason)) old new u h = absurd h
 check_told honest releases session name (Err (refusals.Store store.OutOfMemory)) old new u h = absurd u
 check_told honest releases session name (Err (refusals.Store store.DiskFault)) old new u h = absurd u
-check_told honest releases session name (Err (refusals.Store e)) old new u h = inr (record { result = Err e; sure = tt; checked = h; is = refl })
+check_told honest releases session name (Err (refusals.Store e)) old new u h = inr (record { result = Err e; sure = λ failed. failed; checked = h; is = refl })
 
 module _ {D : Type 0} (old new : StoreValue D) (release : Release) where
   -- an import that answers as the check does
-  pub foreseen : (result : Result Receipt Refusal) → IsSureImport result → IsCheckingOf result old new release → (after : StoreValue D) × IsImportOf result old after release
+  pub foreseen : (result : Result Receipt Refusal) → (HasFailed result → ⊥) → IsCheckingOf result old new release → (after : StoreValue D) × IsImportOf result old after release
   foreseen (Ok receipt) sure c = (record old { history = c.0.0; catalog = c.0.1 }, (c.0.2, c.1.open_before, c.1.open_before))
-  foreseen (Err store.OutOfMemory) sure c = absurd sure
-  foreseen (Err store.DiskFault) sure c = absurd sure
+  foreseen (Err store.OutOfMemory) sure c = absurd (sure tt)
+  foreseen (Err store.DiskFault) sure c = absurd (sure tt)
   foreseen (Err e) sure c = (new, c)
 
-  pub stays_checked : (result : Result Receipt Refusal) → IsSureImport result → IsCheckingOf result old new release → SameStore old new
+  pub stays_checked : (result : Result Receipt Refusal) → (HasFailed result → ⊥) → IsCheckingOf result old new release → SameStore old new
   stays_checked (Ok receipt) sure c = record { history = c.1.history; catalog = c.1.catalog; needs_reopen = c.1.open_still ∙ sym c.1.open_before }
-  stays_checked (Err store.DiskFault) sure c = absurd sure
+  stays_checked (Err store.DiskFault) sure c = absurd (sure tt)
   stays_checked (Err e) sure c = record { history = c.1.history; catalog = c.1.catalog; needs_reopen = c.1.still (λ is. false≢true (ap is_fault is)) }
 
 module _ {D : Type 0} (releases : Releases) (a b after next : Server D) (honest also : Type 0) (up : honest) (so : also) (same : Same a b) where

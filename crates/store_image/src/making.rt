@@ -11,7 +11,7 @@ ghost use Rattle.store_image.specs.declared.fault.MakeFault.TheVariants as fault
 ghost use Rattle.store_image.specs.Images.{Represents};
 ghost use Rattle.store_image.specs.OnDisk.{IsOnDisk};
 ghost use Rattle.directory.specs.Listings.{empty_listing};
-ghost use Rattle.store_image.specs.Answers.{IsLookedAt, IsMade, IsNewStore};
+ghost use Rattle.store_image.specs.Answers.{IsMade, IsNewStore};
 ghost use Rattle.store_image.specs.Answers.{CountsMaking, StaysIfRefused, LooksIfRefused};
 
 use crate::content::content_of;
@@ -33,7 +33,7 @@ pub struct Made {
 /// Looks whether a disk has no byte. `NotEmpty` where it has one.
 pub fn check_empty<D: Disk>(disk: &mut D) -> Result<(), MakeFault>
     ensures exact { (D.view disk.old).is_honest
-        → IsLookedAt result (D.view disk.old).moments.state.now }
+        → IsMade result (D.view disk.old).moments.state.now }
     ensures refused { IfErr result (λ e. (e ≡ faults.NotEmpty) ⊎ (e ≡ faults.DiskFault)) }
     ensures moments { (D.view disk.old).is_honest
         → (D.view disk.new).moments ≡ (D.view disk.old).moments }

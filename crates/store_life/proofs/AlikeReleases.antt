@@ -23,7 +23,7 @@ use Rattle.history_store.specs.Catalog.{Catalog}
 use Rattle.history_store.specs.StoreValue.{StoreValue}
 use Rattle.history_store.specs.Prepared.{IsForLater, IsAdmitted}
 use Rattle.history_store.specs.Answers.{IsAccepted, IsTaken, WouldBeTakenBut, IsImportOf}
-use Rattle.store_life.specs.Laws.{IsSureImport}
+use Rattle.history_store.specs.Checking.{HasFailed}
 
 abbrev FileBytes : Type 0
 FileBytes = Kind × List ℕ
@@ -145,7 +145,7 @@ module _ (release other : Release) (same : files_of release ≡ files_of other) 
   unplaced_alike : {h : History} {catalog : Catalog} {Lacks : List StampedRow → Catalog → Type 0} → WouldBeTakenBut h catalog release Lacks → WouldBeTakenBut h catalog other Lacks
   unplaced_alike u = record { room = admitted_alike u.room; accepted = accepted_alike u.accepted; lacks = u.lacks }
 
-  pub import_alike : {D : Type 0} (result : Result Receipt Refusal) (old new : StoreValue D) → IsSureImport result → IsImportOf result old new release → IsImportOf result old new other
+  pub import_alike : {D : Type 0} (result : Result Receipt Refusal) (old new : StoreValue D) → (HasFailed result → ⊥) → IsImportOf result old new release → IsImportOf result old new other
   import_alike (Ok receipt) old new sure i = (taken_alike i.0, i.1, i.2)
   import_alike (Err store.ReopenNeeded) old new sure i = i
   import_alike (Err store.CountSpent) old new sure i = i
@@ -154,6 +154,6 @@ module _ (release other : Release) (same : files_of release ≡ files_of other) 
   import_alike (Err (store.Contradiction file line)) old new sure i = ((i.0.0, (admitted_alike i.0.1.0, (i.0.1.1.0, contradiction_alike i.0.1.1.1))), i.1)
   import_alike (Err store.TooManySegments) old new sure i = ((i.0.0, unplaced_alike i.0.1), i.1)
   import_alike (Err store.Full) old new sure i = ((i.0.0, unplaced_alike i.0.1), i.1)
-  import_alike (Err store.OutOfMemory) old new sure i = absurd sure
-  import_alike (Err store.DiskFault) old new sure i = absurd sure
+  import_alike (Err store.OutOfMemory) old new sure i = absurd (sure tt)
+  import_alike (Err store.DiskFault) old new sure i = absurd (sure tt)
   import_alike (Err _) old new sure i = absurd i.0.1

@@ -13,7 +13,7 @@ use Rattle.store_image.specs.Images.{RepresentsAs, RepresentsHistory}
 use Rattle.history_store.specs.declared.refusal.Refusal.{Refusal}
 use Rattle.history_store.specs.declared.refusal.Refusal.TheVariants as store
 use Rattle.history_store.specs.StoreValue.{StoreValue, IsAcknowledged}
-use Rattle.history_store.specs.Answers.{IsRefused, IsImportOf, IsImportOnAnyDisk, IsImportRefusal, IsNotTakenByKey, IsBeforeOrAfter, IsReadingOf}
+use Rattle.history_store.specs.Answers.{IsRefused, IsImportOf, IsImportOnAnyDisk, IsRefusedFor, IsNotTakenByKey, IsBeforeOrAfter, IsReadingOf}
 use Rattle.history_store.specs.Checking.{IsCheckingOnAnyDisk}
 use Rattle.history_store.specs.MergeAnswers.{IsBeginningOf, IsSteppingOf, IsAbandoningOf, IsTrimmingOf}
 use Rattle.disk_model.specs.View.{DiskView}
@@ -72,9 +72,9 @@ is_fault store.DiskFault = true
 is_fault _ = false
 
 -- a store that has to be opened again isn't blamed on the device
-open_at_fault : {D : Type 0} (e : Refusal) (s : StoreValue D) (release : Release) → e ≡ store.DiskFault → IsImportRefusal IsNotTakenByKey e s release → s.needs_reopen ≡ false
-open_at_fault e s release is cause = at_fault (subst (λ (r : Refusal). IsImportRefusal IsNotTakenByKey r s release) is cause) where
-  at_fault : IsImportRefusal IsNotTakenByKey store.DiskFault s release → s.needs_reopen ≡ false
+open_at_fault : {D : Type 0} (e : Refusal) (s : StoreValue D) (release : Release) → e ≡ store.DiskFault → IsRefusedFor (IsNotTakenByKey s.history s.catalog release) e s → s.needs_reopen ≡ false
+open_at_fault e s release is cause = at_fault (subst (λ (r : Refusal). IsRefusedFor (IsNotTakenByKey s.history s.catalog release) r s) is cause) where
+  at_fault : IsRefusedFor (IsNotTakenByKey s.history s.catalog release) store.DiskFault s → s.needs_reopen ≡ false
   at_fault h = h.0
 
 module _ {D : Type 0} (view : D → DiskView) (old new : StoreValue D) (release : Release) (any : (view old.disk).is_honest → old.needs_reopen ≡ false → LeavesOnly (view old.disk).moments (view new.disk).moments (IsBeforeOrAfter old.catalog.layout old.history release)) (ack : (view old.disk).is_honest → new.needs_reopen ≡ false → IsAcknowledged view new) (honesty : (view old.disk).is_honest ↔ (view new.disk).is_honest) where
@@ -94,7 +94,7 @@ module _ {D : Type 0} (view : D → DiskView) (old new : StoreValue D) (release 
   }
 
   -- the device failed
-  failed : (e : Refusal) → e ≡ store.DiskFault → IsImportRefusal IsNotTakenByKey e old release → IsRefused e old new → IsCall view old (Failed release) new
+  failed : (e : Refusal) → e ≡ store.DiskFault → IsRefusedFor (IsNotTakenByKey old.history old.catalog release) e old → IsRefused e old new → IsCall view old (Failed release) new
   failed e is_fault cause r =
       let open_before = open_at_fault e old release is_fault cause in
       record {

@@ -1,6 +1,6 @@
 -- What holds of every life of a store, on an honest disk.
 use Rattle.std.specs.Prelude.{◌≡◌, ◌⊎◌, ℕ, ◌++◌, ◌+◌, ◌≤◌, List, [], ◌∷◌, length, map, Option}
-use Rattle.std.specs.Prelude.{None, Result, Ok, Err, IfOk, MatchResult}
+use Rattle.std.specs.Prelude.{None, Result, Ok, IfOk, MatchResult}
 use Rattle.std.specs.Option.{option_to_list}
 use Rattle.disk_model.specs.Disk.{EachImage}
 use Rattle.history_model.specs.History.{History, rows_at}
@@ -13,6 +13,7 @@ use Rattle.history_store.specs.declared.refusal.Refusal.{Refusal}
 use Rattle.history_store.specs.declared.refusal.Refusal.TheVariants as store
 use Rattle.history_store.specs.StoreValue.{StoreValue, IsAcknowledged}
 use Rattle.history_store.specs.Answers.{IsImportOf, IsOpeningOf, StoreOr, device_of}
+use Rattle.history_store.specs.Checking.{HasFailed}
 use Rattle.history_store.specs.Openings.{IsMaking, IsOpening}
 use Rattle.disk_model.specs.View.{DiskView}
 use Rattle.store_life.specs.Life.{Call, TakesAll, StopLeaves, IsStopped, Event, Called, Stopped}
@@ -130,17 +131,12 @@ EachLifeKeepsItsPins D view = (first last : StoreValue D) (events : List Event) 
 
 -- ---- one import
 
--- the answer is neither that memory ran out nor that the device failed
-abbrev pub IsSureImport : Result Receipt Refusal → Type 0
-IsSureImport (Err store.OutOfMemory) = ⊥
-IsSureImport (Err store.DiskFault) = ⊥
-IsSureImport _ = Unit {0}
-
--- a release is answered alike by stores that are alike, and leaves them alike
+-- a release is answered alike by stores that are alike, and leaves them alike, unless memory runs
+-- out or the device fails
 abbrev pub OneImport : Type 0 → Type 0
 OneImport D = (release : Release) (result also : Result Receipt Refusal)
     (a b after next : StoreValue D) → b.history ≡ a.history → b.catalog ≡ a.catalog
     → b.needs_reopen ≡ a.needs_reopen → IsImportOf result a after release
-    → IsImportOf also b next release → IsSureImport result → IsSureImport also
+    → IsImportOf also b next release → (HasFailed result → ⊥) → (HasFailed also → ⊥)
     → (result ≡ also) × (next.history ≡ after.history) × (next.catalog ≡ after.catalog)
     × (next.needs_reopen ≡ after.needs_reopen)

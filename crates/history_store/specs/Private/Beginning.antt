@@ -1,14 +1,12 @@
 -- What the parts of the beginning of a merge give. Only private functions cite these words.
-use Rattle.std.specs.Prelude.{◌≡◌, ◌+◌, ◌^◌, ◌<◌, ◌≤◌, List, length, Some, None, slice_get}
+use Rattle.std.specs.Prelude.{◌≡◌, ◌+◌, ◌^◌, ◌<◌, ◌≤◌, List, Some, None, slice_get}
 use Rattle.std.specs.Int.{div_ceil}
 use Rattle.std.specs.List.{AllByRecursion}
 use Rattle.directory.specs.declared.entry.Entry.{Entry}
 use Rattle.directory.specs.Listings.{DirectoryValue, form_of}
 use Rattle.directory.specs.Fit.{fit}
-use Rattle.history_store.specs.declared.refusal.Refusal.{Refusal}
-use Rattle.history_store.specs.declared.refusal.Refusal.TheVariants as refusals
 use Rattle.history_store.specs.declared.merge_in_progress.MergeInProgress.{MergeInProgress}
-use Rattle.history_store.specs.Merging.{AreFewest, HasNoOutput}
+use Rattle.history_store.specs.Merging.{AreFewest}
 
 -- no segment has more rows than bytes
 abbrev pub AreLong : List Entry → Type 0
@@ -28,9 +26,3 @@ pub record IsNewMerge (d : DirectoryValue) (m : MergeInProgress) : Type 0 where
   pub place : fit (div_ceil m.entry.bytes 4096) d.entries None ≡ Some m.entry.first
   pub form : m.entry.form ≡ form_of d.layout
   pub none_taken : m.output.taken ≡ 0
-
--- why no merge begins
-abbrev pub IsUnbegun : Refusal → List Entry → Type 0
-IsUnbegun refusals.NothingToMerge entries = length entries < 2
-IsUnbegun refusals.Full entries = HasNoOutput entries
-IsUnbegun _ entries = ⊥

@@ -123,4 +123,4 @@ pub returns-then-epoch-clause-answer : goal.returns-then-epoch-clause-answer
 returns-then-epoch-clause-answer g c =
     let older : c.self.inside.directory.layout ≢ layouts.Three = λ e. c.is_three.ensures.older c.if-is_three.false (c.layout.ensures ∙ e) in
     let epoch = c.epoch.ensures in
-    rw (← c.self.view_is) ((c.if-self.false, older, sym epoch ∙ grind (arith, nat_tests, c.if-epoch.true)), same_refused _ _ _ (λ x. absurd cc) refl refl refl)
+    rw (← c.self.view_is) ((c.if-self.false, (older, sym epoch ∙ grind (arith, nat_tests, c.if-epoch.true))), same_refused _ _ _ (λ x. absurd cc) refl refl refl)
