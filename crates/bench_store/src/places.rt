@@ -188,12 +188,7 @@ fn count_children(alloc: Global, made: &Made, as_of: &AsOf) -> Option<u64> {
 }
 
 /// How many descriptions the root has.
-fn count_about(
-    alloc: Global,
-    made: &Made,
-    reader: &mut OneRow,
-    as_of: &AsOf,
-) -> Option<u64> {
+fn count_about(alloc: Global, made: &Made, reader: &mut OneRow, as_of: &AsOf) -> Option<u64> {
     let root = Sctid::of(ROOT)?;
     let kind = Kind::Description;
     let rows = about(alloc, &made.links, &made.index, reader, kind, root, *as_of);

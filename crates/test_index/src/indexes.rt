@@ -3,7 +3,9 @@
 use crate::lists::{add, alone, index_of, reader_of};
 use crate::rows::{day, row};
 use crate::versions::{VERSIONS, version, versions};
-use as_of_index::{AsOf, Chosen, Index, MAX_LISTS, PlaceList, ReadFault, RowReader, laws, read_all};
+use as_of_index::{
+    AsOf, Chosen, Index, MAX_LISTS, PlaceList, ReadFault, RowReader, laws, read_all,
+};
 use history_model::StampedRow;
 use index_support::{may_add, may_list};
 use rf2_values::Kind;
