@@ -82,12 +82,9 @@ fn street(alloc: Global) -> Result<Vec<StampedRow>, Fail> {
 
 /// The place of the concept's later version, in a list of its own.
 fn chosen(index: &Index) -> Result<Chosen, Fail> {
-    let as_of = AsOf {
-        date: day(20_210_131)?,
-        pin: 3,
-    };
+    let date = day(20_210_131)?;
     let (segment, at) = index
-        .place_at(Kind::Concept, 1_000_004, as_of)
+        .place_at(Kind::Concept, 1_000_004, AsOf { date, pin: 3 })
         .ok_or("no place")?;
     Ok(Chosen {
         segment,
