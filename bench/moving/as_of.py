@@ -374,19 +374,13 @@ SPECIAL = {
         ("src/auditing.rt", "(λ ids. ids.items) id as_of\n", "(λ ids. ids.items) id as_of.date as_of.pin\n"),
         ("src/known.rt", """        let (index, pin) = (self.index, self.pin);
         let place = index.place_from_hints(self.hints, key.kind, key.id, key.time, pin);
-""", """        let (index, pin) = (self.index, self.pin);
-        let as_of = AsOf {
-            date: key.time,
-            pin,
-        };
+""", """        let (index, date, pin) = (self.index, key.time, self.pin);
+        let as_of = AsOf { date, pin };
         let place = index.place_from_hints(self.hints, key.kind, key.id, as_of);
 """),
         ("src/known.rt", """    let place = index.place_at(key.kind, key.id, key.time, pin);
-""", """    let as_of = AsOf {
-        date: key.time,
-        pin,
-    };
-    let place = index.place_at(key.kind, key.id, as_of);
+""", """    let date = key.time;
+    let place = index.place_at(key.kind, key.id, AsOf { date, pin });
 """),
         ("proofs/store/Store/ancestors/Answers.antt", "id_items c.args.id c.args.as_of c",
          "id_items c.args.id c.args.as_of.date c.args.as_of.pin c"),

@@ -2,11 +2,12 @@
 
 use rf2_values::EffectiveTime;
 
-/// What a question is asked as of: a date, and how many imports it sees.
+/// What a question is asked as of: a date, and how many imports it sees. A public function is given
+/// it, and lends it to private ones.
 #[derive(Clone, Copy)]
 pub struct AsOf {
-    /// The day on which a component's latest version up to it is the one that is answered.
+    /// Of each component the latest version up to this day counts.
     pub date: EffectiveTime,
-    /// The question sees what the first so many imports brought.
+    /// Only what the first so many imports brought is seen.
     pub pin: u32,
 }

@@ -192,7 +192,8 @@ fn search_from_hints(
 ) -> Option<(usize, RowPlace)>
     ensures { IsPick kind id as_of.now (λ x. x.1) (all_places 0 lists.now) result }
 {
-    let start = Start::AfterVersion { kind, id, time: as_of.date };
+    let time = as_of.date;
+    let start = Start::AfterVersion { kind, id, time };
     let mut best = None;
     for (segment, list) in lists.iter().enumerate() {
         let places = list.places();

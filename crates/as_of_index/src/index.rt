@@ -156,12 +156,7 @@ impl Index {
 
     /// Where the component's row at the date stands, of the rows that the pin shows,
     /// and the number of its list. It makes one bisection a list, and reads no row.
-    pub fn place_at(
-        &self,
-        kind: Kind,
-        id: u128,
-        as_of: AsOf,
-    ) -> Option<(usize, RowPlace)>
+    pub fn place_at(&self, kind: Kind, id: u128, as_of: AsOf) -> Option<(usize, RowPlace)>
         ensures places { ArePlaces self.now }
         ensures found { (lists : List (List StampedRow)) → Lists self.now lists
             → IsPlaceOf lists (get kind id as_of.date (rows_seen as_of lists)) result }
@@ -246,12 +241,7 @@ impl Index {
 
     /// The place of the row with this number in a list, if its version is the one at the date, of
     /// those that the pin shows. It makes one bisection in each other list, and reads no row.
-    pub fn current_at(
-        &self,
-        segment: usize,
-        number: u32,
-        as_of: AsOf,
-    ) -> Option<RowPlace>
+    pub fn current_at(&self, segment: usize, number: u32, as_of: AsOf) -> Option<RowPlace>
         ensures { (lists : List (List StampedRow)) → Lists self.now lists → (at : RowPlace)
             → (result ≡ Some at)
             ↔ (IsPlaceOfRow lists segment number at × IsCurrentAt lists as_of segment at) }
@@ -399,9 +389,7 @@ impl Index {
         while rows.len() < limit as usize {
             match next_id(lists, &mut cursors, kind, last, from, as_of) {
                 Some(id) => {
-                    if let Some((segment, at)) = latest_on(
-                        lists, &cursors, kind, id, from, as_of,
-                    ) {
+                    if let Some((segment, at)) = latest_on(lists, &cursors, kind, id, from, as_of) {
                         let found = reader.row(self.alloc, segment, at)?;
                         rows.push(found.row)?;
                     }

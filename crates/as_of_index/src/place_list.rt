@@ -152,11 +152,7 @@ impl PlaceList {
 
     /// The places, in key order, or none where `shown_part` has none, or where all are up to
     /// `from`, if that is given.
-    pub(crate) fn changed_part(
-        &self,
-        from: Option<u32>,
-        as_of: &AsOf,
-    ) -> &[RowPlace]
+    pub(crate) fn changed_part(&self, from: Option<u32>, as_of: &AsOf) -> &[RowPlace]
         ensures part { result.now ≡ changed_part from as_of.now self.now }
         ensures ascending { IsAscending place_cmp result.now }
     {

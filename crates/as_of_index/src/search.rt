@@ -187,7 +187,8 @@ pub(crate) fn latest_from(
     requires { IsPassed (starts.Later kind id None) list.now cursor }
     ensures { IsAscending place_cmp list.now → IsPick kind id as_of.now (λ p. p) list.now result }
 {
-    let end = go_on(list, cursor, &Start::AfterVersion { kind, id, time: as_of.date });
+    let time = as_of.date;
+    let end = go_on(list, cursor, &Start::AfterVersion { kind, id, time });
     if end == cursor {
         return None;
     }
@@ -205,7 +206,8 @@ pub(crate) fn latest_in(
 ) -> Option<RowPlace>
     ensures { IsAscending place_cmp list.now → IsPick kind id as_of.now (λ p. p) list.now result }
 {
-    let end = place_near(list, near, &Start::AfterVersion { kind, id, time: as_of.date });
+    let time = as_of.date;
+    let end = place_near(list, near, &Start::AfterVersion { kind, id, time });
     latest_before(list, end, kind, id, as_of)
 }
 

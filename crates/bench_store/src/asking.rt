@@ -49,10 +49,8 @@ fn ask(
     id: Sctid,
     date: EffectiveTime,
 ) -> Option<usize> {
-    let as_of = AsOf {
-        date,
-        pin: store.imports(),
-    };
+    let pin = store.imports();
+    let as_of = AsOf { date, pin };
     let value = u128::from(id.value());
     match question {
         Question::Lookup => {
@@ -86,11 +84,8 @@ fn search(store: &mut Store<FileDisk>, prefix: &[u8], date: EffectiveTime) -> Op
     let Ok(prefix) = str::from_utf8(prefix) else {
         return Some(0);
     };
-    let as_of = AsOf {
-        date,
-        pin: store.imports(),
-    };
-    Some(store.terms(prefix, as_of, 10).ok()?.len())
+    let pin = store.imports();
+    Some(store.terms(prefix, AsOf { date, pin }, 10).ok()?.len())
 }
 
 /// Searches for ten descriptions by each prefix of a file. How many rows that are.
@@ -111,10 +106,9 @@ pub(crate) fn turn_page(
     after: Option<u128>,
     rows: u32,
 ) -> Option<Option<u128>> {
-    let as_of = AsOf {
-        date: EffectiveTime::of(DATE)?,
-        pin: store.imports(),
-    };
+    let date = EffectiveTime::of(DATE)?;
+    let pin = store.imports();
+    let as_of = AsOf { date, pin };
     let rows = store.page(Kind::Description, as_of, after, rows).ok()?;
     match rows.last() {
         Some(row) => Some(Some(row.id)),

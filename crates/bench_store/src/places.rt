@@ -188,12 +188,7 @@ fn count_children(alloc: Global, made: &Made, as_of: &AsOf) -> Option<u64> {
 }
 
 /// How many descriptions the root has.
-fn count_about(
-    alloc: Global,
-    made: &Made,
-    reader: &mut OneRow,
-    as_of: &AsOf,
-) -> Option<u64> {
+fn count_about(alloc: Global, made: &Made, reader: &mut OneRow, as_of: &AsOf) -> Option<u64> {
     let root = Sctid::of(ROOT)?;
     let kind = Kind::Description;
     let rows = about(alloc, &made.links, &made.index, reader, kind, root, *as_of);
@@ -202,10 +197,8 @@ fn count_about(
 
 /// How many rows or ids are found.
 fn ask(alloc: Global, made: &Made, reader: &mut OneRow, question: Question) -> Option<u64> {
-    let as_of = AsOf {
-        date: EffectiveTime::of(DATE)?,
-        pin: 1,
-    };
+    let date = EffectiveTime::of(DATE)?;
+    let as_of = AsOf { date, pin: 1 };
     match question {
         Question::Gets(size) => get_each(made, reader, size, &as_of),
         Question::Pages(size, limit) => turn_pages(made, reader, size, limit, &as_of),

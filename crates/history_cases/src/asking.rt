@@ -246,11 +246,8 @@ impl Examples {
         let (pin, words) = first_word(words)?;
         let (kind, words) = first_word(words)?;
         let (id, date) = first_word(words)?;
-        let (kind, id) = (kind_of(kind)?, number(id)?);
-        let as_of = AsOf {
-            date: day_of(date)?,
-            pin: number(pin)?,
-        };
+        let (kind, id, date, pin) = (kind_of(kind)?, number(id)?, day_of(date)?, number(pin)?);
+        let as_of = AsOf { date, pin };
         let found = match (word, &mut self.hints) {
             ("hinted", Some(hints)) => made.index.place_from_hints(hints, kind, id, as_of),
             ("place", _) => made.index.place_at(kind, id, as_of),
@@ -272,11 +269,8 @@ impl Examples {
         let (row, words) = first_word(words)?;
         let (date, pin) = first_word(words)?;
         let (list, row): (usize, u32) = (number(list)?, number(row)?);
-        let as_of = AsOf {
-            date: day_of(date)?,
-            pin: number(pin)?,
-        };
-        let current = made.index.current_at(list, row, as_of);
+        let (date, pin) = (day_of(date)?, number(pin)?);
+        let current = made.index.current_at(list, row, AsOf { date, pin });
         match (made.index.id_at(list, row), current) {
             (None, None) => Ok(String::from_str(self.alloc, "none")?),
             (Some(id), None) => Ok(format!(in self.alloc; "{id}")?),

@@ -66,7 +66,9 @@ pub fn rows_found<R: RowReader>(
     let (links, index) = (&made.links, &made.index);
     let Request { question, pin } = request;
     match question {
-        Question::Get(kind, id, date) => rows_of(alloc, index.get(reader, kind, id, AsOf { date, pin })?),
+        Question::Get(kind, id, date) => {
+            rows_of(alloc, index.get(reader, kind, id, AsOf { date, pin })?)
+        }
         Question::Versions(kind, id) => index.history(reader, kind, id, pin),
         Question::Page(kind, date, after, limit) => {
             index.page(reader, kind, AsOf { date, pin }, after, limit)
@@ -77,23 +79,31 @@ pub fn rows_found<R: RowReader>(
         Question::Replacements(id, date) => {
             replacements(alloc, links, index, reader, id, AsOf { date, pin })
         }
-        Question::Replaces(id, date) => replaces(alloc, links, index, reader, id, AsOf { date, pin }),
-        Question::About(kind, id, date) => about(alloc, links, index, reader, kind, id, AsOf { date, pin }),
+        Question::Replaces(id, date) => {
+            replaces(alloc, links, index, reader, id, AsOf { date, pin })
+        }
+        Question::About(kind, id, date) => {
+            about(alloc, links, index, reader, kind, id, AsOf { date, pin })
+        }
         Question::Timeline(kind, id) => timeline(alloc, links, index, reader, kind, id, pin),
         Question::Members(refset, date, after, limit) => {
-            members(alloc, links, index, reader, refset, AsOf { date, pin }, after, limit)
+            let as_of = AsOf { date, pin };
+            members(alloc, links, index, reader, refset, as_of, after, limit)
         }
         Question::Values(refset, date, after, limit) => {
-            values(alloc, links, index, reader, refset, AsOf { date, pin }, after, limit)
+            let as_of = AsOf { date, pin };
+            values(alloc, links, index, reader, refset, as_of, after, limit)
         }
         Question::Called(id, date, refset) => {
             called(alloc, links, index, reader, id, AsOf { date, pin }, refset)
         }
         Question::Terms(date, limit) => {
-            search(alloc, made, reader, prefix, AsOf { date, pin }, (None, limit))
+            let as_of = AsOf { date, pin };
+            search(alloc, made, reader, prefix, as_of, (None, limit))
         }
         Question::Search(date, after, limit) => {
-            search(alloc, made, reader, prefix, AsOf { date, pin }, (after, limit))
+            let as_of = AsOf { date, pin };
+            search(alloc, made, reader, prefix, as_of, (after, limit))
         }
         Question::Children(_, _)
         | Question::Descendants(_, _)
@@ -132,7 +142,9 @@ fn concepts_found<R: RowReader>(
     match question {
         Question::Children(id, date) => Ok(children(alloc, links, index, id, AsOf { date, pin })?),
         Question::Descendants(id, date) => descendants(alloc, links, index, id, AsOf { date, pin }),
-        Question::Ancestors(id, date) => ancestors(alloc, links, index, reader, id, AsOf { date, pin }),
+        Question::Ancestors(id, date) => {
+            ancestors(alloc, links, index, reader, id, AsOf { date, pin })
+        }
         _ => Ok(Vec::new(alloc)),
     }
 }

@@ -19,11 +19,7 @@ impl<D: Disk> Store<D> {
 
     /// All concepts below a concept, ascending: those that are reached from it by one or more
     /// active relationships of the type "is a", each from a concept to a child. Nothing is read.
-    pub fn descendants(
-        &mut self,
-        id: Sctid,
-        as_of: AsOf,
-    ) -> Result<Vec<u64>, Refusal>
+    pub fn descendants(&mut self, id: Sctid, as_of: AsOf) -> Result<Vec<u64>, Refusal>
         requires { as_of.pin ≤ self.old.history.imports }
         ensures answer { IsIndexQuery result (λ ids rows. AreDescendants id as_of.date rows
             ids.items) as_of.pin self.old self.new }
@@ -44,11 +40,7 @@ impl<D: Disk> Store<D> {
     /// All concepts above a concept, ascending: those that are reached from it by one or more
     /// active relationships of the type "is a", each from a concept to a parent. The relationships
     /// of the concept and of those that are found are read.
-    pub fn ancestors(
-        &mut self,
-        id: Sctid,
-        as_of: AsOf,
-    ) -> Result<Vec<u64>, Refusal>
+    pub fn ancestors(&mut self, id: Sctid, as_of: AsOf) -> Result<Vec<u64>, Refusal>
         requires { as_of.pin ≤ self.old.history.imports }
         ensures answer { IsAncestorsQuery result (λ ids. ids.items) id as_of.date as_of.pin
             D.view self.old self.new }
@@ -75,11 +67,7 @@ impl<D: Disk> Store<D> {
 
     /// The active associations of which a component is the target, ascending by refset, referenced
     /// component and member: those by which it stands in the place of other components.
-    pub fn replaces(
-        &mut self,
-        id: Sctid,
-        as_of: AsOf,
-    ) -> Result<Vec<Row>, Refusal>
+    pub fn replaces(&mut self, id: Sctid, as_of: AsOf) -> Result<Vec<Row>, Refusal>
         requires { as_of.pin ≤ self.old.history.imports }
         ensures answer { IsRowsQuery result (λ rows. rows.items) (replaces id as_of.date) as_of.pin
             D.view self.old self.new }

@@ -48,12 +48,7 @@ impl<D: Disk> Store<D> {
     }
 
     /// The component's row at the date, as the imports that the pin shows have it.
-    pub fn get(
-        &mut self,
-        kind: Kind,
-        id: u128,
-        as_of: AsOf,
-    ) -> Result<Option<Row>, Refusal>
+    pub fn get(&mut self, kind: Kind, id: u128, as_of: AsOf) -> Result<Option<Row>, Refusal>
         requires { as_of.pin ≤ self.old.history.imports }
         ensures answer { IsRowsQuery result option_to_list
             (λ rows. option_to_list (get kind id as_of.date rows)) as_of.pin
@@ -123,12 +118,7 @@ impl<D: Disk> Store<D> {
 
     /// The active rows of a kind that are about a component, ascending by id: the descriptions of a
     /// concept, the relationships whose source it is, the associations that refer to it.
-    pub fn about(
-        &mut self,
-        kind: Kind,
-        id: Sctid,
-        as_of: AsOf,
-    ) -> Result<Vec<Row>, Refusal>
+    pub fn about(&mut self, kind: Kind, id: Sctid, as_of: AsOf) -> Result<Vec<Row>, Refusal>
         requires { as_of.pin ≤ self.old.history.imports }
         ensures answer { IsRowsQuery result (λ rows. rows.items) (about kind id as_of.date)
             as_of.pin D.view self.old
@@ -195,12 +185,7 @@ impl<D: Disk> Store<D> {
 
     /// Active descriptions whose term begins with the prefix, whatever the case, ascending by id
     /// from the first on, at most `limit`.
-    pub fn terms(
-        &mut self,
-        prefix: &str,
-        as_of: AsOf,
-        limit: u32,
-    ) -> Result<Vec<Row>, Refusal>
+    pub fn terms(&mut self, prefix: &str, as_of: AsOf, limit: u32) -> Result<Vec<Row>, Refusal>
         requires { as_of.pin ≤ self.old.history.imports }
         ensures answer { IsRowsQuery result (λ rows. rows.items) (terms prefix.now as_of.date limit)
             as_of.pin D.view self.old
@@ -211,11 +196,7 @@ impl<D: Disk> Store<D> {
 
     /// The sources of the active relationships of the type "is a" to a concept, ascending.
     /// Nothing is read.
-    pub fn children(
-        &mut self,
-        id: Sctid,
-        as_of: AsOf,
-    ) -> Result<Vec<u64>, Refusal>
+    pub fn children(&mut self, id: Sctid, as_of: AsOf) -> Result<Vec<u64>, Refusal>
         requires { as_of.pin ≤ self.old.history.imports }
         ensures answer { IsIndexQuery result (λ ids rows. ids.items ≡ children id as_of.date rows)
             as_of.pin self.old self.new }
@@ -234,11 +215,7 @@ impl<D: Disk> Store<D> {
     }
 
     /// The active associations of a component, one step, ascending by refset, target and member.
-    pub fn replacements(
-        &mut self,
-        id: Sctid,
-        as_of: AsOf,
-    ) -> Result<Vec<Row>, Refusal>
+    pub fn replacements(&mut self, id: Sctid, as_of: AsOf) -> Result<Vec<Row>, Refusal>
         requires { as_of.pin ≤ self.old.history.imports }
         ensures answer { IsRowsQuery result (λ rows. rows.items) (replacements id as_of.date)
             as_of.pin D.view self.old

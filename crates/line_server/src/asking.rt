@@ -35,8 +35,12 @@ pub(crate) fn ask<D: Disk>(
     match *question {
         Question::Get { kind, id, date } => answer_get(alloc, kind, id, AsOf { date, pin }, store),
         Question::History { kind, id } => answer_history(alloc, kind, id, pin, store),
-        Question::Children { concept, date } => answer_children(alloc, concept, AsOf { date, pin }, store),
-        Question::Ancestors { concept, date } => answer_ancestors(alloc, concept, AsOf { date, pin }, store),
+        Question::Children { concept, date } => {
+            answer_children(alloc, concept, AsOf { date, pin }, store)
+        }
+        Question::Ancestors { concept, date } => {
+            answer_ancestors(alloc, concept, AsOf { date, pin }, store)
+        }
         Question::Descendants { concept, date } => {
             answer_descendants(alloc, concept, AsOf { date, pin }, store)
         }
@@ -53,7 +57,9 @@ pub(crate) fn ask<D: Disk>(
         } => answer_search(alloc, prefix, AsOf { date, pin }, after, limit, store),
         Question::Replaced { id, date } => answer_replaced(alloc, id, AsOf { date, pin }, store),
         Question::Replaces { id, date } => answer_replaces(alloc, id, AsOf { date, pin }, store),
-        Question::About { kind, id, date } => answer_about(alloc, kind, id, AsOf { date, pin }, store),
+        Question::About { kind, id, date } => {
+            answer_about(alloc, kind, id, AsOf { date, pin }, store)
+        }
         Question::Timeline { kind, id } => answer_timeline(alloc, kind, id, pin, store),
         Question::Page {
             kind,

@@ -3,7 +3,9 @@
 use crate::lists::{add, alone, index_of, reader_of};
 use crate::rows::{day, row};
 use crate::versions::{VERSIONS, version, versions};
-use as_of_index::{AsOf, Chosen, Index, MAX_LISTS, PlaceList, ReadFault, RowReader, laws, read_all};
+use as_of_index::{
+    AsOf, Chosen, Index, MAX_LISTS, PlaceList, ReadFault, RowReader, laws, read_all,
+};
 use history_model::StampedRow;
 use index_support::{may_add, may_list};
 use rf2_values::Kind;
@@ -80,12 +82,9 @@ fn street(alloc: Global) -> Result<Vec<StampedRow>, Fail> {
 
 /// The place of the concept's later version, in a list of its own.
 fn chosen(index: &Index) -> Result<Chosen, Fail> {
-    let as_of = AsOf {
-        date: day(20_210_131)?,
-        pin: 3,
-    };
+    let date = day(20_210_131)?;
     let (segment, at) = index
-        .place_at(Kind::Concept, 1_000_004, as_of)
+        .place_at(Kind::Concept, 1_000_004, AsOf { date, pin: 3 })
         .ok_or("no place")?;
     Ok(Chosen {
         segment,

@@ -35,11 +35,8 @@ fn links_of(alloc: Global, lists: &[Vec<StampedRow>]) -> Result<Links, Fail> {
 /// The children of the root at the last day.
 fn children_of_root(alloc: Global, links: &Links, index: &Index) -> Result<Vec<u64>, Fail> {
     let root = Sctid::of(ROOT).ok_or("no SCTID")?;
-    let as_of = AsOf {
-        date: day(LAST_DAY)?,
-        pin: 1,
-    };
-    Ok(children(alloc, links, index, root, as_of)?)
+    let date = day(LAST_DAY)?;
+    Ok(children(alloc, links, index, root, AsOf { date, pin: 1 })?)
 }
 
 const THREE: [u64; 3] = [1_000_004, 2_000_001, 3_000_005];

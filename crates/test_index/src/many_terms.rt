@@ -38,12 +38,9 @@ fn ids_found(
     prefix: &str,
 ) -> Result<Vec<u128>, Fail> {
     let index = index_of(alloc, lists)?;
-    let as_of = AsOf {
-        date: day(LAST_DAY)?,
-        pin: 9,
-    };
+    let date = day(LAST_DAY)?;
     let asked = Search {
-        as_of,
+        as_of: AsOf { date, pin: 9 },
         after: None,
         limit: 100,
     };
