@@ -9,6 +9,7 @@ use Rattle.std.proofs.Math.Seq.{take-add}
 use Rattle.std.proofs.lemmas.List.{take_min}
 use Rattle.std.proofs.lemmas.List.Elements.{All-nil, All-cons}
 use Rattle.std.proofs.lemmas.List.Sums.{sum_by-cons, sum_by-append}
+use Rattle.list_lemmas.proofs.Parts.{zip_lengths}
 use Rattle.lru.specs.LruCache.{LruCache}
 use Rattle.disk_model.specs.Disk.{DiskState, Moments, IsImage, LeavesOnly}
 use Rattle.disk_model.proofs.MomentSteps.{weaker}
@@ -22,6 +23,7 @@ use Rattle.blocks.proofs.Agreeing.{still_agrees}
 use Rattle.history_model.specs.declared.stamped.StampedRow.{StampedRow}
 use Rattle.history_model.specs.InOrder.{Has, IsAscending}
 use Rattle.history_model.specs.History.{stamped_cmp}
+use Rattle.history_model.proofs.Filtered.{IsAscending-take, IsAscending-drop}
 use Rattle.directory.specs.declared.entry.Entry.{Entry}
 use Rattle.directory.specs.declared.layout.Layout.{Layout}
 use Rattle.directory.specs.Listings.{DirectoryValue, IsEntry, IsListing, HasForm, most_entries, with_entry, with_two_replaced}
@@ -34,12 +36,10 @@ use Rattle.segment.specs.declared.place.RowPlace.{RowPlace}
 use Rattle.segment.specs.Records.{record_of, segment_in, segment_of}
 use Rattle.segment.specs.Standing.{row_place, record_len, with_places, places_of}
 use Rattle.segment.proofs.SegmentLaws.{length-segment_in, pieces_join, no_rows, no_rows_plain}
-use Rattle.as_of_index.proofs.Ordered.{IsAscending-take}
-use Rattle.as_of_index.proofs.Hinted.{IsAscending-drop}
 use Rattle.merge.specs.declared.Taken.{Taken}
 use Rattle.merge.specs.Merged.{StandsTaken}
 use Rattle.segment_index.proofs.Built.{segment_within}
-use Rattle.segment_index.proofs.Moving.{moved_bytes, zip_length}
+use Rattle.segment_index.proofs.Moving.{moved_bytes}
 use Rattle.store_image.specs.Pieces.{Holds, HoldsAll}
 use Rattle.store_image.specs.Kept.{IsSegmentOf, AreSegments, IsKept, history_of, pieces_of}
 use Rattle.store_image.specs.Images.{RepresentsAs}
@@ -216,7 +216,7 @@ module _ (rows : List StampedRow) (up : IsAscending stamped_cmp rows) (k n : ℕ
   stands_in = part_stands (StandsIn (rows ∷ []) 0 0) k n rows (λ p s h. record { rows = rows; list_is = refl; there = h })
 
   pub part_ascends : AreAscending part
-  part_ascends = places_ascend rows [] part wanted stands (IsAscending-take stamped_cmp (drop k rows) n (IsAscending-drop stamped_cmp k rows up))
+  part_ascends = places_ascend rows [] part wanted stands (IsAscending-take stamped_cmp n (drop k rows) (IsAscending-drop stamped_cmp k rows up))
 
   pub part_bytes : bytes_at part ≡ length (segment_of wanted)
   part_bytes = moved_bytes rows [] part wanted stands
@@ -258,7 +258,7 @@ cost_all rows =
     let R = StandsTaken rows [] in
     let all = each_stands R 0 rows (λ p s h. record { rows = rows; list_is = refl; there = h }) in
     let taken = as_taken (places_of rows) in
-    omega (arith, cost_sum taken, moved_bytes rows [] taken rows all, zip_length R taken rows all)
+    omega (arith, cost_sum taken, moved_bytes rows [] taken rows all, zip_lengths R taken rows all)
 
 -- ---- its rows, as the index has them
 

@@ -3,6 +3,7 @@ use Rattle.std.specs.Prelude.{Option, Some, None, Result, Ok, Err, min, slice_ge
 use Rattle.std.proofs.Common.{◌≡◌, inl, inr, ℕ, zero, suc, ◌+◌, ◌≤◌, List, [], ◌∷◌, ◌++◌, length, take, drop, length-take, length-drop, length-append, append_assoc, refl, sym, ap, subst, ◌∙◌, arith}
 use Rattle.std.proofs.lemmas.List.{take-append-drop, take_min}
 use Rattle.std.proofs.lemmas.List.Elements.{All-head, All-tail}
+use Rattle.list_lemmas.proofs.Parts.{take_sum}
 use Rattle.disk_model.specs.Disk.{Moments}
 use Rattle.blocks.specs.Extents.{start_of}
 use Rattle.history_model.specs.declared.stamped.StampedRow.{StampedRow}
@@ -13,16 +14,14 @@ use Rattle.history_model.proofs.InOrder.{Has-append_left, Has-append_right}
 use Rattle.history_model.proofs.Snapshots.{Has-listed_from}
 use Rattle.history_model.proofs.Listings.{two_lists, Has-union_cases, IsAscending-union}
 use Rattle.history_model.proofs.Unions.{length-union}
-use Rattle.as_of_index.proofs.Hinted.{IsAscending-drop}
+use Rattle.history_model.proofs.Filtered.{IsAscending-take, IsAscending-drop}
 use Rattle.directory.specs.declared.entry.Entry.{Entry}
 use Rattle.directory.specs.Listings.{DirectoryValue}
 use Rattle.directory.specs.Places.{extent_of}
 use Rattle.segment.specs.Records.{segment_in, segment_of}
 use Rattle.segment.proofs.SegmentLaws.{length-segment_in, pieces_join}
-use Rattle.as_of_index.proofs.Ordered.{IsAscending-take}
 use Rattle.segment_index.specs.Output.{taken_rows, left_rows, left_count, with_more}
 use Rattle.segment_index.proofs.Built.{segment_within}
-use Rattle.segment_index.proofs.Outputs.{take_more}
 use Rattle.store_image.specs.Pieces.{Holds, HoldsAll}
 use Rattle.store_image.specs.Kept.{AreSegments, IsKept, pieces_of, history_of}
 use Rattle.store_image.specs.Ahead.{BeginsWith}
@@ -126,7 +125,7 @@ module _ (d : DirectoryValue) (lists : List (List StampedRow)) (m : MergeInProgr
   grown =
       let k = m.output.taken in
       let same : k + min n (left_count m.output) ≡ k + min n (length rest) = omega (arith, rest_count) in
-      ap (λ (i : ℕ). take i all_rows) same ∙ take_more k (min n (length rest)) all_rows ∙ ap (λ (l : List StampedRow). take k all_rows ++ l) (take_min n rest)
+      ap (λ (i : ℕ). take i all_rows) same ∙ take_sum k (min n (length rest)) all_rows ∙ ap (λ (l : List StampedRow). take k all_rows ++ l) (take_min n rest)
 
   pub part_fits : length (segment_of (taken_rows m.output)) + length (segment_of (take n rest)) ≤ m.entry.bytes
   part_fits =
@@ -135,7 +134,7 @@ module _ (d : DirectoryValue) (lists : List (List StampedRow)) (m : MergeInProgr
       omega (arith, join, length-segment_in form (taken_rows (with_more n m.output)), length-segment_in form (taken_rows m.output), length-segment_in form (take n rest), segment_within (m.output.taken + min n (left_count m.output)) all_rows, is.segment.bytes)
 
   pub next_ascend : IsAscending stamped_cmp (take n rest)
-  next_ascend = IsAscending-take stamped_cmp rest n (IsAscending-drop stamped_cmp m.output.taken all_rows (IsAscending-union m.output.a m.output.b))
+  next_ascend = IsAscending-take stamped_cmp n rest (IsAscending-drop stamped_cmp m.output.taken all_rows (IsAscending-union m.output.a m.output.b))
 
 -- ---- as a store shows it
 

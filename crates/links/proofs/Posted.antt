@@ -2,6 +2,7 @@
 use Rattle.std.proofs.Common.{◌≡◌, ℕ, zero, suc, ◌+◌, true, false, List, [], ◌∷◌, ◌++◌, length, refl, sym, ap, subst, inl, inr, ◌∙◌, arith}
 use Rattle.std.specs.Prelude.{◌==◌, Option, Some, None, slice_set, remove, if◌then◌else◌}
 use Rattle.std.proofs.lemmas.Bool.Decides.{nat_tests}
+use Rattle.std.proofs.lemmas.Bool.{and_parts}
 use Rattle.rf2_values.specs.declared.row.Body.{Body}
 use Rattle.rf2_values.specs.declared.row.Body.TheVariants as body
 use Rattle.rf2_values.specs.declared.row.Kind.{Kind}
@@ -11,7 +12,6 @@ use Rattle.history_model.specs.InOrder.{Has}
 use Rattle.history_model.specs.History.{rows_at}
 use Rattle.history_model.specs.Lists.{listed}
 use Rattle.history_model.specs.Queries.{subject_of, is_a, is_child_of, says_is_a, source_of, is_replacement_of, refers_to, is_replaced_by, refset_of, target_of, referenced_of, snapshot}
-use Rattle.history_model.proofs.Filtered.{both}
 use Rattle.as_of_index.specs.Places.{item_at}
 use Rattle.as_of_index.specs.Postings.{posted_all, AllPosted}
 use Rattle.as_of_index.specs.Private.Postings.{numbered}
@@ -186,14 +186,14 @@ all_link_body concept i (body.Concept c) e = absurd (cc)
 all_link_body concept i (body.Description d) e = absurd (cc)
 all_link_body concept i (body.Relationship r) e =
     let l : Link = record { destination = r.destination; source = r.source; row = i } in
-    (l, subst (λ b. Has (if b then l ∷ [] else []) l) (sym (both (r.destination == concept) (r.type_id == is_a) e).1) (inl refl), refl)
+    (l, subst (λ b. Has (if b then l ∷ [] else []) l) (sym (and_parts (r.destination == concept) (r.type_id == is_a) e).1) (inl refl), refl)
 all_link_body concept i (body.Association a) e = absurd (cc)
 all_link_body concept i (body.Concrete c) e = absurd (cc)
 all_link_body concept i (body.Member m) e = absurd (cc)
 
 all_link : (concept : ℕ) (row : RowValue) (i : ℕ) → is_child_of concept row ≡ true → (l : Link) × Has (posted_link row i) l × (l.row ≡ i)
 all_link concept row i e =
-    let w = both row.active (says_is_a concept row.body) e in
+    let w = and_parts row.active (says_is_a concept row.body) e in
     let l = all_link_body concept i row.body w.1 in
     (l.0, subst (λ b. Has (if b then link_of_body row.body i else []) l.0) (sym w.0) l.1, l.2)
 
@@ -207,7 +207,7 @@ all_reference_body d i (body.Member m) e = absurd (cc)
 
 all_reference : (d : ℕ) (row : RowValue) (i : ℕ) → is_replacement_of d row ≡ true → (r : Reference) × Has (posted_reference row i) r × (r.row ≡ i)
 all_reference d row i e =
-    let w = both row.active (refers_to d row.body) e in
+    let w = and_parts row.active (refers_to d row.body) e in
     let r = all_reference_body d i row.body w.1 in
     (r.0, subst (λ b. Has (if b then reference_of_body row.body i else []) r.0) (sym w.0) r.1, r.2)
 

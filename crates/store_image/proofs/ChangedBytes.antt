@@ -4,6 +4,8 @@ use Rattle.std.specs.List.{AllByRecursion}
 use Rattle.std.specs.Int.{w64, from_be_bytes}
 use Rattle.std.proofs.lemmas.Bool.{cases_lt, cases_eq}
 use Rattle.std.proofs.lemmas.List.{take-append-le, drop-append-le}
+use Rattle.list_lemmas.proofs.Each.{each_of_taken}
+use Rattle.list_lemmas.proofs.Parts.{take_beyond}
 use Rattle.blocks.specs.declared.slots.Slot.{Slot}
 use Rattle.blocks.specs.declared.slots.Slot.TheVariants.{A, B}
 use Rattle.blocks.specs.Slots.{IsGreatest, IsOpen, content_at, content_of, epoch_of, gate_at, other}
@@ -12,7 +14,7 @@ use Rattle.directory.specs.declared.layout.Layout.{Layout}
 use Rattle.directory.specs.declared.layout.Layout.TheVariants as layouts
 use Rattle.directory.specs.Listings.{DirectoryValue}
 use Rattle.directory.specs.Content.{HasMark, HasSum, Lists, MayPrecede}
-use Rattle.directory.proofs.Noticed.{all_take, marked, may_not_precede, not_three, noticed, same_at, taken_past}
+use Rattle.directory.proofs.Noticed.{marked, may_not_precede, not_three, noticed, same_at}
 use Rattle.directory.proofs.Spelled.{one_listing}
 use Rattle.store_image.specs.declared.fault.Damage.TheVariants as damages
 use Rattle.store_image.specs.Damage.{IsDamaged}
@@ -99,7 +101,7 @@ module _ (before after : List ℕ) (byte changed : ℕ) (is : IsChanged before b
 
   parts : (b : ℕ) → content_of one (before ++ b ∷ after) ≡ front ++ b ∷ rest
   unfolding content_of
-  parts b = ap (take 4096) (drop-append-le (content_at one) before (b ∷ after) le) ∙ taken_past 4096 front after b (omega (arith, length-drop (content_at one) before, lt, le))
+  parts b = ap (take 4096) (drop-append-le (content_at one) before (b ∷ after) le) ∙ take_beyond 4096 front after b (omega (arith, length-drop (content_at one) before, lt, le))
 
   other_still : content_of (other one) new ≡ content_of (other one) old
   unfolding content_of
@@ -109,7 +111,7 @@ module _ (before after : List ℕ) (byte changed : ℕ) (is : IsChanged before b
 
   small_bytes : AllByRecursion (λ b. b < 256) (front ++ byte ∷ rest)
   unfolding content_of
-  small_bytes = subst (AllByRecursion (λ b. b < 256)) (parts byte) (all_take (λ b. b < 256) 4096 (drop (content_at one) old) (all_drop (λ b. b < 256) (content_at one) old is.bytes))
+  small_bytes = subst (AllByRecursion (λ b. b < 256)) (parts byte) (each_of_taken (λ b. b < 256) 4096 (drop (content_at one) old) (all_drop (λ b. b < 256) (content_at one) old is.bytes))
 
   -- behind the epoch a change leaves it
   same_epoch : content_at one + 8 ≤ length before → mine ≡ epoch_of (content_of one old)

@@ -4,6 +4,8 @@ use Rattle.std.proofs.Common.{◌≡◌, ◌≢◌, ℕ, zero, suc, ◌+◌, ◌
 use Rattle.std.specs.List.{AllByRecursion}
 use Rattle.std.proofs.lemmas.List.{append_assoc, drop-append-le, drop_at, take-append-drop, take-append-le, take_at}
 use Rattle.std.proofs.lemmas.List.Elements.{All-head, All-tail}
+use Rattle.list_lemmas.proofs.Each.{each_of_taken}
+use Rattle.list_lemmas.proofs.Parts.{take_beyond}
 use Rattle.blocks.specs.Extents.{start_of}
 use Rattle.blocks.specs.declared.slots.Slot.{Slot}
 use Rattle.blocks.specs.declared.slots.Slot.TheVariants.{A, B}
@@ -18,7 +20,7 @@ use Rattle.directory.specs.declared.layout.Layout.TheVariants as layouts
 use Rattle.directory.specs.Listings.{DirectoryValue, IsEntry}
 use Rattle.directory.specs.Places.{extent_of}
 use Rattle.directory.specs.Content.{MayPrecede}
-use Rattle.directory.proofs.Noticed.{all_take, same_at, taken_past}
+use Rattle.directory.proofs.Noticed.{same_at}
 use Rattle.segment.specs.Records.{IsOfLength, IsStamped, record_in, record_of, segment_in, segment_of}
 use Rattle.segment.proofs.RecordLaws.{length-record_in}
 use Rattle.segment.proofs.SegmentLaws.{goes_on, length-segment_in, pieces_join}
@@ -163,7 +165,7 @@ no_rows_there s behind rows front part rest byte changed place each others bytes
 
 -- the bytes of a segment, with one of them
 window_of : (start n : ℕ) (before after : List ℕ) (b : ℕ) → start ≤ length before → length (drop start before) < n → take n (drop start (before ++ b ∷ after)) ≡ drop start before ++ b ∷ take (n - (length (drop start before) + 1)) after
-window_of start n before after b le lt = ap (take n) (drop-append-le start before (b ∷ after) le) ∙ taken_past n (drop start before) after b lt
+window_of start n before after b le lt = ap (take n) (drop-append-le start before (b ∷ after) le) ∙ take_beyond n (drop start before) after b lt
 
 each_entry : (entries : List Entry) (k : ℕ) (entry : Entry) → AllByRecursion IsEntry entries → slice_get entries k ≡ Some entry → IsEntry entry
 each_entry [] k entry all is = absurd cc
@@ -202,7 +204,7 @@ changed_record_is_no_store before after byte changed h epoch entries s place sta
     let two : segment_in form other_one.0 ≡ part ++ changed ∷ rest =
     sym other_one.2.1.bytes ∙ ap (λ k. take k (drop start (before ++ changed ∷ after))) (length-segment_in form other_one.0 ∙ other_one.2.0.bytes) ∙ window_of start n before after changed past inside in
     let bytes : AllByRecursion (λ b. b < 256) (part ++ byte ∷ rest) =
-    subst (AllByRecursion (λ b. b < 256)) (window_of start n before after byte past inside) (all_take (λ b. b < 256) n (drop start (before ++ byte ∷ after)) (all_drop (λ b. b < 256) start (before ++ byte ∷ after) is.bytes)) in
+    subst (AllByRecursion (λ b. b < 256)) (window_of start n before after byte past inside) (each_of_taken (λ b. b < 256) n (drop start (before ++ byte ∷ after)) (all_drop (λ b. b < 256) start (before ++ byte ∷ after) is.bytes)) in
     no_rows_there s there.behind other_one.0 there.front part rest byte changed place at_here.0.is.each other_one.2.0.is.each bytes is.small is.differs there.within free at_part
     (subst (λ (f : Form). segment_in f (there.front ++ s ∷ there.behind) ≡ part ++ byte ∷ rest) there.checked one)
     (subst (λ (f : Form). segment_in f other_one.0 ≡ part ++ changed ∷ rest) there.checked two)

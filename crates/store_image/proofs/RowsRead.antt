@@ -5,6 +5,7 @@ use Rattle.std.specs.List.{AllByRecursion}
 use Rattle.std.specs.declared.cmp.Ordering.TheVariants.{Less}
 use Rattle.std.proofs.lemmas.List.{take_at, drop_at, take-append-drop}
 use Rattle.std.proofs.lemmas.List.Elements.{All-push, recursion_from_All}
+use Rattle.list_lemmas.proofs.Each.{each_of_pushed}
 use Rattle.rf2_values.specs.declared.key.Key.{Key}
 use Rattle.rf2_values.specs.Key.{key_of, key_cmp}
 use Rattle.history_model.specs.declared.stamped.StampedRow.{StampedRow}
@@ -18,7 +19,7 @@ use Rattle.segment.specs.Standing.{record_len, row_place, with_places, places_of
 use Rattle.segment.proofs.Ascending.{ascends_push, ascends_front, last_below}
 use Rattle.segment.proofs.Decoded.{reads_on}
 use Rattle.segment.proofs.RecordLaws.{same_records, length-record_in}
-use Rattle.segment.proofs.SegmentLaws.{push_plain, all_push, no_rows_plain, goes_on, length-segment_in}
+use Rattle.segment.proofs.SegmentLaws.{push_plain, no_rows_plain, goes_on, length-segment_in}
 use Rattle.store_image.specs.declared.fault.RowsFault.{RowsFault}
 use Rattle.store_image.specs.declared.fault.RowsFault.TheVariants as faults
 use Rattle.store_image.specs.declared.reading.ReadTo.{ReadTo}
@@ -109,7 +110,7 @@ more_are_read to imports next key rows more s read is next_is low key_is above m
     subst (λ (r : List StampedRow). AreReadTo (record { at = next; last = Some key }) imports r) (sym more_is) (record {
       last_is = (rows, s, refl, key_is);
       at_is = more_bytes to imports next rows s read next_is;
-      each = all_push IsStamped rows s read.each is;
+      each = each_of_pushed IsStamped rows s read.each is;
       ascending = comes to.last rows s read.last_is read.ascending (subst (λ k. IsAbove k to.last) key_is above);
       numbered = All-push (λ (t : StampedRow). t.import ≤ imports) rows s read.numbered low;
     })

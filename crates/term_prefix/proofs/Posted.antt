@@ -6,6 +6,7 @@ use Rattle.rf2_values.specs.declared.row.Body.TheVariants as body
 use Rattle.rf2_values.specs.Row.{RowValue}
 use Rattle.std.proofs.lemmas.List.{length-append}
 use Rattle.std.proofs.lemmas.List.Sorted.{length_permutation}
+use Rattle.std.proofs.lemmas.Bool.{and_parts}
 use Rattle.history_model.specs.declared.stamped.StampedRow.{StampedRow}
 use Rattle.history_model.specs.InOrder.{Has}
 use Rattle.as_of_index.specs.Places.{item_at}
@@ -14,7 +15,6 @@ use Rattle.as_of_index.specs.Private.Postings.{numbered}
 use Rattle.history_model.specs.History.{rows_at}
 use Rattle.history_model.specs.Lists.{listed}
 use Rattle.history_model.specs.Queries.{snapshot, is_above, is_term, is_term_above, begins_with, folded}
-use Rattle.history_model.proofs.Filtered.{both}
 use Rattle.as_of_index.proofs.Pushing.{stands, IsPostedAs, posted_as, all_more, all_set, all_removed}
 use Rattle.term_prefix.specs.Terms.{TermAt}
 use Rattle.term_prefix.specs.Pushed.{term_of_body, posted_term, ArePosted, PostedTermsAreFew, PostedTermsMore, PostedTermsMerged}
@@ -68,7 +68,7 @@ body_posted prefix i (body.Member m) e = absurd (cc)
 
 row_posted : (prefix : List ℕ) (after : Option ℕ) (row : RowValue) (i : ℕ) → is_term_above prefix after row ≡ true → (t : TermAt) × Has (posted_term row i) t × (t.row ≡ i)
 row_posted prefix after row i e =
-    let w = both row.active (begins_with prefix row.body) (both (is_term prefix row) (is_above after row.id) e).0 in
+    let w = and_parts row.active (begins_with prefix row.body) (and_parts (is_term prefix row) (is_above after row.id) e).0 in
     let t = body_posted prefix i row.body w.1 in
     (t.0, subst (λ b. Has (if b then term_of_body row.body i else []) t.0) (sym w.0) t.1, t.2)
 
