@@ -1,6 +1,6 @@
 -- What a list has: which of its parts have it, and at which number it stands.
-use Rattle.std.proofs.Common.{◌≡◌, ℕ, zero, suc, ◌<◌, List, [], ◌∷◌, length, take, drop, get_or, Some, refl, sym, ap, subst, inl, inr, arith}
-use Rattle.std.specs.Prelude.{slice_get}
+use Rattle.std.proofs.Common.{◌≡◌, ℕ, zero, suc, ◌<◌, List, [], ◌∷◌, length, take, drop, get_or, Some, Bool, true, false, refl, sym, ap, subst, inl, inr, arith}
+use Rattle.std.specs.Prelude.{slice_get, if◌then◌else◌}
 use Rattle.std.specs.List.{flat_map}
 use Rattle.std.specs.List.Sorted.{IsPermutation}
 use Rattle.std.proofs.lemmas.List.Elements.{All-from_recursion, recursion_from_All}
@@ -36,6 +36,11 @@ pub Has-drop : {X : Type 0} (n : ℕ) (xs : List X) (x : X) → Has (drop n xs) 
 Has-drop zero xs x has = has
 Has-drop (suc n) [] x has = absurd has
 Has-drop (suc n) (y ∷ xs) x has = inr (Has-drop n xs x has)
+
+-- where a list is there only if a test passes, it passed
+pub Has-if : {X : Type 0} (b : Bool) (xs : List X) (x : X) → Has (if b then xs else []) x → (b ≡ true) × Has xs x
+Has-if true xs x has = (refl, has)
+Has-if false xs x has = absurd has
 
 -- it has what the same elements in another order have
 pub Has-permuted : {X : Type 0} (xs ys : List X) → IsPermutation xs ys → (x : X) → Has ys x → Has xs x

@@ -12,6 +12,7 @@ use Rattle.history_model.specs.InOrder.{Has}
 use Rattle.history_model.specs.History.{rows_at}
 use Rattle.history_model.specs.Lists.{listed}
 use Rattle.history_model.specs.Queries.{subject_of, is_a, is_child_of, says_is_a, source_of, is_replacement_of, refers_to, is_replaced_by, refset_of, target_of, referenced_of, snapshot}
+use Rattle.history_model.proofs.Items.{Has-if}
 use Rattle.as_of_index.specs.Places.{item_at}
 use Rattle.as_of_index.specs.Postings.{posted_all, AllPosted}
 use Rattle.as_of_index.specs.Private.Postings.{numbered}
@@ -80,11 +81,7 @@ link_body row i (body.Concrete x) l a e h = absurd h
 link_body row i (body.Member m) l a e h = absurd h
 
 link_row : (row : RowValue) (i : ℕ) (l : Link) → Has (posted_link row i) l → IsLinkOf l row × (l.row ≡ i)
-link_row row i l h =
-    elim row.active as (λ b. row.active ≡ b → Has (if b then link_of_body row.body i else []) l → IsLinkOf l row × (l.row ≡ i)) [
-      | true ↦ λ e k. link_body row i row.body l e refl k
-      | false ↦ λ e k. absurd k
-    ] refl h
+link_row row i l h = let active = Has-if row.active (link_of_body row.body i) l h in link_body row i row.body l active.0 refl active.1
 
 -- the reference is what the row says
 pub record IsReferenceOf (r : Reference) (row : RowValue) : Type 0 where
@@ -112,11 +109,7 @@ reference_body row i (body.Concrete x) r a e h = absurd h
 reference_body row i (body.Member m) r a e h = absurd h
 
 reference_row : (row : RowValue) (i : ℕ) (r : Reference) → Has (posted_reference row i) r → IsReferenceOf r row × (r.row ≡ i)
-reference_row row i r h =
-    elim row.active as (λ b. row.active ≡ b → Has (if b then reference_of_body row.body i else []) r → IsReferenceOf r row × (r.row ≡ i)) [
-      | true ↦ λ e k. reference_body row i row.body r e refl k
-      | false ↦ λ e k. absurd k
-    ] refl h
+reference_row row i r h = let active = Has-if row.active (reference_of_body row.body i) r h in reference_body row i row.body r active.0 refl active.1
 
 -- the target is what the row says
 pub record IsTargetOf (t : Target) (row : RowValue) : Type 0 where
@@ -144,11 +137,7 @@ target_body row i (body.Concrete x) t a e h = absurd h
 target_body row i (body.Member m) t a e h = absurd h
 
 target_row : (row : RowValue) (i : ℕ) (t : Target) → Has (posted_target row i) t → IsTargetOf t row × (t.row ≡ i)
-target_row row i t h =
-    elim row.active as (λ b. row.active ≡ b → Has (if b then target_of_body row.body i else []) t → IsTargetOf t row × (t.row ≡ i)) [
-      | true ↦ λ e k. target_body row i row.body t e refl k
-      | false ↦ λ e k. absurd k
-    ] refl h
+target_row row i t h = let active = Has-if row.active (target_of_body row.body i) t h in target_body row i row.body t active.0 refl active.1
 
 -- the subject is what the row is about
 pub record IsSubjectOf (x : Subject) (row : RowValue) : Type 0 where
@@ -162,10 +151,9 @@ subject_column (Some id) kind i x h = elim h [ inl s ↦ (ap (λ (y : Subject). 
 
 subject_row : (row : RowValue) (i : ℕ) (x : Subject) → Has (posted_subject row i) x → IsSubjectOf x row × (x.row ≡ i)
 subject_row row i x h =
-    elim row.active as (λ b. row.active ≡ b → Has (if b then subject_at (subject_of row) (kind_of row) i else []) x → IsSubjectOf x row × (x.row ≡ i)) [
-      | true ↦ λ e k. (let w = subject_column (subject_of row) (kind_of row) i x k in (record { active = e; subject_is = w.0; kind_is = w.1 }, w.2))
-      | false ↦ λ e k. absurd k
-    ] refl h
+    let active = Has-if row.active (subject_at (subject_of row) (kind_of row) i) x h in
+    let w = subject_column (subject_of row) (kind_of row) i x active.1 in
+    (record { active = active.0; subject_is = w.0; kind_is = w.1 }, w.2)
 
 pub subject_stands : (lists : List (List StampedRow)) (edges : List Edges) → EachPosted lists edges → (x : ℕ × Subject) → Has (numbered 0 (subjects_in edges)) x → (s : StampedRow) × (item_at lists x.0 x.1.row ≡ Some s) × IsSubjectOf x.1 s.row
 subject_stands lists edges a x h = stands posted_subject (λ (y : Subject). y.row) IsSubjectOf subject_row lists (subjects_in edges) (subjects_posted lists edges a) x h

@@ -15,6 +15,7 @@ use Rattle.as_of_index.specs.Private.Postings.{numbered}
 use Rattle.history_model.specs.History.{rows_at}
 use Rattle.history_model.specs.Lists.{listed}
 use Rattle.history_model.specs.Queries.{snapshot, is_above, is_term, is_term_above, begins_with, folded}
+use Rattle.history_model.proofs.Items.{Has-if}
 use Rattle.as_of_index.proofs.Pushing.{stands, IsPostedAs, posted_as, all_more, all_set, all_removed}
 use Rattle.term_prefix.specs.Terms.{TermAt}
 use Rattle.term_prefix.specs.Pushed.{term_of_body, posted_term, ArePosted, PostedTermsAreFew, PostedTermsMore, PostedTermsMerged}
@@ -47,11 +48,7 @@ of_body row i (body.Concrete x) t a e h = absurd h
 of_body row i (body.Member m) t a e h = absurd h
 
 of_row : (row : RowValue) (i : ℕ) (t : TermAt) → Has (posted_term row i) t → IsTermOf t row × (t.row ≡ i)
-of_row row i t h =
-    elim row.active as (λ b. row.active ≡ b → Has (if b then term_of_body row.body i else []) t → IsTermOf t row × (t.row ≡ i)) [
-      | true ↦ λ e k. of_body row i row.body t e refl k
-      | false ↦ λ e k. absurd k
-    ] refl h
+of_row row i t h = let active = Has-if row.active (term_of_body row.body i) t h in of_body row i row.body t active.0 refl active.1
 
 pub term_stands : (lists : List (List StampedRow)) (terms : List (List TermAt)) → ArePosted lists terms → (x : ℕ × TermAt) → Has (numbered 0 terms) x → (s : StampedRow) × (item_at lists x.0 x.1.row ≡ Some s) × IsTermOf x.1 s.row
 term_stands lists terms a x h = stands posted_term (λ (t : TermAt). t.row) IsTermOf of_row lists terms a x h
