@@ -23,10 +23,6 @@ segment_begins rows done left split =
     let both = ap (λ (l : List StampedRow). length (segment_of l)) split ∙ ap length (sym (plain_segment (done ++ left)) ∙ pieces_join forms.Plain done left ∙ (λ i. plain_segment done i ++ plain_segment left i)) ∙ length-append (segment_of done) (segment_of left) in
     omega (arith, both)
 
-pub middle_all : {X : Type 0} (P : X → Type 0) (xs : List X) (x : X) (ys : List X) → AllByRecursion P (xs ++ x ∷ ys) → P x
-middle_all P [] x ys all = all.0
-middle_all P (y ∷ xs) x ys all = middle_all P xs x ys all.1
-
 -- with the record of one row more
 pub more_placed : (form : Form) (rows placed next left rest : List StampedRow) (bytes more : List ℕ) (s : StampedRow) → rows ≡ placed ++ left → left ≡ s ∷ rest → bytes ≡ segment_in form placed → AllByRecursion IsStamped placed → next ≡ placed ++ s ∷ [] → more ≡ bytes ++ record_in form s → IsStamped s
     → (rows ≡ next ++ rest) × (more ≡ segment_in form next) × AllByRecursion IsStamped next

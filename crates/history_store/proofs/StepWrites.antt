@@ -7,14 +7,14 @@ use Rattle.list_lemmas.proofs.Parts.{take_sum}
 use Rattle.disk_model.specs.Disk.{Moments}
 use Rattle.blocks.specs.Extents.{start_of}
 use Rattle.history_model.specs.declared.stamped.StampedRow.{StampedRow}
-use Rattle.history_model.specs.InOrder.{Has, IsAscending, joined}
+use Rattle.history_model.specs.InOrder.{Has, IsAscending}
 use Rattle.history_model.specs.History.{History, stamped_cmp}
 use Rattle.history_model.specs.Lists.{union, listed}
-use Rattle.history_model.proofs.InOrder.{Has-append_left, Has-append_right}
 use Rattle.history_model.proofs.Snapshots.{Has-listed_from}
 use Rattle.history_model.proofs.Listings.{two_lists, Has-union_cases, IsAscending-union}
 use Rattle.history_model.proofs.Unions.{length-union}
 use Rattle.history_model.proofs.Filtered.{IsAscending-take, IsAscending-drop}
+use Rattle.history_model.proofs.Items.{Has-joined_at, Has-drop, Has-take}
 use Rattle.directory.specs.declared.entry.Entry.{Entry}
 use Rattle.directory.specs.Listings.{DirectoryValue}
 use Rattle.directory.specs.Places.{extent_of}
@@ -47,22 +47,7 @@ has_rows (e ∷ entries) (x ∷ lists) (suc k) rows now are holds found =
     let on = has_rows entries lists k rows now are.1 (All-tail (λ p. Holds p now) (start_of (extent_of e), segment_in e.form x) (pieces_of entries lists) holds) found in
     record { entry = on.entry; entry_is = on.entry_is; segment = on.segment; stands = on.stands }
 
-has_joined : (lists : List (List StampedRow)) (k : ℕ) (rows : List StampedRow) (s : StampedRow) → slice_get lists k ≡ Some rows → Has rows s → Has (joined lists) s
-has_joined [] k rows s found h = absurd cc
-has_joined (x ∷ lists) zero rows s found h = let same : rows ≡ x = cc in Has-append_left x (joined lists) s (subst (λ (l : List StampedRow). Has l s) same h)
-has_joined (x ∷ lists) (suc k) rows s found h = Has-append_right x (joined lists) s (has_joined lists k rows s found h)
-
 -- ---- what is left of two lists
-
-has_front : (n : ℕ) (rows : List StampedRow) (s : StampedRow) → Has (take n rows) s → Has rows s
-has_front zero rows s h = absurd h
-has_front (suc n) [] s h = absurd h
-has_front (suc n) (x ∷ rows) s h = elim h [ inl one ↦ inl one | inr rest ↦ inr (has_front n rows s rest) ]
-
-has_drop : (n : ℕ) (rows : List StampedRow) (s : StampedRow) → Has (drop n rows) s → Has rows s
-has_drop zero rows s h = h
-has_drop (suc n) [] s h = absurd h
-has_drop (suc n) (x ∷ rows) s h = inr (has_drop n rows s h)
 
 -- ---- what is written
 
@@ -87,9 +72,9 @@ module _ (d : DirectoryValue) (lists : List (List StampedRow)) (m : MergeInProgr
   of_history : (s : StampedRow) → Has (take n rest) s → Has (listed lists) s
   of_history s h =
       Has-listed_from lists s kept.apart
-      (elim (Has-union_cases m.output.a m.output.b s (has_drop m.output.taken all_rows s (has_front n rest s h))) [
-        | inl p ↦ has_joined lists m.i m.output.a s is.a_is p
-        | inr q ↦ has_joined lists m.j m.output.b s is.b_is q
+      (elim (Has-union_cases m.output.a m.output.b s (Has-drop m.output.taken all_rows s (Has-take n rest s h))) [
+        | inl p ↦ Has-joined_at lists m.i m.output.a s is.a_is p
+        | inr q ↦ Has-joined_at lists m.j m.output.b s is.b_is q
       ])
 
   are_next : (now : List ℕ) → AreThere d.entries lists now → BeginsWith (extent_of m.entry) (segment_in m.entry.form (taken_rows m.output)) now

@@ -1,7 +1,7 @@
 -- One store and one release give one answer, unless memory lacks or the device fails.
-use Rattle.std.proofs.Common.{◌≡◌, ◌⊎◌, ℕ, ◌++◌, ◌+◌, ◌^◌, ◌≤◌, length, Bool, true, false, List, [], ◌∷◌, refl, sym, ap, subst, ◌∙◌, Result, Ok, Err, inl, inr, Option, Some, None, arith}
-use Rattle.std.specs.Prelude.{is_some, unwrap_or}
+use Rattle.std.proofs.Common.{◌≡◌, ◌⊎◌, ℕ, ◌++◌, ◌+◌, length, Bool, true, false, List, [], ◌∷◌, refl, sym, ap, subst, ◌∙◌, Result, Ok, Err, inl, inr, arith}
 use Rattle.std.proofs.lemmas.Bool.{false≢true}
+use Rattle.list_lemmas.proofs.Tests.{one_value}
 use Rattle.rf2_values.specs.Row.{RowValue}
 use Rattle.rf2_values.specs.declared.key.Key.{Key}
 use Rattle.rf2_rows.specs.declared.fault.LineFault.{LineFault}
@@ -17,11 +17,11 @@ use Rattle.import_check.proofs.Deciding.{one_fault, read_has_no_fault, one_first
 use Rattle.history_store.specs.declared.refusal.Refusal.{Refusal}
 use Rattle.history_store.specs.declared.refusal.Refusal.TheVariants as refusals
 use Rattle.directory.specs.Listings.{form_of, next_layout}
-use Rattle.history_store.specs.Catalog.{Catalog, IsCatalogAfter, HasNoEntry, HasNoPlace, entry_at, place_for}
-use Rattle.segment.specs.Records.{segment_of}
+use Rattle.history_store.specs.Catalog.{Catalog, IsCatalogAfter, HasNoEntry, HasNoPlace, entry_at}
 use Rattle.history_store.specs.StoreValue.{StoreValue, last_import, last_epoch}
 use Rattle.history_store.specs.Prepared.{IsNotSpent, IsForLater, IsAdmitted}
 use Rattle.history_store.specs.Answers.{IsTaken, IsImportOf}
+use Rattle.history_store.proofs.Foreseen.{has_place, has_entry}
 use Rattle.store_life.specs.Laws.{OneImport, IsSureImport}
 
 abbrev is_fault : Refusal → Bool
@@ -48,26 +48,12 @@ same_line {file} {line} {number} {other} {fault} {different} e f g =
 same_place : {file line number other : ℕ} → file ≡ number → line ≡ other → at_place file line ≡ at_place number other
 same_place {file} {line} {number} {other} e f = ap (λ (x : ℕ). at_place x line) e ∙ ap (λ (x : ℕ). at_place number x) f
 
-one_some : {X : Type 0} (x y : X) (o : Option X) → o ≡ Some x → o ≡ Some y → x ≡ y
-one_some {X} x y o e f = ap (λ (p : Option X). unwrap_or p x) (sym e ∙ f)
-
 -- a segment goes to one place
 one_next : (rows : List StampedRow) (catalog next other : Catalog) → IsCatalogAfter rows catalog next → IsCatalogAfter rows catalog other → other ≡ next
 one_next [] catalog next other a b = b ∙ sym a
 one_next (s ∷ rows) catalog next other a b =
-    let first : b.first ≡ a.first = one_some b.first a.first _ b.place a.place in
+    let first : b.first ≡ a.first = one_value _ b.first a.first b.place a.place in
     b.next_is ∙ ap (λ (k : ℕ). record { layout = next_layout catalog.layout; epoch = catalog.epoch + 1; entries = catalog.entries ++ entry_at (form_of catalog.layout) k (s ∷ rows) ∷ []; merge = catalog.merge }) first ∙ sym a.next_is
-
-entry_lacks : (rows : List StampedRow) (catalog next : Catalog) → HasNoEntry rows catalog → IsCatalogAfter rows catalog next → ⊥
-entry_lacks [] catalog next lacks a = omega (arith, lacks.some)
-entry_lacks (s ∷ rows) catalog next lacks a = omega (arith, lacks.all_taken, a.few)
-
-place_lacks : (rows : List StampedRow) (catalog next : Catalog) → HasNoPlace rows catalog → IsCatalogAfter rows catalog next → ⊥
-place_lacks [] catalog next lacks a = omega (arith, lacks.some)
-place_lacks (s ∷ rows) catalog next lacks a = no_room lacks.none where
-  no_room : (2 ^ 32 ≤ length (segment_of (s ∷ rows))) ⊎ (place_for (s ∷ rows) catalog ≡ None) → ⊥
-  no_room (inl long) = omega (arith, long, a.short)
-  no_room (inr none) = false≢true (ap is_some (sym none ∙ a.place))
 
 same_receipt : (a b : Receipt) → a.number ≡ b.number → a.new ≡ b.new → a.repeated ≡ b.repeated → a ≡ b
 same_receipt a b e f g =
@@ -117,10 +103,10 @@ module _ (D : Type 0) (needs : Bool) (h : History) (catalog : Catalog) (release 
   Agree x y after next = (x ≡ y) × (next.history ≡ after.history) × (next.catalog ≡ after.catalog) × (next.needs_reopen ≡ after.needs_reopen)
 
   no_entry : (next : Catalog) (rows others : List RowValue) → IsReleaseOf release rows → IsReleaseOf release others → HasNoEntry (new_rows h rows) catalog → IsCatalogAfter (new_rows h others) catalog next → ⊥
-  no_entry next rows others r o lacks a = entry_lacks (new_rows h others) catalog next (subst (λ (l : List RowValue). HasNoEntry (new_rows h l) catalog) (one_list release rows others r o) lacks) a
+  no_entry next rows others r o lacks a = has_entry (new_rows h others) catalog next a (subst (λ (l : List RowValue). HasNoEntry (new_rows h l) catalog) (one_list release rows others r o) lacks)
 
   no_place : (next : Catalog) (rows others : List RowValue) → IsReleaseOf release rows → IsReleaseOf release others → HasNoPlace (new_rows h rows) catalog → IsCatalogAfter (new_rows h others) catalog next → ⊥
-  no_place next rows others r o lacks a = place_lacks (new_rows h others) catalog next (subst (λ (l : List RowValue). HasNoPlace (new_rows h l) catalog) (one_list release rows others r o) lacks) a
+  no_place next rows others r o lacks a = has_place (new_rows h others) catalog next a (subst (λ (l : List RowValue). HasNoPlace (new_rows h l) catalog) (one_list release rows others r o) lacks)
 
   module _ (x y : Result Receipt Refusal) (after next : StoreValue D) where
     stay : Stays after → Stays next → (next.history ≡ after.history) × (next.catalog ≡ after.catalog) × (next.needs_reopen ≡ after.needs_reopen)

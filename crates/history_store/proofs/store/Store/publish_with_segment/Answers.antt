@@ -1,4 +1,5 @@
 use Rattle.std.proofs.Common.{◌≡◌, false, subst, sym, ap, ◌∙◌, refl, arith, length}
+use Rattle.store_image.proofs.Damaged.{segments_count as lists_count}
 use Rattle.blocks.specs.Slots.{other}
 use Rattle.blocks.specs.Cache.{is_in, Forgets}
 use Rattle.directory.specs.Listings.{DirectoryValue}
@@ -9,7 +10,7 @@ use Rattle.history_store.specs.Private.Prepared.{IsPreparedFor}
 use Rattle.history_store.proofs.GoingOn.{merge_added}
 use Rattle.history_store.proofs.WrittenWhere.{one_added, leaves_but_segment}
 use Rattle.history_store.proofs.Forgotten.{segment_forgotten}
-use Rattle.history_store.proofs.Held.{held_added, held_stands, leaves_added, is_added, lists_count, with_more}
+use Rattle.history_store.proofs.Held.{held_added, held_stands, leaves_added, is_added, with_more}
 use Rattle.history_store.proofs.NewSegment.{below_places}
 use Rattle.history_store.proofs.store.Store.publish_with_segment.Goals as goal
 
