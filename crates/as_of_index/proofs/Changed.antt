@@ -8,16 +8,17 @@ use Rattle.std.specs.declared.cmp.Ordering.{Ordering}
 use Rattle.std.specs.declared.cmp.Ordering.TheVariants.{Less, Equal, Greater}
 use Rattle.std.proofs.lemmas.Bool.Decides.{nat_tests}
 use Rattle.std.proofs.lemmas.List.{take_more, length-map, get_or-map}
+use Rattle.std.proofs.lemmas.Bool.{and_parts}
 use Rattle.rf2_values.specs.declared.row.Kind.{Kind}
 use Rattle.history_model.specs.InOrder.{Has}
 use Rattle.history_model.specs.Queries.{is_above}
 use Rattle.history_model.proofs.InOrder.{Has-append_left, Has-append_right, Has-append_cases}
-use Rattle.history_model.proofs.Filtered.{both}
 use Rattle.segment.specs.declared.place.RowPlace.{RowPlace}
 use Rattle.as_of_index.specs.declared.as_of.AsOf.{AsOf}
 use Rattle.as_of_index.specs.Places.{greatest_by}
 use Rattle.as_of_index.specs.Private.Search.{in_segment, may_show, may_change, changed_part, changed_parts, is_shown, is_candidate, IsPick, IsPickFrom, later_than, later_of, IsNextId, IsNextChanged, lesser_of}
-use Rattle.as_of_index.proofs.Found.{candidate, in_one, one_alone, first_stays}
+use Rattle.as_of_index.proofs.Ordered.{of_one_segment}
+use Rattle.as_of_index.proofs.Found.{candidate, one_alone, first_stays}
 use Rattle.as_of_index.proofs.Shown.{none_there, shown_at}
 
 -- ---- the greatest of a number
@@ -130,7 +131,7 @@ module _ (from : Option ℕ) (as_of : AsOf) where
     unfolding IsPickFrom
     pick_from_more n ps xs None None a r = λ x h c late. elim (Has-append_cases xs (in_segment n ps) x h) [
       | inl l ↦ a x l c late
-      | inr t ↦ (let m = in_one kind id as_of n ps x t in r m.0 m.1 (subst (λ (y : ℕ × RowPlace). is_candidate kind id as_of y.1 ≡ true) m.2 c) (subst (λ (y : ℕ × RowPlace). is_above from y.1.key.time ≡ true) m.2 late))
+      | inr t ↦ (let m = of_one_segment n ps x t in r m.0 m.1 (subst (λ (y : ℕ × RowPlace). is_candidate kind id as_of y.1 ≡ true) m.2 c) (subst (λ (y : ℕ × RowPlace). is_above from y.1.key.time ≡ true) m.2 late))
     ]
     pick_from_more n ps xs (Some b) None a r = (first_stays kind id as_of n ps xs b a.0 (λ q h c. up_to_later q.key.time b.1.key.time (r q h c) a.1), a.1)
     pick_from_more n ps xs None (Some p) a r = (one_alone kind id as_of n ps xs p (λ x l c. up_to_later x.1.key.time p.key.time (a x l c) r.1) r.0, r.1)
@@ -158,9 +159,9 @@ module _ (from : Option ℕ) (as_of : AsOf) where
     none_of_hidden : (n : ℕ) (places : List RowPlace) → may_change from as_of places ≡ false → (best : Option ℕ) → IsNextId kind after [] best → NextChanged (in_segment n places) best
     unfolding IsNextId IsNextChanged
     none_of_hidden n places e None r = λ x h k s.
-        let m = in_one kind 0 as_of n places x h in
+        let m = of_one_segment n places x h in
         let same = ap (λ (y : ℕ × RowPlace). y.1) m.2 in
-        let c = both (is_shown as_of x.1) (is_above from x.1.key.time) s in
+        let c = and_parts (is_shown as_of x.1) (is_above from x.1.key.time) s in
         let at = shown_at x.1.key.time x.1.import as_of c.0 in
         none_changed places e m.0 m.1 (subst (λ (p : RowPlace). p.key.time ≤ as_of.date) same at.0) (subst (λ (p : RowPlace). p.import ≤ as_of.pin) same at.1) (subst (λ (p : RowPlace). is_above from p.key.time ≡ true) same c.1)
     none_of_hidden n places e (Some id) r = absurd r.there.1

@@ -1,6 +1,6 @@
 -- How many items of a list pass a test, where those that pass stand before those that don't.
-use Rattle.std.proofs.Common.{◌≡◌, ℕ, zero, suc, ◌+◌, ◌<◌, ◌≤◌, Bool, false, List, [], ◌∷◌, length, refl, ap, ◌∙◌, arith}
-use Rattle.std.specs.Prelude.{Some, slice_get, cond}
+use Rattle.std.proofs.Common.{◌≡◌, ℕ, zero, suc, ◌+◌, ◌≤◌, Bool, false, List, [], ◌∷◌, length, refl, ap, ◌∙◌, arith}
+use Rattle.std.specs.Prelude.{cond}
 use Rattle.std.specs.List.{AllByRecursion, count_by}
 use Rattle.std.proofs.lemmas.List.Sums.{sum_by-cons}
 use Rattle.as_of_index.specs.Private.Search.{SplitsAt}
@@ -20,8 +20,3 @@ module _ {X : Type 0} (p : X → Bool) where
       let one : count_by p (x ∷ xs) ≡ 1 + count_by p xs = sum_by-cons (λ y. cond (p y) 1 0) x xs ∙ ap (λ b. cond b 1 0 + count_by p xs) split.before.0 in
       let more = count_at xs i (omega arith) (record { before = split.before.1; rest = split.rest }) in
       omega (arith, one, more)
-
-pub number_within : {X : Type 0} (xs : List X) (i : ℕ) (x : X) → slice_get xs i ≡ Some x → i < length xs
-number_within [] i x e = absurd cc
-number_within (y ∷ xs) zero x e = omega arith
-number_within (y ∷ xs) (suc i) x e = let lt = number_within xs i x e in omega (arith, lt)

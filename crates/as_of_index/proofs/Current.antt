@@ -6,6 +6,7 @@ use Rattle.std.proofs.lemmas.List.Sums.{sum_by-cons, sum_by_push}
 use Rattle.std.specs.Cmp.{IsTotalOrder, nat_cmp_total, on_total}
 use Rattle.std.specs.declared.cmp.Ordering.{Ordering}
 use Rattle.std.specs.declared.cmp.Ordering.TheVariants.{Less}
+use Rattle.std.proofs.lemmas.List.{map_push}
 use Rattle.rf2_values.specs.declared.key.Key.{Key}
 use Rattle.rf2_values.specs.Row.{RowValue, kind_of}
 use Rattle.rf2_values.specs.Key.{key_of}
@@ -13,10 +14,10 @@ use Rattle.history_model.specs.declared.stamped.StampedRow.{StampedRow}
 use Rattle.history_model.specs.InOrder.{Has, IsAscending, joined}
 use Rattle.history_model.specs.History.{row_cmp}
 use Rattle.history_model.specs.Lists.{listed}
-use Rattle.history_model.specs.Queries.{get, snapshot, is_current}
+use Rattle.history_model.specs.Queries.{get, snapshot}
 use Rattle.history_model.proofs.InOrder.{Has-all, all_from_has}
-use Rattle.history_model.proofs.Filtered.{IsAscending-filter}
-use Rattle.history_model.proofs.Snapshots.{get_is, listed_once, current_from_snapshot, IsConsistent-from_ascending, IsAscending-rows_at, IsAscending-listed, Has-listed_cases, Has-rows_at_cases}
+use Rattle.history_model.proofs.Snapshots.{get_is, listed_once, current_from_snapshot, IsConsistent-from_ascending, IsAscending-rows_at, IsAscending-listed, Has-listed_cases, Has-rows_at_cases, IsAscending-snapshot}
+use Rattle.history_model.proofs.Items.{Has-joined_at}
 use Rattle.segment.specs.declared.place.RowPlace.{RowPlace}
 use Rattle.as_of_index.specs.declared.as_of.AsOf.{AsOf}
 use Rattle.as_of_index.specs.declared.chosen.Chosen.{Chosen}
@@ -27,15 +28,10 @@ use Rattle.as_of_index.specs.Chosen.{StandAtAll}
 use Rattle.as_of_index.specs.Private.Chosen.{chosen_cmp}
 use Rattle.segment.proofs.Posting.{says, row_there}
 use Rattle.as_of_index.proofs.Standing.{are_lists}
-use Rattle.as_of_index.proofs.Among.{has_joined}
-
-pub IsAscending-at_date : (rows : List RowValue) (date : ℕ) → IsAscending row_cmp rows → IsAscending row_cmp (snapshot rows date)
-unfolding snapshot
-IsAscending-at_date rows date up = IsAscending-filter (is_current rows date) row_cmp rows up
 
 module _ (lists : List (List StampedRow)) (are : ArePlaces (map places_of lists)) where
   pub standing_row : (n : ℕ) (p : RowPlace) (s : StampedRow) → StandsAt lists n p s → Has (joined lists) s × (p.key ≡ key_of s.row)
-  standing_row n p s w = (has_joined lists n w.rows s w.list_is (row_there 0 w.rows (s, p) w.there), (says 0 w.rows (s, p) w.there).key_is)
+  standing_row n p s w = (Has-joined_at lists n w.rows s w.list_is (row_there 0 w.rows (s, p) w.there), (says 0 w.rows (s, p) w.there).key_is)
 
   -- one row stands at a place
   pub one_row : (n m : ℕ) (p q : RowPlace) (s t : StampedRow) → StandsAt lists n p s → StandsAt lists m q t → p ≡ q → s ≡ t
@@ -56,7 +52,7 @@ module _ (lists : List (List StampedRow)) (are : ArePlaces (map places_of lists)
         sym k.same ∙ ap (λ (z : StampedRow). z.row) (listed_once lists (are_lists lists are) k.stamped_row s (Has-listed_cases lists k.stamped_row k.known) x.0 (ap key_of k.same ∙ e))
 
     pub shown_ascends : IsAscending row_cmp (snapshot shown as_of.date)
-    shown_ascends = IsAscending-at_date shown as_of.date (IsAscending-rows_at as_of.pin (listed lists) (IsAscending-listed lists))
+    shown_ascends = IsAscending-snapshot shown as_of.date (IsAscending-rows_at as_of.pin (listed lists) (IsAscending-listed lists))
 
     -- a row at the date is current where its key stands
     pub current_where : (n : ℕ) (p : RowPlace) (s : StampedRow) (row : RowValue) → StandsAt lists n p s → Has (snapshot shown as_of.date) row → p.key ≡ key_of row → (row ≡ s.row) × IsCurrentAt lists as_of n p
@@ -141,14 +137,10 @@ stand_end lists (j ∷ ks) [] i a le = absurd a
 stand_end lists (j ∷ ks) (s ∷ rows) zero a le = absurd (omega arith)
 stand_end lists (j ∷ ks) (s ∷ rows) (suc i) a le = ap (λ xs. s ∷ xs) (stand_end lists ks rows i a.1 (omega arith))
 
-pub map-push : {X Y : Type 0} (f : X → Y) (xs : List X) (x : X) → map f (xs ++ x ∷ []) ≡ map f xs ++ f x ∷ []
-map-push f [] x = refl
-map-push f (y ∷ ys) x = ap (λ zs. f y ∷ zs) (map-push f ys x)
-
 -- ---- what reading the rows takes
 
 pub rows_push : (f : RowValue → ℕ) (rows : List StampedRow) (s : StampedRow) → sum_by f (map (λ (t : StampedRow). t.row) (rows ++ s ∷ [])) ≡ sum_by f (map (λ (t : StampedRow). t.row) rows) + f s.row
-rows_push f rows s = ap (sum_by f) (map-push (λ (t : StampedRow). t.row) rows s) ∙ sum_by_push f (map (λ (t : StampedRow). t.row) rows) s.row
+rows_push f rows s = ap (sum_by f) (map_push (λ (t : StampedRow). t.row) rows s) ∙ sum_by_push f (map (λ (t : StampedRow). t.row) rows) s.row
 
 -- the first rows take no more than all
 pub first_rows : (f : RowValue → ℕ) (k : ℕ) (rows : List StampedRow) → sum_by f (map (λ (t : StampedRow). t.row) (take k rows)) ≤ sum_by f (map (λ (t : StampedRow). t.row) rows)

@@ -8,13 +8,8 @@ use Rattle.std.specs.declared.cmp.Ordering.{Ordering}
 use Rattle.std.specs.declared.cmp.Ordering.TheVariants.{Less, Equal, Greater}
 use Rattle.history_model.specs.InOrder.{Has, IsAscending, placed, put}
 use Rattle.history_model.proofs.InOrder.{Has-all, not_both, not_below_itself}
+use Rattle.history_model.proofs.Items.{Has-get_or}
 use Rattle.as_of_index.specs.Private.Search.{SplitsAt}
-use Rattle.as_of_index.proofs.Ordered.{has_at}
-
-pub Has-take : {X : Type 0} (n : ℕ) (xs : List X) (x : X) → Has (take n xs) x → Has xs x
-Has-take zero xs x h = absurd h
-Has-take (suc n) [] x h = h
-Has-take (suc n) (y ∷ ys) x h = elim h [ inl e ↦ inl e | inr t ↦ inr (Has-take n ys x t) ]
 
 module _ {X : Type 0} {cmp : X → X → Ordering} (o : IsTotalOrder cmp) where
   -- one that isn't among the first n is above them, and they are n
@@ -109,6 +104,6 @@ Falls p (x ∷ xs) = AllByRecursion (λ y. p y ≡ true → p x ≡ true) xs × 
 pub parted : {X : Type 0} (p : X → Bool) (xs : List X) → Falls p xs → IsPartitionedBy p xs
 parted p [] f i j d le lt e = absurd (omega arith)
 parted p (x ∷ xs) f zero zero d le lt e = e
-parted p (x ∷ xs) f zero (suc j) d le lt e = Has-all (λ y. p y ≡ true → p x ≡ true) xs (get_or xs j d) f.0 (has_at xs j d (omega arith)) e
+parted p (x ∷ xs) f zero (suc j) d le lt e = Has-all (λ y. p y ≡ true → p x ≡ true) xs (get_or xs j d) f.0 (Has-get_or xs j d (omega arith)) e
 parted p (x ∷ xs) f (suc i) zero d le lt e = absurd (omega arith)
 parted p (x ∷ xs) f (suc i) (suc j) d le lt e = parted p xs f.1 i j d (omega arith) (omega arith) e

@@ -6,15 +6,12 @@ use Rattle.std.specs.declared.cmp.Ordering.{Ordering}
 use Rattle.std.specs.declared.cmp.Ordering.TheVariants.{Less, Equal, Greater}
 use Rattle.history_model.specs.InOrder.{Has, IsAscending}
 use Rattle.history_model.proofs.InOrder.{Has-all, Has-append_left, Has-append_right, Has-append_cases, not_both, not_below_itself, above}
-use Rattle.history_model.proofs.Filtered.{Has-map, Has-map_from}
+use Rattle.history_model.proofs.Filtered.{Has-map_from}
 use Rattle.segment.specs.declared.place.RowPlace.{RowPlace}
 use Rattle.as_of_index.specs.declared.search.Start.{Start}
 use Rattle.as_of_index.specs.Places.{place_cmp}
 use Rattle.as_of_index.specs.Private.Search.{in_segment, is_before, SplitsAt, IsLeastOf, IsNext, sooner_of}
-use Rattle.as_of_index.proofs.Ordered.{places_total}
-
-in_one : (n : ℕ) (ps : List RowPlace) (x : ℕ × RowPlace) → Has (in_segment n ps) x → (p : RowPlace) × Has ps p × (x ≡ (n, p))
-in_one n ps x h = let m = Has-map (λ (p : RowPlace). (n, p)) ps x h in (m.0, m.1, sym m.2)
+use Rattle.as_of_index.proofs.Ordered.{places_total, of_one_segment}
 
 module _ (start : Start) where
   get_first : (list : List RowPlace) (i : ℕ) (found : Option RowPlace) → found ≡ slice_get list i → IsAscending place_cmp list → SplitsAt (is_before start) list i → IsNext start (λ p. p) list found
@@ -67,7 +64,7 @@ module _ (start : Start) where
     passes = r.passes;
     least = λ x h c. elim (Has-append_cases xs (in_segment n ps) x h) [
       | inl l ↦ others x l c
-      | inr t ↦ (let m = in_one n ps x t in let e = ap (λ (y : ℕ × RowPlace). y.1) m.2 in subst (λ (q : RowPlace). NotBelow q p) (sym e) (r.least m.0 m.1 (subst (λ q. is_before start q ≡ false) e c)))
+      | inr t ↦ (let m = of_one_segment n ps x t in let e = ap (λ (y : ℕ × RowPlace). y.1) m.2 in subst (λ (q : RowPlace). NotBelow q p) (sym e) (r.least m.0 m.1 (subst (λ q. is_before start q ≡ false) e c)))
     ];
   }
 
@@ -77,7 +74,7 @@ module _ (start : Start) where
     passes = a.passes;
     least = λ x h c. elim (Has-append_cases xs (in_segment n ps) x h) [
       | inl l ↦ a.least x l c
-      | inr t ↦ (let m = in_one n ps x t in let e = ap (λ (y : ℕ × RowPlace). y.1) m.2 in subst (λ (q : RowPlace). NotBelow q b.1) (sym e) (others m.0 m.1 (subst (λ q. is_before start q ≡ false) e c)))
+      | inr t ↦ (let m = of_one_segment n ps x t in let e = ap (λ (y : ℕ × RowPlace). y.1) m.2 in subst (λ (q : RowPlace). NotBelow q b.1) (sym e) (others m.0 m.1 (subst (λ q. is_before start q ≡ false) e c)))
     ];
   }
 
@@ -91,7 +88,7 @@ module _ (start : Start) where
   unfolding IsNext
   next_more n ps xs None None a r = λ x h. elim (Has-append_cases xs (in_segment n ps) x h) [
     | inl l ↦ a x l
-    | inr t ↦ (let m = in_one n ps x t in subst (λ (y : ℕ × RowPlace). is_before start y.1 ≡ true) (sym m.2) (r m.0 m.1))
+    | inr t ↦ (let m = of_one_segment n ps x t in subst (λ (y : ℕ × RowPlace). is_before start y.1 ≡ true) (sym m.2) (r m.0 m.1))
   ]
   next_more n ps xs (Some b) None a r = old_least n ps xs b a (λ q h c. absurd (let yes = r q h in cc))
   next_more n ps xs None (Some p) a r = new_least n ps xs p (λ x l c. absurd (let yes = a x l in cc)) r

@@ -4,12 +4,14 @@ use Rattle.std.specs.Prelude.{◌&&◌, ◌||◌, ◌==◌, not, nat_le, nat_lt,
 use Rattle.std.specs.List.{AllByRecursion, find}
 use Rattle.std.specs.declared.cmp.Ordering.TheVariants.{Less}
 use Rattle.std.proofs.lemmas.Bool.Decides.{nat_tests}
-use Rattle.std.proofs.lemmas.List.{take_more, length-take}
+use Rattle.std.proofs.lemmas.List.{take_more}
+use Rattle.std.proofs.lemmas.Bool.{and_parts}
+use Rattle.list_lemmas.proofs.Parts.{taken_before}
 use Rattle.rf2_values.specs.declared.row.Kind.{Kind}
 use Rattle.rf2_values.specs.Key.{kind_place}
 use Rattle.history_model.specs.InOrder.{Has, IsAscending}
 use Rattle.history_model.proofs.InOrder.{Has-all, all_from_has, Has-append_left, Has-append_right, Has-append_cases}
-use Rattle.history_model.proofs.Filtered.{both, Has-map, Has-map_from}
+use Rattle.history_model.proofs.Filtered.{Has-map_from, IsAscending-take}
 use Rattle.history_model.proofs.Searching.{IsDescending}
 use Rattle.history_model.proofs.Searching.{IsDescending-reverse, Has-reverse_cases, Has-reverse_from}
 use Rattle.segment.specs.declared.place.RowPlace.{RowPlace}
@@ -17,7 +19,7 @@ use Rattle.as_of_index.specs.declared.as_of.AsOf.{AsOf}
 use Rattle.as_of_index.specs.declared.search.Start.TheVariants.{AfterVersion, Later}
 use Rattle.as_of_index.specs.Places.{place_cmp}
 use Rattle.as_of_index.specs.Private.Search.{in_segment, all_places, is_of, is_candidate, is_before, SplitsAt, stops, IsLatestOf, IsPick, later_of}
-use Rattle.as_of_index.proofs.Ordered.{below, IsBelow, IsAscending-take}
+use Rattle.as_of_index.proofs.Ordered.{of_one_segment, below, IsBelow}
 
 -- ---- tests on plain numbers
 
@@ -53,8 +55,8 @@ module _ (kind : Kind) (id : ℕ) (as_of : AsOf) where
 
   pub candidate : (p : RowPlace) → is_candidate kind id as_of p ≡ true → IsCandidate p
   candidate p e =
-      let q = both (is_of kind id p && nat_le p.key.time as_of.date) (nat_le p.import as_of.pin) e in
-      let r = both (is_of kind id p) (nat_le p.key.time as_of.date) q.0 in
+      let q = and_parts (is_of kind id p && nat_le p.key.time as_of.date) (nat_le p.import as_of.pin) e in
+      let r = and_parts (is_of kind id p) (nat_le p.key.time as_of.date) q.0 in
       record { of = r.0; early = grind (arith, nat_tests, r.1); shown = grind (arith, nat_tests, q.1) }
 
   pub candidate_test : (p : RowPlace) → is_of kind id p ≡ true → p.key.time ≤ as_of.date → p.import ≤ as_of.pin → is_candidate kind id as_of p ≡ true
@@ -138,7 +140,7 @@ module _ (kind : Kind) (id : ℕ) (as_of : AsOf) where
     in_list z h = subst (λ xs. Has xs z) (take-append-drop end list) (Has-append_left (take end list) (drop end list) z (Has-reverse_cases (take end list) z h))
 
     down : IsDescending place_cmp (reverse (take end list))
-    down = IsDescending-reverse place_cmp (take end list) (IsAscending-take place_cmp list end up)
+    down = IsDescending-reverse place_cmp (take end list) (IsAscending-take place_cmp end list up)
 
     each_up : AllByRecursion UpTo (reverse (take end list))
     each_up = all_from_has UpTo (reverse (take end list)) (λ z h. Has-all UpTo (take end list) z split.before (Has-reverse_cases (take end list) z h))
@@ -183,16 +185,13 @@ module _ (kind : Kind) (id : ℕ) (as_of : AsOf) where
   unfolding IsPick
   pick_nothing = λ x h c. h
 
-  pub in_one : (n : ℕ) (ps : List RowPlace) (x : ℕ × RowPlace) → Has (in_segment n ps) x → (p : RowPlace) × Has ps p × (x ≡ (n, p))
-  in_one n ps x h = let m = Has-map (λ (p : RowPlace). (n, p)) ps x h in (m.0, m.1, sym m.2)
-
   pub one_alone : (n : ℕ) (ps : List RowPlace) (xs : List (ℕ × RowPlace)) (p : RowPlace) → ((x : ℕ × RowPlace) → Has xs x → is_candidate kind id as_of x.1 ≡ true → x.1.key.time ≤ p.key.time) → IsLatestOf kind id as_of (λ p. p) ps p → IsLatestOf kind id as_of (λ (x : ℕ × RowPlace). x.1) (xs ++ in_segment n ps) (n, p)
   one_alone n ps xs p older r = record {
     there = Has-append_right xs (in_segment n ps) (n, p) (Has-map_from (λ (q : RowPlace). (n, q)) ps p r.there);
     passes = r.passes;
     latest = λ x h c. elim (Has-append_cases xs (in_segment n ps) x h) [
       | inl l ↦ older x l c
-      | inr t ↦ (let m = in_one n ps x t in let e = ap (λ (y : ℕ × RowPlace). y.1) m.2 in let le = r.latest m.0 m.1 (subst (λ q. is_candidate kind id as_of q ≡ true) e c) in subst (λ (q : RowPlace). q.key.time ≤ p.key.time) (sym e) le)
+      | inr t ↦ (let m = of_one_segment n ps x t in let e = ap (λ (y : ℕ × RowPlace). y.1) m.2 in let le = r.latest m.0 m.1 (subst (λ q. is_candidate kind id as_of q ≡ true) e c) in subst (λ (q : RowPlace). q.key.time ≤ p.key.time) (sym e) le)
     ];
   }
 
@@ -202,7 +201,7 @@ module _ (kind : Kind) (id : ℕ) (as_of : AsOf) where
     passes = a.passes;
     latest = λ x h c. elim (Has-append_cases xs (in_segment n ps) x h) [
       | inl l ↦ a.latest x l c
-      | inr t ↦ (let m = in_one n ps x t in let e = ap (λ (y : ℕ × RowPlace). y.1) m.2 in let le = older m.0 m.1 (subst (λ q. is_candidate kind id as_of q ≡ true) e c) in subst (λ (q : RowPlace). q.key.time ≤ b.1.key.time) (sym e) le)
+      | inr t ↦ (let m = of_one_segment n ps x t in let e = ap (λ (y : ℕ × RowPlace). y.1) m.2 in let le = older m.0 m.1 (subst (λ q. is_candidate kind id as_of q ≡ true) e c) in subst (λ (q : RowPlace). q.key.time ≤ b.1.key.time) (sym e) le)
     ];
   }
 
@@ -210,7 +209,7 @@ module _ (kind : Kind) (id : ℕ) (as_of : AsOf) where
   unfolding IsPick
   pick_more n ps xs None None a r = λ x h c. elim (Has-append_cases xs (in_segment n ps) x h) [
     | inl l ↦ a x l c
-    | inr t ↦ (let m = in_one n ps x t in r m.0 m.1 (subst (λ (y : ℕ × RowPlace). is_candidate kind id as_of y.1 ≡ true) m.2 c))
+    | inr t ↦ (let m = of_one_segment n ps x t in r m.0 m.1 (subst (λ (y : ℕ × RowPlace). is_candidate kind id as_of y.1 ≡ true) m.2 c))
   ]
   pick_more n ps xs (Some b) None a r = first_stays n ps xs b a (λ q h c. absurd (r q h c))
   pick_more n ps xs None (Some p) a r = one_alone n ps xs p (λ x l c. absurd (a x l c)) r
@@ -226,12 +225,9 @@ places-push n (qs ∷ index) ps =
     ap (λ xs. in_segment n qs ++ xs) (places-push (n + 1) index ps ∙ ap (λ k. all_places (n + 1) index ++ in_segment k ps) (omega arith))
     ∙ sym (append_assoc (in_segment n qs) (all_places (n + 1) index) (in_segment (n + length (qs ∷ index)) ps))
 
-taken_len : (index : List (List RowPlace)) (i : ℕ) → i < length index → 0 + length (take i index) ≡ i
-taken_len index i lt = let e = length-take i index in grind (arith, e)
-
 -- one list more is searched
 pub places-more : (index : List (List RowPlace)) (i : ℕ) (ps : List RowPlace) → i < length index → ps ≡ get_or index i ps → all_places 0 (take (i + 1) index) ≡ all_places 0 (take i index) ++ in_segment i ps
 places-more index i ps lt is =
     ap (all_places 0) (take_more index i ps lt ∙ ap (λ x. take i index ++ x ∷ []) (sym is))
     ∙ places-push 0 (take i index) ps
-    ∙ ap (λ k. all_places 0 (take i index) ++ in_segment k ps) (taken_len index i lt)
+    ∙ ap (λ k. all_places 0 (take i index) ++ in_segment k ps) (taken_before index i lt)

@@ -1,9 +1,8 @@
 -- A search in a list that begins near a place, and one that ends at a version of the date itself.
-use Rattle.std.proofs.Common.{◌≡◌, ℕ, zero, suc, ◌+◌, ◌-◌, ◌<◌, ◌≤◌, Bool, true, false, List, [], ◌∷◌, length, get_or, take, drop, refl, sym, ap, subst, ◌∙◌, arith}
-use Rattle.std.specs.Prelude.{not, Option, Some, slice_get}
+use Rattle.std.proofs.Common.{◌≡◌, ℕ, zero, suc, ◌+◌, ◌-◌, ◌<◌, ◌≤◌, Bool, true, false, List, [], ◌∷◌, length, get_or, take, drop, sym, ap, subst, ◌∙◌, arith}
+use Rattle.std.specs.Prelude.{Option, Some, slice_get}
 use Rattle.std.specs.List.{AllByRecursion}
-use Rattle.std.proofs.Math.Seq.{drop-nil}
-use Rattle.std.specs.declared.cmp.Ordering.{Ordering}
+use Rattle.std.proofs.lemmas.List.{drop-drop}
 use Rattle.rf2_values.specs.declared.row.Kind.{Kind}
 use Rattle.history_model.specs.InOrder.{Has, IsAscending}
 use Rattle.history_model.proofs.InOrder.{Has-append_left, Has-append_right}
@@ -32,23 +31,7 @@ all_ahead start [] (suc i) found up e stop = tt
 all_ahead start (x ∷ xs) zero found up e stop = (stopped start (x ∷ xs) zero found up tt e stop).rest
 all_ahead start (x ∷ xs) (suc i) found up e stop = all_ahead start xs i found up.1 e stop
 
-pub not_true : (b : Bool) → not b ≡ true → b ≡ false
-not_true true e = absurd (cc)
-not_true false e = refl
-
 -- ---- a part of a list that is split
-
-pub IsAscending-drop : {X : Type 0} (cmp : X → X → Ordering) (n : ℕ) (xs : List X) → IsAscending cmp xs → IsAscending cmp (drop n xs)
-IsAscending-drop cmp zero xs up = up
-IsAscending-drop cmp (suc n) [] up = tt
-IsAscending-drop cmp (suc n) (x ∷ xs) up = IsAscending-drop cmp n xs up.1
-
-drop_twice : {X : Type 0} (a b : ℕ) (xs : List X) → drop a (drop b xs) ≡ drop (b + a) xs
-drop_twice a zero xs = ap (λ n. drop n xs) (omega arith)
-drop_twice a (suc b) [] = drop-nil a ∙ sym (drop-nil (suc b + a))
-drop_twice a (suc b) (x ∷ xs) =
-    let more : suc (b + a) ≡ suc b + a = omega arith in
-    drop_twice a b xs ∙ ap (λ n. drop n (x ∷ xs)) more
 
 module _ {X : Type 0} (f : X → Bool) where
   split_more : (n : ℕ) (xs : List X) (k : ℕ) → k ≤ length (take n xs) → SplitsAt f (take n xs) k → AllByRecursion (λ x. f x ≡ false) (drop n xs) → SplitsAt f xs k
@@ -75,7 +58,7 @@ module _ {X : Type 0} (f : X → Bool) where
   pub split_within : (begin end k : ℕ) (xs : List X) → begin ≤ end → end ≤ length xs → AllByRecursion (λ x. f x ≡ true) (take begin xs) → AllByRecursion (λ x. f x ≡ false) (drop end xs) → k ≤ length (take (end - begin) (drop begin xs)) → SplitsAt f (take (end - begin) (drop begin xs)) k → SplitsAt f xs (begin + k)
   split_within begin end k xs le within before behind short s =
       split_behind begin xs k (omega arith) before (split_more (end - begin) (drop begin xs) k short s
-      (subst (λ ys. AllByRecursion (λ x. f x ≡ false) ys) (sym (drop_twice (end - begin) begin xs ∙ ap (λ n. drop n xs) (omega arith))) behind))
+      (subst (λ ys. AllByRecursion (λ x. f x ≡ false) ys) (sym (drop-drop (end - begin) begin xs ∙ ap (λ n. drop n xs) (omega arith))) behind))
 
 -- ---- a version of the date itself
 

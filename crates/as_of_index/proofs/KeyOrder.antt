@@ -8,6 +8,8 @@ use Rattle.std.specs.declared.cmp.Ordering.{Ordering}
 use Rattle.std.specs.declared.cmp.Ordering.TheVariants.{Less, Equal, Greater}
 use Rattle.std.proofs.lemmas.List.{length_push}
 use Rattle.std.proofs.lemmas.List.Sums.{sum_by-cons}
+use Rattle.std.proofs.lemmas.Bool.{not-false}
+use Rattle.list_lemmas.proofs.Tests.{less_from_test}
 use Rattle.rf2_values.specs.declared.key.Key.{Key}
 use Rattle.rf2_values.specs.Row.{RowValue}
 use Rattle.rf2_values.specs.Key.{key_of, key_cmp}
@@ -18,7 +20,7 @@ use Rattle.history_model.specs.History.{row_cmp, stamped_cmp, rows_at}
 use Rattle.history_model.specs.Lists.{listed, AreLists}
 use Rattle.history_model.specs.KeyOrder.{is_key_after, is_after, rows_after}
 use Rattle.history_model.proofs.InOrder.{above, not_both, not_below_itself, same_ascending, all_from_has}
-use Rattle.history_model.proofs.Filtered.{Has-filter, Has-filter_from, IsAscending-filter, filter_none}
+use Rattle.history_model.proofs.Filtered.{Has-filter, Has-filter_from, IsAscending-filter, filter_none, filter_same}
 use Rattle.history_model.proofs.Keys.{rows_total, stamped_total, same_key}
 use Rattle.history_model.proofs.Snapshots.{take-nil, IsAscending-rows_at, IsAscending-listed, Has-listed_cases, Has-listed_from, Has-rows_at_cases, Has-rows_at_from, listed_once}
 use Rattle.segment.specs.declared.place.RowPlace.{RowPlace}
@@ -28,24 +30,15 @@ use Rattle.as_of_index.specs.declared.search.Start.{Start}
 use Rattle.as_of_index.specs.Private.Search.{all_places, is_before, IsNext}
 use Rattle.as_of_index.specs.Private.KeyOrder.{IsFirstAfter, IsNextAfter}
 use Rattle.as_of_index.proofs.Standing.{row_of_place, place_of_row, stands_at, says_at}
-use Rattle.as_of_index.proofs.Paging.{filter_same, fewer}
-
-pub lt_is : (r : Ordering) → is_lt r ≡ true → r ≡ Less
-lt_is Less e = refl
-lt_is Equal e = absurd (cc)
-lt_is Greater e = absurd (cc)
+use Rattle.as_of_index.proofs.Paging.{fewer}
 
 pub is_lt_of : (r : Ordering) → r ≡ Less → is_lt r ≡ true
 is_lt_of r e = ap is_lt e
 
-not_not : (b : Bool) → not b ≡ false → b ≡ true
-not_not true e = refl
-not_not false e = absurd (cc)
-
 -- what comes after a key that comes after another, comes after that one
 pub further : (after : Option Key) (k l : Key) → is_key_after after k ≡ true → is_key_after (Some k) l ≡ true → is_key_after after l ≡ true
 further None k l e f = refl
-further (Some a) k l e f = is_lt_of (key_cmp a l) (keys_total.trans a k l (lt_is (key_cmp a k) e) (lt_is (key_cmp k l) f))
+further (Some a) k l e f = is_lt_of (key_cmp a l) (keys_total.trans a k l (less_from_test (key_cmp a k) e) (less_from_test (key_cmp k l) f))
 
 pub not_after_itself : (k : Key) → is_key_after (Some k) k ≡ false
 not_after_itself k = ap is_lt (tied_itself keys_total k)
@@ -57,7 +50,7 @@ unfolding IsNext IsNextAfter
 next_is after start xs None passes n = λ y h e. let p = passes y.1 in let q = n y h in absurd (let r : is_before start y.1 ≡ false = p ∙ ap not e in cc)
 next_is after start xs (Some x) passes n = record {
   there = n.there;
-  comes_after = not_not (is_key_after after x.1.key) (sym (passes x.1) ∙ n.passes);
+  comes_after = not-false (is_key_after after x.1.key) (sym (passes x.1) ∙ n.passes);
   first = λ y h e. n.least y h (passes y.1 ∙ ap not e);
 }
 
@@ -71,7 +64,7 @@ fewer_after after xs x n =
 
 module _ (rows : List RowValue) (up : IsAscending row_cmp rows) (after : Option Key) where
   all_after : (b : RowValue) (xs : List RowValue) → ((x : RowValue) → Has xs x → is_after (Some (key_of b)) x ≡ true) → IsAscending row_cmp xs → IsAscending row_cmp (b ∷ xs)
-  all_after b xs each rising = (all_from_has (λ y. row_cmp b y ≡ Less) xs (λ y h. lt_is (row_cmp b y) (each y h)), rising)
+  all_after b xs each rising = (all_from_has (λ y. row_cmp b y ≡ Less) xs (λ y h. less_from_test (row_cmp b y) (each y h)), rising)
 
   pub first_after : (b : RowValue) → Has rows b → is_after after b ≡ true → ((z : RowValue) → Has rows z → is_after after z ≡ true → row_cmp z b ≡ Less → ⊥) → ((z : RowValue) → Has rows z → key_of z ≡ key_of b → z ≡ b) → filter (is_after after) rows ≡ b ∷ filter (is_after (Some (key_of b))) rows
   first_after b h e first one =

@@ -8,6 +8,8 @@ use Rattle.std.specs.Cmp.{ranked, tied_itself, nat_cmp_total}
 use Rattle.std.specs.declared.cmp.Ordering.{Ordering}
 use Rattle.std.specs.declared.cmp.Ordering.TheVariants.{Less, Equal, Greater}
 use Rattle.std.proofs.lemmas.Bool.Decides.{nat_tests}
+use Rattle.std.proofs.lemmas.Bool.{and_parts, and_from}
+use Rattle.list_lemmas.proofs.Tests.{both_numbers, both_numbers_from, less_from_below}
 use Rattle.rf2_values.specs.declared.row.Kind.{Kind}
 use Rattle.rf2_values.specs.declared.key.Key.{Key}
 use Rattle.rf2_values.specs.Row.{RowValue, kind_of}
@@ -17,9 +19,10 @@ use Rattle.history_model.specs.InOrder.{Has, joined}
 use Rattle.history_model.specs.History.{rows_at}
 use Rattle.history_model.specs.Lists.{listed, AreLists}
 use Rattle.history_model.specs.Queries.{is_version_of, is_above}
-use Rattle.history_model.proofs.Filtered.{both}
 use Rattle.history_model.proofs.Keys.{same_kind}
-use Rattle.history_model.proofs.Snapshots.{version_from_test, IsHistoryRow, versions_above, versions_first, versions_none, IsAscending-rows_at, IsAscending-listed, Has-listed_cases, Has-listed_from, Has-rows_at_cases, Has-rows_at_from, listed_once}
+use Rattle.history_model.proofs.Snapshots.{version_from_test, IsHistoryRow, versions_above, versions_first, versions_none, IsAscending-rows_at, IsAscending-listed, Has-listed_cases, Has-listed_from, Has-rows_at_cases, Has-rows_at_from, listed_once, above_again}
+use Rattle.history_model.proofs.Items.{Has-joined_at}
+use Rattle.history_model.proofs.Filtered.{filter_same}
 use Rattle.segment.specs.declared.place.RowPlace.{RowPlace}
 use Rattle.as_of_index.specs.declared.search.Start.TheVariants.{Later}
 use Rattle.segment.specs.Standing.{places_of, StandsAt}
@@ -27,9 +30,8 @@ use Rattle.as_of_index.specs.Places.{place_cmp}
 use Rattle.as_of_index.specs.Private.Search.{all_places, is_of, IsNext, IsNextVersion, is_version_above}
 use Rattle.segment.proofs.Posting.{Says}
 use Rattle.as_of_index.proofs.Standing.{place_of_row, row_of_place, stands_at}
-use Rattle.as_of_index.proofs.Among.{has_joined}
 use Rattle.segment.proofs.Posting.{says, row_there}
-use Rattle.as_of_index.proofs.Paging.{less_by_id, less_by_kind, less_from, not_above, filter_same, same_test, above_further, above_test, fewer, weaker}
+use Rattle.as_of_index.proofs.Paging.{less_by_id, less_by_kind, not_above, same_test, above_test, fewer, weaker}
 
 less_by_time : (a b : RowPlace) → kind_place a.key.kind ≡ kind_place b.key.kind → a.key.id ≡ b.key.id → nat_cmp a.key.time b.key.time ≡ Less → place_cmp a b ≡ Less
 less_by_time a b k i e =
@@ -51,20 +53,11 @@ kind_of_version k kind i id a e = grind (arith, nat_tests, e)
 id_of_version : (k kind i id : ℕ) (a : Bool) → ((k == kind && i == id) && a) ≡ true → i ≡ id
 id_of_version k kind i id a e = grind (arith, nat_tests, e)
 
-of_kind : (k kind i id : ℕ) → (k == kind && i == id) ≡ true → k ≡ kind
-of_kind k kind i id e = grind (arith, nat_tests, e)
-
-of_id : (k kind i id : ℕ) → (k == kind && i == id) ≡ true → i ≡ id
-of_id k kind i id e = grind (arith, nat_tests, e)
-
 kind_not_below : (k kind i id : ℕ) (a : Bool) → (nat_lt k kind || (k == kind && (nat_lt i id || (i == id && not a)))) ≡ false → kind ≤ k
 kind_not_below k kind i id a e = grind (arith, nat_tests, e)
 
 id_beyond : (k kind i id : ℕ) (a : Bool) → (nat_lt k kind || (k == kind && (nat_lt i id || (i == id && not a)))) ≡ false → (k == kind && i == id) ≡ false → k ≡ kind → id < i
 id_beyond k kind i id a e f g = grind (arith, nat_tests, e, f, g)
-
-both_true : (a b : Bool) → a ≡ true → b ≡ true → (a && b) ≡ true
-both_true a b e f = rw (e, f) refl
 
 module _ (kind : Kind) (id : ℕ) (after : Option ℕ) (xs : List (ℕ × RowPlace)) where
   pub next_version_is : (x : ℕ × RowPlace) → IsNext (Later kind id after) (λ (y : ℕ × RowPlace). y.1) xs (Some x) → is_of kind id x.1 ≡ true → IsNextVersion kind id after xs (Some x)
@@ -73,11 +66,11 @@ module _ (kind : Kind) (id : ℕ) (after : Option ℕ) (xs : List (ℕ × RowPla
       let above = later_above (kind_place x.1.key.kind) (kind_place kind) x.1.key.id id (is_above after x.1.key.time) n.passes o in
       record {
         there = n.there;
-        version = both_true (is_of kind id x.1) (is_above after x.1.key.time) o above;
+        version = and_from (is_of kind id x.1) (is_above after x.1.key.time) o above;
         first = λ y h e.
             let outside = version_not_passed (kind_place y.1.key.kind) (kind_place kind) y.1.key.id id (is_above after y.1.key.time) e in
-            let k = kind_of_version (kind_place y.1.key.kind) (kind_place kind) y.1.key.id id (is_above after y.1.key.time) e ∙ sym (of_kind (kind_place x.1.key.kind) (kind_place kind) x.1.key.id id o) in
-            let i = id_of_version (kind_place y.1.key.kind) (kind_place kind) y.1.key.id id (is_above after y.1.key.time) e ∙ sym (of_id (kind_place x.1.key.kind) (kind_place kind) x.1.key.id id o) in
+            let k = kind_of_version (kind_place y.1.key.kind) (kind_place kind) y.1.key.id id (is_above after y.1.key.time) e ∙ sym ((both_numbers (kind_place x.1.key.kind) (kind_place kind) x.1.key.id id o).0) in
+            let i = id_of_version (kind_place y.1.key.kind) (kind_place kind) y.1.key.id id (is_above after y.1.key.time) e ∙ sym ((both_numbers (kind_place x.1.key.kind) (kind_place kind) x.1.key.id id o).1) in
             not_above y.1.key.time x.1.key.time (λ less. n.least y h outside (less_by_time y.1 x.1 k i less));
       }
 
@@ -94,7 +87,7 @@ module _ (kind : Kind) (id : ℕ) (after : Option ℕ) (xs : List (ℕ × RowPla
         by y k i le Equal e =
             let same : kind_place y.1.key.kind ≡ kind_place x.1.key.kind = ranked (kind_place y.1.key.kind) (kind_place x.1.key.kind) Equal (sym e) in
             let lt = id_beyond (kind_place x.1.key.kind) (kind_place kind) x.1.key.id id (is_above after x.1.key.time) n.passes o (sym same ∙ k) in
-            less_by_id y.1 x.1 same (less_from y.1.key.id x.1.key.id (omega arith))
+            less_by_id y.1 x.1 same (less_from_below y.1.key.id x.1.key.id (omega arith))
         by y k i le Greater e = absurd (let gt : kind_place x.1.key.kind < kind_place y.1.key.kind = ranked (kind_place y.1.key.kind) (kind_place x.1.key.kind) Greater (sym e) in omega arith)
 
   pub next_version_none : IsNext (Later kind id after) (λ (y : ℕ × RowPlace). y.1) xs None → IsNextVersion kind id after xs None
@@ -119,7 +112,7 @@ module _ (kind : Kind) (id pin : ℕ) (lists : List (List StampedRow)) (are : Ar
 
   -- what a place says of the row that stands there
   its_row : (x : ℕ × RowPlace) (s : StampedRow) → StandsAt lists x.0 x.1 s → Has (joined lists) s × Says x.1 s
-  its_row x s w = (has_joined lists x.0 w.rows s w.list_is (row_there 0 w.rows (s, x.1) w.there), says 0 w.rows (s, x.1) w.there)
+  its_row x s w = (Has-joined_at lists x.0 w.rows s w.list_is (row_there 0 w.rows (s, x.1) w.there), says 0 w.rows (s, x.1) w.there)
 
   -- a version that comes is no earlier
   no_earlier : (after : Option ℕ) (x : ℕ × RowPlace) → IsNextVersion kind id after places (Some x) → (c : RowValue) → Has shown c → IsHistoryRow kind id after c → x.1.key.time ≤ c.time
@@ -131,10 +124,8 @@ module _ (kind : Kind) (id pin : ℕ) (lists : List (List StampedRow)) (are : Ar
       let kinds : kind_place q.0.1.key.kind ≡ kind_place kind = ap (λ (z : Key). kind_place z.kind) key_is ∙ ap kind_place v.version.kind_is in
       let ids : q.0.1.key.id ≡ id = ap (λ (z : Key). z.id) key_is ∙ v.version.id_is in
       let times : q.0.1.key.time ≡ c.time = ap (λ (z : Key). z.time) key_is in
-      let le = n.first q.0 q.1 (both_true (is_of kind id q.0.1) (is_above after q.0.1.key.time) (number_test _ _ _ _ kinds ids) (ap (is_above after) times ∙ v.above)) in
-      omega arith where
-        number_test : (k l i j : ℕ) → k ≡ l → i ≡ j → (k == l && i == j) ≡ true
-        number_test k l i j e f = grind (arith, nat_tests, e, f)
+      let le = n.first q.0 q.1 (and_from (is_of kind id q.0.1) (is_above after q.0.1.key.time) (both_numbers_from _ _ _ _ kinds ids) (ap (is_above after) times ∙ v.above)) in
+      omega arith
 
   no_version : (after : Option ℕ) → IsNextVersion kind id after places None → (c : RowValue) → Has shown c → IsHistoryRow kind id after c → ⊥
   unfolding IsNextVersion
@@ -145,9 +136,7 @@ module _ (kind : Kind) (id pin : ℕ) (lists : List (List StampedRow)) (are : Ar
       let kinds : kind_place q.0.1.key.kind ≡ kind_place kind = ap (λ (z : Key). kind_place z.kind) key_is ∙ ap kind_place v.version.kind_is in
       let ids : q.0.1.key.id ≡ id = ap (λ (z : Key). z.id) key_is ∙ v.version.id_is in
       let times : q.0.1.key.time ≡ c.time = ap (λ (z : Key). z.time) key_is in
-      n q.0 q.1 (both_true (is_of kind id q.0.1) (is_above after q.0.1.key.time) (number_test _ _ _ _ kinds ids) (ap (is_above after) times ∙ v.above)) where
-        number_test : (k l i j : ℕ) → k ≡ l → i ≡ j → (k == l && i == j) ≡ true
-        number_test k l i j e f = grind (arith, nat_tests, e, f)
+      n q.0 q.1 (and_from (is_of kind id q.0.1) (is_above after q.0.1.key.time) (both_numbers_from _ _ _ _ kinds ids) (ap (is_above after) times ∙ v.above))
 
   -- the row of the next version
   record IsItsRow (after : Option ℕ) (x : ℕ × RowPlace) (s : StampedRow) : Type 0 where
@@ -160,9 +149,9 @@ module _ (kind : Kind) (id pin : ℕ) (lists : List (List StampedRow)) (are : Ar
   unfolding IsNextVersion
   its_version after x s n w =
       let r = its_row x s w in
-      let e = both (is_of kind id x.1) (is_above after x.1.key.time) n.version in
-      let kinds : kind_of s.row ≡ kind = same_kind (kind_of s.row) kind (ap (λ (z : Key). kind_place z.kind) (sym r.1.key_is) ∙ of_kind (kind_place x.1.key.kind) (kind_place kind) x.1.key.id id e.0) in
-      let ids : s.row.id ≡ id = ap (λ (z : Key). z.id) (sym r.1.key_is) ∙ of_id (kind_place x.1.key.kind) (kind_place kind) x.1.key.id id e.0 in
+      let e = and_parts (is_of kind id x.1) (is_above after x.1.key.time) n.version in
+      let kinds : kind_of s.row ≡ kind = same_kind (kind_of s.row) kind (ap (λ (z : Key). kind_place z.kind) (sym r.1.key_is) ∙ (both_numbers (kind_place x.1.key.kind) (kind_place kind) x.1.key.id id e.0).0) in
+      let ids : s.row.id ≡ id = ap (λ (z : Key). z.id) (sym r.1.key_is) ∙ (both_numbers (kind_place x.1.key.kind) (kind_place kind) x.1.key.id id e.0).1 in
       let times : s.row.time ≡ x.1.key.time = ap (λ (z : Key). z.time) (sym r.1.key_is) in
       record { known = r.0; wanted = record { version = record { kind_is = kinds; id_is = ids }; above = ap (is_above after) times ∙ e.1 }; time_is = times; import_is = r.1.import_is }
 
@@ -184,7 +173,7 @@ module _ (kind : Kind) (id pin : ℕ) (lists : List (List StampedRow)) (are : Ar
 
   its_above : (after : Option ℕ) (x : ℕ × RowPlace) → IsNextVersion kind id after places (Some x) → is_above after x.1.key.time ≡ true
   unfolding IsNextVersion
-  its_above after x n = (both (is_of kind id x.1) (is_above after x.1.key.time) n.version).1
+  its_above after x n = (and_parts (is_of kind id x.1) (is_above after x.1.key.time) n.version).1
 
   pub versions_skip : (after : Option ℕ) (x : ℕ × RowPlace) (rows target : List RowValue) → IsNextVersion kind id after places (Some x) → pin < x.1.import → rows ++ versions_above kind id after shown ≡ target → rows ++ versions_above kind id (Some x.1.key.time) shown ≡ target
   versions_skip after x rows target n gt so_far =
@@ -193,7 +182,7 @@ module _ (kind : Kind) (id pin : ℕ) (lists : List (List StampedRow)) (are : Ar
       ap (λ ys. rows ++ ys) (sym (filter_same (λ row. is_version_of kind id row && is_above after row.time) (λ row. is_version_of kind id row && nat_lt x.1.key.time row.time) shown (λ c h.
       same_test (is_version_of kind id c) (is_above after c.time) (nat_lt x.1.key.time c.time)
       (λ e.
-      let q = both (is_version_of kind id c) (is_above after c.time) e in
+      let q = and_parts (is_version_of kind id c) (is_above after c.time) e in
       let v = version_from_test kind id c q.0 in
       above_test x.1.key.time c.time (no_earlier after x n c h (record { version = v; above = q.1 })) (λ same.
       let w = Has-rows_at_cases pin (listed lists) c h in
@@ -205,7 +194,7 @@ module _ (kind : Kind) (id pin : ℕ) (lists : List (List StampedRow)) (are : Ar
       let keys : key_of c ≡ key_of r.0.row = λ i. record { kind = kinds i; id = ids i; time = same_time i } in
       let one = listed_once lists are w.stamped_row r.0 (Has-listed_cases lists w.stamped_row w.known) t.known (ap key_of w.same ∙ keys) in
       not_within w.stamped_row.import x.1.import pin (ap (λ (z : StampedRow). z.import) one ∙ sym t.import_is) w.early gt))
-      (λ e. above_further after x.1.key.time c.time (its_above after x n) e)))) ∙ so_far
+      (λ e. above_again after x.1.key.time c.time (its_above after x n) e)))) ∙ so_far
 
   pub versions_end : (after : Option ℕ) (rows target : List RowValue) → IsNextVersion kind id after places None → rows ++ versions_above kind id after shown ≡ target → rows ≡ target
   versions_end after rows target n so_far = sym (append-nil rows) ∙ ap (λ ys. rows ++ ys) (sym (versions_none kind id after shown (no_version after n))) ∙ so_far
@@ -217,7 +206,7 @@ own_not_later false t = refl
 pub fewer_versions : (kind : Kind) (id : ℕ) (after : Option ℕ) (xs : List (ℕ × RowPlace)) (x : ℕ × RowPlace) → IsNextVersion kind id after xs (Some x) → length (filter (λ y. is_version_above kind id (Some x.1.key.time) y.1) xs) < length (filter (λ y. is_version_above kind id after y.1) xs)
 unfolding IsNextVersion
 fewer_versions kind id after xs x n =
-    let above = (both (is_of kind id x.1) (is_above after x.1.key.time) n.version).1 in
+    let above = (and_parts (is_of kind id x.1) (is_above after x.1.key.time) n.version).1 in
     fewer (λ (y : ℕ × RowPlace). is_version_above kind id after y.1) (λ (y : ℕ × RowPlace). is_version_above kind id (Some x.1.key.time) y.1) xs x
-    (λ y e. weaker (is_of kind id y.1) (is_above after y.1.key.time) (nat_lt x.1.key.time y.1.key.time) (λ f. above_further after x.1.key.time y.1.key.time above f) e)
+    (λ y e. weaker (is_of kind id y.1) (is_above after y.1.key.time) (nat_lt x.1.key.time y.1.key.time) (λ f. above_again after x.1.key.time y.1.key.time above f) e)
     n.there n.version (own_not_later (is_of kind id x.1) x.1.key.time)

@@ -1,12 +1,14 @@
 -- The dates of a list's places, and those of all lists.
-use Rattle.std.proofs.Common.{◌≡◌, ◌⊎◌, ℕ, zero, suc, ◌<◌, ◌≤◌, List, [], ◌∷◌, ◌++◌, length, get_or, take, drop, refl, sym, ap, subst, inl, inr, ◌∙◌, arith, take-append-drop}
-use Rattle.std.specs.Prelude.{Some, true, nat_lt, slice_get, insert}
+use Rattle.std.proofs.Common.{◌≡◌, ◌⊎◌, ℕ, zero, suc, ◌<◌, ◌≤◌, List, [], ◌∷◌, ◌++◌, length, take, drop, refl, sym, ap, subst, inl, inr, ◌∙◌, arith, take-append-drop}
+use Rattle.std.specs.Prelude.{Some, nat_lt, slice_get, insert}
 use Rattle.std.specs.List.{filter}
-use Rattle.std.proofs.lemmas.Bool.Decides.{nat_tests}
-use Rattle.std.proofs.lemmas.Option.{slice_get_within}
+use Rattle.std.proofs.lemmas.Option.{slice_get_within, same_Some}
+use Rattle.std.proofs.lemmas.Bool.{lt-ltb, ltb-true}
+use Rattle.list_lemmas.proofs.Parts.{number_stays}
 use Rattle.history_model.specs.InOrder.{Has}
 use Rattle.history_model.proofs.InOrder.{Has-append_left, Has-append_right, Has-append_cases}
 use Rattle.history_model.proofs.Filtered.{Has-filter, Has-filter_from}
+use Rattle.history_model.proofs.Items.{Has-slice_get, number_of_item}
 use Rattle.segment.specs.declared.place.RowPlace.{RowPlace}
 use Rattle.as_of_index.specs.declared.dates.DateEntry.{DateEntry}
 use Rattle.as_of_index.specs.Dates.{IsEntryOf, AreEntries}
@@ -14,20 +16,12 @@ use Rattle.as_of_index.specs.Private.Dates.{HasEntry, AddsTimes, AddsDates}
 
 -- ---- an item by its number
 
-some_is : {X : Type 0} (x y : X) → Some x ≡ Some y → x ≡ y
-some_is x y e = cc
-
-pub stays_there : {X : Type 0} (xs ys : List X) (i : ℕ) (x : X) → slice_get xs i ≡ Some x → slice_get (xs ++ ys) i ≡ Some x
-stays_there [] ys i x e = absurd (cc)
-stays_there (y ∷ xs) ys zero x e = e
-stays_there (y ∷ xs) ys (suc i) x e = stays_there xs ys i x e
-
 pub at_end : {X : Type 0} (xs : List X) (x : X) → slice_get (xs ++ x ∷ []) (length xs) ≡ Some x
 at_end [] x = refl
 at_end (y ∷ xs) x = at_end xs x
 
 there_or_last : {X : Type 0} (xs : List X) (y : X) (i : ℕ) (x : X) → slice_get (xs ++ y ∷ []) i ≡ Some x → (slice_get xs i ≡ Some x) ⊎ ((i ≡ length xs) × (y ≡ x))
-there_or_last [] y zero x e = inr (refl, some_is y x e)
+there_or_last [] y zero x e = inr (refl, same_Some y x e)
 there_or_last [] y (suc i) x e = absurd (cc)
 there_or_last (z ∷ xs) y zero x e = inl e
 there_or_last (z ∷ xs) y (suc i) x e = elim (there_or_last xs y i x e) [ inl l ↦ inl l | inr r ↦ inr (ap suc r.0, r.1) ]
@@ -43,20 +37,6 @@ there_of_taken zero xs i x e = absurd (cc)
 there_of_taken (suc n) [] i x e = absurd (cc)
 there_of_taken (suc n) (y ∷ xs) zero x e = (e, omega arith)
 there_of_taken (suc n) (y ∷ xs) (suc i) x e = let w = there_of_taken n xs i x e in (w.0, let lt = w.1 in omega arith)
-
-has_by_number : {X : Type 0} (xs : List X) (i : ℕ) (x : X) → slice_get xs i ≡ Some x → Has xs x
-has_by_number [] i x e = absurd (cc)
-has_by_number (y ∷ xs) zero x e = inl (some_is y x e)
-has_by_number (y ∷ xs) (suc i) x e = inr (has_by_number xs i x e)
-
-number_of : {X : Type 0} (xs : List X) (x : X) → Has xs x → (i : ℕ) × (slice_get xs i ≡ Some x)
-number_of [] x h = absurd h
-number_of (y ∷ xs) x h = elim h [ inl e ↦ (0, ap Some e) | inr t ↦ (let w = number_of xs x t in (suc w.0, w.1)) ]
-
-pub has_at : {X : Type 0} (xs : List X) (i : ℕ) (d : X) → i < length xs → Has xs (get_or xs i d)
-has_at [] i d lt = absurd (omega arith)
-has_at (y ∷ xs) zero d lt = inl refl
-has_at (y ∷ xs) (suc i) d lt = inr (has_at xs i d (omega arith))
 
 -- ---- an entry that is inserted
 
@@ -83,7 +63,7 @@ inserted_or_old xs i x y h = elim (Has-append_cases (take i xs) (x ∷ drop i xs
 -- it has an entry
 pub noted_before : (places : List RowPlace) (entries : List DateEntry) (p : RowPlace) → AreEntries places entries → HasEntry entries p → AreEntries (places ++ p ∷ []) entries
 noted_before places entries p a known = record {
-  stand = λ e h. let w = a.stand e h in (w.0, stays_there places (p ∷ []) e.first w.0 w.1, w.2);
+  stand = λ e h. let w = a.stand e h in (w.0, number_stays places (p ∷ []) e.first w.0 w.1, w.2);
   all = λ i q is. elim (there_or_last places p i q is) [
     | inl l ↦ a.all i q l
     | inr r ↦
@@ -98,7 +78,7 @@ pub noted_now : (places : List RowPlace) (entries : List DateEntry) (at : ℕ) (
 noted_now places entries at p e a own first = record {
   stand = λ d h. elim (inserted_or_old entries at e d h) [
     | inl same ↦ subst (λ (x : DateEntry). (q : RowPlace) × (slice_get (places ++ p ∷ []) x.first ≡ Some q) × IsEntryOf q x) same (p, subst (λ n. slice_get (places ++ p ∷ []) n ≡ Some p) (sym first) (at_end places p), own)
-    | inr old ↦ (let w = a.stand d old in (w.0, stays_there places (p ∷ []) d.first w.0 w.1, w.2))
+    | inr old ↦ (let w = a.stand d old in (w.0, number_stays places (p ∷ []) d.first w.0 w.1, w.2))
   ];
   all = λ i q is. elim (there_or_last places p i q is) [
     | inl l ↦ (let w = a.all i q l in (w.0, has_beside entries at e w.0 w.1, w.2, w.3))
@@ -111,24 +91,18 @@ no_entries = record { stand = λ e h. absurd h; all = λ i p is. absurd (cc) }
 
 -- ---- the first so many places
 
-less_than : (m n : ℕ) → nat_lt m n ≡ true → m < n
-less_than m n e = grind (arith, nat_tests, e)
-
-less_test : (m n : ℕ) → m < n → nat_lt m n ≡ true
-less_test m n lt = grind (arith, nat_tests, lt)
-
 pub entries_cut : (places : List RowPlace) (entries : List DateEntry) (len : ℕ) → AreEntries places entries → AreEntries (take len places) (filter (λ (e : DateEntry). nat_lt e.first len) entries)
 entries_cut places entries len a = record {
   stand = λ e h.
       let f = Has-filter (λ (e : DateEntry). nat_lt e.first len) entries e h in
       let w = a.stand e f.0 in
-      (w.0, taken_there len places e.first w.0 w.1 (less_than e.first len f.1), w.2);
+      (w.0, taken_there len places e.first w.0 w.1 (ltb-true e.first len f.1), w.2);
   all = λ i p is.
       let t = there_of_taken len places i p is in
       let w = a.all i p t.0 in
       let lt = t.1 in
       let le = w.2 in
-      (w.0, Has-filter_from (λ (e : DateEntry). nat_lt e.first len) entries w.0 w.1 (less_test w.0.first len (omega arith)), w.2, w.3);
+      (w.0, Has-filter_from (λ (e : DateEntry). nat_lt e.first len) entries w.0 w.1 (lt-ltb w.0.first len (omega arith)), w.2, w.3);
 }
 
 -- ---- the times that a pin shows
@@ -165,7 +139,7 @@ pub dates_by_entries : (pin : ℕ) (places : List RowPlace) (entries : List Date
 dates_by_entries pin places entries old new a adds = record {
   kept = adds.kept;
   added = λ p h le.
-      let i = number_of places p h in
+      let i = number_of_item places p h in
       let w = a.all i.0 p i.1 in
       let own = w.3 in
       let import = own.import_is in
@@ -176,6 +150,6 @@ dates_by_entries pin places entries old new a adds = record {
         let s = a.stand w.0 w.1 in
         let import = s.2.import_is in
         let le = w.2 in
-        inr (s.0, has_by_number places w.0.first s.0 s.1, omega arith, s.2.time_is ∙ w.3)
+        inr (s.0, Has-slice_get places w.0.first s.0 s.1, omega arith, s.2.time_is ∙ w.3)
   ];
 }

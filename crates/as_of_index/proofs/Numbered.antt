@@ -1,12 +1,11 @@
 -- Rows and places by their numbers in their lists.
 use Rattle.std.proofs.Common.{◌≡◌, ℕ, zero, suc, ◌+◌, ◌<◌, ◌≤◌, List, [], ◌∷◌, length, get_or, map, refl, sym, ap, subst, inl, inr}
-use Rattle.std.specs.Prelude.{Option, Some, None, slice_get, flat_map}
+use Rattle.std.specs.Prelude.{Option, Some, None, slice_get}
 use Rattle.std.specs.Option.{option_to_list}
 use Rattle.std.proofs.lemmas.List.{get_or_past}
 use Rattle.std.proofs.lemmas.Option.{get_or_from_slice_get, slice_get_read}
 use Rattle.history_model.specs.declared.stamped.StampedRow.{StampedRow}
 use Rattle.history_model.specs.InOrder.{Has}
-use Rattle.history_model.proofs.InOrder.{Has-append_left, Has-append_right, Has-append_cases}
 use Rattle.segment.specs.declared.place.RowPlace.{RowPlace}
 use Rattle.segment.specs.Standing.{record_len, row_place, with_places, StandsAt}
 use Rattle.as_of_index.specs.Places.{item_at}
@@ -47,20 +46,6 @@ place_of_row (rows ∷ lists) zero i s e = place_at 0 rows i s e
 place_of_row (rows ∷ lists) (suc n) i s e = place_of_row lists n i s e
 
 -- ---- what is among the pieces of a list
-
-pub Has-flat_map : {X Y : Type 0} (f : X → List Y) (xs : List X) (y : Y) → Has (flat_map f xs) y → (x : X) × Has xs x × Has (f x) y
-Has-flat_map f [] y h = absurd h
-Has-flat_map f (x ∷ xs) y h = elim (Has-append_cases (f x) (flat_map f xs) y h) [
-  | inl l ↦ (x, inl refl, l)
-  | inr r ↦ (let w = Has-flat_map f xs y r in (w.0, inr w.1, w.2))
-]
-
-pub Has-flat_map_from : {X Y : Type 0} (f : X → List Y) (xs : List X) (x : X) (y : Y) → Has xs x → Has (f x) y → Has (flat_map f xs) y
-Has-flat_map_from f [] x y h k = absurd h
-Has-flat_map_from f (z ∷ xs) x y h k = elim h [
-  | inl e ↦ Has-append_left (f z) (flat_map f xs) y (subst (λ w. Has (f w) y) (sym e) k)
-  | inr t ↦ Has-append_right (f z) (flat_map f xs) y (Has-flat_map_from f xs x y t k)
-]
 
 pub Has-option : {X Y : Type 0} (f : X → Y) (o : Option X) (y : Y) → Has (map f (option_to_list o)) y → (x : X) × (o ≡ Some x) × (f x ≡ y)
 Has-option f None y h = absurd h

@@ -10,8 +10,8 @@ use Rattle.std.specs.declared.cmp.Ordering.TheVariants.{Equal}
 use Rattle.std.proofs.lemmas.List.Kept.{IsStrictlySortedBy-dedup}
 use Rattle.std.proofs.lemmas.List.Sorted.{IsPermutation-sym}
 use Rattle.history_model.specs.InOrder.{Has, IsAscending}
+use Rattle.history_model.proofs.Items.{Has-permuted}
 use Rattle.as_of_index.specs.Private.Once.{IsThere, AreOnce}
-use Rattle.as_of_index.proofs.Pushing.{Has-permuted}
 
 module _ {Y : Type 0} {cmp : Y → Y → Ordering} (o : IsTotalOrder cmp) (same : Y → Y → Bool) (ties : (x y : Y) → same x y ≡ eq_by_cmp cmp x y) where
   ascending_from : (ys : List Y) → IsStrictlySortedBy cmp ys → IsAscending cmp ys

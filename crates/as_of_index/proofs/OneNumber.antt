@@ -2,23 +2,19 @@
 use Rattle.std.proofs.Common.{◌≡◌, ℕ, zero, suc, ◌+◌, ◌-◌, ◌≤◌, true, false, List, [], ◌∷◌, ◌++◌, length, take, drop, refl, sym, ap, subst, inl, inr, ◌∙◌, arith, length-append}
 use Rattle.std.specs.Prelude.{Some, None, Option, slice_get}
 use Rattle.std.specs.Ordering.{is_lt}
-use Rattle.std.specs.Cmp.{on_total}
 use Rattle.std.specs.declared.cmp.Ordering.TheVariants.{Less, Equal, Greater}
 use Rattle.history_model.specs.InOrder.{Has, IsAscending, ShareNone}
 use Rattle.history_model.proofs.InOrder.{Has-append_cases, all_from_has, below_all, not_both, above, Has-all}
 use Rattle.history_model.proofs.Keys.{same_key}
-use Rattle.rf2_values.specs.Private.{keys_total}
-use Rattle.std.specs.Cmp.{IsTotalOrder}
+use Rattle.std.proofs.lemmas.Option.{slice_get_within}
 use Rattle.segment.specs.declared.place.RowPlace.{RowPlace}
 use Rattle.as_of_index.specs.Places.{place_cmp}
 use Rattle.as_of_index.specs.Numbers.{TwoLists, number_in_both, count_below, AreNumbersOf, AreBelow, AreKnown}
 use Rattle.as_of_index.specs.Private.Numbers.{ComesBefore}
-use Rattle.as_of_index.proofs.Counted.{count_at, number_within}
+use Rattle.as_of_index.proofs.Counted.{count_at}
 use Rattle.as_of_index.proofs.Keyed.{has_got}
 use Rattle.as_of_index.proofs.Turns.{take_one, has_there, has_more}
-
-places_total : IsTotalOrder place_cmp
-places_total = on_total (λ (p : RowPlace). p.key) keys_total
+use Rattle.as_of_index.proofs.Ordered.{places_total}
 
 not_below : (p q : RowPlace) → place_cmp p q ≡ Less → is_lt (place_cmp q p) ≡ false
 not_below p q less =
@@ -70,7 +66,7 @@ module _ (own other : List RowPlace) (xs ys : List ℕ) (up : IsAscending place_
   one_known : (n : ℕ) → n ≡ length xs + length ys → IsSide own other (xs ++ n ∷ []) ys
   one_known n is =
       let longer : length (xs ++ n ∷ []) ≡ suc (length xs) = (let e = length-append xs (n ∷ []) in omega (arith, e)) in
-      let within = number_within own (length xs) next.p next.there in
+      let within = slice_get_within own (length xs) next.p next.there in
       record {
         own_within = omega (arith, longer, within);
         other_within = s.other_within;

@@ -3,14 +3,14 @@ use Rattle.std.proofs.Common.{◌≡◌, ℕ, zero, suc, ◌+◌, Bool, true, fa
 use Rattle.std.specs.Prelude.{◌&&◌, ◌==◌, Option, Some, None, slice_get}
 use Rattle.std.specs.Cmp.{tied_itself}
 use Rattle.std.specs.declared.cmp.Ordering.TheVariants.{Equal}
-use Rattle.std.proofs.lemmas.Bool.Decides.{nat_tests}
+use Rattle.std.proofs.lemmas.Bool.{eqb-true, eq-eqb}
 use Rattle.rf2_values.specs.declared.key.Key.{Key}
 use Rattle.rf2_values.specs.Row.{RowValue}
 use Rattle.rf2_values.specs.Key.{kind_place, key_of, key_cmp}
 use Rattle.history_model.specs.declared.stamped.StampedRow.{StampedRow}
 use Rattle.history_model.specs.InOrder.{Has}
 use Rattle.history_model.proofs.InOrder.{Has-all, Has-append_left, Has-append_right, Has-append_cases, tie_is_same}
-use Rattle.history_model.proofs.Filtered.{Has-map, Has-map_from}
+use Rattle.history_model.proofs.Filtered.{Has-map_from}
 use Rattle.history_model.proofs.Keys.{same_kind}
 use Rattle.rf2_values.specs.Private.{keys_total}
 use Rattle.segment.specs.declared.place.RowPlace.{RowPlace}
@@ -20,15 +20,12 @@ use Rattle.as_of_index.specs.Places.{place_cmp, ArePlaces}
 use Rattle.as_of_index.specs.Private.Search.{ShareNoKey}
 use Rattle.as_of_index.specs.Private.Search.{in_segment, all_places}
 use Rattle.as_of_index.specs.Private.Current.{is_same_place}
-use Rattle.as_of_index.proofs.Ordered.{places_total}
-
-in_one : (n : ℕ) (ps : List RowPlace) (x : ℕ × RowPlace) → Has (in_segment n ps) x → (p : RowPlace) × Has ps p × (x ≡ (n, p))
-in_one n ps x h = let m = Has-map (λ (p : RowPlace). (n, p)) ps x h in (m.0, m.1, sym m.2)
+use Rattle.as_of_index.proofs.Ordered.{places_total, of_one_segment}
 
 in_some : (n : ℕ) (index : List (List RowPlace)) (x : ℕ × RowPlace) → Has (all_places n index) x → (ps : List RowPlace) × Has index ps × Has ps x.1
 in_some n [] x h = absurd h
 in_some n (qs ∷ index) x h = elim (Has-append_cases (in_segment n qs) (all_places (n + 1) index) x h) [
-  | inl l ↦ (let m = in_one n qs x l in (qs, inl refl, subst (λ q. Has qs q) (ap (λ (y : ℕ × RowPlace). y.1) (sym m.2)) m.1))
+  | inl l ↦ (let m = of_one_segment n qs x l in (qs, inl refl, subst (λ q. Has qs q) (ap (λ (y : ℕ × RowPlace). y.1) (sym m.2)) m.1))
   | inr r ↦ (let m = in_some (n + 1) index x r in (m.0, inr m.1, m.2))
 ]
 
@@ -40,19 +37,19 @@ one_place n [] are x y h k e = absurd h
 one_place n (qs ∷ index) are x y h k e = elim (Has-append_cases (in_segment n qs) (all_places (n + 1) index) x h) [
   | inl a ↦ elim (Has-append_cases (in_segment n qs) (all_places (n + 1) index) y k) [
     | inl b ↦ (
-        let s = in_one n qs x a in
-        let t = in_one n qs y b in
+        let s = of_one_segment n qs x a in
+        let t = of_one_segment n qs y b in
         let keys : s.0.key ≡ t.0.key = ap (λ (z : ℕ × RowPlace). z.1.key) (sym s.2) ∙ e ∙ ap (λ (z : ℕ × RowPlace). z.1.key) t.2 in
         let same = tie_is_same places_total qs s.0 t.0 are.ascending.0 s.1 t.1 (tie_of_keys s.0 t.0 keys) in
         s.2 ∙ ap (λ (p : RowPlace). (n, p)) same ∙ sym t.2)
     | inr b ↦ absurd (
-        let s = in_one n qs x a in
+        let s = of_one_segment n qs x a in
         let t = in_some (n + 1) index y b in
         Has-all (λ others. ShareNoKey qs others) index t.0 are.apart.0 t.1 s.0 y.1 s.1 t.2 (ap (λ (z : ℕ × RowPlace). z.1.key) (sym s.2) ∙ e))
   ]
   | inr a ↦ elim (Has-append_cases (in_segment n qs) (all_places (n + 1) index) y k) [
     | inl b ↦ absurd (
-        let s = in_one n qs y b in
+        let s = of_one_segment n qs y b in
         let t = in_some (n + 1) index x a in
         Has-all (λ others. ShareNoKey qs others) index t.0 are.apart.0 t.1 s.0 x.1 s.1 t.2 (ap (λ (z : ℕ × RowPlace). z.1.key) (sym s.2) ∙ sym e))
     | inr b ↦ one_place (n + 1) index (record { ascending = are.ascending.1; apart = are.apart.1 }) x y a b e
@@ -71,32 +68,26 @@ chain true true true true false f g h = absurd (cc)
 chain true true true true true false g h = absurd (cc)
 chain true true true true true true false h = absurd (cc)
 
-eq_of : (m n : ℕ) → (m == n) ≡ true → m ≡ n
-eq_of m n e = grind (arith, nat_tests, e)
-
-test_of : (m n : ℕ) → m ≡ n → (m == n) ≡ true
-test_of m n e = grind (arith, nat_tests, e)
-
 pub place_from_test : (n : ℕ) (p : RowPlace) (m : ℕ) (q : RowPlace) → is_same_place n p m q ≡ true → (n ≡ m) × (p ≡ q)
 place_from_test n p m q h =
     let w = chain (n == m) (kind_place p.key.kind == kind_place q.key.kind) (p.key.id == q.key.id) (p.key.time == q.key.time) (p.import == q.import) (p.at == q.at) (p.bytes == q.bytes) h in
-    let kinds = same_kind p.key.kind q.key.kind (eq_of _ _ w.1) in
-    let ids = eq_of p.key.id q.key.id w.2 in
-    let times : p.key.time ≡ q.key.time = eq_of _ _ w.3 in
-    let imports = eq_of p.import q.import w.4 in
-    let ats = eq_of p.at q.at w.5 in
-    let sizes = eq_of p.bytes q.bytes w.6 in
-    (eq_of n m w.0, λ i. record { key = record { kind = kinds i; id = ids i; time = times i }; import = imports i; at = ats i; bytes = sizes i })
+    let kinds = same_kind p.key.kind q.key.kind (eqb-true _ _ w.1) in
+    let ids = eqb-true p.key.id q.key.id w.2 in
+    let times : p.key.time ≡ q.key.time = eqb-true _ _ w.3 in
+    let imports = eqb-true p.import q.import w.4 in
+    let ats = eqb-true p.at q.at w.5 in
+    let sizes = eqb-true p.bytes q.bytes w.6 in
+    (eqb-true n m w.0, λ i. record { key = record { kind = kinds i; id = ids i; time = times i }; import = imports i; at = ats i; bytes = sizes i })
 
 pub test_from_place : (n : ℕ) (p : RowPlace) (m : ℕ) (q : RowPlace) → n ≡ m → p ≡ q → is_same_place n p m q ≡ true
 test_from_place n p m q e f =
-    let a = test_of n m e in
-    let b = test_of (kind_place p.key.kind) (kind_place q.key.kind) (ap (λ (x : RowPlace). kind_place x.key.kind) f) in
-    let c = test_of p.key.id q.key.id (ap (λ (x : RowPlace). x.key.id) f) in
-    let d : (p.key.time == q.key.time) ≡ true = test_of _ _ (ap (λ (x : RowPlace). x.key.time) f) in
-    let g = test_of p.import q.import (ap (λ (x : RowPlace). x.import) f) in
-    let h = test_of p.at q.at (ap (λ (x : RowPlace). x.at) f) in
-    let k = test_of p.bytes q.bytes (ap (λ (x : RowPlace). x.bytes) f) in
+    let a = eq-eqb n m e in
+    let b = eq-eqb (kind_place p.key.kind) (kind_place q.key.kind) (ap (λ (x : RowPlace). kind_place x.key.kind) f) in
+    let c = eq-eqb p.key.id q.key.id (ap (λ (x : RowPlace). x.key.id) f) in
+    let d : (p.key.time == q.key.time) ≡ true = eq-eqb _ _ (ap (λ (x : RowPlace). x.key.time) f) in
+    let g = eq-eqb p.import q.import (ap (λ (x : RowPlace). x.import) f) in
+    let h = eq-eqb p.at q.at (ap (λ (x : RowPlace). x.at) f) in
+    let k = eq-eqb p.bytes q.bytes (ap (λ (x : RowPlace). x.bytes) f) in
     rw (a, b, c, d, g, h, k) refl
 
 module _ (lists : List (List StampedRow)) (are : ArePlaces (map places_of lists)) where
@@ -126,9 +117,6 @@ module _ (lists : List (List StampedRow)) (are : ArePlaces (map places_of lists)
       let kb = (says 0 b.rows (t, q) b.there).key_is in
       let same = one_place 0 (map places_of lists) are (n, p) (m, q) (listed_at n p s a) (listed_at m q t b) (ka ∙ keys ∙ sym kb) in
       (ap (λ (z : ℕ × RowPlace). z.0) same, ap (λ (z : ℕ × RowPlace). z.1) same)
-
-pub same_answer : (answer : Option RowValue) (a b : RowValue) → answer ≡ Some a → answer ≡ Some b → a ≡ b
-same_answer answer a b e f = let g = sym e ∙ f in cc
 
 pub no_answer : (answer : Option RowValue) (a : RowValue) → answer ≡ None → answer ≡ Some a → ⊥
 no_answer answer a e f = let g = sym e ∙ f in absurd (cc)

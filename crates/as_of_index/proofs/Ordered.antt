@@ -1,26 +1,31 @@
 -- Places in the order of their keys, and where a search splits them.
-use Rattle.std.proofs.Common.{◌≡◌, ◌⊎◌, ℕ, zero, suc, ◌<◌, ◌≤◌, Bool, true, false, List, [], ◌∷◌, length, get_or, take, refl, sym, inl, inr, arith}
+use Rattle.std.proofs.Common.{◌≡◌, ◌⊎◌, ℕ, zero, suc, ◌<◌, ◌≤◌, Bool, true, false, List, [], ◌∷◌, length, get_or, sym, inl, inr, arith}
 use Rattle.std.specs.Prelude.{◌&&◌, ◌||◌, ◌==◌, not, nat_le, nat_lt, Some, None}
 use Rattle.std.specs.List.{AllByRecursion, AllWithin}
 use Rattle.std.specs.List.Sorted.{IsPartitionedBy, IsPartitionPoint}
 use Rattle.std.specs.Ordering.{nat_cmp, ordering_then}
 use Rattle.std.specs.Cmp.{IsTotalOrder, ranked, on_total}
-use Rattle.std.specs.declared.cmp.Ordering.{Ordering}
 use Rattle.std.specs.declared.cmp.Ordering.TheVariants.{Less, Equal}
 use Rattle.std.proofs.lemmas.Bool.Decides.{nat_tests}
 use Rattle.rf2_values.specs.Key.{kind_place}
 use Rattle.history_model.specs.InOrder.{Has, IsAscending}
 use Rattle.history_model.proofs.InOrder.{Has-all}
+use Rattle.history_model.proofs.Filtered.{Has-map}
 use Rattle.rf2_values.specs.Private.{keys_total}
 use Rattle.history_model.proofs.Snapshots.{first_half}
+use Rattle.history_model.proofs.Items.{Has-get_or}
 use Rattle.segment.specs.declared.place.RowPlace.{RowPlace}
 use Rattle.as_of_index.specs.declared.search.Start.{Start}
 use Rattle.as_of_index.specs.declared.search.Start.TheVariants.{AfterVersion, Later, Components}
 use Rattle.as_of_index.specs.Places.{place_cmp}
-use Rattle.as_of_index.specs.Private.Search.{is_before, SplitsAt}
+use Rattle.as_of_index.specs.Private.Search.{in_segment, is_before, SplitsAt}
 
 pub places_total : IsTotalOrder place_cmp
 places_total = on_total (λ p. p.key) keys_total
+
+-- a place with its segment's number, where it is one of the segment's places
+pub of_one_segment : (n : ℕ) (ps : List RowPlace) (x : ℕ × RowPlace) → Has (in_segment n ps) x → (p : RowPlace) × Has ps p × (x ≡ (n, p))
+of_one_segment n ps x h = let m = Has-map (λ (p : RowPlace). (n, p)) ps x h in (m.0, m.1, sym m.2)
 
 -- the kind, the id or the time by which one is below another
 abbrev pub IsBelow : ℕ → ℕ → ℕ → ℕ → ℕ → ℕ → Type 0
@@ -38,10 +43,6 @@ below a b less =
         ],
       )
     ]
-
-pub either : (a b : Bool) → (a || b) ≡ true → (a ≡ true) ⊎ (b ≡ true)
-either true b e = inl refl
-either false b e = inr e
 
 -- ---- what a search passes over is passed over below it
 
@@ -77,15 +78,10 @@ before-falls (Later kind id (Some after)) p q less e = later-falls (kind_place k
 before-falls (Components kind None) p q less e = first-falls (kind_place kind) _ p.key.id p.key.time _ q.key.id q.key.time (below p q less) e
 before-falls (Components kind (Some after)) p q less e = components-falls (kind_place kind) after _ _ p.key.time _ _ q.key.time (below p q less) e
 
-pub has_at : {X : Type 0} (xs : List X) (i : ℕ) (d : X) → i < length xs → Has xs (get_or xs i d)
-has_at [] i d lt = absurd (omega arith)
-has_at (x ∷ xs) zero d lt = inl refl
-has_at (x ∷ xs) (suc i) d lt = inr (has_at xs i d (omega arith))
-
 pub partitioned : (start : Start) (places : List RowPlace) → IsAscending place_cmp places → IsPartitionedBy (is_before start) places
 partitioned start [] up i j d le lt e = absurd (omega arith)
 partitioned start (p ∷ ps) up zero zero d le lt e = e
-partitioned start (p ∷ ps) up zero (suc j) d le lt e = before-falls start p (get_or ps j d) (Has-all (λ q. place_cmp p q ≡ Less) ps (get_or ps j d) up.0 (has_at ps j d (omega arith))) e
+partitioned start (p ∷ ps) up zero (suc j) d le lt e = before-falls start p (get_or ps j d) (Has-all (λ q. place_cmp p q ≡ Less) ps (get_or ps j d) up.0 (Has-get_or ps j d (omega arith))) e
 partitioned start (p ∷ ps) up (suc i) zero d le lt e = absurd (omega arith)
 partitioned start (p ∷ ps) up (suc i) (suc j) d le lt e = partitioned start ps up.1 i j d (omega arith) (omega arith) e
 
@@ -99,13 +95,3 @@ splits p [] (suc i) le h = absurd (omega arith)
 splits p (x ∷ xs) (suc i) le h =
     let r = splits p xs i (omega arith) (λ k d low high. h.0 (suc k) d (omega arith) (omega arith), λ k d low high. h.1 (suc k) d (omega arith) (omega arith)) in
     record { before = (h.0 0 x (omega arith) (omega arith), r.before); rest = r.rest }
-
-pub All-take : {X : Type 0} (P : X → Type 0) (xs : List X) (i : ℕ) → AllByRecursion P xs → AllByRecursion P (take i xs)
-All-take P xs zero a = tt
-All-take P [] (suc i) a = tt
-All-take P (x ∷ xs) (suc i) a = (a.0, All-take P xs i a.1)
-
-pub IsAscending-take : {X : Type 0} (cmp : X → X → Ordering) (xs : List X) (i : ℕ) → IsAscending cmp xs → IsAscending cmp (take i xs)
-IsAscending-take cmp xs zero up = tt
-IsAscending-take cmp [] (suc i) up = tt
-IsAscending-take cmp (x ∷ xs) (suc i) up = (All-take (λ y. cmp x y ≡ Less) xs i up.0, IsAscending-take cmp xs i up.1)

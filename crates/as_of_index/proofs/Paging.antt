@@ -10,6 +10,8 @@ use Rattle.std.specs.declared.cmp.Ordering.TheVariants.{Less, Equal, Greater}
 use Rattle.std.proofs.lemmas.Bool.Decides.{nat_tests}
 use Rattle.std.proofs.lemmas.List.{length_push}
 use Rattle.std.proofs.lemmas.List.Sums.{sum_by-cons}
+use Rattle.std.proofs.lemmas.Bool.{and_parts, and_from}
+use Rattle.list_lemmas.proofs.Tests.{both_numbers, less_from_below}
 use Rattle.rf2_values.specs.declared.row.Kind.{Kind}
 use Rattle.rf2_values.specs.declared.key.Key.{Key}
 use Rattle.rf2_values.specs.Row.{RowValue, kind_of}
@@ -20,9 +22,8 @@ use Rattle.history_model.specs.History.{row_cmp}
 use Rattle.history_model.specs.Lists.{listed}
 use Rattle.history_model.specs.Queries.{is_kind, is_above, snapshot, get, all_above, page, changed_above, delta}
 use Rattle.history_model.specs.Queries.{is_kind_above as is_row_above}
-use Rattle.history_model.proofs.Filtered.{both, filter_first, filter_none, Rises}
-use Rattle.history_model.proofs.Keys.{same_kind}
-use Rattle.history_model.proofs.Snapshots.{Rises-current, IsAscending-snapshot, take-nil, and-true, current_from_snapshot, IsAscending-rows_at, IsAscending-listed, Has-listed_cases, Has-rows_at_cases}
+use Rattle.history_model.proofs.Filtered.{filter_first, filter_none, Rises, filter_same}
+use Rattle.history_model.proofs.Snapshots.{Rises-current, IsAscending-snapshot, take-nil, and-true, current_from_snapshot, IsAscending-rows_at, IsAscending-listed, Has-listed_cases, Has-rows_at_cases, above_again, kind_from_test}
 use Rattle.history_model.proofs.Audits.{row_at, at_row}
 use Rattle.segment.specs.declared.place.RowPlace.{RowPlace}
 use Rattle.as_of_index.specs.declared.as_of.AsOf.{AsOf}
@@ -48,13 +49,6 @@ not_above m n apart = by (nat_cmp m n) refl where
   by Less e = absurd (apart e)
   by Equal e = let f : m ≡ n = ranked m n Equal (sym e) in omega arith
   by Greater e = let f : n < m = ranked m n Greater (sym e) in omega arith
-
-pub less_from : (m n : ℕ) → m < n → nat_cmp m n ≡ Less
-less_from m n lt = by (nat_cmp m n) refl where
-  by : (r : Ordering) → nat_cmp m n ≡ r → nat_cmp m n ≡ Less
-  by Less e = e
-  by Equal e = absurd (let f : m ≡ n = ranked m n Equal (sym e) in omega arith)
-  by Greater e = absurd (let f : n < m = ranked m n Greater (sym e) in omega arith)
 
 passes_above : (k kind : ℕ) (a : Bool) → (nat_lt k kind || (k == kind && not a)) ≡ false → k ≡ kind → a ≡ true
 passes_above k kind true e f = refl
@@ -93,18 +87,13 @@ module _ (kind : Kind) (after : Option ℕ) (xs : List (ℕ × RowPlace)) where
       let l : kind_place y.1.key.kind ≡ kind_place kind = kind_is _ _ _ e in
       let outside = kind_not_passed (kind_place y.1.key.kind) (kind_place kind) (is_above after y.1.key.id) e in
       let beyond = kind_beyond (kind_place x.1.key.kind) (kind_place kind) (is_above after x.1.key.id) n.passes (of_itself _ _ _ o) in
-      n.least y h outside (less_by_kind y.1 x.1 (less_from (kind_place y.1.key.kind) (kind_place x.1.key.kind) (omega arith)))
+      n.least y h outside (less_by_kind y.1 x.1 (less_from_below (kind_place y.1.key.kind) (kind_place x.1.key.kind) (omega arith)))
 
   pub next_id_none : IsNext (Components kind after) (λ (y : ℕ × RowPlace). y.1) xs None → IsNextId kind after xs None
   unfolding IsNext IsNextId
   next_id_none n = λ y h e.
       let outside = kind_not_passed (kind_place y.1.key.kind) (kind_place kind) (is_above after y.1.key.id) e in
       let inside = n y h in absurd (cc)
-
-pub filter_same : {X : Type 0} (p q : X → Bool) (xs : List X) → ((x : X) → Has xs x → p x ≡ q x) → filter p xs ≡ filter q xs
-filter_same p q [] each = refl
-filter_same p q (x ∷ xs) each =
-    ap (λ b. cond b (x ∷ filter p xs) (filter p xs)) (each x (inl refl)) ∙ ap (λ ys. cond (q x) (x ∷ ys) ys) (filter_same p q xs (λ y h. each y (inr h)))
 
 pub same_test : (k a b : Bool) → ((k && a) ≡ true → b ≡ true) → (b ≡ true → a ≡ true) → (k && a) ≡ (k && b)
 same_test false a b f g = refl
@@ -132,10 +121,6 @@ four_tests true true false false back = refl
 four_tests true false f true back = absurd (let no = back refl in cc)
 four_tests true false f false back = refl
 
-pub above_further : (after : Option ℕ) (m n : ℕ) → is_above after m ≡ true → nat_lt m n ≡ true → is_above after n ≡ true
-above_further None m n e f = refl
-above_further (Some a) m n e f = grind (arith, nat_tests)
-
 pub above_test : (id m : ℕ) → id ≤ m → (m ≡ id → ⊥) → nat_lt id m ≡ true
 above_test id m le apart = elim (nat_lt id m) as (λ t. nat_lt id m ≡ t → t ≡ true) [
   | true ↦ λ e. refl
@@ -148,17 +133,10 @@ kind_places k l e = let f = ap kind_place e in grind (arith, nat_tests, f)
 id_at : (after : Option ℕ) (k kind : ℕ) (a : Bool) → k ≡ kind → a ≡ true → (k == kind && a) ≡ true
 id_at after k kind a e f = rw f (grind (arith, nat_tests, e))
 
-both_so : (a b : Bool) → a ≡ true → b ≡ true → (a && b) ≡ true
-both_so true b e f = f
-both_so false b e f = absurd (cc)
-
 shown_test : (t i : ℕ) (as_of : AsOf) → t ≤ as_of.date → i ≤ as_of.pin → (nat_le t as_of.date && nat_le i as_of.pin) ≡ true
 shown_test t i as_of e f = grind (arith, nat_tests, e, f)
 
 -- ---- what is found at a date: a page, or a Delta
-
-kind_of_test : (kind : Kind) (row : RowValue) → is_kind kind row ≡ true → kind_of row ≡ kind
-kind_of_test kind row e = same_kind (kind_of row) kind (kind_is (kind_place (kind_of row)) (kind_place kind) true (rw e refl))
 
 module _ (kind : Kind) (from : Option ℕ) (date : ℕ) (rows : List RowValue) (up : IsAscending row_cmp rows) where
   -- what the tests say
@@ -169,9 +147,9 @@ module _ (kind : Kind) (from : Option ℕ) (date : ℕ) (rows : List RowValue) (
 
   walked_row : (after : Option ℕ) (row : RowValue) → is_walked kind from after row ≡ true → IsWalked after row
   walked_row after row e =
-      let p = both (is_kind kind row && is_above after row.id) (is_above from row.time) e in
-      let q = both (is_kind kind row) (is_above after row.id) p.0 in
-      record { kind_is = kind_of_test kind row q.0; above = q.1; later = p.1 }
+      let p = and_parts (is_kind kind row && is_above after row.id) (is_above from row.time) e in
+      let q = and_parts (is_kind kind row) (is_above after row.id) p.0 in
+      record { kind_is = kind_from_test kind row q.0; above = q.1; later = p.1 }
 
   walked_first : (after : Option ℕ) (limit : ℕ) (b : RowValue) → Has (snapshot rows date) b → IsWalked after b → ((c : RowValue) → Has (snapshot rows date) c → IsWalked after c → b.id ≤ c.id) → walked kind from date after (suc limit) rows ≡ b ∷ walked kind from date (Some b.id) limit rows
   unfolding walked
@@ -182,7 +160,7 @@ module _ (kind : Kind) (from : Option ℕ) (date : ℕ) (rows : List RowValue) (
       (let above = want.above in let later = want.later in rw (kind_test, above, later) refl)
       (λ x there e. first x there (walked_row after x e)) in
       ap (take (suc limit)) split
-      ∙ ap (λ xs. b ∷ take limit xs) (filter_agree _ _ (λ x. four_tests (is_kind kind x) (is_above after x.id) (is_above from x.time) (nat_lt b.id x.id) (λ lt. above_further after b.id x.id want.above lt)) (snapshot rows date))
+      ∙ ap (λ xs. b ∷ take limit xs) (filter_agree _ _ (λ x. four_tests (is_kind kind x) (is_above after x.id) (is_above from x.time) (nat_lt b.id x.id) (λ lt. above_again after b.id x.id want.above lt)) (snapshot rows date))
 
   walked_none : (after : Option ℕ) (limit : ℕ) → ((c : RowValue) → Has (snapshot rows date) c → IsWalked after c → ⊥) → walked kind from date after limit rows ≡ []
   unfolding walked
@@ -211,7 +189,7 @@ module _ (kind : Kind) (from : Option ℕ) (as_of : AsOf) (lists : List (List St
   changed_there : (c : RowValue) (p : RowPlace) (s : StampedRow) → p.key ≡ key_of c → p.import ≡ s.import → c.time ≤ as_of.date → s.import ≤ as_of.pin → is_above from c.time ≡ true → is_changed from as_of p ≡ true
   changed_there c p s key_is import_is early le later =
       let times : p.key.time ≡ c.time = ap (λ (z : Key). z.time) key_is in
-      both_so (is_shown as_of p) (is_above from p.key.time) (shown_test p.key.time p.import as_of (omega arith) (omega arith)) (ap (is_above from) times ∙ later)
+      and_from (is_shown as_of p) (is_above from p.key.time) (shown_test p.key.time p.import as_of (omega arith) (omega arith)) (ap (is_above from) times ∙ later)
 
   -- the next id is not above that of a row that comes
   not_passed : (last : Option ℕ) (id : ℕ) → IsNextChanged kind last from as_of places (Some id) → (c : RowValue) → Has (snapshot shown as_of.date) c → kind_of c ≡ kind → is_above last c.id ≡ true → is_above from c.time ≡ true → id ≤ c.id
@@ -256,7 +234,7 @@ module _ (kind : Kind) (from : Option ℕ) (as_of : AsOf) (lists : List (List St
       let w = walked_row kind from as_of.date shown ascends last x e in
       let le = not_passed last id next x h w.kind_is w.above w.later in
       above_test id x.id le (λ same. none x (at_row kind id as_of.date shown x ascends (record { current = h; version = record { kind_is = w.kind_is; id_is = same } })) w.later))
-      (λ e. above_further last id x.id (next_above last id next) e)))
+      (λ e. above_again last id x.id (next_above last id next) e)))
 
   pub walk_nomore : (last : Option ℕ) (n : ℕ) → IsNextChanged kind last from as_of places None → walked kind from as_of.date last n shown ≡ []
   walk_nomore last n next = walked_none kind from as_of.date shown ascends last n (λ c h w. nothing_passed last next c h w.kind_is w.above w.later)
@@ -338,9 +316,6 @@ of_kind_above k kind i id a e f = rw f (grind (arith, nat_tests, e))
 own_not_above : (k kind i id : ℕ) → (k == kind && i == id) ≡ true → (k == kind && nat_lt id i) ≡ false
 own_not_above k kind i id e = grind (arith, nat_tests, e)
 
-own_id : (k kind i id : ℕ) → (k == kind && i == id) ≡ true → i ≡ id
-own_id k kind i id e = grind (arith, nat_tests, e)
-
 pub weaker : (k a b : Bool) → (b ≡ true → a ≡ true) → (k && b) ≡ true → (k && a) ≡ true
 weaker true a b f e = f e
 weaker false a b f e = e
@@ -350,9 +325,9 @@ unfolding IsNextChanged
 fewer_left kind last from as_of id xs n =
     let b = n.there.0 in
     let own = n.there.2 in
-    let at_own : is_above last b.1.key.id ≡ true = ap (is_above last) (own_id _ _ b.1.key.id id own) ∙ n.above in
+    let at_own : is_above last b.1.key.id ≡ true = ap (is_above last) ((both_numbers _ _ b.1.key.id id own).1) ∙ n.above in
     fewer (λ (x : ℕ × RowPlace). is_kind_above kind last x.1) (λ (x : ℕ × RowPlace). is_kind_above kind (Some id) x.1) xs b
-    (λ x e. weaker (kind_place x.1.key.kind == kind_place kind) (is_above last x.1.key.id) (nat_lt id x.1.key.id) (λ f. above_further last id x.1.key.id n.above f) e)
+    (λ x e. weaker (kind_place x.1.key.kind == kind_place kind) (is_above last x.1.key.id) (nat_lt id x.1.key.id) (λ f. above_again last id x.1.key.id n.above f) e)
     n.there.1
     (of_kind_above _ _ b.1.key.id id (is_above last b.1.key.id) own at_own)
     (own_not_above _ _ b.1.key.id id own)

@@ -3,24 +3,20 @@ use Rattle.std.proofs.Common.{◌≡◌, ℕ, zero, suc, ◌+◌, Bool, true, Li
 use Rattle.std.specs.Prelude.{Some, slice_get, slice_set, remove}
 use Rattle.std.specs.List.Sorted.{IsPermutation}
 use Rattle.std.proofs.lemmas.List.Sorted.{IsPermutation-sym}
-use Rattle.std.proofs.lemmas.List.Sorted.{All-permutation}
-use Rattle.std.proofs.lemmas.List.Elements.{All-from_recursion, recursion_from_All}
 use Rattle.rf2_values.specs.Row.{RowValue}
 use Rattle.history_model.specs.declared.stamped.StampedRow.{StampedRow}
 use Rattle.history_model.specs.InOrder.{Has, joined}
 use Rattle.history_model.specs.Lists.{listed}
 use Rattle.history_model.specs.Queries.{snapshot}
-use Rattle.history_model.proofs.InOrder.{Has-all, all_from_has, Has-append_left, Has-append_right, Has-append_cases}
+use Rattle.history_model.proofs.InOrder.{Has-append_left, Has-append_right, Has-append_cases}
 use Rattle.history_model.proofs.Filtered.{Has-map, Has-map_from}
 use Rattle.history_model.proofs.Snapshots.{current_from_snapshot, Has-listed_cases, Has-rows_at_cases}
+use Rattle.history_model.proofs.Items.{Has-permuted, number_of_item}
 use Rattle.as_of_index.specs.declared.as_of.AsOf.{AsOf}
 use Rattle.as_of_index.specs.Places.{item_at}
 use Rattle.as_of_index.specs.Postings.{posted_all, AllPosted}
 use Rattle.as_of_index.specs.Private.Postings.{numbered}
 use Rattle.as_of_index.specs.Current.{rows_seen}
-
-pub Has-permuted : {X : Type 0} (xs ys : List X) → IsPermutation xs ys → (z : X) → Has ys z → Has xs z
-Has-permuted xs ys p z h = Has-all (λ w. Has xs w) ys z (recursion_from_All (λ w. Has xs w) ys (All-permutation (λ w. Has xs w) xs ys p (All-from_recursion (λ w. Has xs w) xs (all_from_has (λ w. Has xs w) xs (λ w k. k))))) h
 
 module _ {X : Type 0} (posted : RowValue → ℕ → List X) (Is : X → RowValue → ℕ → Type 0) (of_row : (row : RowValue) (i : ℕ) (t : X) → Has (posted row i) t → Is t row i) where
   of_rows : (from : ℕ) (rows : List StampedRow) (t : X) → Has (posted_all posted from rows) t → (i : ℕ) × (s : StampedRow) × (slice_get rows i ≡ Some s) × Is t s.row (from + i)
@@ -102,18 +98,10 @@ posting_there {X} posted lists terms a n i s e t h =
           let number : (k + 1) + n ≡ k + suc n = omega arith in
           Has-append_right (map (λ (u : X). (k, u)) ts) (numbered (k + 1) terms) (k + suc n, t) (subst (λ m. Has {X = ℕ × X} (numbered (k + 1) terms) (m, t)) number (by (k + 1) n lists terms a.1 e))
 
--- and each row has a number
-number_of_row : (rows : List StampedRow) (s : StampedRow) → Has rows s → (i : ℕ) × (slice_get rows i ≡ Some s)
-number_of_row [] s h = absurd h
-number_of_row (r ∷ rows) s h = elim h [
-  | inl e ↦ (0, ap Some e)
-  | inr t ↦ (let w = number_of_row rows s t in (suc w.0, w.1))
-]
-
 pub numbers_of_row : (lists : List (List StampedRow)) (s : StampedRow) → Has (joined lists) s → (n : ℕ) × (i : ℕ) × (item_at lists n i ≡ Some s)
 numbers_of_row [] s h = absurd h
 numbers_of_row (rows ∷ lists) s h = elim (Has-append_cases rows (joined lists) s h) [
-  | inl l ↦ (let w = number_of_row rows s l in (0, w.0, w.1))
+  | inl l ↦ (let w = number_of_item rows s l in (0, w.0, w.1))
   | inr r ↦ (let w = numbers_of_row lists s r in (suc w.0, w.1, w.2))
 ]
 

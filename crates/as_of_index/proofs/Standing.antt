@@ -1,9 +1,9 @@
 -- Rows and their places.
 use Rattle.std.proofs.Common.{◌≡◌, ℕ, suc, ◌+◌, ◌≤◌, true, List, [], ◌∷◌, map, refl, sym, ap, subst, inl, inr, ◌∙◌, arith}
-use Rattle.std.specs.Prelude.{◌&&◌, ◌==◌, Option, Some, None, slice_get}
+use Rattle.std.specs.Prelude.{Option, Some, None, slice_get}
 use Rattle.std.specs.List.{AllByRecursion}
 use Rattle.std.specs.declared.cmp.Ordering.TheVariants.{Less}
-use Rattle.std.proofs.lemmas.Bool.Decides.{nat_tests}
+use Rattle.list_lemmas.proofs.Tests.{both_numbers, both_numbers_from}
 use Rattle.rf2_values.specs.declared.row.Kind.{Kind}
 use Rattle.rf2_values.specs.declared.key.Key.{Key}
 use Rattle.rf2_values.specs.Row.{RowValue, kind_of}
@@ -114,15 +114,6 @@ says_at k lists n p s w = says 0 w.rows (s, p) w.there
 
 -- ---- what the latest candidate says of a component's row
 
-number_test : (k l i j : ℕ) → k ≡ l → i ≡ j → (k == l && i == j) ≡ true
-number_test k l i j e f = grind (arith, nat_tests, e, f)
-
-kind_from : (k l i j : ℕ) → (k == l && i == j) ≡ true → k ≡ l
-kind_from k l i j e = grind (arith, nat_tests, e)
-
-id_from : (k l i j : ℕ) → (k == l && i == j) ≡ true → i ≡ j
-id_from k l i j e = grind (arith, nat_tests, e)
-
 module _ (kind : Kind) (id : ℕ) (as_of : AsOf) (lists : List (List StampedRow)) (are : AreLists lists) where
   abbrev shown : List RowValue
   shown = rows_seen as_of lists
@@ -147,7 +138,7 @@ module _ (kind : Kind) (id : ℕ) (as_of : AsOf) (lists : List (List StampedRow)
       record {
         x = q.0;
         there = q.1;
-        passes = candidate_test kind id as_of q.0.1 (number_test _ _ _ _ kinds ids) (omega arith) (omega arith);
+        passes = candidate_test kind id as_of q.0.1 (both_numbers_from _ _ _ _ kinds ids) (omega arith) (omega arith);
         time_is = times;
       }
 
@@ -159,8 +150,8 @@ module _ (kind : Kind) (id : ℕ) (as_of : AsOf) (lists : List (List StampedRow)
       let m = says_at 0 lists b.0 b.1 w.0 w.1 in
       let k = candidate kind id as_of b.1 l.passes in
       let key_is = m.key_is in
-      let kinds : kind_of w.0.row ≡ kind = same_kind (kind_of w.0.row) kind (ap (λ (x : Key). kind_place x.kind) (sym key_is) ∙ kind_from _ _ _ _ k.of) in
-      let ids : w.0.row.id ≡ id = ap (λ (x : Key). x.id) (sym key_is) ∙ id_from _ _ _ _ k.of in
+      let kinds : kind_of w.0.row ≡ kind = same_kind (kind_of w.0.row) kind (ap (λ (x : Key). kind_place x.kind) (sym key_is) ∙ (both_numbers _ _ _ _ k.of).0) in
+      let ids : w.0.row.id ≡ id = ap (λ (x : Key). x.id) (sym key_is) ∙ (both_numbers _ _ _ _ k.of).1 in
       let times : b.1.key.time ≡ w.0.row.time = ap (λ (x : Key). x.time) key_is in
       let numbers = m.import_is in
       let shown_is = k.shown in

@@ -3,6 +3,7 @@ use Rattle.std.proofs.Common.{◌≡◌, ℕ, zero, suc, ◌+◌, List, [], ◌�
 use Rattle.std.specs.Prelude.{slice_set, remove}
 use Rattle.std.specs.List.{AllByRecursion}
 use Rattle.std.specs.declared.cmp.Ordering.TheVariants.{Less}
+use Rattle.std.proofs.lemmas.List.{map_push, map-set}
 use Rattle.rf2_values.specs.declared.key.Key.{Key}
 use Rattle.rf2_values.specs.Key.{key_of, key_cmp}
 use Rattle.history_model.specs.declared.stamped.StampedRow.{StampedRow}
@@ -59,15 +60,6 @@ places_of_lists lists a = record { ascending = ascending_each lists a.ascending;
 
 -- ---- lists that change
 
-map-push : {X Y : Type 0} (f : X → Y) (xs : List X) (x : X) → map f (xs ++ x ∷ []) ≡ map f xs ++ f x ∷ []
-map-push f [] x = refl
-map-push f (y ∷ ys) x = ap (λ zs. f y ∷ zs) (map-push f ys x)
-
-map-slice_set : {X Y : Type 0} (f : X → Y) (xs : List X) (i : ℕ) (x : X) → map f (slice_set xs i x) ≡ slice_set (map f xs) i (f x)
-map-slice_set f [] i x = refl
-map-slice_set f (y ∷ ys) zero x = refl
-map-slice_set f (y ∷ ys) (suc i) x = ap (λ zs. f y ∷ zs) (map-slice_set f ys i x)
-
 map-remove : {X Y : Type 0} (f : X → Y) (xs : List X) (i : ℕ) → map f (remove xs i) ≡ remove (map f xs) i
 map-remove f [] zero = refl
 map-remove f [] (suc i) = refl
@@ -75,10 +67,10 @@ map-remove f (y ∷ ys) zero = refl
 map-remove f (y ∷ ys) (suc i) = ap (λ zs. f y ∷ zs) (map-remove f ys i)
 
 pub lists_more : ListsMore
-lists_more index lists rows is = ap (λ ls. ls ++ places_of rows ∷ []) is ∙ sym (map-push places_of lists rows)
+lists_more index lists rows is = ap (λ ls. ls ++ places_of rows ∷ []) is ∙ sym (map_push places_of lists rows)
 
 pub lists_merged : ListsMerged
 lists_merged index lists i j rows is =
     ap (λ ls. remove (slice_set ls i (places_of rows)) j) is
-    ∙ ap (λ ls. remove ls j) (sym (map-slice_set places_of lists i rows))
+    ∙ ap (λ ls. remove ls j) (sym (map-set places_of lists i rows))
     ∙ sym (map-remove places_of (slice_set lists i rows) j)

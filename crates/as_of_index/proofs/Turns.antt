@@ -1,18 +1,19 @@
 -- One posting more of two lists that are merged in turns.
-use Rattle.std.proofs.Common.{◌≡◌, ℕ, zero, suc, ◌+◌, ◌-◌, ◌<◌, ◌≤◌, List, [], ◌∷◌, ◌++◌, length, get_or, take, drop, map, refl, sym, ap, subst, inl, inr, ◌∙◌, arith, add-one, append_assoc, length-append}
+use Rattle.std.proofs.Common.{◌≡◌, ℕ, zero, suc, ◌+◌, ◌-◌, ◌<◌, ◌≤◌, List, [], ◌∷◌, ◌++◌, length, get_or, take, drop, map, refl, sym, ap, subst, inl, inr, ◌∙◌, arith, add-one}
 use Rattle.std.proofs.lemmas.List.{take_all}
 use Rattle.std.specs.Prelude.{Some, slice_get}
 use Rattle.std.specs.List.Sorted.{IsNonDecreasingBy, IsPermutation}
 use Rattle.std.proofs.lemmas.List.{map-append}
-use Rattle.std.proofs.lemmas.List.Sorted.{IsPermutation-refl, IsPermutation-trans, IsPermutation-cons, IsPermutation-sym, IsPermutation-to_front, IsPermutation-middle, IsPermutation-append_comm, IsNonDecreasingBy-push}
+use Rattle.std.proofs.lemmas.List.Sorted.{IsPermutation-refl, IsPermutation-trans, IsPermutation-append_comm, IsNonDecreasingBy-push}
+use Rattle.std.proofs.lemmas.Option.{slice_get_within}
+use Rattle.list_lemmas.proofs.Parts.{permuted_with_last}
 use Rattle.history_model.specs.InOrder.{Has}
 use Rattle.history_model.proofs.InOrder.{Has-append_cases}
+use Rattle.history_model.proofs.Items.{Has-get_or}
 use Rattle.as_of_index.specs.declared.merging.TakenCount.{TakenCount}
 use Rattle.as_of_index.specs.Numbers.{TwoLists, number_in_both}
 use Rattle.as_of_index.specs.Merging.{PostingKind, moved, first_moved, second_moved, NoneAbove, IsMerged, count_left}
 use Rattle.as_of_index.specs.Private.Merging.{IsNext}
-use Rattle.as_of_index.proofs.Counted.{number_within}
-use Rattle.as_of_index.proofs.Ordered.{has_at}
 
 -- ---- what is there with a number
 
@@ -62,16 +63,6 @@ module _ {X : Type 0} (rank : X → ℕ) where
 
 -- ---- one more of either list
 
-pub one_longer : {X : Type 0} (out longer : List X) (m : X) → longer ≡ out ++ m ∷ [] → length longer ≡ length out + 1
-one_longer out longer m e = ap length e ∙ length-append out (m ∷ [])
-
-one_last : {X : Type 0} (a b out : List X) (m : X) → IsPermutation (a ++ b) out → IsPermutation ((a ++ m ∷ []) ++ b) (out ++ m ∷ [])
-one_last a b out m same =
-    subst (λ l. IsPermutation l (out ++ m ∷ [])) (sym (append_assoc a (m ∷ []) b))
-    (IsPermutation-trans (a ++ m ∷ b) (m ∷ (a ++ b)) (out ++ m ∷ []) (IsPermutation-middle a m b)
-    (IsPermutation-trans (m ∷ (a ++ b)) (m ∷ out) (out ++ m ∷ []) (IsPermutation-cons m (a ++ b) out same)
-    (IsPermutation-sym (out ++ m ∷ []) (m ∷ out) (IsPermutation-to_front out m))))
-
 module _ {X : Type 0} (kind : PostingKind X) where
   -- so many of one list and so many of another are merged, their rows numbered by f and g
   record IsPart (f g : ℕ → ℕ) (a b : List X) (i j : ℕ) (out : List X) : Type 0 where
@@ -116,7 +107,7 @@ module _ {X : Type 0} (kind : PostingKind X) where
     one_more f g a b i j out x up_a up_b there least part =
         let m = moved kind f x in
         let is : kind.rank m ≡ kind.rank x = same_rank (f (kind.number x)) x in
-        let within : i < length a = number_within a i x there in
+        let within : i < length a = slice_get_within a i x there in
         let of_a : (y : X) → Has (drop i a) y → kind.rank x ≤ kind.rank y = left_above kind.rank a i (kind.rank x) up_a (λ y e. (let same : x ≡ y = cc in subst (λ z. kind.rank x ≤ kind.rank z) same (omega arith))) in
         let of_b : (y : X) → Has (drop j b) y → kind.rank x ≤ kind.rank y = left_above kind.rank b j (kind.rank x) up_b least in
         record {
@@ -124,9 +115,9 @@ module _ {X : Type 0} (kind : PostingKind X) where
           b_within = part.b_within;
           same = subst (λ l. IsPermutation (map (moved kind f) l ++ map (moved kind g) (take j b)) (out ++ m ∷ [])) (sym (take_one a i x there))
               (subst (λ l. IsPermutation (l ++ map (moved kind g) (take j b)) (out ++ m ∷ [])) (sym (map-append (moved kind f) (take i a) (x ∷ [])))
-              (one_last (map (moved kind f) (take i a)) (map (moved kind g) (take j b)) out m part.same));
+              (permuted_with_last (map (moved kind f) (take i a)) (map (moved kind g) (take j b)) out m part.same));
           rising = IsNonDecreasingBy-push kind.rank out m part.rising (λ d lt.
-              let le = part.a_left (get_or out (length out - 1) d) x (has_at out (length out - 1) d (omega (arith, lt))) (has_there a i x there) in
+              let le = part.a_left (get_or out (length out - 1) d) x (Has-get_or out (length out - 1) d (omega (arith, lt))) (has_there a i x there) in
               subst (λ r. kind.rank (get_or out (length out - 1) d) ≤ r) (sym is) le);
           a_left = pushed_below out (drop (suc i) a) m (kind.rank x) is (λ z y hz hy. part.a_left z y hz (has_more a i y hy)) (λ y hy. of_a y (has_more a i y hy));
           b_left = pushed_below out (drop j b) m (kind.rank x) is part.b_left of_b;

@@ -12,12 +12,11 @@ use Rattle.rf2_values.specs.declared.key.Key.{Key}
 use Rattle.rf2_values.specs.Key.{key_of, key_cmp}
 use Rattle.rf2_values.specs.Row.{RowValue}
 use Rattle.history_model.specs.declared.stamped.StampedRow.{StampedRow}
-use Rattle.history_model.specs.InOrder.{IsAscending}
 use Rattle.history_model.specs.History.{stamped_cmp}
 use Rattle.history_model.specs.Lists.{AreLists, union}
-use Rattle.history_model.specs.Private.{ShareNoKey}
-use Rattle.history_model.proofs.InOrder.{Has-append_left, Has-append_right, Has-append_cases, above, below_all, not_both, in_order_first}
+use Rattle.history_model.proofs.InOrder.{above, below_all, not_both}
 use Rattle.history_model.proofs.Keys.{stamped_total, same_key}
+use Rattle.history_model.proofs.Unions.{AreTwo, union_none, union_left, union_right}
 use Rattle.segment.specs.declared.place.RowPlace.{RowPlace}
 use Rattle.segment.specs.Standing.{record_len, row_place, with_places, places_of}
 use Rattle.as_of_index.specs.Postings.{posted_all}
@@ -25,35 +24,9 @@ use Rattle.as_of_index.specs.Numbers.{count_below, number_in_both}
 
 -- ---- the first of two lists' rows
 
--- both ascend, and no key is in both
-record AreTwo (xs ys : List StampedRow) : Type 0 where
-  xs_ascend : IsAscending stamped_cmp xs
-  ys_ascend : IsAscending stamped_cmp ys
-  apart : ShareNoKey xs ys
-
 -- below each
 abbrev IsBelow : StampedRow → List StampedRow → Type 0
 IsBelow x ys = AllByRecursion (λ y. stamped_cmp x y ≡ Less) ys
-
-union_left : (x : StampedRow) (xs ys : List StampedRow) → AreTwo (x ∷ xs) ys → IsBelow x ys → union (x ∷ xs) ys ≡ x ∷ union xs ys
-unfolding union
-union_left x xs ys h below =
-    in_order_first stamped_total x xs ys h.xs_ascend h.ys_ascend (λ s t p q e. h.apart s t p q (same_key (key_of s.row) (key_of t.row) e)) below
-    ((x ∷ xs) ++ ys) (xs ++ ys)
-    (λ z. Has-append_cases (x ∷ xs) ys z) (λ z k. elim k [ inl p ↦ Has-append_left (x ∷ xs) ys z p | inr q ↦ Has-append_right (x ∷ xs) ys z q ])
-    (λ z. Has-append_cases xs ys z) (λ z k. elim k [ inl p ↦ Has-append_left xs ys z p | inr q ↦ Has-append_right xs ys z q ])
-
-union_right : (y : StampedRow) (xs ys : List StampedRow) → AreTwo xs (y ∷ ys) → IsBelow y xs → union xs (y ∷ ys) ≡ y ∷ union xs ys
-unfolding union
-union_right y xs ys h below =
-    in_order_first stamped_total y ys xs h.ys_ascend h.xs_ascend (λ s t p q e. h.apart t s q p (sym (same_key (key_of s.row) (key_of t.row) e))) below
-    (xs ++ (y ∷ ys)) (xs ++ ys)
-    (λ z k. elim (Has-append_cases xs (y ∷ ys) z k) [ inl p ↦ inr p | inr q ↦ inl q ]) (λ z k. elim k [ inl p ↦ Has-append_right xs (y ∷ ys) z p | inr q ↦ Has-append_left xs (y ∷ ys) z q ])
-    (λ z k. elim (Has-append_cases xs ys z k) [ inl p ↦ inr p | inr q ↦ inl q ]) (λ z k. elim k [ inl p ↦ Has-append_right xs ys z p | inr q ↦ Has-append_left xs ys z q ])
-
-union_none : union [] [] ≡ []
-unfolding union
-union_none = refl
 
 -- ---- how many rows stand before one
 

@@ -2,14 +2,11 @@
 use Rattle.std.proofs.Common.{◌≡◌, lit<, lit≤, ◌⊎◌, inl, inr, ℕ, ◌+◌, ◌-◌, ◌/◌, ◌<◌, ◌≤◌, max, min, Bool, true, false, cond, ◌&&◌, ◌||◌, not, nat_lt, nat_le, List, [], ◌∷◌, Option, Some, None, zero, suc, refl, sym, ap, subst, ◌∙◌, arith}
 use Rattle.std.proofs.lemmas.Bool.Decides.{nat_tests}
 use Rattle.std.specs.List.{AllByRecursion, find, list_any, range_with_len}
+use Rattle.std.proofs.lemmas.Bool.{cases_Bool, both_ways, or_right, ltb-true, ltb-false, and_parts, not-true, leb-true, le-leb, false_from_ne_true}
 use Rattle.blocks.specs.Extents.{block_count, block_limit}
 use Rattle.blocks.specs.declared.extent.Extent.{Extent}
 use Rattle.directory.specs.Places.{Covers, CoversByte, SharesNoBlock, SharesNoByte, AreBeside, end_block, taken}
 use Rattle.directory.specs.Fit.{meets, is_free, fit_below, fit, IsFree, IsFit, FitIsLeast, NoFitIsFull, FitIsApart}
-
-pub true_or_false : (b : Bool) → (b ≡ true) ⊎ (b ≡ false)
-true_or_false true = inl refl
-true_or_false false = inr refl
 
 -- what meets says, on numbers
 
@@ -19,23 +16,20 @@ lt_is a b c d h = (grind (arith, nat_tests), grind (arith, nat_tests), grind (ar
 pub lt_from : (a b c d : ℕ) → a < c → a < d → b < c → b < d → nat_lt (max a b) (min c d) ≡ true
 lt_from a b c d ac ad bc bd = grind (arith, nat_tests)
 
-pub not_both : (b : Bool) → b ≡ true → b ≡ false → ⊥
-not_both b t f = cc
-
 pub none_shared : (first blocks : ℕ) (extent : Extent) → meets first blocks extent ≡ false → SharesNoBlock first blocks extent
 none_shared first blocks extent fail block low high covers =
     let end = end_block extent in
     let start = extent.first in
     let below : block < end = covers.1 in
     let from : start ≤ block = covers.0 in
-    not_both (meets first blocks extent) (lt_from first start (first + blocks) end (omega arith) (omega arith) (omega arith) (omega arith)) fail
+    both_ways (meets first blocks extent) fail (lt_from first start (first + blocks) end (omega arith) (omega arith) (omega arith) (omega arith))
 
 -- the greatest of two starts lies below both ends
 in_both : (a b c d : ℕ) → a < c → a < d → b < c → b < d → (block : ℕ) × (a ≤ block) × (block < c) × (b ≤ block) × (block < d)
 in_both a b c d ac ad bc bd = (max a b, (omega arith), (omega arith), (omega arith), (omega arith))
 
 pub not_met : (first blocks : ℕ) (extent : Extent) → SharesNoBlock first blocks extent → meets first blocks extent ≡ false
-not_met first blocks extent none = elim (true_or_false (meets first blocks extent)) [
+not_met first blocks extent none = elim (cases_Bool (meets first blocks extent)) [
   | inl pass ↦
       let is = lt_is first extent.first (first + blocks) (end_block extent) pass in
       let shared = in_both first extent.first (first + blocks) (end_block extent) is.0 is.1 is.2 is.3 in
@@ -45,8 +39,8 @@ not_met first blocks extent none = elim (true_or_false (meets first blocks exten
 
 pub all_shared_none : (first blocks : ℕ) (extents : List Extent) → list_any (meets first blocks) extents ≡ false → AllByRecursion (SharesNoBlock first blocks) extents
 all_shared_none first blocks [] none = tt
-all_shared_none first blocks (extent ∷ extents) none = elim (true_or_false (meets first blocks extent)) [
-  | inl pass ↦ absurd (not_both true refl (sym (ap (λ b. b || list_any (meets first blocks) extents) pass) ∙ none))
+all_shared_none first blocks (extent ∷ extents) none = elim (cases_Bool (meets first blocks extent)) [
+  | inl pass ↦ absurd (both_ways true (sym (ap (λ b. b || list_any (meets first blocks) extents) pass) ∙ none) refl)
   | inr fail ↦ (none_shared first blocks extent fail, all_shared_none first blocks extents (sym (ap (λ b. b || list_any (meets first blocks) extents) fail) ∙ none))
 ]
 
@@ -56,41 +50,24 @@ none_met first blocks (extent ∷ extents) all = ap (λ b. b || list_any (meets 
 
 -- what the first that passes says
 
-pub found_passes : {X : Type 0} (p : X → Bool) (xs : List X) (x : X) → find p xs ≡ Some x → p x ≡ true
-found_passes p [] x e = absurd (cc)
-found_passes {X} p (y ∷ xs) x e = elim (true_or_false (p y)) [
-  | inl pass ↦ let same : Some y ≡ Some x = sym (ap (λ b. cond b (Some y) (find p xs)) pass) ∙ e in let is : y ≡ x = cc in sym (ap p is) ∙ pass
-  | inr fail ↦ found_passes p xs x (sym (ap (λ b. cond b (Some y) (find p xs)) fail) ∙ e)
-]
-
-or_right : (a b : Bool) → b ≡ true → (a || b) ≡ true
-or_right true b h = refl
-or_right false b h = h
-
 pub any_where_found : {X : Type 0} (p q : X → Bool) (xs : List X) (x : X) → find p xs ≡ Some x → q x ≡ true → list_any q xs ≡ true
 any_where_found p q [] x e passes = absurd (cc)
-any_where_found {X} p q (y ∷ xs) x e passes = elim (true_or_false (p y)) [
+any_where_found {X} p q (y ∷ xs) x e passes = elim (cases_Bool (p y)) [
   | inl pass ↦ let same : Some y ≡ Some x = sym (ap (λ b. cond b (Some y) (find p xs)) pass) ∙ e in let is : y ≡ x = cc in ap (λ b. b || list_any q xs) (ap q is ∙ passes)
   | inr fail ↦ or_right (q y) (list_any q xs) (any_where_found p q xs x (sym (ap (λ b. cond b (Some y) (find p xs)) fail) ∙ e) passes)
 ]
 
 pub none_where_not_found : {X : Type 0} (p : X → Bool) (xs : List X) → find p xs ≡ None → list_any p xs ≡ false
 none_where_not_found p [] e = refl
-none_where_not_found {X} p (y ∷ xs) e = elim (true_or_false (p y)) [
+none_where_not_found {X} p (y ∷ xs) e = elim (cases_Bool (p y)) [
   | inl pass ↦ let same : Some y ≡ None = sym (ap (λ b. cond b (Some y) (find p xs)) pass) ∙ e in absurd (cc)
   | inr fail ↦ ap (λ b. b || list_any p xs) fail ∙ none_where_not_found p xs (sym (ap (λ b. cond b (Some y) (find p xs)) fail) ∙ e)
 ]
 
 -- the first of a range of numbers
 
-pub below_from : (a b : ℕ) → nat_lt a b ≡ true → a < b
-below_from a b h = grind (arith, nat_tests)
-
-pub not_below_from : (a b : ℕ) → nat_lt a b ≡ false → b ≤ a
-not_below_from a b h = grind (arith, nat_tests)
-
 equal_or_below : (a b : ℕ) → a ≤ b → (a ≡ b) ⊎ (a < b)
-equal_or_below a b h = elim (true_or_false (nat_lt a b)) [ inl pass ↦ inr (below_from a b pass) | inr fail ↦ inl (omega (arith, not_below_from a b fail)) ]
+equal_or_below a b h = elim (cases_Bool (nat_lt a b)) [ inl pass ↦ inr (ltb-true a b pass) | inr fail ↦ inl (omega (arith, ltb-false a b fail)) ]
 
 -- of the so many numbers from start on, this is the first that passes
 pub record IsFirst (p : ℕ → Bool) (start n x : ℕ) : Type 0 where
@@ -108,7 +85,7 @@ Scanned p start n found = ((x : ℕ) × IsFirst p start n x × (found ≡ Some x
 
 pub scanned : (p : ℕ → Bool) (start n : ℕ) → Scanned p start n (find p (range_with_len start n))
 scanned p start zero = inr ((λ y l h. absurd (omega (arith, l, h))), refl)
-scanned p start (suc n) = at (true_or_false (p start)) (scanned p (start + 1) n) where
+scanned p start (suc n) = at (cases_Bool (p start)) (scanned p (start + 1) n) where
   rest : Option ℕ
   rest = find p (range_with_len (start + 1) n)
 
@@ -136,20 +113,20 @@ fit_scanned limit blocks extents = scanned (is_free limit blocks extents) 4 (lim
 pub fit_below_some : (limit blocks : ℕ) (extents : List Extent) (first : ℕ) → IsFirst (is_free limit blocks extents) 4 (limit - 4) first → fit_below limit blocks extents ≡ Some first
 fit_below_some limit blocks extents first is = at (fit_scanned limit blocks extents) where
   same : (x : ℕ) → IsFirst (is_free limit blocks extents) 4 (limit - 4) x → x ≡ first
-  same x other = at (true_or_false (nat_lt x first)) (true_or_false (nat_lt first x)) where
+  same x other = at (cases_Bool (nat_lt x first)) (cases_Bool (nat_lt first x)) where
     at : (nat_lt x first ≡ true) ⊎ (nat_lt x first ≡ false) → (nat_lt first x ≡ true) ⊎ (nat_lt first x ≡ false) → x ≡ first
-    at (inl below) _ = absurd (not_both (is_free limit blocks extents x) other.passes (is.before x other.low (below_from x first below)))
-    at (inr _) (inl above) = absurd (not_both (is_free limit blocks extents first) is.passes (other.before first is.low (below_from first x above)))
-    at (inr a) (inr b) = omega (arith, not_below_from x first a, not_below_from first x b)
+    at (inl below) _ = absurd (both_ways (is_free limit blocks extents x) (is.before x other.low (ltb-true x first below)) other.passes)
+    at (inr _) (inl above) = absurd (both_ways (is_free limit blocks extents first) (other.before first is.low (ltb-true first x above)) is.passes)
+    at (inr a) (inr b) = omega (arith, ltb-false x first a, ltb-false first x b)
 
   at : Scanned (is_free limit blocks extents) 4 (limit - 4) (fit_below limit blocks extents) → fit_below limit blocks extents ≡ Some first
   at (inl (x, other, e)) = e ∙ ap (λ (y : ℕ). Some y) (same x other)
-  at (inr (none, e)) = absurd (not_both (is_free limit blocks extents first) is.passes (none first is.low is.high))
+  at (inr (none, e)) = absurd (both_ways (is_free limit blocks extents first) (none first is.low is.high) is.passes)
 
 pub fit_below_none : (limit blocks : ℕ) (extents : List Extent) → NonePasses (is_free limit blocks extents) 4 (limit - 4) → fit_below limit blocks extents ≡ None
 fit_below_none limit blocks extents none = at (fit_scanned limit blocks extents) where
   at : Scanned (is_free limit blocks extents) 4 (limit - 4) (fit_below limit blocks extents) → fit_below limit blocks extents ≡ None
-  at (inl (x, other, e)) = absurd (not_both (is_free limit blocks extents x) other.passes (none x other.low other.high))
+  at (inl (x, other, e)) = absurd (both_ways (is_free limit blocks extents x) (none x other.low other.high) other.passes)
   at (inr (_, e)) = e
 
 pub first_from_fit : (limit blocks : ℕ) (extents : List Extent) (first : ℕ) → fit_below limit blocks extents ≡ Some first → IsFirst (is_free limit blocks extents) 4 (limit - 4) first
@@ -166,32 +143,14 @@ none_from_fit limit blocks extents e = at (fit_scanned limit blocks extents) whe
 
 -- a place that is free, as a test and by what it says
 
-both_true : (a b : Bool) → (a && b) ≡ true → (a ≡ true) × (b ≡ true)
-both_true true b h = (refl, h)
-both_true false b h = absurd (cc)
-
-false_from_not : (b : Bool) → not b ≡ true → b ≡ false
-false_from_not true h = absurd (cc)
-false_from_not false h = refl
-
-at_most_from : (a b : ℕ) → nat_le a b ≡ true → a ≤ b
-at_most_from a b h = grind (arith, nat_tests)
-
-at_most_is : (a b : ℕ) → a ≤ b → nat_le a b ≡ true
-at_most_is a b h = grind (arith, nat_tests)
-
 pub free_at : (limit blocks : ℕ) (extents : List Extent) (first : ℕ) → first + blocks ≤ limit → list_any (meets first blocks) extents ≡ false → is_free limit blocks extents first ≡ true
-free_at limit blocks extents first low none = ap (λ b. b && not (list_any (meets first blocks) extents)) (at_most_is (first + blocks) limit low) ∙ ap not none
+free_at limit blocks extents first low none = ap (λ b. b && not (list_any (meets first blocks) extents)) (le-leb (first + blocks) limit low) ∙ ap not none
 
 pub fits_from_free : (limit blocks : ℕ) (extents : List Extent) (first : ℕ) → is_free limit blocks extents first ≡ true → first + blocks ≤ limit
-fits_from_free limit blocks extents first free = at_most_from (first + blocks) limit (both_true (nat_le (first + blocks) limit) (not (list_any (meets first blocks) extents)) free).0
+fits_from_free limit blocks extents first free = leb-true (first + blocks) limit (and_parts (nat_le (first + blocks) limit) (not (list_any (meets first blocks) extents)) free).0
 
 pub none_met_from_free : (limit blocks : ℕ) (extents : List Extent) (first : ℕ) → is_free limit blocks extents first ≡ true → list_any (meets first blocks) extents ≡ false
-none_met_from_free limit blocks extents first free = false_from_not (list_any (meets first blocks) extents) (both_true (nat_le (first + blocks) limit) (not (list_any (meets first blocks) extents)) free).1
-
-false_from_no : (b : Bool) → (b ≡ true → ⊥) → b ≡ false
-false_from_no true never = absurd (never refl)
-false_from_no false never = refl
+none_met_from_free limit blocks extents first free = not-true (list_any (meets first blocks) extents) (and_parts (nat_le (first + blocks) limit) (not (list_any (meets first blocks) extents)) free).1
 
 pub is_free_from : (blocks : ℕ) (extents : List Extent) (first : ℕ) → IsFree blocks extents first → is_free block_limit blocks extents first ≡ true
 is_free_from blocks extents first free = free_at block_limit blocks extents first free.end (none_met first blocks extents free.apart)
@@ -209,22 +168,22 @@ four_for_none blocks extents none = subst (λ (n : ℕ). IsFree n extents 4) (sy
 
 -- a place that is free lies in the range that the fit goes through, but for no blocks at the last one
 pub in_range_or_none : (blocks first : ℕ) → first + blocks ≤ block_limit → (first < 4 + (block_limit - 4)) ⊎ (blocks ≡ 0)
-in_range_or_none blocks first h = elim (true_or_false (nat_lt first block_limit)) [ inl pass ↦ inl (below_from first block_limit pass) | inr fail ↦ inr (omega (arith, h, not_below_from first block_limit fail)) ]
+in_range_or_none blocks first h = elim (cases_Bool (nat_lt first block_limit)) [ inl pass ↦ inl (ltb-true first block_limit pass) | inr fail ↦ inr (omega (arith, h, ltb-false first block_limit fail)) ]
 
 first_from_least : (blocks : ℕ) (extents : List Extent) (first : ℕ) → IsFit blocks extents first → IsFirst (is_free block_limit blocks extents) 4 (block_limit - 4) first
 first_from_least blocks extents first is = record {
   low = is.free.start;
   high = elim (in_range_or_none blocks first is.free.end) [ inl high ↦ high | inr none ↦ omega (arith, is.least 4 (four_for_none blocks extents none)) ];
   passes = is_free_from blocks extents first is.free;
-  before = λ y low below. false_from_no (is_free block_limit blocks extents y) (λ free. absurd (omega (arith, below, is.least y (free_from_test blocks extents y low free))));
+  before = λ y low below. false_from_ne_true (is_free block_limit blocks extents y) (λ free. absurd (omega (arith, below, is.least y (free_from_test blocks extents y low free))));
 }
 
 least_from_first : (blocks : ℕ) (extents : List Extent) (first : ℕ) → IsFirst (is_free block_limit blocks extents) 4 (block_limit - 4) first → IsFit blocks extents first
 least_from_first blocks extents first is = record {
   free = free_from_test blocks extents first is.low is.passes;
-  least = λ other free. elim (true_or_false (nat_lt other first)) [
-    | inl pass ↦ absurd (not_both (is_free block_limit blocks extents other) (is_free_from blocks extents other free) (is.before other free.start (below_from other first pass)))
-    | inr fail ↦ not_below_from other first fail
+  least = λ other free. elim (cases_Bool (nat_lt other first)) [
+    | inl pass ↦ absurd (both_ways (is_free block_limit blocks extents other) (is.before other free.start (ltb-true other first pass)) (is_free_from blocks extents other free))
+    | inr fail ↦ ltb-false other first fail
   ];
 }
 
@@ -240,10 +199,10 @@ unfolding fit
 no_fit_is_full blocks live reserved =
     let extents = taken live reserved in (
       (λ e first free. elim (in_range_or_none blocks first free.end) [
-        | inl high ↦ not_both (is_free block_limit blocks extents first) (is_free_from blocks extents first free) (none_from_fit block_limit blocks extents e first free.start high)
-        | inr none ↦ not_both (is_free block_limit blocks extents 4) (is_free_from blocks extents 4 (four_for_none blocks extents none)) (none_from_fit block_limit blocks extents e 4 (lit≤ tt) (lit< tt))
+        | inl high ↦ both_ways (is_free block_limit blocks extents first) (none_from_fit block_limit blocks extents e first free.start high) (is_free_from blocks extents first free)
+        | inr none ↦ both_ways (is_free block_limit blocks extents 4) (none_from_fit block_limit blocks extents e 4 (lit≤ tt) (lit< tt)) (is_free_from blocks extents 4 (four_for_none blocks extents none))
       ]),
-      (λ never. fit_below_none block_limit blocks extents (λ y low high. false_from_no (is_free block_limit blocks extents y) (λ free. never y (free_from_test blocks extents y low free)))),
+      (λ never. fit_below_none block_limit blocks extents (λ y low high. false_from_ne_true (is_free block_limit blocks extents y) (λ free. never y (free_from_test blocks extents y low free)))),
     )
 
 -- an extent that shares no block shares no byte

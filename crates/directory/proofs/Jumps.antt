@@ -2,12 +2,14 @@
 use Rattle.std.proofs.Common.{◌≡◌, ℕ, ◌+◌, ◌^◌, ◌<◌, ◌≤◌, Bool, true, false, cond, ◌&&◌, not, nat_lt, nat_le, List, [], ◌∷◌, Option, Some, None, refl, sym, ap, ◌∙◌, lit<, lit≤, inl, inr, arith}
 use Rattle.std.proofs.lemmas.Bool.Decides.{nat_tests}
 use Rattle.std.specs.List.{find, list_any}
+use Rattle.std.proofs.lemmas.Bool.{cases_Bool, ltb-true, ltb-false}
+use Rattle.list_lemmas.proofs.Kept.{found_passes}
 use Rattle.blocks.specs.Extents.{block_limit}
 use Rattle.blocks.specs.declared.extent.Extent.{Extent}
 use Rattle.directory.specs.declared.entry.Entry.{Entry}
 use Rattle.directory.specs.Places.{end_block, taken}
 use Rattle.directory.specs.Fit.{meets, is_free, fit}
-use Rattle.directory.proofs.Fitting.{true_or_false, below_from, not_below_from, lt_is, lt_from, any_where_found, found_passes, none_where_not_found, free_at, in_range_or_none, fit_below_some, fit_below_none}
+use Rattle.directory.proofs.Fitting.{lt_is, lt_from, any_where_found, none_where_not_found, free_at, in_range_or_none, fit_below_some, fit_below_none}
 
 -- each place from the first data block up to this one meets an extent that is taken
 pub record IsTried (blocks : ℕ) (extents : List Extent) (first : ℕ) : Type 0 where
@@ -27,10 +29,10 @@ jumped blocks extents first extent tried found fits =
     record {
       start = omega (arith, tried.start, is.1);
       fits = fits;
-      passed = λ place low high. elim (true_or_false (nat_lt place first)) [
-        | inl pass ↦ tried.passed place low (below_from place first pass)
+      passed = λ place low high. elim (cases_Bool (nat_lt place first)) [
+        | inl pass ↦ tried.passed place low (ltb-true place first pass)
         | inr fail ↦ any_where_found (meets first blocks) (meets place blocks) extents extent found
-            (lt_from place start (place + blocks) end (omega (arith, is.0)) high (omega (arith, is.2, not_below_from place first fail)) is.3)
+            (lt_from place start (place + blocks) end (omega (arith, is.0)) high (omega (arith, is.2, ltb-false place first fail)) is.3)
       ];
       stays_for_none = λ none. absurd (omega (arith, none, is.0));
     }
@@ -61,9 +63,9 @@ pub fit_missing : (blocks : ℕ) (live : List Entry) (reserved : Option Extent) 
 unfolding fit
 fit_missing blocks live reserved first tried past =
     let extents = taken live reserved in
-    fit_below_none block_limit blocks extents (λ place from below. elim (true_or_false (nat_lt place first)) [
-      | inl pass ↦ not_free block_limit blocks extents place (tried.passed place from (below_from place first pass))
-      | inr fail ↦ past_limit block_limit blocks extents place (omega (arith, past, not_below_from place first fail))
+    fit_below_none block_limit blocks extents (λ place from below. elim (cases_Bool (nat_lt place first)) [
+      | inl pass ↦ not_free block_limit blocks extents place (tried.passed place from (ltb-true place first pass))
+      | inr fail ↦ past_limit block_limit blocks extents place (omega (arith, past, ltb-false place first fail))
     ])
 
 -- how many of the extents end behind a place: each round of the search leaves fewer
@@ -95,7 +97,7 @@ falls_here end first other extents is behind =
 pub ahead_falls : (first blocks : ℕ) (extents : List Extent) (extent : Extent) → find (meets first blocks) extents ≡ Some extent → ahead (end_block extent) extents < ahead first extents
 unfolding ahead
 ahead_falls first blocks [] extent found = absurd (cc)
-ahead_falls first blocks (other ∷ extents) extent found = elim (true_or_false (meets first blocks other)) [
+ahead_falls first blocks (other ∷ extents) extent found = elim (cases_Bool (meets first blocks other)) [
   | inl pass ↦
       let same : Some other ≡ Some extent = sym (ap (λ b. cond b (Some other) (find (meets first blocks) extents)) pass) ∙ found in
       let is : other ≡ extent = cc in

@@ -4,6 +4,8 @@ use Rattle.std.specs.Int.{w32, w64, to_be_bytes}
 use Rattle.std.specs.List.{AllByRecursion}
 use Rattle.std.proofs.lemmas.Bool.{cases_lt, cases_eq}
 use Rattle.std.proofs.lemmas.List.{append_cancel_left, get_or-drop, get_or-take, take-append-le, drop-append-le}
+use Rattle.list_lemmas.proofs.Each.{each_of_parts, each_of_both, each_of_taken}
+use Rattle.list_lemmas.proofs.Parts.{drop_beyond, take_beyond, same_first_and_rest}
 use Rattle.checksum.specs.Crc32c.{crc32c}
 use Rattle.checksum.proofs.ChecksumLaws.{is_number_of_32_bits, one_byte_is_noticed}
 use Rattle.directory.specs.declared.layout.Layout.{Layout}
@@ -12,40 +14,11 @@ use Rattle.directory.specs.Listings.{DirectoryValue, RisesTo}
 use Rattle.directory.specs.Content.{HasMark, HasOlderMark, HasSum, Lists, MayPrecede, ChangedByteIsNoticed, ChangedByteMayNotPrecede, ListedMayPrecede, mark, sum_of}
 use Rattle.directory.proofs.Spelled.{block_is, header_fields, one_mark, same_4}
 
-all_split : (P : ℕ → Type 0) (xs : List ℕ) (y : ℕ) (ys : List ℕ) → AllByRecursion P (xs ++ y ∷ ys) → AllByRecursion P xs × P y × AllByRecursion P ys
-all_split P [] y ys all = (tt, all.0, all.1)
-all_split P (x ∷ xs) y ys all = let rest = all_split P xs y ys all.1 in ((all.0, rest.0), rest.1, rest.2)
-
-all_joined : (P : ℕ → Type 0) (xs : List ℕ) (y : ℕ) (ys : List ℕ) → AllByRecursion P xs → P y → AllByRecursion P ys → AllByRecursion P (xs ++ y ∷ ys)
-all_joined P [] y ys all p others = (p, others)
-all_joined P (x ∷ xs) y ys all p others = (all.0, all_joined P xs y ys all.1 p others)
-
-pub all_take : (P : ℕ → Type 0) (n : ℕ) (xs : List ℕ) → AllByRecursion P xs → AllByRecursion P (take n xs)
-all_take P zero xs all = tt
-all_take P (suc n) [] all = tt
-all_take P (suc n) (x ∷ xs) all = (all.0, all_take P n xs all.1)
-
--- where the changed byte is behind so many, or among them
-same_past : (n : ℕ) (before after : List ℕ) (b c : ℕ) → length before < n → drop n (before ++ b ∷ after) ≡ drop n (before ++ c ∷ after)
-same_past zero before after b c short = absurd (omega (arith, short))
-same_past (suc n) [] after b c short = refl
-same_past (suc n) (x ∷ before) after b c short = same_past n before after b c (omega (arith, short))
-
-pub taken_past : (n : ℕ) (before after : List ℕ) (b : ℕ) → length before < n → take n (before ++ b ∷ after) ≡ before ++ b ∷ take (n - (length before + 1)) after
-taken_past zero before after b short = absurd (omega (arith, short))
-taken_past (suc n) [] after b short = let e : suc n - (0 + 1) ≡ n = omega arith in ap (λ (m : ℕ). b ∷ take m after) (sym e)
-taken_past (suc n) (x ∷ before) after b short =
-    let e : suc n - (suc (length before) + 1) ≡ n - (length before + 1) = omega arith in
-    ap (λ (l : List ℕ). x ∷ l) (taken_past n before after b (omega (arith, short)) ∙ ap (λ (m : ℕ). before ++ b ∷ take m after) (sym e))
-
 pub same_at : (before after : List ℕ) (b c i : ℕ) → i ≢ length before → get_or (before ++ b ∷ after) i 0 ≡ get_or (before ++ c ∷ after) i 0
 same_at [] after b c zero other = absurd (other refl)
 same_at [] after b c (suc i) other = refl
 same_at (x ∷ before) after b c zero other = refl
 same_at (x ∷ before) after b c (suc i) other = same_at before after b c i (λ e. other (ap suc e))
-
-same_first : (b c : ℕ) (after : List ℕ) → b ∷ after ≡ c ∷ after → b ≡ c
-same_first b c after e = cc
 
 -- ---- two bytes of the marks
 
@@ -111,18 +84,18 @@ by_sum : (before after : List ℕ) (byte changed : ℕ) → AllByRecursion (λ b
     → drop 4092 (before ++ byte ∷ after) ≡ sum_of (before ++ byte ∷ after) → drop 4092 (before ++ changed ∷ after) ≡ sum_of (before ++ changed ∷ after) → byte ≡ changed
 by_sum before after byte changed all small is others = elim (cases_lt (length before) 4092) [
   | inl short ↦
-      let parts = all_split (λ b. b < 256) before byte after all in
+      let parts = each_of_parts (λ b. b < 256) before byte after all in
       let rest = take (4092 - (length before + 1)) after in
-      let rests = all_take (λ b. b < 256) (4092 - (length before + 1)) after parts.2 in
+      let rests = each_of_taken (λ b. b < 256) (4092 - (length before + 1)) after parts.2 in
       let sums : to_be_bytes w32 (crc32c (before ++ byte ∷ rest)) ≡ to_be_bytes w32 (crc32c (before ++ changed ∷ rest)) =
-      ap (λ (l : List ℕ). to_be_bytes w32 (crc32c l)) (sym (taken_past 4092 before after byte short)) ∙ sym is ∙ same_past 4092 before after byte changed short ∙ others
-      ∙ ap (λ (l : List ℕ). to_be_bytes w32 (crc32c l)) (taken_past 4092 before after changed short) in
+      ap (λ (l : List ℕ). to_be_bytes w32 (crc32c l)) (sym (take_beyond 4092 before after byte short)) ∙ sym is ∙ drop_beyond 4092 before after byte changed short ∙ others
+      ∙ ap (λ (l : List ℕ). to_be_bytes w32 (crc32c l)) (take_beyond 4092 before after changed short) in
       one_byte_is_noticed before rest byte changed parts.0 rests parts.1 small
-      (numbers_same (before ++ byte ∷ rest) (before ++ changed ∷ rest) (all_joined (λ b. b < 256) before byte rest parts.0 parts.1 rests) (all_joined (λ b. b < 256) before changed rest parts.0 small rests) sums)
+      (numbers_same (before ++ byte ∷ rest) (before ++ changed ∷ rest) (each_of_both (λ b. b < 256) before (byte ∷ rest) parts.0 (parts.1, rests)) (each_of_both (λ b. b < 256) before (changed ∷ rest) parts.0 (small, rests)) sums)
   | inr long ↦
       let front : take 4092 (before ++ byte ∷ after) ≡ take 4092 (before ++ changed ∷ after) = take-append-le 4092 before (byte ∷ after) long ∙ sym (take-append-le 4092 before (changed ∷ after) long) in
       let ends : drop 4092 (before ++ byte ∷ after) ≡ drop 4092 (before ++ changed ∷ after) = is ∙ ap (λ (l : List ℕ). to_be_bytes w32 (crc32c l)) front ∙ sym others in
-      same_first byte changed after (append_cancel_left (drop 4092 before) (byte ∷ after) (changed ∷ after) (sym (drop-append-le 4092 before (byte ∷ after) long) ∙ ends ∙ drop-append-le 4092 before (changed ∷ after) long))
+      (same_first_and_rest byte changed after after (append_cancel_left (drop 4092 before) (byte ∷ after) (changed ∷ after) (sym (drop-append-le 4092 before (byte ∷ after) long) ∙ ends ∙ drop-append-le 4092 before (changed ∷ after) long))).0
 ]
 
 -- ---- a changed block of version 3
@@ -143,7 +116,7 @@ module _ (before after : List ℕ) (byte changed : ℕ) (all : AllByRecursion (�
   noticed layouts.Three has other = by_sum before after byte changed all small sum other
 
   still_marked : length before < 8 → HasMark layouts.Three (before ++ changed ∷ after)
-  still_marked short = ap (take 8) (sym (same_past 8 before after byte changed short)) ∙ marks
+  still_marked short = ap (take 8) (sym (drop_beyond 8 before after byte changed short)) ∙ marks
 
   pub may_not_precede : (layout : Layout) → (layout ≡ layouts.Three) ⊎ (length before < 8) → MayPrecede layout (before ++ changed ∷ after) → byte ≡ changed
   may_not_precede layouts.One (inl three) may = absurd cc

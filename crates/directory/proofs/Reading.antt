@@ -3,6 +3,8 @@ use Rattle.std.proofs.Common.{◌≡◌, ℕ, ◌+◌, ◌*◌, ◌<◌, ◌≤�
 use Rattle.std.specs.Option.{is_some}
 use Rattle.std.specs.List.{AllByRecursion, flat_map, find, list_any}
 use Rattle.std.proofs.lemmas.List.{flat_map_more, append-nil, map-append}
+use Rattle.std.proofs.lemmas.Bool.{cases_Bool, both_ways}
+use Rattle.list_lemmas.proofs.Each.{each_of_pushed, each_at_middle}
 use Rattle.blocks.specs.Extents.{block_count}
 use Rattle.blocks.specs.declared.extent.Extent.{Extent}
 use Rattle.directory.specs.declared.entry.Entry.{Entry}
@@ -12,24 +14,16 @@ use Rattle.directory.specs.Content.{entry_bytes}
 use Rattle.directory.specs.Fit.{meets}
 use Rattle.directory.specs.Private.{IsTable}
 use Rattle.directory.proofs.Spelled.{entries_before, entry_length, one_entry}
-use Rattle.directory.proofs.Fitting.{true_or_false, not_both, all_shared_none, none_met, beside_from_none, none_from_beside, none_where_not_found}
-
-pub AllByRecursion-push : {X : Type 0} (P : X → Type 0) (xs : List X) (x : X) → AllByRecursion P xs → P x → AllByRecursion P (xs ++ x ∷ [])
-AllByRecursion-push P [] x all is = (is, tt)
-AllByRecursion-push P (y ∷ xs) x all is = (all.0, AllByRecursion-push P xs x all.1 is)
-
-pub AllByRecursion-last : {X : Type 0} (P : X → Type 0) (xs : List X) (x : X) (ys : List X) → AllByRecursion P (xs ++ x ∷ ys) → P x
-AllByRecursion-last P [] x ys all = all.0
-AllByRecursion-last P (y ∷ xs) x ys all = AllByRecursion-last P xs x ys all.1
+use Rattle.directory.proofs.Fitting.{all_shared_none, none_met, beside_from_none, none_from_beside, none_where_not_found}
 
 pub AreApart-push : (extents : List Extent) (extent : Extent) → AreApart extents → AllByRecursion (AreBeside extent) extents → AreApart (extents ++ extent ∷ [])
 AreApart-push [] extent apart beside = (tt, tt)
-AreApart-push (other ∷ extents) extent apart beside = (AllByRecursion-push (AreBeside other) extents extent apart.0 (λ block in_other in_this. beside.0 block in_this in_other), AreApart-push extents extent apart.1 beside.1)
+AreApart-push (other ∷ extents) extent apart beside = (each_of_pushed (AreBeside other) extents extent apart.0 (λ block in_other in_this. beside.0 block in_this in_other), AreApart-push extents extent apart.1 beside.1)
 
 -- each one is beside those before it
 pub beside_before : (extents : List Extent) (extent : Extent) (others : List Extent) → AreApart (extents ++ extent ∷ others) → AllByRecursion (AreBeside extent) extents
 beside_before [] extent others apart = tt
-beside_before (other ∷ extents) extent others apart = ((λ block in_this in_other. AllByRecursion-last (AreBeside other) extents extent others apart.0 block in_other in_this), beside_before extents extent others apart.1)
+beside_before (other ∷ extents) extent others apart = ((λ block in_this in_other. each_at_middle (AreBeside other) extents extent others apart.0 block in_other in_this), beside_before extents extent others apart.1)
 
 pub apart_with : (entries : List Entry) (entry : Entry) → AreApart (extents_of entries) → AllByRecursion (AreBeside (extent_of entry)) (extents_of entries) → AreApart (extents_of (entries ++ entry ∷ []))
 apart_with entries entry apart beside = subst AreApart (sym (map-append extent_of entries (entry ∷ []))) (AreApart-push (extents_of entries) (extent_of entry) apart beside)
@@ -42,8 +36,8 @@ beside_from_not_found entries entry none =
 
 not_found_from_none : {X : Type 0} (p : X → Bool) (xs : List X) → list_any p xs ≡ false → find p xs ≡ None
 not_found_from_none p [] none = refl
-not_found_from_none {X} p (x ∷ xs) none = elim (true_or_false (p x)) [
-  | inl pass ↦ absurd (not_both true refl (sym (ap (λ b. b || list_any p xs) pass) ∙ none))
+not_found_from_none {X} p (x ∷ xs) none = elim (cases_Bool (p x)) [
+  | inl pass ↦ absurd (both_ways true (sym (ap (λ b. b || list_any p xs) pass) ∙ none) refl)
   | inr fail ↦ ap (λ b. cond b (Some x) (find p xs)) fail ∙ not_found_from_none p xs (sym (ap (λ b. b || list_any p xs) fail) ∙ none)
 ]
 
@@ -69,7 +63,7 @@ next_read bytes count done entries rest behind entry read e is none = record {
   bytes_are = read.bytes_are ∙ ap (λ (l : List ℕ). flat_map entry_bytes entries ++ l) e ∙ sym (append_assoc (flat_map entry_bytes entries) (entry_bytes entry) behind) ∙ ap (λ (l : List ℕ). l ++ behind) (flat_map_more entry_bytes [] entries entry);
   done_is = length-append entries (entry ∷ []) ∙ ap (λ n. n + 1) read.done_is;
   enough = omega (arith, read.enough, ap length e, length-append (entry_bytes entry) behind, entry_length entry);
-  each = AllByRecursion-push IsEntry entries entry read.each is;
+  each = each_of_pushed IsEntry entries entry read.each is;
   apart = apart_with entries entry read.apart (beside_from_not_found entries entry none);
 }
 
@@ -87,7 +81,7 @@ next_among entries (entry ∷ others) table rest last few e f each apart = recor
   entry = entry;
   behind = flat_map entry_bytes others ++ last;
   rest_is = f ∙ append_assoc (entry_bytes entry) (flat_map entry_bytes others) last;
-  is = AllByRecursion-last IsEntry entries entry others (subst (AllByRecursion IsEntry) e each);
+  is = each_at_middle IsEntry entries entry others (subst (AllByRecursion IsEntry) e each);
   beside = beside_before (extents_of entries) (extent_of entry) (extents_of others) (subst AreApart (ap extents_of e ∙ map-append extent_of entries (entry ∷ others)) apart);
 }
 
@@ -105,7 +99,7 @@ no_table_with_overlap bytes count done entries table rest behind entry read few 
     let after = next_of_table bytes count done entries table rest read few is in
     let same = (one_entry after.entry entry after.behind behind after.is is_entry (sym after.rest_is ∙ e)).0 in
     let none = not_found_from_beside entries entry (subst (λ (x : Entry). AllByRecursion (AreBeside (extent_of x)) (extents_of entries)) same after.beside) in
-    not_both true refl (sym met ∙ ap is_some none)
+    both_ways true (sym met ∙ ap is_some none) refl
 
 pub table_read : (bytes : List ℕ) (count : ℕ) (entries : List Entry) (rest : List ℕ) → HasRead bytes count count entries rest → IsTable bytes count entries
 table_read bytes count entries rest read = record { rest = rest; bytes_are = read.bytes_are; count_is = read.done_is; each = read.each; apart = read.apart }
@@ -117,7 +111,3 @@ met_is met entry extent first count blocks entries items e is first_is blocks_is
     e ∙ ap (λ f. find (meets f blocks) (taken items None)) (first_is ∙ ap (λ (x : Extent). x.first) is)
     ∙ ap (λ n. find (meets entry.first n) (taken items None)) (blocks_is ∙ count_is ∙ ap block_count is)
     ∙ ap (λ (s : List Entry). find (meets entry.first (block_count (extent_of entry))) (taken s None)) same
-
-pub not_found : {X : Type 0} (o : Option X) → is_some o ≡ false → o ≡ None
-not_found None e = refl
-not_found (Some x) e = absurd (cc)

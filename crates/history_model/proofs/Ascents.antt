@@ -1,5 +1,5 @@
 -- Answers ascend, and leave nothing out.
-use Rattle.std.proofs.Common.{◌≡◌, ◌≢◌, ℕ, zero, suc, ◌<◌, Bool, true, false, cond, List, [], ◌∷◌, map, take, refl, sym, ap, subst, inl, inr, ◌∙◌, arith}
+use Rattle.std.proofs.Common.{◌≡◌, ◌≢◌, ℕ, ◌<◌, Bool, true, false, cond, List, [], ◌∷◌, map, refl, sym, ap, subst, inl, inr, ◌∙◌, arith}
 use Rattle.std.specs.Prelude.{◌&&◌, Option, Some, None}
 use Rattle.std.specs.List.{AllByRecursion, filter}
 use Rattle.std.specs.Ordering.{nat_cmp}
@@ -7,6 +7,9 @@ use Rattle.std.specs.Cmp.{IsTotalOrder, nat_cmp_is, nat_cmp_total, on_total, the
 use Rattle.std.proofs.lemmas.Bool.Decides.{nat_tests}
 use Rattle.std.specs.declared.cmp.Ordering.{Ordering}
 use Rattle.std.specs.declared.cmp.Ordering.TheVariants.{Less, Equal}
+use Rattle.std.proofs.lemmas.Option.{same_Some}
+use Rattle.std.proofs.lemmas.Bool.{and_parts}
+use Rattle.list_lemmas.proofs.Tests.{both_equal, all_three}
 use Rattle.rf2_values.specs.declared.row.Kind.{Kind}
 use Rattle.rf2_values.specs.declared.row.Kind.TheVariants.{Concept, Description, Association}
 use Rattle.rf2_values.specs.declared.row.Body.{Body}
@@ -20,8 +23,7 @@ use Rattle.history_model.specs.Queries.{is_kind, subject_of_body, subject_of, is
 use Rattle.history_model.specs.Laws.{AboutIsAll, EachIsAboutOne, AboutAscends, SearchAscends}
 use Rattle.history_model.specs.Laws.{WhatIsShownAscends, OneRowOfAComponent, by_time, by_id, AnswersAscend, ChildrenAreAll, ReplacementsAreAll}
 use Rattle.history_model.proofs.InOrder.{Has-put_all_cases, Has-put_all_new, IsAscending-in_order}
-use Rattle.history_model.proofs.Keys.{both_tie}
-use Rattle.history_model.proofs.Filtered.{both, Has-filter, Has-filter_from, Has-map, Has-map_from, Rises}
+use Rattle.history_model.proofs.Filtered.{Has-filter, Has-filter_from, Has-map, Has-map_from, Rises, IsAscending-take}
 use Rattle.history_model.proofs.Snapshots.{IsAscending-rows_at, IsAscending-snapshot, IsConsistent-from_ascending, current_from_snapshot, kind_from_test, of_page, Rises-page, Rises-current, Rises-versions, versions-above_none}
 
 pub what_is_shown_ascends : WhatIsShownAscends
@@ -58,16 +60,6 @@ module _ (p : RowValue → Bool) (rank : RowValue → ℕ) where
         | false ↦ λ f. ascends xs r.1
       ] r.0
 
-All-take : {X : Type 0} (P : X → Type 0) (n : ℕ) (xs : List X) → AllByRecursion P xs → AllByRecursion P (take n xs)
-All-take P zero xs a = tt
-All-take P (suc n) [] a = tt
-All-take P (suc n) (x ∷ xs) a = (a.0, All-take P n xs a.1)
-
-pub IsAscending-take : {X : Type 0} (cmp : X → X → Ordering) (n : ℕ) (xs : List X) → IsAscending cmp xs → IsAscending cmp (take n xs)
-IsAscending-take cmp zero xs a = tt
-IsAscending-take cmp (suc n) [] a = tt
-IsAscending-take cmp (suc n) (x ∷ xs) a = (All-take (λ y. cmp x y ≡ Less) n xs a.0, IsAscending-take cmp n xs a.1)
-
 -- ---- each answer
 
 versions_ascend : (rows : List RowValue) → IsAscending row_cmp rows → (kind : Kind) (id : ℕ) → IsAscending by_time (versions kind id rows)
@@ -93,13 +85,17 @@ unfolding terms
 terms_ascend rows up prefix date limit =
     IsAscending-take by_id limit _
     (ascends (is_term prefix) (λ row. row.id) (snapshot rows date)
-    (Rises-current (is_term prefix) Description rows date (λ x e. term_kind prefix x.body (both x.active (begins_with prefix x.body) e).1) (snapshot rows date) (IsAscending-snapshot rows date up) (λ x there. current_from_snapshot rows date x there)))
+    (Rises-current (is_term prefix) Description rows date (λ x e. term_kind prefix x.body (and_parts x.active (begins_with prefix x.body) e).1) (snapshot rows date) (IsAscending-snapshot rows date up) (λ x there. current_from_snapshot rows date x there)))
 
 children_ascend : (rows : List RowValue) (concept date : ℕ) → IsAscending nat_cmp (children concept date rows)
 unfolding children
 children_ascend rows concept date = IsAscending-in_order nat_cmp_total (map (λ row. source_of row.body) (filter (is_child_of concept) (snapshot rows date)))
 
-replacements_total : IsTotalOrder replacement_cmp
+-- rows in the order of their ids are ordered
+pub ids_total : IsTotalOrder by_id
+ids_total = on_total (λ (row : RowValue). row.id) nat_cmp_total
+
+pub replacements_total : IsTotalOrder replacement_cmp
 replacements_total = then_total (on_total (λ row. refset_of row.body) nat_cmp_total)
     (then_total (on_total (λ row. target_of row.body) nat_cmp_total) (on_total (λ row. row.id) nat_cmp_total))
 
@@ -151,8 +147,8 @@ replacements_are_all id date rows row up = (
   λ w. Has-put_all_new replacement_cmp _ [] row (λ y there tie. elim there [
     | inl k ↦
         let f = Has-filter (is_replacement_of id) (snapshot rows date) y k in
-        let ids : row.id ≡ y.id = ranked row.id y.id Equal (sym (both_tie _ _ (both_tie _ _ tie).1).1) in
-        let kinds : kind_of y ≡ kind_of row = association_kind id y.body (both y.active (refers_to id y.body) f.1).1 ∙ sym (association_kind id row.body (both row.active (refers_to id row.body) w.1).1) in
+        let ids : row.id ≡ y.id = ranked row.id y.id Equal (sym (both_equal _ _ (both_equal _ _ tie).1).1) in
+        let kinds : kind_of y ≡ kind_of row = association_kind id y.body (and_parts y.active (refers_to id y.body) f.1).1 ∙ sym (association_kind id row.body (and_parts row.active (refers_to id row.body) w.1).1) in
         one_row_of_a_component rows date y row up f.0 w.0 kinds (sym ids)
     | inr k ↦ absurd k
   ]) (Has-filter_from (is_replacement_of id) (snapshot rows date) row w.0 w.1),
@@ -175,15 +171,9 @@ record IsAboutRow (kind : Kind) (id : ℕ) (row : RowValue) : Type 0 where
 
 about_row : (kind : Kind) (id : ℕ) (row : RowValue) → is_about kind id row ≡ true → IsAboutRow kind id row
 about_row kind id row e =
-    let p = both (row.active && is_kind kind row) (is_subject id (subject_of row)) e in
-    let q = both row.active (is_kind kind row) p.0 in
+    let p = and_parts (row.active && is_kind kind row) (is_subject id (subject_of row)) e in
+    let q = and_parts row.active (is_kind kind row) p.0 in
     record { active = q.0; kind_is = kind_from_test kind row q.1; subject_is = subject_from_test id (subject_of row) p.1 }
-
-pub all_three : (a b c : Bool) → a ≡ true → b ≡ true → c ≡ true → (a && b && c) ≡ true
-all_three true true true e f g = refl
-all_three true true false e f g = g
-all_three true false c e f g = absurd (cc)
-all_three false b c e f g = absurd (cc)
 
 test_from_about_row : (kind : Kind) (id : ℕ) (row : RowValue) → IsAboutRow kind id row → is_about kind id row ≡ true
 test_from_about_row kind id row w =
@@ -208,15 +198,12 @@ has_subject (body.Association a) other = (a.referenced, refl)
 has_subject (body.Concrete c) other = (c.source, refl)
 has_subject (body.Member m) other = (m.referenced, refl)
 
-same_some : (m n : ℕ) → Some m ≡ Some n → m ≡ n
-same_some m n e = cc
-
 pub each_is_about_one : EachIsAboutOne
 each_is_about_one kind date rows row other active =
     let own = has_subject row.body (λ e. other (sym active.kind_is ∙ e)) in (
       own.0,
       (about_is_all kind own.0 date rows row).1 (active, own.1),
-      λ id there. same_some id own.0 (sym ((about_is_all kind id date rows row).0 there).1 ∙ own.1),
+      λ id there. same_Some id own.0 (sym ((about_is_all kind id date rows row).0 there).1 ∙ own.1),
     )
 
 pub about_ascends : AboutAscends
@@ -230,7 +217,7 @@ about_ascends kind id date rows up =
 pub Rises-terms : (prefix : List ℕ) (date : ℕ) (after : Option ℕ) (rows : List RowValue) → IsAscending row_cmp rows → Rises (is_term_above prefix after) (λ row. row.id) (snapshot rows date)
 Rises-terms prefix date after rows up =
     Rises-current (is_term_above prefix after) Description rows date
-    (λ x e. term_kind prefix x.body (both x.active (begins_with prefix x.body) (both (is_term prefix x) (is_above after x.id) e).0).1)
+    (λ x e. term_kind prefix x.body (and_parts x.active (begins_with prefix x.body) (and_parts (is_term prefix x) (is_above after x.id) e).0).1)
     (snapshot rows date) (IsAscending-snapshot rows date up) (λ x there. current_from_snapshot rows date x there)
 
 pub search_ascends : SearchAscends

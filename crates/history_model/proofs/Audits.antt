@@ -6,6 +6,8 @@ use Rattle.std.specs.Ordering.{nat_cmp, ordering_then}
 use Rattle.std.specs.Cmp.{IsTotalOrder, nat_cmp_total, nat_cmp_is, on_total, then_total, ranked}
 use Rattle.std.specs.declared.cmp.Ordering.TheVariants.{Less, Equal}
 use Rattle.std.proofs.lemmas.Bool.Decides.{nat_tests}
+use Rattle.std.proofs.lemmas.Bool.{eqb-true, eq-eqb, and_from, and_parts, and_right}
+use Rattle.list_lemmas.proofs.Tests.{both_equal}
 use Rattle.rf2_values.specs.declared.row.Kind.{Kind}
 use Rattle.rf2_values.specs.declared.row.Kind.TheVariants.{Association}
 use Rattle.rf2_values.specs.declared.row.Body.{Body}
@@ -21,12 +23,10 @@ use Rattle.history_model.specs.Audit.{DeltaIsWhatDiffers, DeltaHasTheLaterRow, D
 use Rattle.history_model.specs.Audit.{TimelineIsAll, TimelineHasWhatIsAbout, by_version, TimelineAscends, TimelineStays}
 use Rattle.history_model.specs.Audit.{ReplacesAreAll, BothEndsAreOne, ReplacesAscend, ReplacesStay, DatesAreThoseOfVersions, DatesAscend, DatesStay}
 use Rattle.history_model.proofs.InOrder.{Has-put_all_cases, Has-put_all_new, IsAscending-in_order, Has-all, all_from_has}
-use Rattle.history_model.proofs.Keys.{both_tie}
-use Rattle.history_model.proofs.Filtered.{both, Has-filter, Has-filter_from, Has-map, Has-map_from, IsAscending-filter, filter_none, list_any_at}
+use Rattle.history_model.proofs.Filtered.{Has-filter, Has-filter_from, Has-map, Has-map_from, IsAscending-filter, filter_none, list_any_at, filter_same, IsAscending-take}
 use Rattle.history_model.proofs.Snapshots.{IsVersionOf, version_from_test, test_from_version, Has-snapshot_from, current_from_snapshot, get_is, IsConsistent-from_ascending, IsAscending-snapshot, kind_from_test, below_in_kind, Rises-current, take-nil}
-use Rattle.history_model.proofs.Ascents.{ascends, IsAscending-take, one_row_of_a_component, replacements_are_all}
+use Rattle.history_model.proofs.Ascents.{ascends, one_row_of_a_component, replacements_are_all}
 use Rattle.history_model.proofs.Chains.{pinned_stays}
-use Rattle.history_model.proofs.Hierarchy.{both_true, same_number, number_test}
 use Rattle.history_model.proofs.Searched.{in_order_has, has_in_order}
 
 -- ---- members that pass
@@ -51,10 +51,6 @@ find_has p (y ∷ xs) x e = elim (p y) as (λ b. p y ≡ b → cond b (Some y) (
   | false ↦ λ f g. let w = find_has p xs x g in (inr w.0, w.1)
 ] refl e
 
-same_filter : {X : Type 0} (p q : X → Bool) (xs : List X) → ((x : X) → Has xs x → p x ≡ q x) → filter p xs ≡ filter q xs
-same_filter p q [] each = refl
-same_filter p q (x ∷ xs) each = let e = each x (inl refl) in let rest = same_filter p q xs (λ y h. each y (inr h)) in rw (e, rest) refl
-
 -- ---- the row of a component
 
 -- a version up to a date is followed by the one that counts
@@ -71,8 +67,8 @@ followed (suc n) rows date c near h early =
     elim (list_any (is_later_version date c) rows) as (λ b. list_any (is_later_version date c) rows ≡ b → IsFollowed rows date c) [
       | true ↦ λ e.
           let w = any_has (is_later_version date c) rows e in
-          let p = both (is_version_of (kind_of c) c.id w.0 && nat_lt c.time w.0.time) (nat_le w.0.time date) w.2 in
-          let q = both (is_version_of (kind_of c) c.id w.0) (nat_lt c.time w.0.time) p.0 in
+          let p = and_parts (is_version_of (kind_of c) c.id w.0 && nat_lt c.time w.0.time) (nat_le w.0.time date) w.2 in
+          let q = and_parts (is_version_of (kind_of c) c.id w.0) (nat_lt c.time w.0.time) p.0 in
           let v = version_from_test (kind_of c) c.id w.0 q.0 in
           let lt : c.time < w.0.time = grind (arith, nat_tests, q.1) in
           let le : w.0.time ≤ date = grind (arith, nat_tests, p.1) in
@@ -130,8 +126,8 @@ changed_row : (kind : Kind) (from date : ℕ) (rows : List RowValue) (row : RowV
 unfolding changed_above
 changed_row kind from date rows row h =
     let f = Has-filter (is_changed_above kind from None) (snapshot rows date) row h in
-    let p = both (is_kind_above kind None row) (nat_lt from row.time) f.1 in
-    let q = both (is_kind kind row) true p.0 in (
+    let p = and_parts (is_kind_above kind None row) (nat_lt from row.time) f.1 in
+    let q = and_parts (is_kind kind row) true p.0 in (
       record { current = f.0; version = record { kind_is = kind_from_test kind row q.0; id_is = refl } },
       grind (arith, nat_tests, p.1),
     )
@@ -147,17 +143,14 @@ unfolding changed_above
 changed_is kind from date id rows c =
     let v = c.is_row.version in
     let later = c.later in
-    let kinds : is_kind kind c.row ≡ true = (both (is_kind kind c.row) (c.row.id == id) (test_from_version kind id c.row v.kind_is v.id_is)).0 in
-    let test : is_changed_above kind from None c.row ≡ true = both_true (is_kind_above kind None c.row) (nat_lt from c.row.time) (both_true (is_kind kind c.row) true kinds refl) (grind (arith, nat_tests, later)) in
+    let kinds : is_kind kind c.row ≡ true = (and_parts (is_kind kind c.row) (c.row.id == id) (test_from_version kind id c.row v.kind_is v.id_is)).0 in
+    let test : is_changed_above kind from None c.row ≡ true = and_from (is_kind_above kind None c.row) (nat_lt from c.row.time) (and_from (is_kind kind c.row) true kinds refl) (grind (arith, nat_tests, later)) in
     subst (λ n. Has (changed_ids kind from date rows) n) v.id_is
     (Has-map_from (λ (row : RowValue). row.id) (changed_above kind from date None rows) c.row
     (Has-filter_from (is_changed_above kind from None) (snapshot rows date) c.row c.is_row.current test))
 
 pub delta_has_the_later_row : DeltaHasTheLaterRow
 delta_has_the_later_row kind from date rows row up h = at_row kind row.id date rows row up (changed_row kind from date rows row h).0
-
-same_row : (a b : RowValue) → Some a ≡ Some b → a ≡ b
-same_row a b e = cc
 
 pub delta_is_what_differs : DeltaIsWhatDiffers
 delta_is_what_differs kind from date id rows up le = (
@@ -214,13 +207,9 @@ and_true : (a b : Bool) → b ≡ true → (a && b) ≡ a
 and_true true b e = e
 and_true false b e = refl
 
-and_false : (a b : Bool) → b ≡ false → (a && b) ≡ false
-and_false true b e = e
-and_false false b e = refl
-
 pub delta_from_the_first : DeltaFromTheFirst
 unfolding delta changed_above page all_above snapshot
-delta_from_the_first kind from date after limit rows early = ap (take limit) (same_filter (is_changed_above kind from after) (is_kind_above kind after) (filter (is_current rows date) rows) (λ row h.
+delta_from_the_first kind from date after limit rows early = ap (take limit) (filter_same (is_changed_above kind from after) (is_kind_above kind after) (filter (is_current rows date) rows) (λ row h.
     let there = Has-filter (is_current rows date) rows row h in
     let e = early row there.0 in and_true (is_kind_above kind after row) (nat_lt from row.time) (grind (arith, nat_tests, e))))
 
@@ -229,7 +218,7 @@ unfolding delta changed_above
 delta_backwards_is_empty kind from date after limit rows le =
     ap (take limit) (filter_none (is_changed_above kind from after) (snapshot rows date) (λ row h.
     let early = (current_from_snapshot rows date row h).early in
-    and_false (is_kind_above kind after row) (nat_lt from row.time) (grind (arith, nat_tests)))) ∙ take-nil limit
+    and_right (is_kind_above kind after row) (nat_lt from row.time) (grind (arith, nat_tests)))) ∙ take-nil limit
 
 pub delta_ascends : DeltaAscends
 unfolding delta changed_above
@@ -237,7 +226,7 @@ delta_ascends kind from date after limit rows up =
     IsAscending-take by_id limit (filter (is_changed_above kind from after) (snapshot rows date))
     (ascends (is_changed_above kind from after) (λ row. row.id) (snapshot rows date)
     (Rises-current (is_changed_above kind from after) kind rows date
-    (λ row e. kind_from_test kind row (both (is_kind kind row) (is_above after row.id) (both (is_kind_above kind after row) (nat_lt from row.time) e).0).0)
+    (λ row e. kind_from_test kind row (and_parts (is_kind kind row) (is_above after row.id) (and_parts (is_kind_above kind after row) (nat_lt from row.time) e).0).0)
     (snapshot rows date) (IsAscending-snapshot rows date up) (λ row h. current_from_snapshot rows date row h)))
 
 -- ---- what was ever about a component
@@ -251,9 +240,9 @@ unfolding timeline about versions
 timeline_is_all kind id rows row = (
   λ h.
       let f = Has-filter (was_about kind id rows) rows row h in
-      let p = both (is_kind kind row) (list_any (λ other. is_about kind id other && is_version_of kind row.id other) rows) f.1 in
+      let p = and_parts (is_kind kind row) (list_any (λ other. is_about kind id other && is_version_of kind row.id other) rows) f.1 in
       let w = any_has (λ other. is_about kind id other && is_version_of kind row.id other) rows p.1 in
-      let q = both (is_about kind id w.0) (is_version_of kind row.id w.0) w.2 in
+      let q = and_parts (is_about kind id w.0) (is_version_of kind row.id w.0) w.2 in
       let v = version_from_test kind row.id w.0 q.1 in (
         w.0.time,
         w.0,
@@ -264,12 +253,12 @@ timeline_is_all kind id rows row = (
       let other = w.1 in
       let f = Has-filter (is_about kind id) (snapshot rows w.0) other w.2 in
       let known = (current_from_snapshot rows w.0 other f.0).known in
-      let kinds = (both other.active (is_kind kind other) (both (other.active && is_kind kind other) (is_subject id (subject_of other)) f.1).0).1 in
+      let kinds = (and_parts other.active (is_kind kind other) (and_parts (other.active && is_kind kind other) (is_subject id (subject_of other)) f.1).0).1 in
       let g = Has-filter (is_version_of kind other.id) rows row w.3 in
-      let p = both (is_kind kind row) (row.id == other.id) g.1 in
-      let version : is_version_of kind row.id other ≡ true = both_true (is_kind kind other) (other.id == row.id) kinds (number_test other.id row.id (sym (same_number row.id other.id p.1))) in
+      let p = and_parts (is_kind kind row) (row.id == other.id) g.1 in
+      let version : is_version_of kind row.id other ≡ true = and_from (is_kind kind other) (other.id == row.id) kinds (eq-eqb other.id row.id (sym (eqb-true row.id other.id p.1))) in
       Has-filter_from (was_about kind id rows) rows row g.0
-      (both_true (is_kind kind row) _ p.0 (any_true (λ other. is_about kind id other && is_version_of kind row.id other) rows other known (both_true (is_about kind id other) (is_version_of kind row.id other) f.1 version))),
+      (and_from (is_kind kind row) _ p.0 (any_true (λ other. is_about kind id other && is_version_of kind row.id other) rows other known (and_from (is_about kind id other) (is_version_of kind row.id other) f.1 version))),
 )
 
 pub timeline_has_what_is_about : TimelineHasWhatIsAbout
@@ -277,8 +266,8 @@ unfolding about versions
 timeline_has_what_is_about kind id date rows row h =
     let f = Has-filter (is_about kind id) (snapshot rows date) row h in
     let known = (current_from_snapshot rows date row f.0).known in
-    let kinds = (both row.active (is_kind kind row) (both (row.active && is_kind kind row) (is_subject id (subject_of row)) f.1).0).1 in
-    (timeline_is_all kind id rows row).1 (date, row, h, Has-filter_from (is_version_of kind row.id) rows row known (both_true (is_kind kind row) (row.id == row.id) kinds (number_test row.id row.id refl)))
+    let kinds = (and_parts row.active (is_kind kind row) (and_parts (row.active && is_kind kind row) (is_subject id (subject_of row)) f.1).0).1 in
+    (timeline_is_all kind id rows row).1 (date, row, h, Has-filter_from (is_version_of kind row.id) rows row known (and_from (is_kind kind row) (row.id == row.id) kinds (eq-eqb row.id row.id refl)))
 
 -- rows of one kind in the order of keys are in that of versions
 by_version_less : (a b : RowValue) → (a.id < b.id) ⊎ ((a.id ≡ b.id) × (a.time < b.time)) → by_version a b ≡ Less
@@ -298,7 +287,7 @@ pub timeline_ascends : TimelineAscends
 unfolding timeline
 timeline_ascends kind id rows up =
     versions_ascend kind (filter (was_about kind id rows) rows)
-    (λ row h. kind_from_test kind row (both (is_kind kind row) _ (Has-filter (was_about kind id rows) rows row h).1).0)
+    (λ row h. kind_from_test kind row (and_parts (is_kind kind row) _ (Has-filter (was_about kind id rows) rows row h).1).0)
     (IsAscending-filter (was_about kind id rows) row_cmp rows up)
 
 -- ---- what a component replaces
@@ -321,8 +310,8 @@ replaces_are_all id date rows row up = (
   λ w. Has-put_all_new replaced_cmp _ [] row (λ y there tie. elim there [
     | inl k ↦
         let f = Has-filter (is_replaced_by id) (snapshot rows date) y k in
-        let ids : row.id ≡ y.id = ranked row.id y.id Equal (sym (both_tie _ _ (both_tie _ _ tie).1).1) in
-        let kinds : kind_of y ≡ kind_of row = association_kind id y.body (both y.active (has_target id y.body) f.1).1 ∙ sym (association_kind id row.body (both row.active (has_target id row.body) w.1).1) in
+        let ids : row.id ≡ y.id = ranked row.id y.id Equal (sym (both_equal _ _ (both_equal _ _ tie).1).1) in
+        let kinds : kind_of y ≡ kind_of row = association_kind id y.body (and_parts y.active (has_target id y.body) f.1).1 ∙ sym (association_kind id row.body (and_parts row.active (has_target id row.body) w.1).1) in
         one_row_of_a_component rows date y row up f.0 w.0 kinds (sym ids)
     | inr k ↦ absurd k
   ]) (Has-filter_from (is_replaced_by id) (snapshot rows date) row w.0 w.1),
@@ -332,7 +321,7 @@ pub other_end : (id target : ℕ) (b : Body) → refers_to id b ≡ true → tar
 other_end id target (body.Concept c) e f = absurd (cc)
 other_end id target (body.Description d) e f = absurd (cc)
 other_end id target (body.Relationship r) e f = absurd (cc)
-other_end id target (body.Association a) e f = (number_test a.target target f, same_number a.referenced id e)
+other_end id target (body.Association a) e f = (eq-eqb a.target target f, eqb-true a.referenced id e)
 other_end id target (body.Concrete c) e f = absurd (cc)
 other_end id target (body.Member m) e f = absurd (cc)
 
@@ -340,7 +329,7 @@ first_end : (id target : ℕ) (b : Body) → has_target target b ≡ true → re
 first_end id target (body.Concept c) e f = absurd (cc)
 first_end id target (body.Description d) e f = absurd (cc)
 first_end id target (body.Relationship r) e f = absurd (cc)
-first_end id target (body.Association a) e f = (number_test a.referenced id f, same_number a.target target e)
+first_end id target (body.Association a) e f = (eq-eqb a.referenced id f, eqb-true a.target target e)
 first_end id target (body.Concrete c) e f = absurd (cc)
 first_end id target (body.Member m) e f = absurd (cc)
 
@@ -348,14 +337,14 @@ pub both_ends_are_one : BothEndsAreOne
 both_ends_are_one id target date rows row up = (
   λ h.
       let w = (replacements_are_all id date rows row up).0 h.0 in
-      let p = both row.active (refers_to id row.body) w.1 in
+      let p = and_parts row.active (refers_to id row.body) w.1 in
       let q = other_end id target row.body p.1 h.1 in
-      ((replaces_are_all target date rows row up).1 (w.0, both_true row.active (has_target target row.body) p.0 q.0), q.1),
+      ((replaces_are_all target date rows row up).1 (w.0, and_from row.active (has_target target row.body) p.0 q.0), q.1),
   λ h.
       let w = (replaces_are_all target date rows row up).0 h.0 in
-      let p = both row.active (has_target target row.body) w.1 in
+      let p = and_parts row.active (has_target target row.body) w.1 in
       let q = first_end id target row.body p.1 h.1 in
-      ((replacements_are_all id date rows row up).1 (w.0, both_true row.active (refers_to id row.body) p.0 q.0), q.1),
+      ((replacements_are_all id date rows row up).1 (w.0, and_from row.active (refers_to id row.body) p.0 q.0), q.1),
 )
 
 pub replaced_total : IsTotalOrder replaced_cmp

@@ -1,11 +1,11 @@
 -- What is above a concept, and what below it.
-use Rattle.std.proofs.Common.{◌≡◌, ℕ, Bool, true, false, List, [], ◌∷◌, ◌++◌, map, refl, sym, subst, inl, inr, arith}
-use Rattle.std.specs.Prelude.{◌&&◌, ◌==◌}
+use Rattle.std.proofs.Common.{◌≡◌, ℕ, Bool, true, List, [], ◌∷◌, ◌++◌, map, sym, subst, inl, inr}
+use Rattle.std.specs.Prelude.{◌==◌}
 use Rattle.std.specs.List.{filter}
 use Rattle.std.specs.Ordering.{nat_cmp}
 use Rattle.std.specs.Cmp.{nat_cmp_total, ranked}
-use Rattle.std.proofs.lemmas.Bool.Decides.{nat_tests}
 use Rattle.std.specs.declared.cmp.Ordering.TheVariants.{Equal}
+use Rattle.std.proofs.lemmas.Bool.{eqb-true, eq-eqb, and_from, and_parts}
 use Rattle.rf2_values.specs.declared.row.Body.{Body}
 use Rattle.rf2_values.specs.declared.row.Body.TheVariants as body
 use Rattle.rf2_values.specs.Row.{RowValue}
@@ -14,7 +14,7 @@ use Rattle.history_model.specs.Queries.{snapshot, children, parents, is_a, is_ch
 use Rattle.history_model.specs.Hierarchy.{IsPath, IsReached, AreReached, AreDescendants, AreAncestors}
 use Rattle.history_model.specs.Hierarchy.{ParentsHaveChildren, AncestorsHaveDescendants, ChildrenAreDescendants, DescendantsOfDescendants, OneListOfDescendants, OneListOfAncestors, DescendantsStay, AncestorsStay}
 use Rattle.history_model.proofs.InOrder.{same_ascending, Has-put_all_cases, Has-put_all_new}
-use Rattle.history_model.proofs.Filtered.{both, Has-filter, Has-filter_from, Has-map, Has-map_from}
+use Rattle.history_model.proofs.Filtered.{Has-filter, Has-filter_from, Has-map, Has-map_from}
 use Rattle.history_model.proofs.Chains.{pinned_stays}
 
 -- ---- numbers in order are those of the list
@@ -35,23 +35,12 @@ module _ (f : RowValue → ℕ) (p : RowValue → Bool) (rows : List RowValue) w
 
 -- ---- one relationship says both
 
-pub same_number : (m n : ℕ) → (m == n) ≡ true → m ≡ n
-same_number m n e = grind (arith, nat_tests, e)
-
-pub number_test : (m n : ℕ) → m ≡ n → (m == n) ≡ true
-number_test m n e = grind (arith, nat_tests, e)
-
-pub both_true : (a b : Bool) → a ≡ true → b ≡ true → (a && b) ≡ true
-both_true true true e f = refl
-both_true true false e f = f
-both_true false b e f = e
-
 parent_is : (parent child : ℕ) (b : Body) → says_is_a parent b ≡ true → source_of b ≡ child → (says_is_kind child b ≡ true) × (destination_of b ≡ parent)
 parent_is parent child (body.Concept c) e f = absurd (cc)
 parent_is parent child (body.Description d) e f = absurd (cc)
 parent_is parent child (body.Relationship r) e f =
-    let p = both (r.destination == parent) (r.type_id == is_a) e in
-    (both_true (r.source == child) (r.type_id == is_a) (number_test r.source child f) p.1, same_number r.destination parent p.0)
+    let p = and_parts (r.destination == parent) (r.type_id == is_a) e in
+    (and_from (r.source == child) (r.type_id == is_a) (eq-eqb r.source child f) p.1, eqb-true r.destination parent p.0)
 parent_is parent child (body.Association a) e f = absurd (cc)
 parent_is parent child (body.Concrete c) e f = absurd (cc)
 parent_is parent child (body.Member m) e f = absurd (cc)
@@ -60,8 +49,8 @@ child_is : (parent child : ℕ) (b : Body) → says_is_kind child b ≡ true →
 child_is parent child (body.Concept c) e f = absurd (cc)
 child_is parent child (body.Description d) e f = absurd (cc)
 child_is parent child (body.Relationship r) e f =
-    let p = both (r.source == child) (r.type_id == is_a) e in
-    (both_true (r.destination == parent) (r.type_id == is_a) (number_test r.destination parent f) p.1, same_number r.source child p.0)
+    let p = and_parts (r.source == child) (r.type_id == is_a) e in
+    (and_from (r.destination == parent) (r.type_id == is_a) (eq-eqb r.destination parent f) p.1, eqb-true r.source child p.0)
 child_is parent child (body.Association a) e f = absurd (cc)
 child_is parent child (body.Concrete c) e f = absurd (cc)
 child_is parent child (body.Member m) e f = absurd (cc)
@@ -71,14 +60,14 @@ unfolding children parents
 parents_have_children date rows parent child = (
   λ h.
       let w = row_from (λ row. destination_of row.body) (is_parent_of child) (snapshot rows date) parent h in
-      let p = both w.0.active (says_is_kind child w.0.body) w.2 in
+      let p = and_parts w.0.active (says_is_kind child w.0.body) w.2 in
       let q = child_is parent child w.0.body p.1 w.3 in
-      from_row (λ row. source_of row.body) (is_child_of parent) (snapshot rows date) child (w.0, w.1, both_true w.0.active (says_is_a parent w.0.body) p.0 q.0, q.1),
+      from_row (λ row. source_of row.body) (is_child_of parent) (snapshot rows date) child (w.0, w.1, and_from w.0.active (says_is_a parent w.0.body) p.0 q.0, q.1),
   λ h.
       let w = row_from (λ row. source_of row.body) (is_child_of parent) (snapshot rows date) child h in
-      let p = both w.0.active (says_is_a parent w.0.body) w.2 in
+      let p = and_parts w.0.active (says_is_a parent w.0.body) w.2 in
       let q = parent_is parent child w.0.body p.1 w.3 in
-      from_row (λ row. destination_of row.body) (is_parent_of child) (snapshot rows date) parent (w.0, w.1, both_true w.0.active (says_is_kind child w.0.body) p.0 q.0, q.1),
+      from_row (λ row. destination_of row.body) (is_parent_of child) (snapshot rows date) parent (w.0, w.1, and_from w.0.active (says_is_kind child w.0.body) p.0 q.0, q.1),
 )
 
 -- ---- paths

@@ -7,6 +7,9 @@ use Rattle.std.specs.Cmp.{IsTotalOrder, nat_cmp_total, nat_cmp_is, on_total, the
 use Rattle.std.specs.declared.cmp.Ordering.TheVariants.{Less, Equal}
 use Rattle.std.proofs.lemmas.Bool.Decides.{nat_tests}
 use Rattle.std.proofs.lemmas.List.Elements.{filter-append}
+use Rattle.std.proofs.lemmas.Bool.{eqb-true, eq-eqb, lt-ltb, ltb-true, and_parts}
+use Rattle.list_lemmas.proofs.Tests.{both_equal, all_three}
+use Rattle.list_lemmas.proofs.Kept.{filter_of_both}
 use Rattle.rf2_values.specs.declared.row.Kind.TheVariants.{Description, Member}
 use Rattle.rf2_values.specs.declared.row.Body.{Body}
 use Rattle.rf2_values.specs.declared.row.Body.TheVariants as body
@@ -21,24 +24,14 @@ use Rattle.history_model.specs.Membership.{MembersAreOfTheKind, EachIsOfOneSet, 
 use Rattle.history_model.specs.Membership.{ValuesAreAll, ValuesAreTheActiveMembers, ValuesAscend, ValuesAreTheFirstWithTies, ValuesOfOneComponentStayTogether, ValuesFillTheLimit, FewValuesAreAll, last_component, ValuesAndTheRest, ArePagesOfValues, PagesOfValuesAreAll, PagesOfValuesEnd}
 use Rattle.history_model.specs.Membership.{CalledAreNames, CalledAscend, CalledAreAmongValues, MembersStay, ValuesStay, CalledStays}
 use Rattle.history_model.proofs.InOrder.{Has-put_all_cases, Has-put_all_new, IsAscending-in_order, Has-all, all_from_has, Has-append_left, Has-append_right, Has-append_cases, same_ascending}
-use Rattle.history_model.proofs.Keys.{both_tie}
-use Rattle.history_model.proofs.Filtered.{both, Has-filter, Has-filter_from, IsAscending-filter, filter_none, Rises}
+use Rattle.history_model.proofs.Filtered.{Has-filter, Has-filter_from, IsAscending-filter, filter_none, Rises, IsAscending-take}
 use Rattle.history_model.proofs.Snapshots.{IsAscending-snapshot, current_from_snapshot, kind_from_test, Rises-current, above_cons, above_again, first_half}
-use Rattle.history_model.proofs.Ascents.{ascends, IsAscending-take, one_row_of_a_component, about_is_all, about_ascends, all_three}
+use Rattle.history_model.proofs.Ascents.{ascends, one_row_of_a_component, about_is_all, about_ascends}
 use Rattle.history_model.proofs.Paging.{take_short, goes_on, are_all, ends}
 use Rattle.history_model.proofs.Chains.{pinned_stays}
-use Rattle.history_model.proofs.Hierarchy.{same_number, number_test}
+use Rattle.history_model.proofs.Items.{Has-flat_map, Has-flat_map_from}
 
 -- ---- tests
-
-filter_twice : {X : Type 0} (p q r : X → Bool) (xs : List X) → ((x : X) → r x ≡ (p x && q x)) → filter r xs ≡ filter q (filter p xs)
-filter_twice p q r [] each = refl
-filter_twice p q r (x ∷ xs) each =
-    let rest = filter_twice p q r xs each in
-    elim (p x) as (λ b. p x ≡ b → cond (r x) (x ∷ filter r xs) (filter r xs) ≡ filter q (cond b (x ∷ filter p xs) (filter p xs))) [
-      | true ↦ λ e. let f : r x ≡ q x = each x ∙ ap (λ b. b && q x) e in rw (f, rest) refl
-      | false ↦ λ e. let f : r x ≡ false = each x ∙ ap (λ b. b && q x) e in rw f rest
-    ] refl
 
 turned : (a b : Bool) → (a && b) ≡ (b && a)
 turned true true = refl
@@ -70,17 +63,17 @@ set_of (body.Description d) e = absurd (cc)
 set_of (body.Relationship r) e = absurd (cc)
 set_of (body.Association a) e = absurd (cc)
 set_of (body.Concrete c) e = absurd (cc)
-set_of (body.Member m) e = (m.refset, number_test m.refset m.refset refl, λ other f. sym (same_number m.refset other f))
+set_of (body.Member m) e = (m.refset, eq-eqb m.refset m.refset refl, λ other f. sym (eqb-true m.refset other f))
 
 -- ---- all members of a reference set
 
 pub members_are_of_the_kind : MembersAreOfTheKind
 unfolding members_above all_above
-members_are_of_the_kind refset date after rows = filter_twice (is_kind_above Member after) (λ row. is_member_of refset row.body) (is_member_above refset after) (snapshot rows date) (λ row. member_test refset row.body (is_above after row.id))
+members_are_of_the_kind refset date after rows = filter_of_both (is_kind_above Member after) (λ row. is_member_of refset row.body) (is_member_above refset after) (snapshot rows date) (λ row. member_test refset row.body (is_above after row.id))
 
 kind_on_page : (date : ℕ) (after : Option ℕ) (rows : List RowValue) (row : RowValue) → Has (all_above Member date after rows) row → kind_of row ≡ Member
 unfolding all_above
-kind_on_page date after rows row h = kind_from_test Member row (both (is_kind Member row) (is_above after row.id) (Has-filter (is_kind_above Member after) (snapshot rows date) row h).1).0
+kind_on_page date after rows row h = kind_from_test Member row (and_parts (is_kind Member row) (is_above after row.id) (Has-filter (is_kind_above Member after) (snapshot rows date) row h).1).0
 
 pub each_is_of_one_set : EachIsOfOneSet
 each_is_of_one_set date after rows row h =
@@ -93,7 +86,7 @@ each_is_of_one_set date after rows row h =
 Rises-members : (refset date : ℕ) (after : Option ℕ) (rows : List RowValue) → IsAscending row_cmp rows → Rises (is_member_above refset after) (λ row. row.id) (snapshot rows date)
 Rises-members refset date after rows up =
     Rises-current (is_member_above refset after) Member rows date
-    (λ x e. member_kind refset x.body (both (is_member_of refset x.body) (is_above after x.id) e).0)
+    (λ x e. member_kind refset x.body (and_parts (is_member_of refset x.body) (is_above after x.id) e).0)
     (snapshot rows date) (IsAscending-snapshot rows date up) (λ x there. current_from_snapshot rows date x there)
 
 pub members_ascend : MembersAscend
@@ -133,8 +126,8 @@ record IsValueRow (refset : ℕ) (after : Option ℕ) (row : RowValue) : Type 0 
 
 value_row : (refset : ℕ) (after : Option ℕ) (row : RowValue) → is_value_above refset after row ≡ true → IsValueRow refset after row
 value_row refset after row e =
-    let p = both (row.active && is_member_of refset row.body) (is_above after (component_of row)) e in
-    let q = both row.active (is_member_of refset row.body) p.0 in
+    let p = and_parts (row.active && is_member_of refset row.body) (is_above after (component_of row)) e in
+    let q = and_parts row.active (is_member_of refset row.body) p.0 in
     record { active = q.0; of_refset = q.1; above = p.1 }
 
 row_value : (refset : ℕ) (after : Option ℕ) (row : RowValue) → IsValueRow refset after row → is_value_above refset after row ≡ true
@@ -153,7 +146,7 @@ values_are_all refset date after rows row up = (
   λ w. Has-put_all_new value_cmp _ [] row (λ y there tie. elim there [
     | inl k ↦
         let f = Has-filter (is_value_above refset after) (snapshot rows date) y k in
-        let ids : row.id ≡ y.id = ranked row.id y.id Equal (sym (both_tie _ _ tie).1) in
+        let ids : row.id ≡ y.id = ranked row.id y.id Equal (sym (both_equal _ _ tie).1) in
         let kinds : kind_of y ≡ kind_of row = member_kind refset y.body (value_row refset after y f.1).of_refset ∙ sym (member_kind refset row.body (value_row refset after row w.1).of_refset) in
         one_row_of_a_component rows date y row up f.0 w.0 kinds (sym ids)
     | inr k ↦ absurd k
@@ -171,7 +164,7 @@ values_are_the_active_members date rows row up = (
       record { current = f.0; kind_is = member_kind w.0 row.body r.of_refset; active = r.active },
 )
 
-values_above_ascend : (refset date : ℕ) (after : Option ℕ) (rows : List RowValue) → IsAscending value_cmp (values_above refset date after rows)
+pub values_above_ascend : (refset date : ℕ) (after : Option ℕ) (rows : List RowValue) → IsAscending value_cmp (values_above refset date after rows)
 unfolding values_above
 values_above_ascend refset date after rows = IsAscending-in_order value_total (filter (is_value_above refset after) (snapshot rows date))
 
@@ -234,14 +227,8 @@ few_before (suc n) (x ∷ xs) row other up h e = elim h [
       ]
 ]
 
-below_test : (m n : ℕ) → m < n → nat_lt m n ≡ true
-below_test m n lt = grind (arith, nat_tests, lt)
-
-test_below : (m n : ℕ) → nat_lt m n ≡ true → m < n
-test_below m n e = grind (arith, nat_tests, e)
-
 among : (limit : ℕ) (xs : List RowValue) (row : RowValue) → IsAscending value_cmp xs → Has (take limit xs) row → is_among_first limit xs row ≡ true
-among limit xs row up h = below_test (before (component_of row) xs) limit (few_before limit xs row row up h refl)
+among limit xs row up h = lt-ltb (before (component_of row) xs) limit (few_before limit xs row row up h refl)
 
 pub values_are_the_first_with_ties : ValuesAreTheFirstWithTies
 unfolding values
@@ -250,8 +237,8 @@ values_are_the_first_with_ties refset date after limit rows row =
     let up = values_above_ascend refset date after rows in (
       λ h.
           let f = Has-filter (is_among_first limit all) all row h in
-          (f.0, first_with limit all row up f.0 (test_below (before (component_of row) all) limit f.1)),
-      λ w. Has-filter_from (is_among_first limit all) all row w.0 (below_test (before (component_of row) all) limit (few_before limit all row w.1.0 up w.1.1 w.1.2)),
+          (f.0, first_with limit all row up f.0 (ltb-true (before (component_of row) all) limit f.1)),
+      λ w. Has-filter_from (is_among_first limit all) all row w.0 (lt-ltb (before (component_of row) all) limit (few_before limit all row w.1.0 up w.1.1 w.1.2)),
     )
 
 pub values_of_one_component_stay_together : ValuesOfOneComponentStayTogether
@@ -331,9 +318,9 @@ above_last m n limit xs e f = elim (nat_lt m n) as (λ t. nat_lt m n ≡ t → t
   | true ↦ λ g. refl
   | false ↦ λ g. absurd (
       let le : n ≤ m = grind (arith, nat_tests, g) in
-      let few = test_below (before m xs) limit e in
+      let few = ltb-true (before m xs) limit e in
       let all = more_before n m xs le in
-      let yes = below_test (before n xs) limit (omega (arith, few, all)) in cc)
+      let yes = lt-ltb (before n xs) limit (omega (arith, few, all)) in cc)
 ] refl
 
 -- an answer that has rows, and then all above the last component
@@ -353,7 +340,7 @@ rest_above refset date after limit rows x xs up e =
     (same_ascending value_total all ((x ∷ xs) ++ values_above refset date (Some (component_of last.0)) rows) all_up
     (IsAscending-append (x ∷ xs) (values_above refset date (Some (component_of last.0)) rows) shown_up (values_above_ascend refset date (Some (component_of last.0)) rows) (λ a b h k.
     let le = last.3 a h in
-    let lt = test_below (component_of last.0) (component_of b) (behind b k).1.above in
+    let lt = ltb-true (component_of last.0) (component_of b) (behind b k).1.above in
     component_below a b (omega (arith, le, lt))))
     (λ z h. elim (is_among_first limit all z) as (λ t. is_among_first limit all z ≡ t → Has ((x ∷ xs) ++ values_above refset date (Some (component_of last.0)) rows) z) [
       | true ↦ λ f. Has-append_left (x ∷ xs) _ z (subst (λ ys. Has ys z) e (Has-filter_from (is_among_first limit all) all z h f))
@@ -414,20 +401,6 @@ pages_of_values_end refset date after limit rows up some =
     some_end (λ c. values_above refset date c rows) (λ c. values refset date c limit rows) last_component (λ c. values_and_the_rest refset date c limit rows up) (λ c e. none_above refset date c limit rows some e) (ArePagesOfValues refset date limit rows) (λ c. (λ e. e, λ e. e)) (λ c page others. (λ e. e, λ e. e)) (length (values_above refset date after rows)) after (omega arith)
 
 -- ---- what a concept is called
-
-Has-flat_map : {X Y : Type 0} (f : X → List Y) (xs : List X) (y : Y) → Has (flat_map f xs) y → (x : X) × Has xs x × Has (f x) y
-Has-flat_map f [] y h = absurd h
-Has-flat_map f (x ∷ xs) y h = elim (Has-append_cases (f x) (flat_map f xs) y h) [
-  | inl k ↦ (x, inl refl, k)
-  | inr k ↦ let w = Has-flat_map f xs y k in (w.0, inr w.1, w.2)
-]
-
-Has-flat_map_from : {X Y : Type 0} (f : X → List Y) (xs : List X) (x : X) (y : Y) → Has xs x → Has (f x) y → Has (flat_map f xs) y
-Has-flat_map_from f [] x y h k = absurd h
-Has-flat_map_from f (z ∷ xs) x y h k = elim h [
-  | inl e ↦ Has-append_left (f z) (flat_map f xs) y (subst (λ w. Has (f w) y) (sym e) k)
-  | inr t ↦ Has-append_right (f z) (flat_map f xs) y (Has-flat_map_from f xs x y t k)
-]
 
 others_cases : (row : RowValue) (others : List RowValue) (z : RowValue) → Has (with_others row others) z → (member : RowValue) × Has others member × ((row ≡ z) ⊎ (member ≡ z))
 others_cases row [] z h = absurd h

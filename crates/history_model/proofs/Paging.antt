@@ -1,9 +1,9 @@
 -- Pages, and searches, one after the other.
 use Rattle.std.proofs.Common.{◌≡◌, ◌↔◌, ℕ, zero, suc, ◌<◌, ◌≤◌, List, [], ◌∷◌, ◌++◌, length, take, refl, sym, ap, subst, inl, inr, ◌∙◌, arith, take_all, length-append}
-use Rattle.std.specs.Prelude.{Bool, Option, Some, None}
+use Rattle.std.specs.Prelude.{Option, Some, None}
 use Rattle.std.specs.List.{filter}
 use Rattle.std.proofs.lemmas.List.Elements.{filter_agree}
-use Rattle.std.proofs.lemmas.List.Sums.{length-filter, count_by-le-length}
+use Rattle.list_lemmas.proofs.Kept.{kept_at_most}
 use Rattle.rf2_values.specs.Row.{RowValue}
 use Rattle.history_model.specs.InOrder.{Has, IsAscending, joined}
 use Rattle.history_model.specs.History.{row_cmp}
@@ -122,12 +122,9 @@ pub search_from_the_first : SearchFromTheFirst
 unfolding search_terms terms
 search_from_the_first prefix date limit rows = ap (take limit) (terms_above-none prefix date rows)
 
-pub length-filter_le : {X : Type 0} (p : X → Bool) (xs : List X) → length (filter p xs) ≤ length xs
-length-filter_le p xs = omega (arith, length-filter p xs, count_by-le-length p xs)
-
 few_terms : (prefix : List ℕ) (date : ℕ) (rows : List RowValue) → length (filter (is_term prefix) (snapshot rows date)) ≤ length rows
 unfolding snapshot
-few_terms prefix date rows = omega (arith, length-filter_le (is_term prefix) (filter (is_current rows date) rows), length-filter_le (is_current rows date) rows)
+few_terms prefix date rows = omega (arith, kept_at_most (is_term prefix) (filter (is_current rows date) rows), kept_at_most (is_current rows date) rows)
 
 pub searches_are_terms : SearchesAreTerms
 unfolding terms

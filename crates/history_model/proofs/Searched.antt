@@ -1,28 +1,24 @@
 -- A search that goes from concept to concept.
-use Rattle.std.proofs.Common.{◌≡◌, ℕ, ◌+◌, ◌<◌, List, [], ◌∷◌, ◌++◌, length, get_or, take, drop, refl, sym, ap, subst, inl, inr, ◌∙◌, arith, append-nil, append_assoc}
+use Rattle.std.proofs.Common.{◌≡◌, ℕ, ◌+◌, ◌<◌, List, [], ◌∷◌, ◌++◌, length, get_or, take, refl, sym, ap, subst, inl, inr, ◌∙◌, arith, append-nil, append_assoc}
 use Rattle.std.specs.Prelude.{◌==◌, true, false}
 use Rattle.std.specs.List.{list_any}
-use Rattle.std.proofs.lemmas.List.{take_more, take-append-le, take-append-drop}
+use Rattle.std.proofs.lemmas.List.{take_more, take-append-le}
 use Rattle.std.specs.Ordering.{nat_cmp}
 use Rattle.std.specs.Cmp.{ranked}
 use Rattle.std.specs.declared.cmp.Ordering.TheVariants.{Equal}
+use Rattle.std.proofs.lemmas.Bool.{eqb-true}
 use Rattle.history_model.specs.InOrder.{Has, IsAscending, in_order}
 use Rattle.history_model.specs.Private.{Adds}
 use Rattle.history_model.specs.Hierarchy.{IsReached, AreReached}
 use Rattle.history_model.proofs.InOrder.{Has-put_all_cases, Has-put_all_new, Has-append_left, Has-append_right, Has-append_cases}
-use Rattle.history_model.proofs.Hierarchy.{reached_next, reached_then, path_within, same_number}
+use Rattle.history_model.proofs.Hierarchy.{reached_next, reached_then, path_within}
+use Rattle.history_model.proofs.Items.{Has-get_or}
 
 -- all that was found is reached; the next ones of the first concept were found, and those of each concept that is done
 pub record IsSearched (next : ℕ → List ℕ) (from : ℕ) (done found : List ℕ) : Type 0 where
   pub reached : (x : ℕ) → Has found x → IsReached next from x
   pub first : (x : ℕ) → Has (next from) x → Has found x
   pub closed : (a x : ℕ) → Has done a → Has (next a) x → Has found x
-
-has_at : (xs : List ℕ) (i d : ℕ) → i < length xs → Has xs (get_or xs i d)
-has_at xs i d within =
-    subst (λ ys. Has ys (get_or xs i d)) (take-append-drop (i + 1) xs)
-    (Has-append_left (take (i + 1) xs) (drop (i + 1) xs) (get_or xs i d)
-    (subst (λ ys. Has ys (get_or xs i d)) (sym (take_more xs i d within)) (Has-append_right (take i xs) (get_or xs i d ∷ []) (get_or xs i d) (inl refl))))
 
 -- of one more that is missing, or isn't
 pub adds_nothing : (old : List ℕ) → Adds [] old old
@@ -47,7 +43,7 @@ adds_known xs old mid y a there = record {
 pub has_from_any : (ys : List ℕ) (y : ℕ) → list_any (λ other. other == y) ys ≡ true → Has ys y
 has_from_any [] y e = absurd (cc)
 has_from_any (z ∷ ys) y e = elim (z == y) as (λ b. (z == y) ≡ b → Has (z ∷ ys) y) [
-  | true ↦ λ f. inl (same_number z y f)
+  | true ↦ λ f. inl (eqb-true z y f)
   | false ↦ λ f. inr (has_from_any ys y (rw f at e))
 ] refl
 
@@ -69,7 +65,7 @@ module _ (next : ℕ → List ℕ) (from : ℕ) where
   -- one concept more is done
   pub search_goes_on : (i : ℕ) (found new : List ℕ) (d : ℕ) → i < length found → IsSearched next from (take i found) found → Adds (next (get_or found i d)) found new → IsSearched next from (take (i + 1) new) new
   search_goes_on i found new d within s a =
-      let here : Has found (get_or found i d) = has_at found i d within in
+      let here : Has found (get_or found i d) = Has-get_or found i d within in
       let kept : (x : ℕ) → Has found x → Has new x = λ x h. subst (λ ys. Has ys x) (sym a.new_is) (Has-append_left found a.more x h) in
       let done_is : take (i + 1) new ≡ take i found ++ get_or found i d ∷ [] =
       ap (take (i + 1)) a.new_is ∙ take-append-le (i + 1) found a.more (omega arith) ∙ take_more found i d within in

@@ -1,5 +1,5 @@
--- How much a union of two lists is that share no key.
-use Rattle.std.specs.List.{sum_by}
+-- The union of two lists that share no key: its first row, and how much it is.
+use Rattle.std.specs.List.{AllByRecursion, sum_by}
 use Rattle.std.specs.declared.cmp.Ordering.{Ordering}
 use Rattle.std.specs.declared.cmp.Ordering.TheVariants.{Less, Equal, Greater}
 use Rattle.std.proofs.Common.{◌≡◌, inl, inr, ℕ, ◌+◌, List, [], ◌∷◌, ◌++◌, length, refl, sym, ap, ◌∙◌, arith}
@@ -10,8 +10,36 @@ use Rattle.history_model.specs.InOrder.{Has, IsAscending, placed, put, put_all}
 use Rattle.history_model.specs.History.{stamped_cmp}
 use Rattle.history_model.specs.Lists.{union}
 use Rattle.history_model.specs.Private.{ShareNoKey}
-use Rattle.history_model.proofs.InOrder.{Has-all, Has-append_cases, Has-put_cases}
-use Rattle.history_model.proofs.Keys.{same_key, tie_of_same}
+use Rattle.history_model.proofs.InOrder.{Has-all, Has-append_left, Has-append_right, Has-append_cases, Has-put_cases, in_order_first}
+use Rattle.history_model.proofs.Keys.{stamped_total, same_key, tie_of_same}
+
+-- both ascend, and no key is in both
+pub record AreTwo (xs ys : List StampedRow) : Type 0 where
+  pub xs_ascend : IsAscending stamped_cmp xs
+  pub ys_ascend : IsAscending stamped_cmp ys
+  pub apart : ShareNoKey xs ys
+
+-- the first row of the first list is that of the union, if it is below each of the second
+pub union_left : (x : StampedRow) (xs ys : List StampedRow) → AreTwo (x ∷ xs) ys → AllByRecursion (λ y. stamped_cmp x y ≡ Less) ys → union (x ∷ xs) ys ≡ x ∷ union xs ys
+unfolding union
+union_left x xs ys two below =
+    in_order_first stamped_total x xs ys two.xs_ascend two.ys_ascend (λ s t p q e. two.apart s t p q (same_key (key_of s.row) (key_of t.row) e)) below
+    ((x ∷ xs) ++ ys) (xs ++ ys)
+    (λ z. Has-append_cases (x ∷ xs) ys z) (λ z k. elim k [ inl p ↦ Has-append_left (x ∷ xs) ys z p | inr q ↦ Has-append_right (x ∷ xs) ys z q ])
+    (λ z. Has-append_cases xs ys z) (λ z k. elim k [ inl p ↦ Has-append_left xs ys z p | inr q ↦ Has-append_right xs ys z q ])
+
+-- and so is that of the second one, if it is below each of the first
+pub union_right : (y : StampedRow) (xs ys : List StampedRow) → AreTwo xs (y ∷ ys) → AllByRecursion (λ x. stamped_cmp y x ≡ Less) xs → union xs (y ∷ ys) ≡ y ∷ union xs ys
+unfolding union
+union_right y xs ys two below =
+    in_order_first stamped_total y ys xs two.ys_ascend two.xs_ascend (λ s t p q e. two.apart t s q p (sym (same_key (key_of s.row) (key_of t.row) e))) below
+    (xs ++ (y ∷ ys)) (xs ++ ys)
+    (λ z k. elim (Has-append_cases xs (y ∷ ys) z k) [ inl p ↦ inr p | inr q ↦ inl q ]) (λ z k. elim k [ inl p ↦ Has-append_right xs (y ∷ ys) z p | inr q ↦ Has-append_left xs (y ∷ ys) z q ])
+    (λ z k. elim (Has-append_cases xs ys z k) [ inl p ↦ inr p | inr q ↦ inl q ]) (λ z k. elim k [ inl p ↦ Has-append_right xs ys z p | inr q ↦ Has-append_left xs ys z q ])
+
+pub union_none : union [] [] ≡ []
+unfolding union
+union_none = refl
 
 -- no key is in both rows
 abbrev Differ : StampedRow → StampedRow → Type 0

@@ -1,35 +1,24 @@
 -- There is a list of all that is reached: whether there is a way over some concepts can be told, a concept more at a time.
-use Rattle.std.proofs.Common.{◌≡◌, ◌⊎◌, ℕ, Bool, true, false, List, [], ◌∷◌, map, refl, sym, subst, inl, inr}
+use Rattle.std.proofs.Common.{◌≡◌, ℕ, Bool, true, List, [], ◌∷◌, map, sym, subst, inl, inr}
 use Rattle.std.specs.Prelude.{◌&&◌, ◌||◌, ◌==◌}
 use Rattle.std.specs.List.{filter, list_any}
 use Rattle.std.specs.Ordering.{nat_cmp}
 use Rattle.std.specs.Cmp.{nat_cmp_total}
+use Rattle.std.proofs.lemmas.Bool.{eq-eqb, and_from, or_left, or_right, or_cases, and_parts}
 use Rattle.rf2_values.specs.Row.{RowValue}
 use Rattle.history_model.specs.InOrder.{Has, in_order}
 use Rattle.history_model.specs.Queries.{snapshot, children, parents, is_child_of, is_parent_of, source_of, destination_of}
 use Rattle.history_model.specs.Hierarchy.{IsPath, IsReached, AreReached, EachHasDescendants, EachHasAncestors}
 use Rattle.history_model.proofs.InOrder.{IsAscending-in_order}
-use Rattle.history_model.proofs.Filtered.{both, Has-filter, Has-filter_from, Has-map_from}
-use Rattle.history_model.proofs.Hierarchy.{both_true, number_test, row_from, reached_next, reached_then}
+use Rattle.history_model.proofs.Filtered.{Has-filter, Has-filter_from, Has-map_from}
+use Rattle.history_model.proofs.Hierarchy.{row_from, reached_next, reached_then}
 use Rattle.history_model.proofs.Searched.{has_from_any, in_order_has, has_in_order}
-
-either : (a b : Bool) → (a || b) ≡ true → (a ≡ true) ⊎ (b ≡ true)
-either true b e = inl refl
-either false b e = inr e
-
-left_true : (a b : Bool) → a ≡ true → (a || b) ≡ true
-left_true true b e = refl
-left_true false b e = absurd (cc)
-
-right_true : (a b : Bool) → b ≡ true → (a || b) ≡ true
-right_true true b e = refl
-right_true false b e = e
 
 any_from_has : (ys : List ℕ) (y : ℕ) → Has ys y → list_any (λ other. other == y) ys ≡ true
 any_from_has [] y h = absurd h
 any_from_has (z ∷ ys) y h = elim h [
-  | inl e ↦ left_true (z == y) _ (number_test z y e)
-  | inr t ↦ right_true (z == y) _ (any_from_has ys y t)
+  | inl e ↦ or_left (z == y) _ (eq-eqb z y e)
+  | inr t ↦ or_right (z == y) _ (any_from_has ys y t)
 ]
 
 module _ (next : ℕ → List ℕ) where
@@ -41,15 +30,15 @@ module _ (next : ℕ → List ℕ) where
   reached_by_way : (over : List ℕ) (a b : ℕ) → way over a b ≡ true → IsReached next a b
   unfolding way
   reached_by_way [] a b e = reached_next next a b (has_from_any (next a) b e)
-  reached_by_way (v ∷ over) a b e = elim (either (way over a b) _ e) [
+  reached_by_way (v ∷ over) a b e = elim (or_cases (way over a b) _ e) [
     | inl f ↦ reached_by_way over a b f
-    | inr f ↦ let p = both (way over a v) (way over v b) f in reached_then next a v b (reached_by_way over a v p.0) (reached_by_way over v b p.1)
+    | inr f ↦ let p = and_parts (way over a v) (way over v b) f in reached_then next a v b (reached_by_way over a v p.0) (reached_by_way over v b p.1)
   ]
 
   step_way : (over : List ℕ) (a b : ℕ) → Has (next a) b → way over a b ≡ true
   unfolding way
   step_way [] a b h = any_from_has (next a) b h
-  step_way (v ∷ over) a b h = left_true (way over a b) _ (step_way over a b h)
+  step_way (v ∷ over) a b h = or_left (way over a b) _ (step_way over a b h)
 
   -- a step to one of these, and a way from there
   step_and_way : (over : List ℕ) (a x b : ℕ) → Has (next a) x → Has over x → way over x b ≡ true → way over a b ≡ true
@@ -57,17 +46,17 @@ module _ (next : ℕ → List ℕ) where
   step_and_way [] a x b h there e = absurd there
   step_and_way (u ∷ over) a x b h there e = elim there [
     | inl s ↦
-        let from_u : way over u b ≡ true = elim (either (way over x b) _ e) [
+        let from_u : way over u b ≡ true = elim (or_cases (way over x b) _ e) [
           | inl f ↦ subst (λ z. way over z b ≡ true) (sym s) f
-          | inr f ↦ (both (way over x u) (way over u b) f).1
+          | inr f ↦ (and_parts (way over x u) (way over u b) f).1
         ] in
         let to_u : way over a u ≡ true = step_way over a u (subst (λ z. Has (next a) z) (sym s) h) in
-        right_true (way over a b) _ (both_true (way over a u) (way over u b) to_u from_u)
-    | inr t ↦ elim (either (way over x b) _ e) [
-      | inl f ↦ left_true (way over a b) _ (step_and_way over a x b h t f)
+        or_right (way over a b) _ (and_from (way over a u) (way over u b) to_u from_u)
+    | inr t ↦ elim (or_cases (way over x b) _ e) [
+      | inl f ↦ or_left (way over a b) _ (step_and_way over a x b h t f)
       | inr f ↦
-          let p = both (way over x u) (way over u b) f in
-          right_true (way over a b) _ (both_true (way over a u) (way over u b) (step_and_way over a x u h t p.0) p.1)
+          let p = and_parts (way over x u) (way over u b) f in
+          or_right (way over a b) _ (and_from (way over a u) (way over u b) (step_and_way over a x u h t p.0) p.1)
     ]
   ]
 

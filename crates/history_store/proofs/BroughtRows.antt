@@ -4,6 +4,7 @@ use Rattle.std.specs.Prelude.{◌==◌}
 use Rattle.std.specs.List.{filter}
 use Rattle.std.proofs.lemmas.Bool.Decides.{nat_tests}
 use Rattle.std.proofs.lemmas.List.Elements.{filter-append, filter_more}
+use Rattle.list_lemmas.proofs.Kept.{kept_at_most}
 use Rattle.history_model.specs.declared.receipt.ImportReceipt.{ImportReceipt}
 use Rattle.history_model.specs.declared.stamped.StampedRow.{StampedRow}
 use Rattle.history_model.specs.InOrder.{joined}
@@ -61,13 +62,6 @@ receipt_list number index i places new day r e so own =
       latest_is = subst (λ (ps : List RowPlace). IsLatest place_time (later day r.latest) ps) (sym next) (latest_append place_time day r.latest (places_brought number (joined (take i index))) (places_brought number places) so.latest_is own.latest_is);
     }
 
-few_pass : {X : Type 0} (p : X → Bool) (xs : List X) → length (filter p xs) ≤ length xs
-few_pass p [] = omega arith
-few_pass p (x ∷ xs) =
-    let rest = few_pass p xs in
-    let one : cond (p x) 1 0 ≤ 1 = elim (p x) as (λ b. cond b 1 0 ≤ 1) [ true ↦ omega arith | false ↦ omega arith ] in
-    omega (arith, rest, one, length-more p x xs)
-
 few_joined : (index : List (List RowPlace)) (n : ℕ) → length (joined (take n index)) ≤ length (joined index)
 few_joined index zero = omega arith
 few_joined [] (suc n) = omega arith
@@ -79,7 +73,7 @@ few_joined (places ∷ index) (suc n) =
 pub receipt_fits : (number : ℕ) (index : List (List RowPlace)) (i : ℕ) (places : List RowPlace) (new : ℕ) (day : Option ℕ) (r : ImportReceipt) → slice_get index i ≡ Some places → IsReceiptOf number (joined (take i index)) (record { new = new; latest = day }) → IsReceiptOf number places r → new + r.new ≤ length (joined index)
 receipt_fits number index i places new day r e so own =
     let more = (receipt_list number index i places new day r e so own).new_is in
-    let few = few_pass (λ p. p.import == number) (joined (take (i + 1) index)) in
+    let few = kept_at_most (λ p. p.import == number) (joined (take (i + 1) index)) in
     omega (arith, more, few, few_joined index (i + 1))
 
 -- ---- rows and their places

@@ -1,5 +1,5 @@
 -- How many rows a store lists.
-use Rattle.std.proofs.Common.{◌≡◌, ℕ, ◌+◌, ◌*◌, ◌<◌, ◌≤◌, Bool, true, false, cond, List, [], ◌∷◌, length, map, refl, sym, ap, inl, inr, ◌∙◌, arith, length-append}
+use Rattle.std.proofs.Common.{◌≡◌, ◌+◌, ◌*◌, ◌<◌, ◌≤◌, Bool, true, false, cond, List, [], ◌∷◌, length, map, refl, sym, ap, inl, inr, ◌∙◌, arith, length-append}
 use Rattle.std.specs.Prelude.{sum_by}
 use Rattle.std.proofs.lemmas.List.Sums.{sum_by-cons}
 use Rattle.std.specs.List.{IsDistinct, AllByRecursion, filter}
@@ -17,7 +17,8 @@ use Rattle.directory.specs.declared.layout.Layout.{Layout}
 use Rattle.directory.specs.declared.layout.Layout.TheVariants as layouts
 use Rattle.directory.specs.Listings.{DirectoryValue, IsEntry, most_entries}
 use Rattle.segment.specs.declared.place.RowPlace.{RowPlace}
-use Rattle.segment.specs.Standing.{record_len, with_places, places_of}
+use Rattle.segment.specs.Standing.{places_of}
+use Rattle.segment.proofs.Posting.{as_many_places}
 use Rattle.as_of_index.specs.Places.{Lists}
 use Rattle.store_image.specs.Kept.{AreSegments, IsKept}
 use Rattle.history_store.proofs.Sorted.{flips, untied_joined}
@@ -76,14 +77,10 @@ rows_counted entries lists segments are = counted entries lists segments ∙ sym
 
 -- ---- how many places there are
 
-length-places : (at : ℕ) (rows : List StampedRow) → length (map (λ (x : StampedRow × RowPlace). x.1) (with_places at rows)) ≡ length rows
-length-places at [] = refl
-length-places at (s ∷ rows) = let rest = length-places (at + record_len s) rows in omega (arith, rest)
-
 length-joined_places : (lists : List (List StampedRow)) → length (joined (map places_of lists)) ≡ length (joined lists)
 length-joined_places [] = refl
 length-joined_places (rows ∷ lists) =
-    let first = length-places 0 rows in
+    let first = as_many_places 0 rows in
     let rest = length-joined_places lists in
     omega (arith, first, rest, length-append rows (joined lists), length-append (places_of rows) (joined (map places_of lists)))
 

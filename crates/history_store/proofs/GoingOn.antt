@@ -1,17 +1,18 @@
 -- A merge that goes on, while other calls are made.
-use Rattle.std.specs.Prelude.{Option, Some, None, is_some, slice_get}
+use Rattle.std.specs.Prelude.{Option, Some, None, is_some}
 use Rattle.std.specs.Int.{div_ceil}
 use Rattle.std.specs.List.{AllByRecursion}
 use Rattle.std.specs.Option.{option_to_list}
-use Rattle.std.proofs.Common.{◌≡◌, inl, inr, ℕ, zero, suc, ◌+◌, ◌<◌, ◌≤◌, Bool, true, false, List, [], ◌∷◌, ◌++◌, length, refl, sym, ap, subst, ◌∙◌, arith, length-append}
+use Rattle.std.proofs.Common.{◌≡◌, inl, inr, ℕ, ◌+◌, ◌<◌, ◌≤◌, Bool, true, List, [], ◌∷◌, ◌++◌, length, refl, sym, ap, subst, ◌∙◌, arith, length-append}
 use Rattle.std.proofs.lemmas.List.Elements.{All-nil, All-cons}
+use Rattle.list_lemmas.proofs.Parts.{number_stays}
 use Rattle.disk_model.specs.Disk.{Moments, IsOutside}
 use Rattle.blocks.specs.declared.slots.Slot.{Slot}
-use Rattle.blocks.specs.declared.slots.Slot.TheVariants.{A, B}
 use Rattle.blocks.specs.declared.extent.Extent.{Extent}
-use Rattle.blocks.specs.Slots.{slot_range, content_at}
+use Rattle.blocks.specs.Slots.{slot_range}
 use Rattle.blocks.specs.Extents.{start_of, byte_range, block_count}
 use Rattle.blocks.specs.Outside.{SameOutside}
+use Rattle.blocks.proofs.SlotFrames.{content_within}
 use Rattle.history_model.specs.declared.stamped.StampedRow.{StampedRow}
 use Rattle.history_model.specs.Lists.{union}
 use Rattle.directory.specs.declared.entry.Entry.{Entry}
@@ -40,12 +41,8 @@ module _ (d : DirectoryValue) (lists : List (List StampedRow)) (i j : ℕ) (entr
 
 -- ---- what is written stays
 
-slot_below : (slot : Slot) → content_at slot + 4096 ≤ 16384
-slot_below A = omega arith
-slot_below B = omega arith
-
 outside_slot : (entry : Entry) (slot : Slot) (i : ℕ) → IsEntry entry → start_of (extent_of entry) ≤ i → IsOutside i (slot_range slot)
-outside_slot entry slot i is ge = inr (omega (arith, slot_below slot, is.first, ge))
+outside_slot entry slot i is ge = inr (omega (arith, content_within slot, is.first, ge))
 
 outside_entry : (entry other : Entry) (i : ℕ) → IsEntry entry → IsEntry other → AreBeside (extent_of entry) (extent_of other) → start_of (extent_of entry) ≤ i → i < start_of (extent_of entry) + entry.bytes → IsOutside i (byte_range (extent_of other))
 outside_entry entry other i is is_other beside ge lt = elim (one_ends (extent_of entry) (extent_of other) is.bytes is_other.bytes beside) [
@@ -98,11 +95,6 @@ beside_reserved d merge rows other placed m same block in_reserved in_other =
     last_extent P [] extent all = all.0
     last_extent P (e ∷ es) extent all = last_extent P es extent all.1
 
-get_pushed : {X : Type 0} (xs : List X) (x y : X) (i : ℕ) → slice_get xs i ≡ Some x → slice_get (xs ++ y ∷ []) i ≡ Some x
-get_pushed [] x y i is = absurd cc
-get_pushed (z ∷ xs) x y zero is = is
-get_pushed (z ∷ xs) x y (suc i) is = get_pushed xs x y i is
-
 all_pushed : (P : Extent → Type 0) (entries : List Entry) (other : Entry) → AllByRecursion P (extents_of entries) → P (extent_of other) → AllByRecursion P (extents_of (entries ++ other ∷ []))
 all_pushed P [] other all is = (is, tt)
 all_pushed P (e ∷ es) other all is = (all.0, all_pushed P es other all.1 is)
@@ -113,8 +105,8 @@ merging_added d e lists more None other same version beside is = tt
 merging_added d e lists more (Some m) other same version beside is = record {
   below = is.below;
   within = subst (λ (l : List Entry). m.j < length l) (sym same) (let long = length-append d.entries (other ∷ []) in omega (arith, long, is.within));
-  a_is = get_pushed lists m.output.a more m.i is.a_is;
-  b_is = get_pushed lists m.output.b more m.j is.b_is;
+  a_is = number_stays lists (more ∷ []) m.i m.output.a is.a_is;
+  b_is = number_stays lists (more ∷ []) m.j m.output.b is.b_is;
   segment = is.segment;
   is_entry = is.is_entry;
   has_form = form_risen d.layout e.layout m.entry (inl version) is.has_form;
@@ -155,7 +147,3 @@ no_merge honest now d lists merge needs none = subst (λ (o : Option MergeInProg
 pub goes_on : (d : DirectoryValue) (merge : Option MergeInProgress) → is_some merge ≡ true → GoesOn (catalog_of d (merge_of merge))
 goes_on d None some = absurd (cc)
 goes_on d (Some m) some = (_, refl)
-
-pub goes_not_on : (merge : Option MergeInProgress) → is_some merge ≡ false → merge ≡ None
-goes_not_on None none = refl
-goes_not_on (Some m) none = absurd (cc)

@@ -2,6 +2,7 @@
 use Rattle.std.proofs.Common.{◌≡◌, ℕ, zero, suc, ◌+◌, ◌≤◌, List, [], ◌∷◌, ◌++◌, length, take, map, slice_get, Some, inl, inr, sym, ap, subst, ◌∙◌, arith, length-append, append-nil}
 use Rattle.std.specs.List.{AllByRecursion}
 use Rattle.std.proofs.lemmas.List.{append_assoc}
+use Rattle.list_lemmas.proofs.Each.{each_of_pushed}
 use Rattle.history_model.specs.declared.stamped.StampedRow.{StampedRow}
 use Rattle.history_model.specs.InOrder.{Has, joined}
 use Rattle.history_model.proofs.InOrder.{Has-append_left, Has-append_right, Has-append_cases}
@@ -10,7 +11,7 @@ use Rattle.segment.proofs.Posting.{Says, placed, row_there, says}
 use Rattle.checksum.specs.declared.form.Form.{Form}
 use Rattle.checksum.specs.declared.form.Form.TheVariants as forms
 use Rattle.segment.specs.Records.{record_in, segment_in, segment_of, IsStamped}
-use Rattle.segment.proofs.SegmentLaws.{pieces_join, plain_segment, segment_push, all_push}
+use Rattle.segment.proofs.SegmentLaws.{pieces_join, plain_segment, segment_push}
 use Rattle.segment.specs.Standing.{with_places, places_of}
 use Rattle.segment.specs.declared.place.RowPlace.{RowPlace}
 
@@ -22,10 +23,6 @@ segment_begins rows done left split =
     let both = ap (λ (l : List StampedRow). length (segment_of l)) split ∙ ap length (sym (plain_segment (done ++ left)) ∙ pieces_join forms.Plain done left ∙ (λ i. plain_segment done i ++ plain_segment left i)) ∙ length-append (segment_of done) (segment_of left) in
     omega (arith, both)
 
-pub middle_all : {X : Type 0} (P : X → Type 0) (xs : List X) (x : X) (ys : List X) → AllByRecursion P (xs ++ x ∷ ys) → P x
-middle_all P [] x ys all = all.0
-middle_all P (y ∷ xs) x ys all = middle_all P xs x ys all.1
-
 -- with the record of one row more
 pub more_placed : (form : Form) (rows placed next left rest : List StampedRow) (bytes more : List ℕ) (s : StampedRow) → rows ≡ placed ++ left → left ≡ s ∷ rest → bytes ≡ segment_in form placed → AllByRecursion IsStamped placed → next ≡ placed ++ s ∷ [] → more ≡ bytes ++ record_in form s → IsStamped s
     → (rows ≡ next ++ rest) × (more ≡ segment_in form next) × AllByRecursion IsStamped next
@@ -33,7 +30,7 @@ more_placed form rows placed next left rest bytes more s split steps bytes_are e
     let grown = sym next_is in (
       split ∙ ap (λ (l : List StampedRow). placed ++ l) steps ∙ sym (append_assoc placed (s ∷ []) rest) ∙ ap (λ (l : List StampedRow). l ++ rest) grown,
       more_is ∙ ap (λ (b : List ℕ). b ++ record_in form s) bytes_are ∙ sym (segment_push form placed s) ∙ ap (segment_in form) grown,
-      subst (AllByRecursion IsStamped) grown (all_push IsStamped placed s each stamped),
+      subst (AllByRecursion IsStamped) grown (each_of_pushed IsStamped placed s each stamped),
     )
 
 -- ---- rows of lists, and their places

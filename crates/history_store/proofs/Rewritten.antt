@@ -9,6 +9,7 @@ use Rattle.std.proofs.Math.Seq.{take-add}
 use Rattle.std.proofs.lemmas.List.{take_min}
 use Rattle.std.proofs.lemmas.List.Elements.{All-nil, All-cons}
 use Rattle.std.proofs.lemmas.List.Sums.{sum_by-cons, sum_by-append}
+use Rattle.list_lemmas.proofs.Parts.{zip_lengths}
 use Rattle.lru.specs.LruCache.{LruCache}
 use Rattle.disk_model.specs.Disk.{DiskState, Moments, IsImage, LeavesOnly}
 use Rattle.disk_model.proofs.MomentSteps.{weaker}
@@ -22,6 +23,7 @@ use Rattle.blocks.proofs.Agreeing.{still_agrees}
 use Rattle.history_model.specs.declared.stamped.StampedRow.{StampedRow}
 use Rattle.history_model.specs.InOrder.{Has, IsAscending}
 use Rattle.history_model.specs.History.{stamped_cmp}
+use Rattle.history_model.proofs.Filtered.{IsAscending-take, IsAscending-drop}
 use Rattle.directory.specs.declared.entry.Entry.{Entry}
 use Rattle.directory.specs.declared.layout.Layout.{Layout}
 use Rattle.directory.specs.Listings.{DirectoryValue, IsEntry, IsListing, HasForm, most_entries, with_entry, with_two_replaced}
@@ -33,13 +35,12 @@ use Rattle.checksum.specs.declared.form.Form.{Form}
 use Rattle.segment.specs.declared.place.RowPlace.{RowPlace}
 use Rattle.segment.specs.Records.{record_of, segment_in, segment_of}
 use Rattle.segment.specs.Standing.{row_place, record_len, with_places, places_of}
-use Rattle.segment.proofs.SegmentLaws.{length-segment_in, pieces_join, no_rows, no_rows_plain}
-use Rattle.as_of_index.proofs.Ordered.{IsAscending-take}
-use Rattle.as_of_index.proofs.Hinted.{IsAscending-drop}
+use Rattle.segment.proofs.SegmentLaws.{length-segment_in, pieces_join, no_rows, no_rows_plain, segment_length_both}
+use Rattle.segment.proofs.Posting.{as_many_places}
 use Rattle.merge.specs.declared.Taken.{Taken}
 use Rattle.merge.specs.Merged.{StandsTaken}
 use Rattle.segment_index.proofs.Built.{segment_within}
-use Rattle.segment_index.proofs.Moving.{moved_bytes, zip_length}
+use Rattle.segment_index.proofs.Moving.{moved_bytes}
 use Rattle.store_image.specs.Pieces.{Holds, HoldsAll}
 use Rattle.store_image.specs.Kept.{IsSegmentOf, AreSegments, IsKept, history_of, pieces_of}
 use Rattle.store_image.specs.Images.{RepresentsAs}
@@ -186,21 +187,12 @@ first_len : (r : StampedRow) (rows : List StampedRow) → length (segment_of (r 
 unfolding segment_of
 first_len r rows = length-append (record_of r) (segment_of rows)
 
-both_long : (xs ys : List StampedRow) → length (segment_of (xs ++ ys)) ≡ length (segment_of xs) + length (segment_of ys)
-both_long [] ys = let none = ap (λ (l : List ℕ). length l) no_rows_plain in omega (arith, none)
-both_long (x ∷ xs) ys = omega (arith, both_long xs ys, first_len x (xs ++ ys), first_len x xs)
-
 -- a record stands behind those of the rows before
 at_from : (at : ℕ) (rows : List StampedRow) (k : ℕ) (p : RowPlace) → k < length rows → (get_or (map (λ x. x.1) (with_places at rows)) k p).at ≡ at + length (segment_of (take k rows))
 unfolding row_place
 at_from at [] k p lt = absurd (omega (arith, lt))
 at_from at (s ∷ rows) zero p lt = omega (arith, ap (λ (l : List ℕ). length l) no_rows_plain)
 at_from at (s ∷ rows) (suc k) p lt = omega (arith, at_from (at + record_len s) rows k p (omega (arith, lt)), first_len s (take k rows))
-
--- as many places as rows
-places_long : (at : ℕ) (rows : List StampedRow) → length (map (λ x. x.1) (with_places at rows)) ≡ length rows
-places_long at [] = refl
-places_long at (s ∷ rows) = ap (λ n. suc n) (places_long (at + record_len s) rows)
 
 module _ (rows : List StampedRow) (up : IsAscending stamped_cmp rows) (k n : ℕ) where
   abbrev part : List Taken
@@ -216,7 +208,7 @@ module _ (rows : List StampedRow) (up : IsAscending stamped_cmp rows) (k n : ℕ
   stands_in = part_stands (StandsIn (rows ∷ []) 0 0) k n rows (λ p s h. record { rows = rows; list_is = refl; there = h })
 
   pub part_ascends : AreAscending part
-  part_ascends = places_ascend rows [] part wanted stands (IsAscending-take stamped_cmp (drop k rows) n (IsAscending-drop stamped_cmp k rows up))
+  part_ascends = places_ascend rows [] part wanted stands (IsAscending-take stamped_cmp n (drop k rows) (IsAscending-drop stamped_cmp k rows up))
 
   pub part_bytes : bytes_at part ≡ length (segment_of wanted)
   part_bytes = moved_bytes rows [] part wanted stands
@@ -226,7 +218,7 @@ module _ (rows : List StampedRow) (up : IsAscending stamped_cmp rows) (k n : ℕ
   part_within =
       let one = segment_within (k + n) rows in
       let two = ap (λ (l : List StampedRow). length (segment_of l)) (take-add k n rows) in
-      omega (arith, one, two, both_long (take k rows) wanted, part_bytes)
+      omega (arith, one, two, segment_length_both (take k rows) wanted, part_bytes)
 
   -- the records so far, and then those of the part
   pub part_joins : (form : Form) → segment_in form (take (k + n) rows) ≡ segment_in form (take k rows) ++ segment_in form wanted
@@ -258,7 +250,7 @@ cost_all rows =
     let R = StandsTaken rows [] in
     let all = each_stands R 0 rows (λ p s h. record { rows = rows; list_is = refl; there = h }) in
     let taken = as_taken (places_of rows) in
-    omega (arith, cost_sum taken, moved_bytes rows [] taken rows all, zip_length R taken rows all)
+    omega (arith, cost_sum taken, moved_bytes rows [] taken rows all, zip_lengths R taken rows all)
 
 -- ---- its rows, as the index has them
 
@@ -272,7 +264,7 @@ module _ (d : DirectoryValue) (entry : Entry) (anew : IsAnew d entry) (lists : L
   its_places = let same : Some places ≡ Some (places_of rows) = sym found ∙ ap (λ (l : List (List RowPlace)). slice_get l 0) are ∙ ap (λ (l : List (List StampedRow)). slice_get (map places_of l) 0) is in cc
 
   pub its_count : length places ≡ entry.rows
-  its_count = ap (λ (l : List RowPlace). length l) its_places ∙ places_long 0 rows ∙ its_segment.count
+  its_count = ap (λ (l : List RowPlace). length l) its_places ∙ as_many_places 0 rows ∙ its_segment.count
 
   pub its_cost : cost_at (as_taken places) ≡ entry.bytes + 8192 * entry.rows
   its_cost =

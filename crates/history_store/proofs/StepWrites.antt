@@ -3,26 +3,25 @@ use Rattle.std.specs.Prelude.{Option, Some, None, Result, Ok, Err, min, slice_ge
 use Rattle.std.proofs.Common.{◌≡◌, inl, inr, ℕ, zero, suc, ◌+◌, ◌≤◌, List, [], ◌∷◌, ◌++◌, length, take, drop, length-take, length-drop, length-append, append_assoc, refl, sym, ap, subst, ◌∙◌, arith}
 use Rattle.std.proofs.lemmas.List.{take-append-drop, take_min}
 use Rattle.std.proofs.lemmas.List.Elements.{All-head, All-tail}
+use Rattle.list_lemmas.proofs.Parts.{take_sum}
 use Rattle.disk_model.specs.Disk.{Moments}
 use Rattle.blocks.specs.Extents.{start_of}
 use Rattle.history_model.specs.declared.stamped.StampedRow.{StampedRow}
-use Rattle.history_model.specs.InOrder.{Has, IsAscending, joined}
+use Rattle.history_model.specs.InOrder.{Has, IsAscending}
 use Rattle.history_model.specs.History.{History, stamped_cmp}
 use Rattle.history_model.specs.Lists.{union, listed}
-use Rattle.history_model.proofs.InOrder.{Has-append_left, Has-append_right}
 use Rattle.history_model.proofs.Snapshots.{Has-listed_from}
 use Rattle.history_model.proofs.Listings.{two_lists, Has-union_cases, IsAscending-union}
 use Rattle.history_model.proofs.Unions.{length-union}
-use Rattle.as_of_index.proofs.Hinted.{IsAscending-drop}
+use Rattle.history_model.proofs.Filtered.{IsAscending-take, IsAscending-drop}
+use Rattle.history_model.proofs.Items.{Has-joined_at, Has-drop, Has-take}
 use Rattle.directory.specs.declared.entry.Entry.{Entry}
 use Rattle.directory.specs.Listings.{DirectoryValue}
 use Rattle.directory.specs.Places.{extent_of}
 use Rattle.segment.specs.Records.{segment_in, segment_of}
 use Rattle.segment.proofs.SegmentLaws.{length-segment_in, pieces_join}
-use Rattle.as_of_index.proofs.Ordered.{IsAscending-take}
 use Rattle.segment_index.specs.Output.{taken_rows, left_rows, left_count, with_more}
 use Rattle.segment_index.proofs.Built.{segment_within}
-use Rattle.segment_index.proofs.Outputs.{take_more}
 use Rattle.store_image.specs.Pieces.{Holds, HoldsAll}
 use Rattle.store_image.specs.Kept.{AreSegments, IsKept, pieces_of, history_of}
 use Rattle.store_image.specs.Ahead.{BeginsWith}
@@ -48,22 +47,7 @@ has_rows (e ∷ entries) (x ∷ lists) (suc k) rows now are holds found =
     let on = has_rows entries lists k rows now are.1 (All-tail (λ p. Holds p now) (start_of (extent_of e), segment_in e.form x) (pieces_of entries lists) holds) found in
     record { entry = on.entry; entry_is = on.entry_is; segment = on.segment; stands = on.stands }
 
-has_joined : (lists : List (List StampedRow)) (k : ℕ) (rows : List StampedRow) (s : StampedRow) → slice_get lists k ≡ Some rows → Has rows s → Has (joined lists) s
-has_joined [] k rows s found h = absurd cc
-has_joined (x ∷ lists) zero rows s found h = let same : rows ≡ x = cc in Has-append_left x (joined lists) s (subst (λ (l : List StampedRow). Has l s) same h)
-has_joined (x ∷ lists) (suc k) rows s found h = Has-append_right x (joined lists) s (has_joined lists k rows s found h)
-
 -- ---- what is left of two lists
-
-has_front : (n : ℕ) (rows : List StampedRow) (s : StampedRow) → Has (take n rows) s → Has rows s
-has_front zero rows s h = absurd h
-has_front (suc n) [] s h = absurd h
-has_front (suc n) (x ∷ rows) s h = elim h [ inl one ↦ inl one | inr rest ↦ inr (has_front n rows s rest) ]
-
-has_drop : (n : ℕ) (rows : List StampedRow) (s : StampedRow) → Has (drop n rows) s → Has rows s
-has_drop zero rows s h = h
-has_drop (suc n) [] s h = absurd h
-has_drop (suc n) (x ∷ rows) s h = inr (has_drop n rows s h)
 
 -- ---- what is written
 
@@ -88,9 +72,9 @@ module _ (d : DirectoryValue) (lists : List (List StampedRow)) (m : MergeInProgr
   of_history : (s : StampedRow) → Has (take n rest) s → Has (listed lists) s
   of_history s h =
       Has-listed_from lists s kept.apart
-      (elim (Has-union_cases m.output.a m.output.b s (has_drop m.output.taken all_rows s (has_front n rest s h))) [
-        | inl p ↦ has_joined lists m.i m.output.a s is.a_is p
-        | inr q ↦ has_joined lists m.j m.output.b s is.b_is q
+      (elim (Has-union_cases m.output.a m.output.b s (Has-drop m.output.taken all_rows s (Has-take n rest s h))) [
+        | inl p ↦ Has-joined_at lists m.i m.output.a s is.a_is p
+        | inr q ↦ Has-joined_at lists m.j m.output.b s is.b_is q
       ])
 
   are_next : (now : List ℕ) → AreThere d.entries lists now → BeginsWith (extent_of m.entry) (segment_in m.entry.form (taken_rows m.output)) now
@@ -126,7 +110,7 @@ module _ (d : DirectoryValue) (lists : List (List StampedRow)) (m : MergeInProgr
   grown =
       let k = m.output.taken in
       let same : k + min n (left_count m.output) ≡ k + min n (length rest) = omega (arith, rest_count) in
-      ap (λ (i : ℕ). take i all_rows) same ∙ take_more k (min n (length rest)) all_rows ∙ ap (λ (l : List StampedRow). take k all_rows ++ l) (take_min n rest)
+      ap (λ (i : ℕ). take i all_rows) same ∙ take_sum k (min n (length rest)) all_rows ∙ ap (λ (l : List StampedRow). take k all_rows ++ l) (take_min n rest)
 
   pub part_fits : length (segment_of (taken_rows m.output)) + length (segment_of (take n rest)) ≤ m.entry.bytes
   part_fits =
@@ -135,7 +119,7 @@ module _ (d : DirectoryValue) (lists : List (List StampedRow)) (m : MergeInProgr
       omega (arith, join, length-segment_in form (taken_rows (with_more n m.output)), length-segment_in form (taken_rows m.output), length-segment_in form (take n rest), segment_within (m.output.taken + min n (left_count m.output)) all_rows, is.segment.bytes)
 
   pub next_ascend : IsAscending stamped_cmp (take n rest)
-  next_ascend = IsAscending-take stamped_cmp rest n (IsAscending-drop stamped_cmp m.output.taken all_rows (IsAscending-union m.output.a m.output.b))
+  next_ascend = IsAscending-take stamped_cmp n rest (IsAscending-drop stamped_cmp m.output.taken all_rows (IsAscending-union m.output.a m.output.b))
 
 -- ---- as a store shows it
 

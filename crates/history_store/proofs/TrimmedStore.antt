@@ -1,6 +1,5 @@
 -- A merge that goes on, while the disk is trimmed.
 use Rattle.std.specs.Prelude.{Option, Some, None, nat_le}
-use Rattle.std.specs.Int.{div_ceil}
 use Rattle.std.specs.Option.{option_to_list}
 use Rattle.std.proofs.Common.{◌≡◌, Bool, ℕ, ◌+◌, ◌*◌, ◌≤◌, List, [], ◌∷◌, ◌++◌, length, take, refl, sym, ap, subst, ◌∙◌, arith, length-take}
 use Rattle.std.proofs.lemmas.List.{get_or-take}
@@ -21,6 +20,7 @@ use Rattle.store_image.specs.OnDisk.{IsOnDisk}
 use Rattle.store_image.specs.Trimmed.{EndBelow}
 use Rattle.store_image.specs.Ahead.{BeginsWith}
 use Rattle.store_image.proofs.Unlisted.{begins_holds}
+use Rattle.store_image.proofs.Beside.{blocks_cover}
 use Rattle.history_store.specs.declared.merge_in_progress.MergeInProgress.{MergeInProgress}
 use Rattle.history_store.specs.Catalog.{reserved_by}
 use Rattle.history_store.specs.MergeInProgress.{IsMergingOf, IsWritten, HasMerge, merge_of}
@@ -29,9 +29,6 @@ use Rattle.history_store.specs.Merging.{end_of_taken}
 use Rattle.segment_index.specs.Output.{taken_rows}
 use Rattle.history_store.proofs.GoingOn.{written_fits}
 use Rattle.history_store.proofs.EndOf.{end_within, entries_within, end_reserved, ends_below}
-
-blocks_cover : (bytes : ℕ) → bytes ≤ 4096 * div_ceil bytes 4096
-blocks_cover bytes = omega arith
 
 begins_cut : (extent : Extent) (bytes old : List ℕ) (len : ℕ) → 4 ≤ extent.first → start_of extent + length bytes ≤ len → BeginsWith extent bytes old → BeginsWith extent bytes (take len old)
 begins_cut extent [] old len first fits begins = refl

@@ -1,6 +1,7 @@
 -- Which bytes the calls of a store write.
 use Rattle.std.proofs.Common.{◌≡◌, ◌⊎◌, inl, inr, ℕ, ◌≤◌, List, [], ◌∷◌, ◌++◌, length, drop, map, refl, sym, ap, subst, ◌∙◌, arith}
 use Rattle.std.proofs.lemmas.List.Elements.{All-nil, All-cons, All-head, All-tail}
+use Rattle.list_lemmas.proofs.Parts.{drop_whole}
 use Rattle.disk_model.specs.Disk.{DiskState, Moments, IsImage, IsOutside, LeavesOnly, SameBut, settled}
 use Rattle.disk_model.proofs.MomentSteps.{weaker}
 use Rattle.blocks.specs.declared.slots.Slot.{Slot}
@@ -67,10 +68,6 @@ in_slots_and slot segment old new same =
 drop_all : (xs ys : List Entry) → drop (length xs) (xs ++ ys) ≡ ys
 drop_all [] ys = refl
 drop_all (x ∷ xs) ys = drop_all xs ys
-
-drop_whole : (xs : List Entry) → drop (length xs) xs ≡ []
-drop_whole [] = refl
-drop_whole (x ∷ xs) = drop_whole xs
 
 pub none_behind : (es fs : List Entry) → fs ≡ es → drop (length es) fs ≡ []
 none_behind es fs entries = ap (λ (xs : List Entry). drop (length es) xs) entries ∙ drop_whole es

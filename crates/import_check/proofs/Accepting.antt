@@ -1,5 +1,6 @@
 -- A release is accepted where it has no contradictions, and else it has one.
 use Rattle.std.proofs.Common.{◌≡◌, ℕ, ◌+◌, Bool, true, false, List, [], ◌∷◌, ◌++◌, length, take, refl, sym, ap, subst, inl, inr, ◌∙◌, ◌-◌, append_assoc, append-nil, arith, length-take}
+use Rattle.std.proofs.lemmas.List.{nil_from_length}
 use Rattle.rf2_values.specs.declared.key.Key.{Key}
 use Rattle.rf2_values.specs.Row.{RowValue}
 use Rattle.rf2_values.specs.Key.{key_of}
@@ -102,10 +103,6 @@ module _ (known : List RowValue) (lines : List PlacedLine) (file line : ℕ) (ke
 
 -- ---- none is listed and none counted where there is none
 
-empty_of : (all : List ContradictingLine) → length all ≡ 0 → all ≡ []
-empty_of [] e = refl
-empty_of (c ∷ all) e = absurd (omega arith)
-
 counted : (limit : ℕ) (all : List ContradictingLine) (found : Contradictions) → found.listed.items ≡ take limit all → found.further ≡ length all - limit → length found.listed.items + found.further ≡ length all
 counted limit all found listed further = omega (arith, ap length listed, length-take limit all, further)
 
@@ -116,7 +113,7 @@ accepted_has_none known release limit found consistent is = (
       let all_agree : IsConsistent (known ++ rows_of (placed_lines is.lists)) = subst (λ rows. IsConsistent (known ++ rows)) (sym same) accepted.2 in
       counted limit is.all found is.listed is.further ∙ none is.all (λ c h. none_contradicts known (placed_lines is.lists) c all_agree ((is.each c).0 h)),
   λ zero.
-      let no_one = empty_of is.all (sym (counted limit is.all found is.listed is.further) ∙ zero) in
+      let no_one = nil_from_length is.all (sym (counted limit is.all found is.listed is.further) ∙ zero) in
       elim (consistent_or_not known [] (placed_lines is.lists) (subst IsConsistent (sym (append-nil known)) consistent)) [
         | inl agree ↦ (rows_of (placed_lines is.lists), record { lists = is.lists; spelled = is.spelled; rows_are = rows-files 1 is.lists }, agree)
         | inr (file, line, key, first) ↦

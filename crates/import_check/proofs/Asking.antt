@@ -14,6 +14,7 @@ use Rattle.history_model.specs.History.{row_cmp}
 use Rattle.history_model.proofs.InOrder.{Has-append_left, Has-append_right, Has-append_cases}
 use Rattle.history_model.proofs.Filtered.{Has-map, Has-map_from}
 use Rattle.history_model.proofs.Keys.{rows_total, same_key, tie_of_same}
+use Rattle.history_model.proofs.Items.{Has-permuted}
 use Rattle.import_check.specs.declared.release.PlacedLine.{PlacedLine}
 use Rattle.import_check.specs.Known.{IsUnknown, has_key, already_known}
 use Rattle.import_check.specs.Release.{rows_of}
@@ -21,7 +22,6 @@ use Rattle.import_check.specs.Private.Sweep.{AsksOnce, IsAhead, standing_row}
 use Rattle.import_check.specs.Private.Sweep.{IsRising}
 use Rattle.import_check.specs.Contradictions.{rank_cmp}
 use Rattle.std.specs.List.Sorted.{IsPermutation}
-use Rattle.import_check.proofs.Uniting.{Has-permutation}
 use Rattle.import_check.proofs.Sweeping.{IsAt, last_pushed, rank_split, rising_before, rising_after}
 
 -- ---- the row that stands has the key of the last line
@@ -119,7 +119,7 @@ pub more_lines : (cost : RowValue → ℕ) (known : List RowValue) (lines others
 more_lines cost known lines others each = sum_less cost (λ row. has_key (rows_of lines) (key_of row)) (λ row. has_key (rows_of others) (key_of row)) known (λ x h. more_keys (rows_of lines) (rows_of others) (more_rows lines others each) (key_of x) h)
 
 pub more_sorted : (cost : RowValue → ℕ) (known : List RowValue) (lines sorted : List PlacedLine) → IsPermutation lines sorted → sum_by cost (already_known known (rows_of sorted)) ≤ sum_by cost (already_known known (rows_of lines))
-more_sorted cost known lines sorted permuted = more_lines cost known sorted lines (λ l h. Has-permutation lines sorted permuted l h)
+more_sorted cost known lines sorted permuted = more_lines cost known sorted lines (λ l h. Has-permuted lines sorted permuted l h)
 
 -- ---- one line more
 

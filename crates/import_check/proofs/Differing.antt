@@ -16,6 +16,7 @@ use Rattle.history_model.specs.History.{row_cmp, IsConsistent}
 use Rattle.history_model.proofs.InOrder.{Has-all, Has-append_left, Has-append_right, Has-append_cases, all_from_has, tie_is_same}
 use Rattle.history_model.proofs.Filtered.{Has-map, Has-map_from}
 use Rattle.history_model.proofs.Keys.{rows_total, tie_of_same}
+use Rattle.history_model.proofs.Items.{Has-permuted}
 use Rattle.import_check.specs.declared.release.PlacedLine.{PlacedLine}
 use Rattle.import_check.specs.declared.contradicting.OtherRow.{OtherRow}
 use Rattle.import_check.specs.declared.contradicting.OtherRow.TheVariants as others
@@ -31,7 +32,7 @@ use Rattle.import_check.specs.declared.release.Release.{Release}
 use Rattle.import_check.specs.declared.fault.ImportFault.{ImportFault}
 use Rattle.import_check.specs.Release.{rows_of}
 use Rattle.import_check.proofs.Sweeping.{rank_split, placed_by, below_further, cases, earliest, ascending-push, stands_by_itself}
-use Rattle.import_check.proofs.Uniting.{Has-permutation, places_total, split_at, ascending_before, ascending_after, not_after, tie_from}
+use Rattle.import_check.proofs.Uniting.{places_total, split_at, ascending_before, ascending_after, not_after, tie_from}
 
 -- ---- orders without ties
 
@@ -196,10 +197,10 @@ none_sifted known lines = record { ascending = tt; from = λ c h. absurd h; each
 
 module _ (known : List RowValue) (lines sorted : List PlacedLine) (consistent : IsConsistent known) (placed : IsAscending place_cmp lines) (permuted : IsPermutation lines sorted) where
   to : (l : PlacedLine) → Has lines l → Has sorted l
-  to l h = Has-permutation sorted lines (IsPermutation-sym lines sorted permuted) l h
+  to l h = Has-permuted sorted lines (IsPermutation-sym lines sorted permuted) l h
 
   from : (l : PlacedLine) → Has sorted l → Has lines l
-  from l h = Has-permutation lines sorted permuted l h
+  from l h = Has-permuted lines sorted permuted l h
 
   one_counts : (a b : OtherRow) → CountsAmong known sorted a → CountsAmong known sorted b → key_of (row_of a) ≡ key_of (row_of b) → a ≡ b
   one_counts (others.Known a) (others.Known b) p q same = ap others.Known (consistent a b p q same)

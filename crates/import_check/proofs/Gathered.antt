@@ -1,6 +1,6 @@
 -- Which rows of the lines so far are new by their keys, whatever rows are given.
 use Rattle.std.proofs.Common.{◌≡◌, ◌⊎◌, ◌≤◌, List, [], ◌∷◌, ◌++◌, length, refl, sym, ap, subst, inl, inr, ◌∙◌, arith}
-use Rattle.std.specs.Prelude.{ℕ, zero, suc, ◌-◌, Option, Some, None, IsSomeAnd, MatchOption, Result, Ok, Err, IfOk, IsOkAnd, slice_get}
+use Rattle.std.specs.Prelude.{ℕ, suc, ◌-◌, Option, Some, None, IsSomeAnd, MatchOption, Result, Ok, Err, IfOk, IsOkAnd}
 use Rattle.std.specs.List.Sorted.{IsPermutation}
 use Rattle.std.proofs.lemmas.List.Sorted.{IsPermutation-sym}
 use Rattle.rf2_values.specs.declared.key.Key.{Key}
@@ -8,6 +8,7 @@ use Rattle.rf2_values.specs.Row.{RowValue}
 use Rattle.rf2_values.specs.Key.{key_of}
 use Rattle.history_model.specs.InOrder.{Has}
 use Rattle.history_model.proofs.InOrder.{Has-append_left, Has-append_right, Has-append_cases}
+use Rattle.history_model.proofs.Items.{Has-slice_get, Has-permuted}
 use Rattle.import_check.specs.declared.sweep.Contradiction.{Contradiction}
 use Rattle.import_check.specs.declared.sweep.Sweep.{Sweep}
 use Rattle.import_check.specs.declared.release.PlacedLine.{PlacedLine}
@@ -19,12 +20,6 @@ use Rattle.import_check.specs.Release.{rows_of}
 use Rattle.import_check.specs.NewRows.{AreNewByKey}
 use Rattle.import_check.specs.Private.Sweep.{IsApart, IsGathered, IsOutcome, IsVerdict, standing_row, standing_of}
 use Rattle.import_check.proofs.Asking.{more_rows}
-use Rattle.import_check.proofs.Uniting.{Has-permutation}
-
-has_at : {X : Type 0} (xs : List X) (i : ℕ) (x : X) → slice_get xs i ≡ Some x → Has xs x
-has_at [] i x e = absurd (cc)
-has_at (y ∷ ys) zero x e = inl (cc)
-has_at (y ∷ ys) (suc i) x e = inr (has_at ys i x e)
 
 pub gathered_none : (known : List RowValue) (s : Sweep) → s.fresh.items ≡ [] → s.known_row ≡ None → IsGathered known [] s
 gathered_none known s none unread = record {
@@ -60,7 +55,7 @@ key_known (Some last) known k at same unknown = at (subst (λ key. IsUnknown kno
 stands_new : (known : List RowValue) (key : Option Key) (known_row : Option RowValue) (fresh : List RowValue) (row : RowValue)
     → ((r : RowValue) → known_row ≡ Some r → IsSomeAnd key (λ key. IsUnknown known key → ⊥)) → IsSomeAnd key (λ last. last ≡ key_of row)
     → standing_row known_row fresh ≡ Some row → IsUnknown known (key_of row) → Has fresh row
-stands_new known key None fresh row known_key at standing unknown = has_at fresh (length fresh - 1) row standing
+stands_new known key None fresh row known_key at standing unknown = Has-slice_get fresh (length fresh - 1) row standing
 stands_new known key (Some r) fresh row known_key at standing unknown = absurd (key_known key known (key_of row) (known_key r refl) at unknown)
 
 module _ (known : List RowValue) (done : List PlacedLine) (line : PlacedLine) (old new : Sweep) (g : IsGathered known done old) where
@@ -109,10 +104,10 @@ pub outcome_by_key : (known : List RowValue) (lines sorted : List PlacedLine) (s
     → IsApart known s.fresh.items → IsGathered known sorted s → IsOutcome s count r → IfOk r (AreNewByKey known (rows_of lines))
 outcome_by_key known lines sorted s count r permuted count_is few same apart g outcome = by s.first refl r outcome where
   here : (row : RowValue) → Has (rows_of sorted) row → Has (rows_of lines) row
-  here = more_rows sorted lines (λ l h. Has-permutation lines sorted permuted l h)
+  here = more_rows sorted lines (λ l h. Has-permuted lines sorted permuted l h)
 
   back : (row : RowValue) → Has (rows_of lines) row → Has (rows_of sorted) row
-  back = more_rows lines sorted (λ l h. Has-permutation sorted lines (IsPermutation-sym lines sorted permuted) l h)
+  back = more_rows lines sorted (λ l h. Has-permuted sorted lines (IsPermutation-sym lines sorted permuted) l h)
 
   length_rows : (ls : List PlacedLine) → length (rows_of ls) ≡ length ls
   length_rows [] = refl

@@ -1,10 +1,11 @@
 -- A row is found by the key of its place.
-use Rattle.std.proofs.Common.{◌≡◌, ℕ, zero, suc, ◌<◌, Bool, true, false, cond, List, [], ◌∷◌, length, get_or, take, drop, map, refl, sym, ap, subst, ◌∙◌, arith, Vec, Global}
+use Rattle.std.proofs.Common.{◌≡◌, ℕ, zero, suc, ◌<◌, true, false, List, [], ◌∷◌, length, get_or, take, drop, map, refl, sym, ap, subst, ◌∙◌, arith, Vec, Global}
 use Rattle.std.specs.Prelude.{Option, Some, None, IfSome, slice_get, vec_items}
 use Rattle.std.specs.List.{AllByRecursion, find}
 use Rattle.std.specs.Ordering.{is_lt}
 use Rattle.std.specs.Cmp.{tied_itself}
 use Rattle.std.specs.declared.cmp.Ordering.TheVariants.{Equal}
+use Rattle.list_lemmas.proofs.Kept.{found_passes}
 use Rattle.rf2_values.specs.declared.key.Key.{Key}
 use Rattle.rf2_values.specs.Key.{key_of, key_cmp}
 use Rattle.rf2_values.specs.Private.{keys_total}
@@ -17,11 +18,12 @@ use Rattle.history_model.specs.InOrder.{IsAscending}
 use Rattle.history_model.specs.Lists.{AreLists}
 use Rattle.history_model.proofs.Filtered.{find_only}
 use Rattle.history_model.proofs.Snapshots.{listed_once}
+use Rattle.history_model.proofs.Items.{Has-joined_at}
 use Rattle.segment.specs.declared.place.RowPlace.{RowPlace}
 use Rattle.segment.specs.Standing.{StandsAt}
 use Rattle.index_support.specs.Private.{is_row_at}
 use Rattle.segment.proofs.Posting.{says, row_there}
-use Rattle.as_of_index.proofs.Among.{has_joined, key_from_test, key_test}
+use Rattle.as_of_index.proofs.Among.{key_from_test, key_test}
 
 abbrev pub kept : List (Vec StampedRow Global) → List (List StampedRow)
 kept lists = map (vec_items {X = StampedRow} {Z = Global}) lists
@@ -68,14 +70,7 @@ kept_row lists i at s v are w =
     let key_is = (says 0 w.rows (s, at) w.there).key_is in
     ap (find (is_row_at at.key)) (sym rows_are)
     ∙ find_only (is_row_at at.key) w.rows s here (subst (λ (k : Key). is_row_at k s ≡ true) (sym key_is) (key_test (key_of s.row)))
-    (λ x h e. listed_once (kept lists) are x s (has_joined (kept lists) i w.rows x w.list_is h) (has_joined (kept lists) i w.rows s w.list_is here) (key_from_test (key_of x.row) at.key e ∙ key_is))
-
-found_passes : (p : StampedRow → Bool) (xs : List StampedRow) (x : StampedRow) → find p xs ≡ Some x → p x ≡ true
-found_passes p [] x e = absurd (cc)
-found_passes p (y ∷ ys) x e = elim (p y) as (λ b. p y ≡ b → cond b (Some y) (find p ys) ≡ Some x → p x ≡ true) [
-  | true ↦ λ yes f. let same : y ≡ x = cc in subst (λ z. p z ≡ true) same yes
-  | false ↦ λ no f. found_passes p ys x f
-] refl e
+    (λ x h e. listed_once (kept lists) are x s (Has-joined_at (kept lists) i w.rows x w.list_is h) (Has-joined_at (kept lists) i w.rows s w.list_is here) (key_from_test (key_of x.row) at.key e ∙ key_is))
 
 -- what is found by a key has it
 pub found_key : (key : Key) (rows : List StampedRow) (found : Option StampedRow) → found ≡ find (is_row_at key) rows → IfSome found (λ s. key_of s.row ≡ key)

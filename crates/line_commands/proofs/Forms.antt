@@ -9,11 +9,12 @@ use Rattle.rf2_values.specs.declared.row.Kind.TheVariants as kinds
 use Rattle.rf2_values.specs.Member.{SpellsMember}
 use Rattle.rf2_values.specs.Time.{IsTime}
 use Rattle.rf2_values.specs.Row.{IsIdOf, SpellsId}
+use Rattle.rf2_values.proofs.Decimals.{time_below}
 use Rattle.line_commands.specs.declared.question.Question.{Question as RustQuestion}
 use Rattle.line_commands.specs.Questions.{Question, Get, History, Terms, Search, About, Timeline, Page, Delta, most_rows, letter, IsSubjectOf, SpellsAfter}
 use Rattle.line_commands.specs.Private.{IsWord, behind, IsSpelledQuestion, IsQuestionReadAs}
 use Rattle.line_commands.proofs.FirstWords.{decimal_word, letter_word, id_word, no_space, peel, one_letter}
-use Rattle.line_commands.proofs.Readings.{time_below, after_word, subject_below}
+use Rattle.line_commands.proofs.Readings.{after_word, subject_below}
 
 pub none_read : (word : List ℕ) (rest : Option (List ℕ)) (r : Option RustQuestion) → r ≡ None → ((question : Question) → IsSpelledQuestion word rest question → ⊥) → IsQuestionReadAs word rest r
 none_read word rest None e h = h

@@ -10,6 +10,7 @@ use Rattle.rf2_values.specs.declared.row.Kind.TheVariants as kinds
 use Rattle.rf2_values.specs.Time.{IsTime}
 use Rattle.rf2_values.specs.Row.{IsIdOf, SpellsId, IsConcept, IsComponent}
 use Rattle.rf2_values.proofs.Ids.{same_ids}
+use Rattle.rf2_values.proofs.Decimals.{time_below}
 use Rattle.line_commands.specs.declared.unread.Unread.TheVariants as unread
 use Rattle.line_commands.specs.Questions.{Question, Get, History, Children, Ancestors, Descendants, Terms, Search, Replaced, Replaces, About, Timeline, Page, Delta, Members, Values, Called, Dates, Digest, Receipt, word_of_question, letter, IsSubjectOf, SpellsQuestion, SpellsAfter, SpellsComponentAfter, most_rows}
 use Rattle.line_commands.specs.Commands.{Command, Ask, At, Import, Check, Pin, Unpin, Merge, Step, Publish, Abandon, Trim, Status, word_of, SpellsArguments}
@@ -19,12 +20,6 @@ use Rattle.line_commands.specs.Laws.{OneReading, AskedIsRead, OneRefusal}
 use Rattle.line_commands.proofs.FirstWords.{decimal_word, letter_word, question_is_word, command_is_word, none_word, id_word, peel, one_head, spaced_is, not_asked, one_letter, not_dash, no_dash_number}
 
 -- ---- one number, one identifier
-
-same_numbers : (m n : ℕ) → m < 2 ^ 64 → n < 2 ^ 64 → decimal m ≡ decimal n → m ≡ n
-same_numbers m n low high e = decimal_injective m n low high e
-
-pub time_below : (t : ℕ) → IsTime t → t < 2 ^ 64
-time_below t h = let to = h.year_to in omega arith
 
 same_times : (m n : ℕ) → IsTime m → IsTime n → decimal m ≡ decimal n → m ≡ n
 same_times m n h g e = decimal_injective m n (time_below m h) (time_below n g) e
@@ -102,7 +97,7 @@ same_refset_words refset other date day a b limit most h g time also is_word oth
     let first = peel (decimal refset) (decimal other) _ _ (decimal_word refset (omega arith)) (decimal_word other (omega arith)) e in
     let second = peel (decimal date) (decimal day) _ _ (decimal_word date (time_below date time)) (decimal_word day (time_below day also)) first.1 in
     let third = peel a b _ _ is_word other_word second.1 in
-    (same_concepts refset other h g first.0, same_times date day time also second.0, third.0, same_numbers limit most (omega arith) (omega arith) third.1)
+    (same_concepts refset other h g first.0, same_times date day time also second.0, third.0, decimal_injective limit most (omega arith) (omega arith) third.1)
 
 rest_same : (xs ys : List (List ℕ)) (x y : List (List ℕ)) → xs ≡ x → ys ≡ y → behind xs ≡ behind ys → behind x ≡ behind y
 rest_same xs ys x y e f same = sym (ap behind e) ∙ same ∙ ap behind f
@@ -138,7 +133,7 @@ one_question (Terms prefix date limit) (Terms other day most) xs ys w s t same =
     let high = t.2 in
     let second = peel (decimal limit) (decimal most) _ _ (decimal_word limit (omega arith)) (decimal_word most (omega arith)) first.1 in
     let days = same_times date day s.0 t.0 first.0 in
-    let limits = same_numbers limit most (omega arith) (omega arith) second.0 in
+    let limits = decimal_injective limit most (omega arith) (omega arith) second.0 in
     ap (λ (x : ℕ). Terms prefix x limit) days ∙ ap (λ (x : ℕ). Terms prefix day x) limits ∙ ap (λ (x : List ℕ). Terms x day most) second.1
 one_question (Search prefix date after limit) (Search other day since most) xs ys w s t same =
     let whole = same_Some _ _ (rest_same xs ys _ _ s.7 t.7 same) in
@@ -149,7 +144,7 @@ one_question (Search prefix date after limit) (Search other day since most) xs y
     let third = peel (decimal limit) (decimal most) _ _ (decimal_word limit (omega arith)) (decimal_word most (omega arith)) second.1 in
     let days = same_times date day s.2 t.2 first.0 in
     let afters = same_after kinds.Description kinds.Description after since s.0 t.0 refl second.0 s.1 t.1 in
-    let limits = same_numbers limit most (omega arith) (omega arith) third.0 in
+    let limits = decimal_injective limit most (omega arith) (omega arith) third.0 in
     ap (λ (x : ℕ). Search prefix x after limit) days ∙ ap (λ (x : Option ℕ). Search prefix day x limit) afters ∙ ap (λ (x : ℕ). Search prefix day since x) limits ∙ ap (λ (x : List ℕ). Search x day since most) third.1
 one_question (Replaced id date) (Replaced jd day) xs ys w s t same =
     let e = same_component_dates id jd date day s.0 t.0 s.1 t.1 (same_Some _ _ (rest_same xs ys _ _ s.2 t.2 same)) in
@@ -162,14 +157,14 @@ one_question (About k id date) (About l jd day) xs ys w s t same =
     let first = peel (letter k) (letter l) _ _ (letter_word k) (letter_word l) whole in
     let second = peel (decimal id) (decimal jd) _ _ (decimal_word id (subject_below k id s.0)) (decimal_word jd (subject_below l jd t.0)) first.1 in
     let kind = one_letter k l first.0 in
-    let ids = same_numbers id jd (subject_below k id s.0) (subject_below l jd t.0) second.0 in
+    let ids = decimal_injective id jd (subject_below k id s.0) (subject_below l jd t.0) second.0 in
     let days = same_times date day s.1 t.1 second.1 in
     ap (λ (x : Kind). About x id date) kind ∙ ap (λ (x : ℕ). About l x date) ids ∙ ap (λ (x : ℕ). About l jd x) days
 one_question (Timeline k id) (Timeline l jd) xs ys w s t same =
     let whole = same_Some _ _ (rest_same xs ys _ _ s.1 t.1 same) in
     let first = peel (letter k) (letter l) _ _ (letter_word k) (letter_word l) whole in
     let kind = one_letter k l first.0 in
-    let ids = same_numbers id jd (subject_below k id s.0) (subject_below l jd t.0) first.1 in
+    let ids = decimal_injective id jd (subject_below k id s.0) (subject_below l jd t.0) first.1 in
     ap (λ (x : Kind). Timeline x id) kind ∙ ap (λ (x : ℕ). Timeline l x) ids
 one_question (Page k date after limit) (Page l day since most) xs ys w s t same =
     let whole = same_Some _ _ (rest_same xs ys _ _ s.5 t.5 same) in
@@ -180,7 +175,7 @@ one_question (Page k date after limit) (Page l day since most) xs ys w s t same 
     let third = peel s.0 t.0 _ _ (after_word k after s.0 s.1) (after_word l since t.0 t.1) second.1 in
     let low = s.4 in
     let high = t.4 in
-    let limits = same_numbers limit most (omega arith) (omega arith) third.1 in
+    let limits = decimal_injective limit most (omega arith) (omega arith) third.1 in
     let afters = same_after k l after since s.0 t.0 kind third.0 s.1 t.1 in
     ap (λ (x : Kind). Page x date after limit) kind ∙ ap (λ (x : ℕ). Page l x after limit) days ∙ ap (λ (x : Option ℕ). Page l day x limit) afters ∙ ap (λ (x : ℕ). Page l day since x) limits
 one_question (Delta k from date after limit) (Delta l since day last most) xs ys w s t same =
@@ -194,7 +189,7 @@ one_question (Delta k from date after limit) (Delta l since day last most) xs ys
     let fourth = peel s.0 t.0 _ _ (after_word k after s.0 s.1) (after_word l last t.0 t.1) third.1 in
     let low = s.5 in
     let high = t.5 in
-    let limits = same_numbers limit most (omega arith) (omega arith) fourth.1 in
+    let limits = decimal_injective limit most (omega arith) (omega arith) fourth.1 in
     let afters = same_after k l after last s.0 t.0 kind fourth.0 s.1 t.1 in
     ap (λ (x : Kind). Delta x from date after limit) kind ∙ ap (λ (x : ℕ). Delta l x date after limit) froms ∙ ap (λ (x : ℕ). Delta l since x after limit) days ∙ ap (λ (x : Option ℕ). Delta l since day x limit) afters ∙ ap (λ (x : ℕ). Delta l since day last x) limits
 one_question (Members refset date after limit) (Members other day since most) xs ys w s t same =
@@ -220,7 +215,7 @@ one_question Digest Digest xs ys w s t same = refl
 one_question (Receipt m) (Receipt n) xs ys w s t same =
     let low = s.1 in
     let high = t.1 in
-    ap (λ (x : ℕ). Receipt x) (same_numbers m n (omega arith) (omega arith) (same_Some _ _ (rest_same xs ys _ _ s.2 t.2 same)))
+    ap (λ (x : ℕ). Receipt x) (decimal_injective m n (omega arith) (omega arith) (same_Some _ _ (rest_same xs ys _ _ s.2 t.2 same)))
 one_question p q xs ys w s t same = absurd (false≢true (sym (ap (bytes_eq (word_of_question p)) w)))
 
 -- ---- one command
@@ -232,7 +227,7 @@ one_command (At m p) (At n q) xs ys w s t same =
     let low = s.2 in
     let high = t.2 in
     let first = peel (decimal m) (decimal n) _ _ (decimal_word m (omega arith)) (decimal_word n (omega arith)) whole in
-    let numbers = same_numbers m n (omega arith) (omega arith) first.0 in
+    let numbers = decimal_injective m n (omega arith) (omega arith) first.0 in
     let words = one_head (word_of_question p) (word_of_question q) _ _ (question_is_word p) (question_is_word q) (sym (spaced_is (word_of_question p) s.0) ∙ first.1 ∙ spaced_is (word_of_question q) t.0) in
     let questions = one_question p q s.0 t.0 words.0 s.1 t.1 words.1 in
     ap (λ (x : ℕ). At x p) numbers ∙ ap (λ (x : Question). At n x) questions
@@ -244,11 +239,11 @@ one_command (Pin (Some n)) (Pin None) xs ys w s t same = let e = rest_same xs ys
 one_command (Pin (Some m)) (Pin (Some n)) xs ys w s t same =
     let low = s.0 in
     let high = t.0 in
-    ap (λ (x : ℕ). Pin (Some x)) (same_numbers m n (omega arith) (omega arith) (same_Some _ _ (rest_same xs ys _ _ s.1 t.1 same)))
+    ap (λ (x : ℕ). Pin (Some x)) (decimal_injective m n (omega arith) (omega arith) (same_Some _ _ (rest_same xs ys _ _ s.1 t.1 same)))
 one_command (Step m) (Step n) xs ys w s t same =
     let low = s.1 in
     let high = t.1 in
-    ap (λ (x : ℕ). Step x) (same_numbers m n (omega arith) (omega arith) (same_Some _ _ (rest_same xs ys _ _ s.2 t.2 same)))
+    ap (λ (x : ℕ). Step x) (decimal_injective m n (omega arith) (omega arith) (same_Some _ _ (rest_same xs ys _ _ s.2 t.2 same)))
 one_command Unpin Unpin xs ys w s t same = refl
 one_command Merge Merge xs ys w s t same = refl
 one_command Publish Publish xs ys w s t same = refl

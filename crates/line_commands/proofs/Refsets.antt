@@ -6,11 +6,12 @@ use Rattle.std.proofs.lemmas.Bool.{false≢true}
 use Rattle.rf2_values.specs.declared.row.Kind.TheVariants as kinds
 use Rattle.rf2_values.specs.Time.{IsTime}
 use Rattle.rf2_values.specs.Row.{IsConcept}
+use Rattle.rf2_values.proofs.Decimals.{time_below}
 use Rattle.line_commands.specs.Questions.{Question, Members, Values, Called, most_rows, SpellsAfter, SpellsComponentAfter}
 use Rattle.line_commands.specs.Private.{IsWord, IsSpelledQuestion}
 use Rattle.line_commands.proofs.FirstWords.{decimal_word, no_space, peel}
 use Rattle.line_commands.proofs.Forms.{told}
-use Rattle.line_commands.proofs.Readings.{time_below, after_word, component_after_word}
+use Rattle.line_commands.proofs.Readings.{after_word, component_after_word}
 
 -- ---- the words
 

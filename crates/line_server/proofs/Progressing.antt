@@ -8,6 +8,7 @@ use Rattle.std.proofs.lemmas.List.{length-take, map-append, take_more, take_all,
 use Rattle.std.proofs.lemmas.List.Sums.{count_by_more_no, count_by_more_yes, sum_by-append, sum_by-cons}
 use Rattle.std.proofs.lemmas.List.Elements.{All-head, All-tail}
 use Rattle.std.proofs.lemmas.Grind.{flat_map-append}
+use Rattle.list_lemmas.proofs.Parts.{room_for_one}
 use Rattle.bstr.specs.Text.{no_cr}
 use Rattle.rf2_rows.specs.File.{lines_in}
 use Rattle.history_store.specs.StoreValue.{StoreValue}
@@ -79,9 +80,6 @@ came_more reads last seen e =
 
 came_none : (reads : List Reading) (last : Reading) (seen : List ℕ) → came_of last ≡ [] → seen ≡ all_of reads → seen ≡ all_of (reads ++ last ∷ [])
 came_none reads last seen none e = sym (ap (λ (l : List ℕ). seen ++ l) none ∙ append-nil seen) ∙ came_more reads last seen e
-
-one_more : (reads : List Reading) (last : Reading) (most : ℕ) → length reads < most → length (reads ++ last ∷ []) ≤ most
-one_more reads last most lt = omega (arith, lt, length-append reads (last ∷ []))
 
 -- a piece was read
 pub is_piece : (n : ℕ) (buf : List ℕ) → 1 ≤ n → n ≤ length buf → length buf ≡ 4096 → IsPiece (Gave (take n buf))
@@ -342,7 +340,7 @@ module _ {D : Type 0} (source : SourceView) (view : D → DiskView) where
       -- a read failed
       pub unread : Makes begun made (pieces ++ Failed ∷ []) → length pieces < most → Out (Err faults.Read) mid now
       unread makes lt = out (Err faults.Read) mid state now h.turns h.run (fronts faults.Read) seen c few h.ends h.written tt
-          (pieces ++ Failed ∷ []) makes (one_more pieces Failed most lt) (came_none pieces Failed seen refl all) (pieces, each, refl)
+          (pieces ++ Failed ∷ []) makes (room_for_one pieces Failed most lt) (came_none pieces Failed seen refl all) (pieces, each, refl)
 
       -- there were too many reads
       pub stopped : most ≤ length seen → Makes begun made pieces → length pieces ≡ most → Out (Err faults.Reads) mid now
@@ -355,7 +353,7 @@ module _ {D : Type 0} (source : SourceView) (view : D → DiskView) where
         ended none =
             let empty : h.part ≡ [] = kept_none h.part (ap length (sym h.buffer_is) ∙ none) in
             out (Ok served) mid state now h.turns h.run (all_lines input rest seen (lines_asked h.turns) served c end (cut_end seen (lines_asked h.turns) h.part h.cut empty)) seen c few end h.written h.count
-            (pieces ++ Gave [] ∷ []) makes (one_more pieces (Gave []) most lt) (came_none pieces (Gave []) seen refl all) (pieces, each, refl)
+            (pieces ++ Gave [] ∷ []) makes (room_for_one pieces (Gave []) most lt) (came_none pieces (Gave []) seen refl all) (pieces, each, refl)
 
         -- it ended within a line, which was answered so
         module _ (outcome : Result Answer LineRefusal) (call : Call) (new : Option (List ℕ)) (later : StateValue) (after : StoreValue D) (some : 0 < length buffer)
@@ -376,7 +374,7 @@ module _ {D : Type 0} (source : SourceView) (view : D → DiskView) where
               out (Ok (min (served + 1) (2 ^ 64 - 1))) new later after (h.turns ++ last ∷ []) last_run last_lines seen c few end
               (subst (λ (bs : List ℕ). Appends old new bs) (replies_more h.turns last) (Appends-trans old mid new (replies h.turns) (bytes_of (reply_value outcome)) h.written w))
               (count_more h.turns last served h.count)
-              (pieces ++ Gave [] ∷ []) makes (one_more pieces (Gave []) most lt) (came_none pieces (Gave []) seen refl all) (pieces, each, refl)
+              (pieces ++ Gave [] ∷ []) makes (room_for_one pieces (Gave []) most lt) (came_none pieces (Gave []) seen refl all) (pieces, each, refl)
 
           pub unwritten_within : AppendsSome mid new (bytes_of (reply_value outcome)) → Out (Err faults.Write) new after
           unwritten_within w =
@@ -385,7 +383,7 @@ module _ {D : Type 0} (source : SourceView) (view : D → DiskView) where
               (record { before = seen; piece = []; whole = sym (append-nil seen); short = omega arith; later = omega (arith, h.ends, length-append h.turns (last ∷ [])) })
               (h.turns, last, mid, refl, h.written, w)
               tt
-              (pieces ++ Gave [] ∷ []) makes (one_more pieces (Gave []) most lt) (came_none pieces (Gave []) seen refl all) (pieces, [], each, omega arith, refl, later_than)
+              (pieces ++ Gave [] ∷ []) makes (room_for_one pieces (Gave []) most lt) (came_none pieces (Gave []) seen refl all) (pieces, [], each, omega arith, refl, later_than)
 
     -- the reply to a line of a piece wasn't written whole
     pub unwritten : {E : Type 0} (fault : E) (mid new : Option (List ℕ)) (state later : StateValue) (now after : StoreValue D) (seen buffer piece left : List ℕ) (served : ℕ) (h : Progress old mid start (server state now) seen buffer served)
@@ -413,7 +411,7 @@ module _ {D : Type 0} (source : SourceView) (view : D → DiskView) where
           w.5,
         )
         tt
-        (pieces ++ Gave piece ∷ []) makes (one_more pieces (Gave piece) most lt) (came_more pieces (Gave piece) seen all)
+        (pieces ++ Gave piece ∷ []) makes (room_for_one pieces (Gave piece) most lt) (came_more pieces (Gave piece) seen all)
         (pieces, piece, each, short, refl, subst (λ (l : List ℕ). ends_in l < length turns) all more)
 
   -- no memory for the buffer

@@ -2,7 +2,7 @@
 use Rattle.std.proofs.Common.{◌≡◌, ℕ, true, List, map, refl, sym, ap, subst, ◌∙◌}
 use Rattle.std.specs.Prelude.{Some}
 use Rattle.std.specs.Ordering.{nat_cmp}
-use Rattle.std.specs.Cmp.{IsTotalOrder, nat_cmp_total, ranked, on_total}
+use Rattle.std.specs.Cmp.{ranked}
 use Rattle.std.specs.declared.cmp.Ordering.TheVariants.{Equal}
 use Rattle.rf2_values.specs.declared.row.Kind.{Kind}
 use Rattle.rf2_values.specs.declared.key.Key.{Key}
@@ -15,7 +15,7 @@ use Rattle.history_model.specs.Queries.{get, subject_of, about}
 use Rattle.history_model.specs.Laws.{by_id}
 use Rattle.history_model.proofs.InOrder.{same_ascending}
 use Rattle.history_model.proofs.Snapshots.{current_from_snapshot, IsAscending-listed, IsAscending-rows_at, Has-listed_cases, Has-rows_at_cases}
-use Rattle.history_model.proofs.Ascents.{about_is_all, about_ascends}
+use Rattle.history_model.proofs.Ascents.{about_is_all, about_ascends, ids_total}
 use Rattle.segment.specs.Standing.{places_of, StandsAt}
 use Rattle.as_of_index.specs.declared.as_of.AsOf.{AsOf}
 use Rattle.as_of_index.specs.declared.chosen.Chosen.{Chosen}
@@ -34,9 +34,6 @@ use Rattle.links.specs.Private.{subjects_in, GivesRow, AreRows}
 use Rattle.links.specs.Laws.{EachPosted}
 use Rattle.links.proofs.Posted.{subject_stands, each_subject_is_posted}
 use Rattle.links.proofs.SubjectOrder.{of_rank}
-
-ids_total : IsTotalOrder by_id
-ids_total = on_total (λ (row : RowValue). row.id) nat_cmp_total
 
 module _ (lists : List (List StampedRow)) (are : ArePlaces (map places_of lists)) (edges : List Edges) (posts : EachPosted lists edges) (kind : Kind) (d : ℕ) (as_of : AsOf) where
   abbrev wanted : List RowValue

@@ -3,11 +3,11 @@ use Rattle.std.proofs.Common.{◌≡◌, ℕ, ◌≤◌, true, false, Bool, List
 use Rattle.std.specs.Prelude.{◌==◌, ◌&&◌, nat_lt, nat_le, Option, Some, None}
 use Rattle.std.proofs.Math.Nat.{min-le_right, min-le_left, le-min}
 use Rattle.std.proofs.lemmas.Bool.Decides.{nat_tests}
+use Rattle.std.proofs.lemmas.Bool.{eqb-true, and_parts, ltb-false, leb-true}
 use Rattle.history_model.specs.InOrder.{Has}
 use Rattle.history_model.specs.Queries.{is_above}
 use Rattle.history_model.proofs.InOrder.{Has-all, Has-append_left, Has-append_right, Has-append_cases}
-use Rattle.history_model.proofs.Filtered.{both, Has-map_from}
-use Rattle.history_model.proofs.Hierarchy.{same_number}
+use Rattle.history_model.proofs.Filtered.{Has-map_from}
 use Rattle.as_of_index.specs.Private.Search.{SplitsAt}
 use Rattle.links.specs.declared.membership.Membership.{Membership}
 use Rattle.links.specs.declared.member_search.Wanted.{Wanted}
@@ -18,12 +18,6 @@ use Rattle.links.specs.Private.Memberships.{is_up_to, is_between, is_wanted, low
 use Rattle.links.proofs.Numbering.{in_list, one_of}
 
 module _ {X : Type 0} (of : X → ℕ) (list : List X) (d e first count : ℕ) (low : SplitsAt (λ x. nat_lt (of x) d) list first) (high : SplitsAt (λ x. nat_le (of x) e) (drop first list) count) where
-  from_low : (m : ℕ) → nat_lt m d ≡ false → d ≤ m
-  from_low m t = grind (arith, nat_tests, t)
-
-  from_high : (m : ℕ) → nat_le m e ≡ true → m ≤ e
-  from_high m t = grind (arith, nat_tests, t)
-
   not_lower : (m : ℕ) → d ≤ m → nat_lt m d ≡ true → ⊥
   not_lower m le lt = grind (arith, nat_tests, le, lt)
 
@@ -34,8 +28,8 @@ module _ {X : Type 0} (of : X → ℕ) (list : List X) (d e first count : ℕ) (
   those_from x h =
       let inside : Has (drop first list) x = subst (λ xs. Has xs x) (take-append-drop count (drop first list)) (Has-append_left (take count (drop first list)) (drop count (drop first list)) x h) in (
         subst (λ xs. Has xs x) (take-append-drop first list) (Has-append_right (take first list) (drop first list) x inside),
-        from_low (of x) (Has-all (λ y. nat_lt (of y) d ≡ false) (drop first list) x low.rest inside),
-        from_high (of x) (Has-all (λ y. nat_le (of y) e ≡ true) (take count (drop first list)) x high.before h),
+        ltb-false (of x) d (Has-all (λ y. nat_lt (of y) d ≡ false) (drop first list) x low.rest inside),
+        leb-true (of x) e (Has-all (λ y. nat_le (of y) e ≡ true) (take count (drop first list)) x high.before h),
       )
 
   pub those_all : (x : X) → Has list x → d ≤ of x → of x ≤ e → Has (take count (drop first list)) x
@@ -51,7 +45,7 @@ module _ {X : Type 0} (of : X → ℕ) (list : List X) (d e first count : ℕ) (
 
 three : (a b c : Bool) → (a && b && c) ≡ true → (b ≡ true) × (c ≡ true)
 three a b c e = elim a as (λ (t : Bool). (t && b && c) ≡ true → (b ≡ true) × (c ≡ true)) [
-  | true ↦ λ f. both b c f
+  | true ↦ λ f. and_parts b c f
   | false ↦ λ f. absurd (cc)
 ] e
 
@@ -75,17 +69,17 @@ below_high refset n after (Some high) e = (rank_within refset high n (grind (ari
 
 pub wanted_within : (refset : ℕ) (w : Wanted) (m : Membership) (id : ℕ) → is_wanted refset w m id ≡ true → (low_rank refset w ≤ membership_rank m.refset m.referenced) × (membership_rank m.refset m.referenced ≤ high_rank refset w)
 wanted_within refset (wanted.Above after last) m id e =
-    let own : m.refset ≡ refset = same_number m.refset refset (both (m.refset == refset) (is_between after last id) e).0 in
+    let own : m.refset ≡ refset = eqb-true m.refset refset (and_parts (m.refset == refset) (is_between after last id) e).0 in
     subst (λ r. (membership_rank refset 0 ≤ membership_rank r m.referenced) × (membership_rank r m.referenced ≤ membership_rank refset 18446744073709551615)) (sym own) (rank_within refset m.referenced 0 (omega arith))
 wanted_within refset (wanted.Values after last) m id e =
     let t = three m.active (m.refset == refset) (is_between after last m.referenced) e in
-    let own : m.refset ≡ refset = same_number m.refset refset t.0 in
-    let w = both (is_above after m.referenced) (is_up_to last m.referenced) t.1 in
+    let own : m.refset ≡ refset = eqb-true m.refset refset t.0 in
+    let w = and_parts (is_above after m.referenced) (is_up_to last m.referenced) t.1 in
     subst (λ r. (low_rank refset (wanted.Values after last) ≤ membership_rank r m.referenced) × (membership_rank r m.referenced ≤ high_rank refset (wanted.Values after last))) (sym own) (above_low refset m.referenced after last w.0, below_high refset m.referenced after last w.1)
 wanted_within refset (wanted.About component) m id e =
     let t = three m.active (m.refset == refset) (m.referenced == component) e in
-    let own : m.refset ≡ refset = same_number m.refset refset t.0 in
-    let same : m.referenced ≡ component = same_number m.referenced component t.1 in
+    let own : m.refset ≡ refset = eqb-true m.refset refset t.0 in
+    let same : m.referenced ≡ component = eqb-true m.referenced component t.1 in
     let rank_is : membership_rank m.refset m.referenced ≡ membership_rank refset component = (λ i. membership_rank (own i) (same i)) in
     (omega (arith, rank_is), omega (arith, rank_is))
 

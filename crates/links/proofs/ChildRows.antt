@@ -1,11 +1,11 @@
 -- The sources that are taken from all lists are the children.
-use Rattle.std.proofs.Common.{◌≡◌, ℕ, true, List, [], map, refl, sym, ap, subst, inl, inr, ◌∙◌, arith}
+use Rattle.std.proofs.Common.{◌≡◌, ℕ, true, List, [], map, refl, sym, ap, subst, inl, inr, ◌∙◌}
 use Rattle.std.specs.Prelude.{◌==◌}
 use Rattle.std.specs.List.{filter}
 use Rattle.std.specs.Ordering.{nat_cmp}
 use Rattle.std.specs.Cmp.{nat_cmp_total, ranked}
 use Rattle.std.specs.declared.cmp.Ordering.TheVariants.{Equal}
-use Rattle.std.proofs.lemmas.Bool.Decides.{nat_tests}
+use Rattle.std.proofs.lemmas.Bool.{and_parts, eqb-true}
 use Rattle.rf2_values.specs.declared.row.Body.{Body}
 use Rattle.rf2_values.specs.declared.row.Body.TheVariants as body
 use Rattle.rf2_values.specs.Row.{RowValue}
@@ -14,7 +14,7 @@ use Rattle.history_model.specs.declared.stamped.StampedRow.{StampedRow}
 use Rattle.history_model.specs.InOrder.{Has, in_order}
 use Rattle.history_model.specs.Queries.{snapshot, is_child_of, says_is_a, is_a, source_of, children}
 use Rattle.history_model.proofs.InOrder.{same_ascending, Has-put_all_cases, Has-put_all_new, IsAscending-in_order}
-use Rattle.history_model.proofs.Filtered.{both, Has-filter, Has-filter_from, Has-map, Has-map_from}
+use Rattle.history_model.proofs.Filtered.{Has-filter, Has-filter_from, Has-map, Has-map_from}
 use Rattle.segment.specs.Standing.{places_of}
 use Rattle.as_of_index.specs.declared.as_of.AsOf.{AsOf}
 use Rattle.as_of_index.specs.Places.{ArePlaces}
@@ -24,29 +24,22 @@ use Rattle.as_of_index.proofs.Among.{looked_up}
 use Rattle.as_of_index.proofs.Current.{standing_row, one_row, current_where}
 use Rattle.links.specs.Edges.{Edges}
 use Rattle.links.specs.Laws.{EachPosted}
-use Rattle.as_of_index.specs.Private.Once.{IsThere}
+use Rattle.as_of_index.proofs.DatesOfAll.{number_there}
 use Rattle.as_of_index.specs.Current.{rows_seen}
 use Rattle.links.specs.Private.{links_in, AreSources}
 use Rattle.links.proofs.Posted.{link_stands, link_of_child}
-
-eq_of : (m n : ℕ) → (m == n) ≡ true → m ≡ n
-eq_of m n e = grind (arith, nat_tests, e)
 
 -- who is a child of two is a child of one
 says_dest : (c d : ℕ) (b : Body) → says_is_a c b ≡ true → says_is_a d b ≡ true → c ≡ d
 says_dest c d (body.Concept x) e f = absurd (cc)
 says_dest c d (body.Description x) e f = absurd (cc)
-says_dest c d (body.Relationship r) e f = sym (eq_of r.destination c (both (r.destination == c) (r.type_id == is_a) e).0) ∙ eq_of r.destination d (both (r.destination == d) (r.type_id == is_a) f).0
+says_dest c d (body.Relationship r) e f = sym (eqb-true r.destination c (and_parts (r.destination == c) (r.type_id == is_a) e).0) ∙ eqb-true r.destination d (and_parts (r.destination == d) (r.type_id == is_a) f).0
 says_dest c d (body.Association x) e f = absurd (cc)
 says_dest c d (body.Concrete x) e f = absurd (cc)
 says_dest c d (body.Member m) e f = absurd (cc)
 
 dest_of : (c d : ℕ) (row : RowValue) → is_child_of c row ≡ true → is_child_of d row ≡ true → c ≡ d
-dest_of c d row e f = says_dest c d row.body (both row.active (says_is_a c row.body) e).1 (both row.active (says_is_a d row.body) f).1
-
--- a number that ties with one that is there is there
-pub number_there : (ids : List ℕ) (id : ℕ) → IsThere nat_cmp ids id → Has ids id
-number_there ids id w = subst (λ m. Has ids m) (sym (ranked id w.0 Equal (sym w.2))) w.1
+dest_of c d row e f = says_dest c d row.body (and_parts row.active (says_is_a c row.body) e).1 (and_parts row.active (says_is_a d row.body) f).1
 
 module _ (lists : List (List StampedRow)) (are : ArePlaces (map places_of lists)) (edges : List Edges) (posts : EachPosted lists edges) (concept : ℕ) (as_of : AsOf) where
   abbrev at_date : List RowValue

@@ -16,6 +16,7 @@ use Rattle.history_model.specs.Laws.{by_id}
 use Rattle.history_model.specs.Lists.{listed}
 use Rattle.history_model.specs.Queries.{members, members_above, members_about}
 use Rattle.history_model.proofs.Snapshots.{IsAscending-listed, IsAscending-rows_at}
+use Rattle.history_model.proofs.Ascents.{ids_total}
 use Rattle.segment.specs.Standing.{places_of, StandsAt}
 use Rattle.as_of_index.specs.declared.as_of.AsOf.{AsOf}
 use Rattle.as_of_index.specs.declared.chosen.Chosen.{Chosen}
@@ -30,7 +31,7 @@ use Rattle.links.specs.Edges.{Edges}
 use Rattle.links.specs.Private.Memberships.{memberships_in, AreMembers, AreEnough}
 use Rattle.links.specs.Laws.{EachPosted}
 use Rattle.links.proofs.MemberRows.{members_from_chosen}
-use Rattle.links.proofs.MemberAnswers.{ids_total, members_ascend, members_up_to, members_up_to_all, members_up_to_ascend, about_are_all, about_members_ascend}
+use Rattle.links.proofs.MemberAnswers.{members_ascend, members_up_to, members_up_to_all, members_up_to_ascend, about_are_all, about_members_ascend}
 use Rattle.links.proofs.Ties.{Rising, take_up_to}
 
 -- the first places, and their rows

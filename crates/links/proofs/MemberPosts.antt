@@ -2,6 +2,7 @@
 use Rattle.std.proofs.Common.{◌≡◌, ℕ, true, false, Bool, List, [], ◌∷◌, refl, sym, ap, subst, inl, inr, ◌∙◌, arith}
 use Rattle.std.specs.Prelude.{◌==◌, ◌&&◌, Some}
 use Rattle.std.proofs.lemmas.Bool.Decides.{nat_tests}
+use Rattle.std.proofs.lemmas.Bool.{and_parts}
 use Rattle.rf2_values.specs.declared.row.Body.{Body}
 use Rattle.rf2_values.specs.declared.row.Body.TheVariants as body
 use Rattle.rf2_values.specs.declared.row.RefsetMember.{RefsetMember}
@@ -9,7 +10,6 @@ use Rattle.rf2_values.specs.Row.{RowValue}
 use Rattle.history_model.specs.declared.stamped.StampedRow.{StampedRow}
 use Rattle.history_model.specs.InOrder.{Has}
 use Rattle.history_model.specs.Queries.{is_member_of, member_component, component_of}
-use Rattle.history_model.proofs.Filtered.{both}
 use Rattle.as_of_index.specs.Places.{item_at}
 use Rattle.as_of_index.specs.Postings.{AllPosted}
 use Rattle.as_of_index.specs.Private.Postings.{numbered}
@@ -94,11 +94,11 @@ member_body refset (body.Member m) e = (let same : m.refset ≡ refset = grind (
 
 middle : (a b c : Bool) → (a && b && c) ≡ true → b ≡ true
 middle a b c e = elim a as (λ (t : Bool). (t && b && c) ≡ true → b ≡ true) [
-  | true ↦ λ f. (both b c f).0
+  | true ↦ λ f. (and_parts b c f).0
   | false ↦ λ f. absurd (cc)
 ] e
 
 pub wanted_member : (refset : ℕ) (w : Wanted) (row : RowValue) → wanted_row refset w row ≡ true → is_member_of refset row.body ≡ true
-wanted_member refset (wanted.Above after last) row e = (both (is_member_of refset row.body) (is_between after last row.id) e).0
+wanted_member refset (wanted.Above after last) row e = (and_parts (is_member_of refset row.body) (is_between after last row.id) e).0
 wanted_member refset (wanted.Values after last) row e = middle row.active (is_member_of refset row.body) (is_between after last (component_of row)) e
 wanted_member refset (wanted.About component) row e = middle row.active (is_member_of refset row.body) (component_of row == component) e

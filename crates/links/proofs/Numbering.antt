@@ -2,14 +2,13 @@
 use Rattle.std.proofs.Common.{◌≡◌, ℕ, ◌+◌, ◌<◌, true, false, List, [], ◌∷◌, ◌++◌, length, get_or, take, drop, map, sym, ap, subst, inl, inr, ◌∙◌, arith, take-append-drop, append-nil, append_assoc}
 use Rattle.std.specs.Prelude.{nat_lt, nat_le}
 use Rattle.std.proofs.lemmas.Bool.Decides.{nat_tests}
-use Rattle.std.proofs.lemmas.List.{length-take, length-map}
+use Rattle.std.proofs.lemmas.List.{length-take, length-map, map_push}
+use Rattle.list_lemmas.proofs.Parts.{take_one_more}
 use Rattle.history_model.specs.InOrder.{Has}
 use Rattle.history_model.proofs.InOrder.{Has-all, Has-append_left, Has-append_right, Has-append_cases}
 use Rattle.history_model.proofs.Filtered.{Has-map}
 use Rattle.as_of_index.specs.Private.Search.{SplitsAt}
 use Rattle.as_of_index.specs.Private.Postings.{numbered}
-use Rattle.as_of_index.proofs.Keyed.{one_more}
-use Rattle.as_of_index.proofs.Current.{map-push}
 
 -- ---- those of d stand between those of lower and those of higher numbers
 
@@ -59,7 +58,7 @@ module _ {X E : Type 0} (of : E → List X) where
 
   pub numbered-more : (es : List E) (i : ℕ) (e : E) → i < length es → e ≡ get_or es i e → numbered 0 (map of (take (i + 1) es)) ≡ numbered 0 (map of (take i es)) ++ in_list i (of e)
   numbered-more es i e lt is =
-      ap (λ xs. numbered 0 (map of xs)) (one_more es i e lt is)
-      ∙ ap (numbered 0) (map-push of (take i es) e)
+      ap (λ xs. numbered 0 (map of xs)) (take_one_more es i e lt is)
+      ∙ ap (numbered 0) (map_push of (take i es) e)
       ∙ numbered-push 0 (map of (take i es)) (of e)
       ∙ ap (λ k. numbered 0 (map of (take i es)) ++ in_list k (of e)) (taken_len es i lt)

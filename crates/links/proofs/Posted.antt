@@ -2,6 +2,7 @@
 use Rattle.std.proofs.Common.{◌≡◌, ℕ, zero, suc, ◌+◌, true, false, List, [], ◌∷◌, ◌++◌, length, refl, sym, ap, subst, inl, inr, ◌∙◌, arith}
 use Rattle.std.specs.Prelude.{◌==◌, Option, Some, None, slice_set, remove, if◌then◌else◌}
 use Rattle.std.proofs.lemmas.Bool.Decides.{nat_tests}
+use Rattle.std.proofs.lemmas.Bool.{and_parts}
 use Rattle.rf2_values.specs.declared.row.Body.{Body}
 use Rattle.rf2_values.specs.declared.row.Body.TheVariants as body
 use Rattle.rf2_values.specs.declared.row.Kind.{Kind}
@@ -9,7 +10,7 @@ use Rattle.rf2_values.specs.Row.{RowValue, kind_of}
 use Rattle.history_model.specs.declared.stamped.StampedRow.{StampedRow}
 use Rattle.history_model.specs.InOrder.{Has}
 use Rattle.history_model.specs.Queries.{subject_of, is_a, is_child_of, says_is_a, source_of, is_replacement_of, refers_to, is_replaced_by, refset_of, target_of, referenced_of, snapshot}
-use Rattle.history_model.proofs.Filtered.{both}
+use Rattle.history_model.proofs.Items.{Has-if}
 use Rattle.as_of_index.specs.declared.as_of.AsOf.{AsOf}
 use Rattle.as_of_index.specs.Places.{item_at}
 use Rattle.as_of_index.specs.Postings.{posted_all, AllPosted}
@@ -80,11 +81,7 @@ link_body row i (body.Concrete x) l a e h = absurd h
 link_body row i (body.Member m) l a e h = absurd h
 
 link_row : (row : RowValue) (i : ℕ) (l : Link) → Has (posted_link row i) l → IsLinkOf l row × (l.row ≡ i)
-link_row row i l h =
-    elim row.active as (λ b. row.active ≡ b → Has (if b then link_of_body row.body i else []) l → IsLinkOf l row × (l.row ≡ i)) [
-      | true ↦ λ e k. link_body row i row.body l e refl k
-      | false ↦ λ e k. absurd k
-    ] refl h
+link_row row i l h = let active = Has-if row.active (link_of_body row.body i) l h in link_body row i row.body l active.0 refl active.1
 
 -- the reference is what the row says
 pub record IsReferenceOf (r : Reference) (row : RowValue) : Type 0 where
@@ -112,11 +109,7 @@ reference_body row i (body.Concrete x) r a e h = absurd h
 reference_body row i (body.Member m) r a e h = absurd h
 
 reference_row : (row : RowValue) (i : ℕ) (r : Reference) → Has (posted_reference row i) r → IsReferenceOf r row × (r.row ≡ i)
-reference_row row i r h =
-    elim row.active as (λ b. row.active ≡ b → Has (if b then reference_of_body row.body i else []) r → IsReferenceOf r row × (r.row ≡ i)) [
-      | true ↦ λ e k. reference_body row i row.body r e refl k
-      | false ↦ λ e k. absurd k
-    ] refl h
+reference_row row i r h = let active = Has-if row.active (reference_of_body row.body i) r h in reference_body row i row.body r active.0 refl active.1
 
 -- the target is what the row says
 pub record IsTargetOf (t : Target) (row : RowValue) : Type 0 where
@@ -144,11 +137,7 @@ target_body row i (body.Concrete x) t a e h = absurd h
 target_body row i (body.Member m) t a e h = absurd h
 
 target_row : (row : RowValue) (i : ℕ) (t : Target) → Has (posted_target row i) t → IsTargetOf t row × (t.row ≡ i)
-target_row row i t h =
-    elim row.active as (λ b. row.active ≡ b → Has (if b then target_of_body row.body i else []) t → IsTargetOf t row × (t.row ≡ i)) [
-      | true ↦ λ e k. target_body row i row.body t e refl k
-      | false ↦ λ e k. absurd k
-    ] refl h
+target_row row i t h = let active = Has-if row.active (target_of_body row.body i) t h in target_body row i row.body t active.0 refl active.1
 
 -- the subject is what the row is about
 pub record IsSubjectOf (x : Subject) (row : RowValue) : Type 0 where
@@ -162,10 +151,9 @@ subject_column (Some id) kind i x h = elim h [ inl s ↦ (ap (λ (y : Subject). 
 
 subject_row : (row : RowValue) (i : ℕ) (x : Subject) → Has (posted_subject row i) x → IsSubjectOf x row × (x.row ≡ i)
 subject_row row i x h =
-    elim row.active as (λ b. row.active ≡ b → Has (if b then subject_at (subject_of row) (kind_of row) i else []) x → IsSubjectOf x row × (x.row ≡ i)) [
-      | true ↦ λ e k. (let w = subject_column (subject_of row) (kind_of row) i x k in (record { active = e; subject_is = w.0; kind_is = w.1 }, w.2))
-      | false ↦ λ e k. absurd k
-    ] refl h
+    let active = Has-if row.active (subject_at (subject_of row) (kind_of row) i) x h in
+    let w = subject_column (subject_of row) (kind_of row) i x active.1 in
+    (record { active = active.0; subject_is = w.0; kind_is = w.1 }, w.2)
 
 pub subject_stands : (lists : List (List StampedRow)) (edges : List Edges) → EachPosted lists edges → (x : ℕ × Subject) → Has (numbered 0 (subjects_in edges)) x → (s : StampedRow) × (item_at lists x.0 x.1.row ≡ Some s) × IsSubjectOf x.1 s.row
 subject_stands lists edges a x h = stands posted_subject (λ (y : Subject). y.row) IsSubjectOf subject_row lists (subjects_in edges) (subjects_posted lists edges a) x h
@@ -186,14 +174,14 @@ all_link_body concept i (body.Concept c) e = absurd (cc)
 all_link_body concept i (body.Description d) e = absurd (cc)
 all_link_body concept i (body.Relationship r) e =
     let l : Link = record { destination = r.destination; source = r.source; row = i } in
-    (l, subst (λ b. Has (if b then l ∷ [] else []) l) (sym (both (r.destination == concept) (r.type_id == is_a) e).1) (inl refl), refl)
+    (l, subst (λ b. Has (if b then l ∷ [] else []) l) (sym (and_parts (r.destination == concept) (r.type_id == is_a) e).1) (inl refl), refl)
 all_link_body concept i (body.Association a) e = absurd (cc)
 all_link_body concept i (body.Concrete c) e = absurd (cc)
 all_link_body concept i (body.Member m) e = absurd (cc)
 
 all_link : (concept : ℕ) (row : RowValue) (i : ℕ) → is_child_of concept row ≡ true → (l : Link) × Has (posted_link row i) l × (l.row ≡ i)
 all_link concept row i e =
-    let w = both row.active (says_is_a concept row.body) e in
+    let w = and_parts row.active (says_is_a concept row.body) e in
     let l = all_link_body concept i row.body w.1 in
     (l.0, subst (λ b. Has (if b then link_of_body row.body i else []) l.0) (sym w.0) l.1, l.2)
 
@@ -207,7 +195,7 @@ all_reference_body d i (body.Member m) e = absurd (cc)
 
 all_reference : (d : ℕ) (row : RowValue) (i : ℕ) → is_replacement_of d row ≡ true → (r : Reference) × Has (posted_reference row i) r × (r.row ≡ i)
 all_reference d row i e =
-    let w = both row.active (refers_to d row.body) e in
+    let w = and_parts row.active (refers_to d row.body) e in
     let r = all_reference_body d i row.body w.1 in
     (r.0, subst (λ b. Has (if b then reference_of_body row.body i else []) r.0) (sym w.0) r.1, r.2)
 

@@ -2,6 +2,7 @@
 use Rattle.std.proofs.Common.{◌≡◌, ℕ, true, List, [], map, refl, sym, ap, subst, inl, ◌∙◌}
 use Rattle.std.specs.Prelude.{Some, if◌then◌else◌}
 use Rattle.std.specs.Ordering.{nat_cmp, ordering_then}
+use Rattle.std.proofs.lemmas.Bool.{eqb-true, and_parts}
 use Rattle.rf2_values.specs.declared.row.Kind.TheVariants as kinds
 use Rattle.rf2_values.specs.declared.row.Body.{Body}
 use Rattle.rf2_values.specs.declared.row.Body.TheVariants as body
@@ -14,9 +15,7 @@ use Rattle.history_model.specs.History.{row_cmp}
 use Rattle.history_model.specs.Lists.{listed}
 use Rattle.history_model.specs.Queries.{get, refset_of, referenced_of, has_target, is_replaced_by, replaced_cmp, replaces}
 use Rattle.history_model.proofs.InOrder.{same_ascending}
-use Rattle.history_model.proofs.Filtered.{both}
 use Rattle.history_model.proofs.Snapshots.{current_from_snapshot, IsAscending-listed, IsAscending-rows_at, Has-listed_cases, Has-rows_at_cases}
-use Rattle.history_model.proofs.Hierarchy.{same_number}
 use Rattle.history_model.proofs.Audits.{association_kind, replaces_are_all, replaces_ascend, replaced_total}
 use Rattle.segment.specs.Standing.{places_of, StandsAt}
 use Rattle.as_of_index.specs.declared.as_of.AsOf.{AsOf}
@@ -47,13 +46,13 @@ target_body : (target i : ℕ) (b : Body) → has_target target b ≡ true → (
 target_body target i (body.Concept c) e = absurd (cc)
 target_body target i (body.Description d) e = absurd (cc)
 target_body target i (body.Relationship r) e = absurd (cc)
-target_body target i (body.Association a) e = (record { target = a.target; refset = a.refset; referenced = a.referenced; row = i }, inl refl, same_number a.target target e, refl)
+target_body target i (body.Association a) e = (record { target = a.target; refset = a.refset; referenced = a.referenced; row = i }, inl refl, eqb-true a.target target e, refl)
 target_body target i (body.Concrete c) e = absurd (cc)
 target_body target i (body.Member m) e = absurd (cc)
 
 target_of_row : (target : ℕ) (row : RowValue) (i : ℕ) → is_replaced_by target row ≡ true → (t : Target) × IsPostedTarget row target i t
 target_of_row target row i e =
-    let w = both row.active (has_target target row.body) e in
+    let w = and_parts row.active (has_target target row.body) e in
     let t = target_body target i row.body w.1 in
     (t.0, record { there = subst (λ b. Has (if b then target_of_body row.body i else []) t.0) (sym w.0) t.1; target_is = t.2; row_is = t.3 })
 
@@ -82,7 +81,7 @@ module _ (lists : List (List StampedRow)) (are : ArePlaces (map places_of lists)
       let stands = stands_there lists x.0 x.1.row p.0 at p.1 g.row_there.0 in
       let same : p.0 ≡ now.0 = one_row lists are x.0 x.0 at at p.0 now.0 stands now.1 refl in
       let says : is_replaced_by d p.0.row ≡ true = subst (λ n. is_replaced_by n p.0.row ≡ true) e p.2.says in
-      let has = both p.0.row.active (has_target d p.0.row.body) says in
+      let has = and_parts p.0.row.active (has_target d p.0.row.body) says in
       subst (λ (j : Chosen). IsReplacedAt j) g.answer_is (record {
         s = now.0;
         stands = now.1;
@@ -135,7 +134,7 @@ module _ (lists : List (List StampedRow)) (are : ArePlaces (map places_of lists)
         let own : is_replaced_by d s.row ≡ true = ap (is_replaced_by d) known.same ∙ w.1 in
         let post = target_of_row d s.row i own in
         let r = post.0 in
-        let row_kind : kind_of row ≡ kinds.Association = association_kind d row.body (both row.active (has_target d row.body) w.1).1 in
+        let row_kind : kind_of row ≡ kinds.Association = association_kind d row.body (and_parts row.active (has_target d row.body) w.1).1 in
         let kind_is : at.key.kind ≡ kinds.Association = ap (λ (q : Key). q.kind) key_is ∙ row_kind in
         let there = posting_there posted_target lists (targets_in edges) (targets_posted lists edges posts) n i s numbers.2 r post.1.there in
         let gives : GivesRankedBack lists as_of n r (ranked_back n r at) = record { at = at; row_there = (subst (λ m. item_at (map places_of lists) n m ≡ Some at) (sym post.1.row_is) place.1, now.1); answer_is = refl } in

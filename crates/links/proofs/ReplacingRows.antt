@@ -1,10 +1,11 @@
 -- The rows of the references that are taken from all lists are the replacements.
-use Rattle.std.proofs.Common.{◌≡◌, ℕ, true, List, [], map, refl, sym, ap, subst, inl, inr, ◌∙◌, arith}
-use Rattle.std.specs.Prelude.{◌==◌, Some}
+use Rattle.std.proofs.Common.{◌≡◌, ℕ, true, List, [], map, refl, sym, ap, subst, inl, inr, ◌∙◌}
+use Rattle.std.specs.Prelude.{Some}
 use Rattle.std.specs.List.{filter}
 use Rattle.std.specs.Ordering.{nat_cmp, ordering_then}
 use Rattle.std.specs.declared.cmp.Ordering.TheVariants.{Equal}
-use Rattle.std.proofs.lemmas.Bool.Decides.{nat_tests}
+use Rattle.std.proofs.lemmas.Bool.{and_parts, eqb-true}
+use Rattle.std.proofs.lemmas.Option.{same_Some}
 use Rattle.rf2_values.specs.declared.row.Kind.TheVariants as kinds
 use Rattle.rf2_values.specs.declared.row.Body.{Body}
 use Rattle.rf2_values.specs.declared.row.Body.TheVariants as body
@@ -15,7 +16,8 @@ use Rattle.history_model.specs.declared.stamped.StampedRow.{StampedRow}
 use Rattle.history_model.specs.InOrder.{Has, IsAscending, in_order}
 use Rattle.history_model.specs.Queries.{get, snapshot, is_replacement_of, refers_to, replacement_cmp, replacements}
 use Rattle.history_model.proofs.InOrder.{same_ascending, Has-put_all_cases, Has-put_all_new, IsAscending-in_order}
-use Rattle.history_model.proofs.Filtered.{both, Has-filter, Has-filter_from}
+use Rattle.history_model.proofs.Filtered.{Has-filter, Has-filter_from}
+use Rattle.history_model.proofs.Ascents.{replacements_total}
 use Rattle.segment.specs.Standing.{places_of, StandsAt}
 use Rattle.as_of_index.specs.declared.as_of.AsOf.{AsOf}
 use Rattle.as_of_index.specs.declared.chosen.Chosen.{Chosen}
@@ -32,19 +34,13 @@ use Rattle.links.specs.Edges.{Edges}
 use Rattle.links.specs.Laws.{EachPosted}
 use Rattle.links.specs.Private.{references_in, ranked, AreRanked}
 use Rattle.links.proofs.Posted.{IsReferenceOf, reference_stands, reference_of_replacement}
-use Rattle.links.proofs.Ranked.{one_id, one_row_id, replacements_total}
-
-eq_of : (m n : ℕ) → (m == n) ≡ true → m ≡ n
-eq_of m n e = grind (arith, nat_tests, e)
-
-same_some : {X : Type 0} (x y : X) → Some x ≡ Some y → x ≡ y
-same_some x y e = cc
+use Rattle.links.proofs.Ranked.{one_id, one_row_id}
 
 refers_dest : (c d : ℕ) (b : Body) → refers_to c b ≡ true → refers_to d b ≡ true → c ≡ d
 refers_dest c d (body.Concept x) e f = absurd (cc)
 refers_dest c d (body.Description x) e f = absurd (cc)
 refers_dest c d (body.Relationship x) e f = absurd (cc)
-refers_dest c d (body.Association a) e f = sym (eq_of a.referenced c e) ∙ eq_of a.referenced d f
+refers_dest c d (body.Association a) e f = sym (eqb-true a.referenced c e) ∙ eqb-true a.referenced d f
 refers_dest c d (body.Concrete x) e f = absurd (cc)
 refers_dest c d (body.Member m) e f = absurd (cc)
 
@@ -129,14 +125,14 @@ module _ (lists : List (List StampedRow)) (are : ArePlaces (map places_of lists)
         let n = g.x.0 in
         let r = g.x.1 in
         let post = reference_stands lists edges posts g.x g.there in
-        let own : g.s ≡ post.0 = same_some g.s post.0 (sym g.row_there ∙ post.1) in
+        let own : g.s ≡ post.0 = same_Some g.s post.0 (sym g.row_there ∙ post.1) in
         let place = place_of_row lists n r.row post.0 post.1 in
         let at = place.0 in
         let stands = stands_there lists n r.row post.0 at post.1 place.1 in
         let key_is : at.key ≡ key_of row = (standing_row lists are n at post.0 stands).1 ∙ ap (λ (z : StampedRow). key_of z.row) (sym own) ∙ ap key_of g.same in
         let now = current_where lists are as_of n at post.0 row stands f.0 key_is in
-        let refers = (both row.active (refers_to d row.body) f.1).1 in
-        let refers_post : refers_to r.referenced row.body ≡ true = subst (λ (z : RowValue). refers_to r.referenced z.body ≡ true) (sym now.0) (both post.0.row.active (refers_to r.referenced post.0.row.body) post.2.says).1 in
+        let refers = (and_parts row.active (refers_to d row.body) f.1).1 in
+        let refers_post : refers_to r.referenced row.body ≡ true = subst (λ (z : RowValue). refers_to r.referenced z.body ≡ true) (sym now.0) (and_parts post.0.row.active (refers_to r.referenced post.0.row.body) post.2.says).1 in
         let kind : kind_of row ≡ kinds.Association = associated d row row.body refl refers in
         let w = a.2.there (ranked n r at) (a.1.taken g.x (ranked n r at) g.there (refers_dest r.referenced d row.body refers_post refers) (record { at = at; row_there = (place.1, now.1); answer_is = refl })) in
         let j = w.0 in
@@ -144,10 +140,10 @@ module _ (lists : List (List StampedRow)) (are : ArePlaces (map places_of lists)
         let keys = (standing_row lists are j.segment j.at v.0 v.1).1 in
         let p = posted_of j w.1 in
         let says = said j v.0 w.1 v.1 in
-        let kind_j : kind_of v.0.row ≡ kinds.Association = associated p.x.1.referenced v.0.row v.0.row.body refl (both v.0.row.active (refers_to p.x.1.referenced v.0.row.body) says.says).1 in
+        let kind_j : kind_of v.0.row ≡ kinds.Association = associated p.x.1.referenced v.0.row v.0.row.body refl (and_parts v.0.row.active (refers_to p.x.1.referenced v.0.row.body) says.says).1 in
         let kinds_are : j.at.key.kind ≡ at.key.kind = ap (λ (k : Key). k.kind) keys ∙ kind_j ∙ sym kind ∙ ap (λ (k : Key). k.kind) (sym key_is) in
         let ids_are : j.at.key.id ≡ at.key.id = sym (one_id (ranked n r at) j w.2) in
-        let one : v.0.row ≡ now.1.0.row = same_some v.0.row now.1.0.row (sym v.2 ∙ (λ i. get (kinds_are i) (ids_are i) as_of.date (rows_seen as_of lists)) ∙ now.1.2) in
+        let one : v.0.row ≡ now.1.0.row = same_Some v.0.row now.1.0.row (sym v.2 ∙ (λ i. get (kinds_are i) (ids_are i) as_of.date (rows_seen as_of lists)) ∙ now.1.2) in
         let same : v.0.row ≡ row = one ∙ ap (λ (z : StampedRow). z.row) (one_row lists are n n at at now.1.0 post.0 now.1.1 stands refl) ∙ sym now.0 in
         subst (λ z. Has found_rows z) same v.3
 
@@ -163,8 +159,8 @@ module _ (lists : List (List StampedRow)) (are : ArePlaces (map places_of lists)
         let kn = said n.k n.s n.there n.stands in
         let key_m = (standing_row lists are m.k.segment m.k.at m.s m.stands).1 in
         let key_n = (standing_row lists are n.k.segment n.k.at n.s n.stands).1 in
-        let kind_m : kind_of m.s.row ≡ kinds.Association = associated _ m.s.row m.s.row.body refl (both m.s.row.active _ km.says).1 in
-        let kind_n : kind_of n.s.row ≡ kinds.Association = associated _ n.s.row n.s.row.body refl (both n.s.row.active _ kn.says).1 in
+        let kind_m : kind_of m.s.row ≡ kinds.Association = associated _ m.s.row m.s.row.body refl (and_parts m.s.row.active _ km.says).1 in
+        let kind_n : kind_of n.s.row ≡ kinds.Association = associated _ n.s.row n.s.row.body refl (and_parts n.s.row.active _ kn.says).1 in
         let kinds_are : m.k.at.key.kind ≡ n.k.at.key.kind = ap (λ (q : Key). q.kind) key_m ∙ kind_m ∙ sym kind_n ∙ ap (λ (q : Key). q.kind) (sym key_n) in
         let ids_are : m.k.at.key.id ≡ n.k.at.key.id = ap (λ (q : Key). q.id) key_m ∙ ap (λ (v : RowValue). v.id) m.row_is ∙ one_row_id x y tie ∙ ap (λ (v : RowValue). v.id) (sym n.row_is) ∙ ap (λ (q : Key). q.id) (sym key_n) in
         let found = sym m.found ∙ (λ i. get (kinds_are i) (ids_are i) as_of.date (rows_seen as_of lists)) ∙ n.found in

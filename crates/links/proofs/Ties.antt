@@ -6,8 +6,14 @@ use Rattle.std.specs.List.Sorted.{IsNonDecreasingBy}
 use Rattle.std.proofs.lemmas.Bool.Decides.{nat_tests}
 use Rattle.history_model.specs.InOrder.{Has}
 use Rattle.history_model.proofs.InOrder.{Has-all, all_from_has}
-use Rattle.history_model.proofs.Filtered.{Has-map, Has-map_from, Has-filter, filter_none}
-use Rattle.std.proofs.lemmas.List.{take-map, drop-map, length-map}
+use Rattle.history_model.proofs.Filtered.{Has-map, Has-map_from, Has-filter, filter_none, filter_same}
+use Rattle.history_model.proofs.Items.{Has-get_or}
+use Rattle.std.proofs.lemmas.List.{take-map, drop-map, length-map, map-append, length-take-le, take-append-le}
+use Rattle.std.proofs.lemmas.Bool.{lt-ltb, ltb-true, le-ltb, leb-true, leb-false}
+use Rattle.std.proofs.lemmas.List.Elements.{filter-append}
+use Rattle.list_lemmas.proofs.Parts.{take_whole, drop_whole, taken_at_most}
+use Rattle.list_lemmas.proofs.Each.{each_of_mapped}
+use Rattle.list_lemmas.proofs.Kept.{length-filter-map}
 use Rattle.as_of_index.specs.Private.Search.{SplitsAt}
 use Rattle.links.specs.Private.Memberships.{is_up_to, count_lesser, IsCutAt}
 
@@ -16,20 +22,11 @@ use Rattle.links.specs.Private.Memberships.{is_up_to, count_lesser, IsCutAt}
 step : (d e : ℕ) (ds : List ℕ) → count_lesser d (e ∷ ds) ≡ cond (nat_lt e d) (suc (count_lesser d ds)) (count_lesser d ds)
 step d e ds = elim (nat_lt e d) as (λ t. length (cond t (e ∷ filter (λ other. nat_lt other d) ds) (filter (λ other. nat_lt other d) ds)) ≡ cond t (suc (count_lesser d ds)) (count_lesser d ds)) [ true ↦ refl | false ↦ refl ]
 
-is_lesser : (d e : ℕ) → e < d → nat_lt e d ≡ true
-is_lesser d e lt = grind (arith, nat_tests, lt)
-
-not_lesser : (d e : ℕ) → d ≤ e → nat_lt e d ≡ false
-not_lesser d e le = grind (arith, nat_tests, le)
-
-lesser_from : (d e : ℕ) → nat_lt e d ≡ true → e < d
-lesser_from d e t = grind (arith, nat_tests, t)
-
 count_up : (d e : ℕ) (ds : List ℕ) → e < d → count_lesser d (e ∷ ds) ≡ suc (count_lesser d ds)
-count_up d e ds lt = step d e ds ∙ ap (λ t. cond t (suc (count_lesser d ds)) (count_lesser d ds)) (is_lesser d e lt)
+count_up d e ds lt = step d e ds ∙ ap (λ t. cond t (suc (count_lesser d ds)) (count_lesser d ds)) (lt-ltb e d lt)
 
 count_same : (d e : ℕ) (ds : List ℕ) → d ≤ e → count_lesser d (e ∷ ds) ≡ count_lesser d ds
-count_same d e ds le = step d e ds ∙ ap (λ t. cond t (suc (count_lesser d ds)) (count_lesser d ds)) (not_lesser d e le)
+count_same d e ds le = step d e ds ∙ ap (λ t. cond t (suc (count_lesser d ds)) (count_lesser d ds)) (le-ltb e d le)
 
 -- never more than one more, and never less
 count_step : (d e : ℕ) (ds : List ℕ) → (count_lesser d ds ≤ count_lesser d (e ∷ ds)) × (count_lesser d (e ∷ ds) ≤ suc (count_lesser d ds))
@@ -78,16 +75,6 @@ count_append d (e ∷ ds) es =
 
 -- ---- lists
 
-length_take : {X : Type 0} (n : ℕ) (xs : List X) → length (take n xs) ≤ n
-length_take zero xs = omega arith
-length_take (suc n) [] = omega arith
-length_take (suc n) (x ∷ xs) = let rest = length_take n xs in omega (arith, rest)
-
-length_taken : {X : Type 0} (n : ℕ) (xs : List X) → n ≤ length xs → length (take n xs) ≡ n
-length_taken zero xs le = refl
-length_taken (suc n) [] le = absurd (omega (arith, le))
-length_taken (suc n) (x ∷ xs) le = ap suc (length_taken n xs (omega (arith, le)))
-
 -- ---- numbers that never fall
 
 abbrev pub Rising : List ℕ → Type 0
@@ -113,11 +100,6 @@ rising_by f (x ∷ xs) up = (
   rising_by f xs (λ i j d le lt. up (suc i) (suc j) d (omega (arith, le)) (omega (arith, lt))),
 )
 
-pub get_within : {X : Type 0} (xs : List X) (k : ℕ) (x : X) → k < length xs → Has xs (get_or xs k x)
-get_within [] k x lt = absurd (omega (arith, lt))
-get_within (y ∷ ys) zero x lt = inl refl
-get_within (y ∷ ys) (suc k) x lt = inr (get_within ys k x (omega (arith, lt)))
-
 -- those from a place on aren't below the one that stands there
 from_place : (ds : List ℕ) (k d : ℕ) → Rising ds → k < length ds → (e : ℕ) → Has (drop k ds) e → get_or ds k d ≤ e
 from_place [] k d up lt e h = absurd (omega (arith, lt))
@@ -135,7 +117,7 @@ up_to_place (x ∷ ds) zero d up lt e h = elim h [
   | inr t ↦ absurd t
 ]
 up_to_place (x ∷ ds) (suc k) d up lt e h = elim h [
-  | inl same ↦ (let le = Has-all (λ y. x ≤ y) ds (get_or ds k d) up.0 (get_within ds k d (omega (arith, lt))) in omega (arith, same, le))
+  | inl same ↦ (let le = Has-all (λ y. x ≤ y) ds (get_or ds k d) up.0 (Has-get_or ds k d (omega (arith, lt))) in omega (arith, same, le))
   | inr t ↦ up_to_place ds k d up.1 (omega (arith, lt)) e t
 ]
 
@@ -147,7 +129,7 @@ count_grows d e (x ∷ ds) le =
     let rest = count_grows d e ds le in
     elim (nat_lt x d) as (λ t. nat_lt x d ≡ t → count_lesser d (x ∷ ds) ≤ count_lesser e (x ∷ ds)) [
       | true ↦ λ is. (
-          let lt = lesser_from d x is in
+          let lt = ltb-true x d is in
           let a = count_up d x ds lt in
           let b = count_up e x ds (omega (arith, lt, le)) in
           omega (arith, a, b, rest))
@@ -160,25 +142,11 @@ count_grows d e (x ∷ ds) le =
 pub cut_nothing : (ds : List ℕ) → IsCutAt 0 ds 0
 cut_nothing ds = record { before = tt; behind = all_from_has (λ d. 0 ≤ count_lesser d ds) ds (λ d h. omega arith) }
 
-take_whole : (ds : List ℕ) → take (length ds) ds ≡ ds
-take_whole [] = refl
-take_whole (d ∷ ds) = ap (λ es. d ∷ es) (take_whole ds)
-
-drop_whole : (ds : List ℕ) → drop (length ds) ds ≡ []
-drop_whole [] = refl
-drop_whole (d ∷ ds) = drop_whole ds
-
 pub cut_all : (limit : ℕ) (ds : List ℕ) → length ds ≤ limit → IsCutAt limit ds (length ds)
 cut_all limit ds le = record {
   before = subst (λ es. AllByRecursion (λ d. count_lesser d ds < limit) es) (sym (take_whole ds)) (all_from_has (λ d. count_lesser d ds < limit) ds (λ d h. let lt = count_own d ds h in omega (arith, lt, le)));
   behind = subst (λ es. AllByRecursion (λ d. limit ≤ count_lesser d ds) es) (sym (drop_whole ds)) tt;
 }
-
-from_test_le : (m n : ℕ) → nat_le m n ≡ true → m ≤ n
-from_test_le m n t = grind (arith, nat_tests, t)
-
-from_test_gt : (m n : ℕ) → nat_le m n ≡ false → n < m
-from_test_gt m n t = grind (arith, nat_tests, t)
 
 pub cut_behind : (k : ℕ) (ds : List ℕ) (d count : ℕ) → Rising ds → k < length ds → SplitsAt (λ e. nat_le e (get_or ds k d)) ds count → IsCutAt (suc k) ds count
 cut_behind k ds d count up lt split =
@@ -187,28 +155,24 @@ cut_behind k ds d count up lt split =
     (let whole = ap (count_lesser last) (take-append-drop k ds) in
     let parts = count_append last (take k ds) (drop k ds) in
     let first = count_most last (take k ds) in
-    let long = length_take k ds in
+    let long = taken_at_most k ds in
     let none = count_none last (drop k ds) (from_place ds k d up lt) in
     omega (arith, whole, parts, first, long, none)) in
     record {
       before = all_from_has (λ e. count_lesser e ds < suc k) (take count ds) (λ e h.
-          let le = from_test_le e last (Has-all (λ y. nat_le y last ≡ true) (take count ds) e split.before h) in
+          let le = leb-true e last (Has-all (λ y. nat_le y last ≡ true) (take count ds) e split.before h) in
           let grows = count_grows e last ds le in
           omega (arith, grows, few));
       behind = all_from_has (λ e. suc k ≤ count_lesser e ds) (drop count ds) (λ e h.
-          let gt = from_test_gt e last (Has-all (λ y. nat_le y last ≡ false) (drop count ds) e split.rest h) in
+          let gt = leb-false e last (Has-all (λ y. nat_le y last ≡ false) (drop count ds) e split.rest h) in
           let whole = ap (count_lesser e) (take-append-drop (suc k) ds) in
           let parts = count_append e (take (suc k) ds) (drop (suc k) ds) in
           let all = count_all e (take (suc k) ds) (λ f there. let le = up_to_place ds k d up lt f there in omega (arith, gt, le)) in
-          let long = length_taken (suc k) ds (omega (arith, lt)) in
+          let long = length-take-le (suc k) ds (omega (arith, lt)) in
           omega (arith, whole, parts, all, long));
     }
 
 -- ---- what is cut off
-
-All_map : {X : Type 0} (f : X → ℕ) (P : ℕ → Type 0) (xs : List X) → AllByRecursion (λ x. P (f x)) xs → AllByRecursion P (map f xs)
-All_map f P [] a = tt
-All_map f P (x ∷ xs) a = (a.0, All_map f P xs a.1)
 
 All_from_map : {X : Type 0} (f : X → ℕ) (P : ℕ → Type 0) (xs : List X) → AllByRecursion P (map f xs) → AllByRecursion (λ x. P (f x)) xs
 All_from_map f P [] a = tt
@@ -216,8 +180,8 @@ All_from_map f P (x ∷ xs) a = (a.0, All_from_map f P xs a.1)
 
 pub splits_by : {X : Type 0} (f : X → ℕ) (p : ℕ → Bool) (xs : List X) (i : ℕ) → SplitsAt (λ x. p (f x)) xs i → SplitsAt p (map f xs) i
 splits_by f p xs i split = record {
-  before = subst (λ ys. AllByRecursion (λ x. p x ≡ true) ys) (sym (take-map f i xs)) (All_map f (λ n. p n ≡ true) (take i xs) split.before);
-  rest = subst (λ ys. AllByRecursion (λ x. p x ≡ false) ys) (sym (drop-map f i xs)) (All_map f (λ n. p n ≡ false) (drop i xs) split.rest);
+  before = subst (λ ys. AllByRecursion (λ x. p x ≡ true) ys) (sym (take-map f i xs)) (each_of_mapped (λ n. p n ≡ true) f (take i xs) split.before);
+  rest = subst (λ ys. AllByRecursion (λ x. p x ≡ false) ys) (sym (drop-map f i xs)) (each_of_mapped (λ n. p n ≡ false) f (drop i xs) split.rest);
 }
 
 filter_split : {X : Type 0} (p : X → Bool) (xs : List X) (n : ℕ) → AllByRecursion (λ x. p x ≡ true) (take n xs) → AllByRecursion (λ x. p x ≡ false) (drop n xs) → filter p xs ≡ take n xs
@@ -228,32 +192,18 @@ filter_split p (x ∷ xs) zero a b =
 filter_split p (x ∷ xs) (suc n) a b =
     ap (λ t. cond t (x ∷ filter p xs) (filter p xs)) a.0 ∙ ap (λ ys. x ∷ ys) (filter_split p xs n a.1 b)
 
-filter_map_length : {X : Type 0} (f : X → ℕ) (p : ℕ → Bool) (xs : List X) → length (filter p (map f xs)) ≡ length (filter (λ x. p (f x)) xs)
-filter_map_length f p [] = refl
-filter_map_length f p (x ∷ xs) =
-    elim (p (f x)) as (λ t. length (cond t (f x ∷ filter p (map f xs)) (filter p (map f xs))) ≡ length (cond t (x ∷ filter (λ y. p (f y)) xs) (filter (λ y. p (f y)) xs))) [
-      | true ↦ ap suc (filter_map_length f p xs)
-      | false ↦ filter_map_length f p xs
-    ]
-
-is_less : (m n : ℕ) → m < n → nat_lt m n ≡ true
-is_less m n lt = grind (arith, nat_tests, lt)
-
-isnt_less : (m n : ℕ) → n ≤ m → nat_lt m n ≡ false
-isnt_less m n le = grind (arith, nat_tests, le)
-
 -- those that fewer than the limit are below are the first ones up to the cut
 pub filter_cut : {X : Type 0} (f : X → ℕ) (limit : ℕ) (xs : List X) (count : ℕ) → IsCutAt limit (map f xs) count → filter (λ x. nat_lt (length (filter (λ y. nat_lt (f y) (f x)) xs)) limit) xs ≡ take count xs
 filter_cut {X} f limit xs count cut =
     filter_split (λ x. nat_lt (length (filter (λ y. nat_lt (f y) (f x)) xs)) limit) xs count
     (all_from_has (λ x. nat_lt (length (filter (λ y. nat_lt (f y) (f x)) xs)) limit ≡ true) (take count xs) (λ x h.
     let lt = Has-all (λ y. count_lesser (f y) (map f xs) < limit) (take count xs) x (All_from_map f (λ d. count_lesser d (map f xs) < limit) (take count xs) (subst (λ es. AllByRecursion (λ d. count_lesser d (map f xs) < limit) es) (take-map f count xs) cut.before)) h in
-    let same = filter_map_length f (λ e. nat_lt e (f x)) xs in
-    is_less (length (filter (λ y. nat_lt (f y) (f x)) xs)) limit (omega (arith, lt, same))))
+    let same = length-filter-map f (λ e. nat_lt e (f x)) xs in
+    lt-ltb (length (filter (λ y. nat_lt (f y) (f x)) xs)) limit (omega (arith, lt, same))))
     (all_from_has (λ x. nat_lt (length (filter (λ y. nat_lt (f y) (f x)) xs)) limit ≡ false) (drop count xs) (λ x h.
     let le = Has-all (λ y. limit ≤ count_lesser (f y) (map f xs)) (drop count xs) x (All_from_map f (λ d. limit ≤ count_lesser d (map f xs)) (drop count xs) (subst (λ es. AllByRecursion (λ d. limit ≤ count_lesser d (map f xs)) es) (drop-map f count xs) cut.behind)) h in
-    let same = filter_map_length f (λ e. nat_lt e (f x)) xs in
-    isnt_less (length (filter (λ y. nat_lt (f y) (f x)) xs)) limit (omega (arith, le, same))))
+    let same = length-filter-map f (λ e. nat_lt e (f x)) xs in
+    le-ltb (length (filter (λ y. nat_lt (f y) (f x)) xs)) limit (omega (arith, le, same))))
 
 -- ---- of what is up to some number the first ones are those of all
 
@@ -275,7 +225,7 @@ module _ {X : Type 0} (f : X → ℕ) where
       elim (nat_le (f x) last) as (λ t. nat_le (f x) last ≡ t → (rest : List X) × (x ∷ xs ≡ cond t (x ∷ filter (λ x. nat_le (f x) last) xs) (filter (λ x. nat_le (f x) last) xs) ++ rest) × ((y : X) → Has rest y → last < f y)) [
         | true ↦ λ e. (let w = parts_up_to last xs up.1 in (w.0, ap (λ ys. x ∷ ys) w.1, w.2))
         | false ↦ λ e. (
-            let high : last < f x = from_test_gt (f x) last e in
+            let high : last < f x = leb-false (f x) last e in
             let above : (y : X) → Has xs y → last < f y = λ y h. (let le = Has-all (λ n. f x ≤ n) (map f xs) (f y) up.0 (Has-map_from f xs y h) in omega (arith, high, le)) in
             let none : filter (λ x. nat_le (f x) last) xs ≡ [] = filter_none (λ x. nat_le (f x) last) xs (λ y h. not_up_to (f y) last (above y h)) in
             (x ∷ xs, ap (λ ys. ys ++ (x ∷ xs)) (sym none), λ y h. elim h [ inl same ↦ subst (λ z. last < f z) same high | inr t ↦ above y t ]))
@@ -296,7 +246,7 @@ module _ {X : Type 0} (f : X → ℕ) where
         rest = w.0;
         parts = w.1;
         behind = λ x y h k.
-            let low = from_test_le (f x) last (Has-filter (λ x. nat_le (f x) last) xs x h).1 in
+            let low = leb-true (f x) last (Has-filter (λ x. nat_le (f x) last) xs x h).1 in
             let high = w.2 y k in
             omega (arith, low, high);
         all = λ e. absurd (cc);
@@ -306,49 +256,28 @@ module _ {X : Type 0} (f : X → ℕ) where
   abbrev pub IsEnough : Option ℕ → ℕ → List X → Type 0
   IsEnough last limit part = (last ≡ None) ⊎ (limit ≤ length part)
 
-  take_first : (n : ℕ) (part rest : List X) → n ≤ length part → take n (part ++ rest) ≡ take n part
-  take_first zero part rest le = refl
-  take_first (suc n) [] rest le = absurd (omega (arith, le))
-  take_first (suc n) (x ∷ part) rest le = ap (λ ys. x ∷ ys) (take_first n part rest (omega (arith, le)))
-
   pub take_up_to : (last : Option ℕ) (limit : ℕ) (xs : List X) → Rising (map f xs) → IsEnough last limit (filter (λ x. is_up_to last (f x)) xs) → take limit xs ≡ take limit (filter (λ x. is_up_to last (f x)) xs)
   take_up_to last limit xs up enough =
       let w = first_up_to last xs up in
       let part = filter (λ x. is_up_to last (f x)) xs in
       ap (take limit) w.parts ∙ elim enough [
         | inl e ↦ ap (λ rest. take limit (part ++ rest)) (w.all e) ∙ ap (take limit) (append-nil part)
-        | inr le ↦ take_first limit part w.rest le
+        | inr le ↦ take-append-le limit part w.rest le
       ]
-
-  filter_append : (p : X → Bool) (xs ys : List X) → filter p (xs ++ ys) ≡ filter p xs ++ filter p ys
-  filter_append p [] ys = refl
-  filter_append p (x ∷ xs) ys =
-      ap (λ zs. cond (p x) (x ∷ zs) zs) (filter_append p xs ys) ∙ of_test (p x) where
-        of_test : (t : Bool) → cond t (x ∷ (filter p xs ++ filter p ys)) (filter p xs ++ filter p ys) ≡ cond t (x ∷ filter p xs) (filter p xs) ++ filter p ys
-        of_test true = refl
-        of_test false = refl
-
-  filter_same : (p q : X → Bool) (xs : List X) → ((x : X) → Has xs x → p x ≡ q x) → filter p xs ≡ filter q xs
-  filter_same p q [] same = refl
-  filter_same p q (x ∷ xs) same = λ i. cond (same x (inl refl) i) (x ∷ filter_same p q xs (λ y h. same y (inr h)) i) (filter_same p q xs (λ y h. same y (inr h)) i)
-
-  map_append : (xs ys : List X) → map f (xs ++ ys) ≡ map f xs ++ map f ys
-  map_append [] ys = refl
-  map_append (x ∷ xs) ys = ap (λ zs. f x ∷ zs) (map_append xs ys)
 
   -- fewer than so many items are below x
   abbrev is_first : ℕ → List X → X → Bool
   is_first limit xs x = nat_lt (length (filter (λ y. nat_lt (f y) (f x)) xs)) limit
 
   lesser_of : (xs : List X) (x : X) → length (filter (λ y. nat_lt (f y) (f x)) xs) ≡ count_lesser (f x) (map f xs)
-  lesser_of xs x = sym (filter_map_length f (λ n. nat_lt n (f x)) xs)
+  lesser_of xs x = sym (length-filter-map f (λ n. nat_lt n (f x)) xs)
 
   lesser_parts : (part rest : List X) (x : X) → length (filter (λ y. nat_lt (f y) (f x)) (part ++ rest)) ≡ count_lesser (f x) (map f part) + count_lesser (f x) (map f rest)
-  lesser_parts part rest x = lesser_of (part ++ rest) x ∙ ap (count_lesser (f x)) (map_append part rest) ∙ count_append (f x) (map f part) (map f rest)
+  lesser_parts part rest x = lesser_of (part ++ rest) x ∙ ap (count_lesser (f x)) (map-append f part rest) ∙ count_append (f x) (map f part) (map f rest)
 
   cut_parts : (limit count : ℕ) (part rest : List X) → ((x y : X) → Has part x → Has rest y → f x < f y) → (rest ≡ []) ⊎ (limit ≤ length part) → IsCutAt limit (map f part) count → filter (is_first limit (part ++ rest)) (part ++ rest) ≡ take count part
   cut_parts limit count part rest behind enough cut =
-      filter_append (is_first limit (part ++ rest)) part rest ∙ (λ i. first_ones i ++ others i) ∙ append-nil (take count part) where
+      filter-append (is_first limit (part ++ rest)) part rest ∙ (λ i. first_ones i ++ others i) ∙ append-nil (take count part) where
         first_ones : filter (is_first limit (part ++ rest)) part ≡ take count part
         first_ones =
             filter_same (is_first limit (part ++ rest)) (is_first limit part) part (λ x h.
@@ -365,7 +294,7 @@ module _ {X : Type 0} (f : X → ℕ) where
               let all = count_all (f y) (map f part) (λ n h. let m = Has-map f part n h in let lt = behind m.0 y m.1 k in omega (arith, lt, m.2)) in
               let whole = lesser_parts part rest y in
               let long = length-map part f in
-              isnt_less (length (filter (λ z. nat_lt (f z) (f y)) (part ++ rest))) limit (omega (arith, whole, all, long, le)))
+              le-ltb (length (filter (λ z. nat_lt (f z) (f y)) (part ++ rest))) limit (omega (arith, whole, all, long, le)))
         ]
 
   pub cut_up_to : (last : Option ℕ) (limit count : ℕ) (xs : List X) → Rising (map f xs) → IsEnough last limit (filter (λ x. is_up_to last (f x)) xs) → IsCutAt limit (map f (filter (λ x. is_up_to last (f x)) xs)) count → filter (λ x. nat_lt (length (filter (λ y. nat_lt (f y) (f x)) xs)) limit) xs ≡ take count (filter (λ x. is_up_to last (f x)) xs)

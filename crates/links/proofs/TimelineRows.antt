@@ -23,19 +23,20 @@ use Rattle.history_model.proofs.Filtered.{Has-filter, IsAscending-filter}
 use Rattle.history_model.proofs.Snapshots.{version_from_test, current_from_snapshot, IsAscending-listed, IsAscending-rows_at, Has-listed_cases, Has-listed_from, Has-rows_at_cases, Has-rows_at_from}
 use Rattle.history_model.proofs.Ascents.{about_is_all}
 use Rattle.history_model.proofs.Audits.{on_its_day, timeline_is_all}
+use Rattle.history_model.proofs.Items.{Has-flat_map, Has-flat_map_from}
 use Rattle.segment.specs.Standing.{places_of}
 use Rattle.segment.proofs.Posting.{says}
 use Rattle.as_of_index.specs.Places.{ArePlaces}
 use Rattle.as_of_index.specs.Private.Postings.{numbered}
 use Rattle.as_of_index.proofs.Standing.{are_lists}
-use Rattle.as_of_index.proofs.Numbered.{stands_there, place_of_row, Has-flat_map, Has-flat_map_from}
+use Rattle.as_of_index.proofs.Numbered.{stands_there, place_of_row}
 use Rattle.as_of_index.proofs.Current.{standing_row}
 use Rattle.as_of_index.proofs.Pushing.{numbers_of_row}
+use Rattle.as_of_index.proofs.DatesOfAll.{number_there}
 use Rattle.links.specs.declared.postings.Subject.{Subject}
 use Rattle.links.specs.Edges.{Edges, subject_rank}
 use Rattle.links.specs.Private.{subjects_in, GivesId, AreIds}
 use Rattle.links.specs.Laws.{EachPosted}
-use Rattle.links.proofs.ChildRows.{number_there}
 use Rattle.links.proofs.Posted.{subject_stands, each_subject_is_posted}
 use Rattle.links.proofs.SubjectOrder.{of_rank}
 

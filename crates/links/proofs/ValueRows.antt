@@ -16,6 +16,8 @@ use Rattle.history_model.specs.Queries.{component_of, value_cmp, values, values_
 use Rattle.history_model.proofs.InOrder.{Has-all, all_from_has}
 use Rattle.history_model.proofs.Filtered.{Has-map}
 use Rattle.history_model.proofs.Snapshots.{first_half, IsAscending-listed, IsAscending-rows_at}
+use Rattle.history_model.proofs.Membership.{value_total, values_above_ascend}
+use Rattle.history_model.proofs.Items.{Has-get_or}
 use Rattle.segment.specs.Standing.{places_of, StandsAt}
 use Rattle.as_of_index.specs.declared.as_of.AsOf.{AsOf}
 use Rattle.as_of_index.specs.declared.chosen.Chosen.{Chosen}
@@ -31,9 +33,9 @@ use Rattle.links.specs.Private.Memberships.{memberships_in, AreMembers, IsCutAt}
 use Rattle.links.specs.Laws.{EachPosted}
 use Rattle.links.proofs.Ranked.{one_id}
 use Rattle.links.proofs.MemberRows.{member_kept, component_at, members_from_chosen}
-use Rattle.links.proofs.MemberAnswers.{values_total, values_ascend, values_up_to, values_up_to_all, values_up_to_ascend}
+use Rattle.links.proofs.MemberAnswers.{values_up_to, values_up_to_all, values_up_to_ascend}
 use Rattle.links.proofs.MemberPages.{stand_take, enough_rows}
-use Rattle.links.proofs.Ties.{Rising, get_within, cut_up_to}
+use Rattle.links.proofs.Ties.{Rising, cut_up_to}
 
 -- places with the numbers of their rows
 numbers_are : (lists : List (List StampedRow)) (ks : List Chosen) (rows : List StampedRow) → StandAtAll lists ks rows → ((k : Chosen) (s : StampedRow) → Has ks k → StandsAt lists k.segment k.at s → component_of s.row ≡ k.target)
@@ -58,7 +60,7 @@ pub targets_rise : (refset : ℕ) (ks : List Chosen) → IsAscending ranked_cmp 
 targets_rise refset [] up own i j d le lt = absurd (omega (arith, lt))
 targets_rise refset (k ∷ ks) up own zero zero d le lt = omega arith
 targets_rise refset (k ∷ ks) up own zero (suc j) d le lt =
-    let h = get_within ks j d (omega (arith, lt)) in
+    let h = Has-get_or ks j d (omega (arith, lt)) in
     below_target refset k (get_or ks j d) (own k (inl refl)) (own (get_or ks j d) (inr h)) (Has-all (λ y. ranked_cmp k y ≡ Less) ks (get_or ks j d) up.0 h)
 targets_rise refset (k ∷ ks) up own (suc i) zero d le lt = absurd (omega (arith, le))
 targets_rise refset (k ∷ ks) up own (suc i) (suc j) d le lt = targets_rise refset ks up.1 (λ l h. own l (inr h)) i j d (omega (arith, le)) (omega (arith, lt))
@@ -109,10 +111,10 @@ module _ (lists : List (List StampedRow)) (are : ArePlaces (map places_of lists)
       let now = rows_seen as_of lists in
       let answer = values_up_to last refset as_of.date after now in
       let w = members_from_chosen lists are edges posts refset as_of (wanted.Values after last) ranked_cmp one_id kept a answer (values_up_to_all refset as_of.date after last now shown_up)
-      value_cmp values_total (values_up_to_ascend refset as_of.date after last now) ranks in
+      value_cmp value_total (values_up_to_ascend refset as_of.date after last now) ranks in
       let numbers = numbers_are lists kept w.0 w.1 own_component ∙ ap (λ (rows : List RowValue). map component_of rows) w.2 in
       let cut_rows : IsCutAt limit (map component_of answer) count = subst (λ ds. IsCutAt limit ds count) numbers cut in
-      let rising = components_rise (values_above refset as_of.date after now) (values_ascend refset as_of.date after now) in (
+      let rising = components_rise (values_above refset as_of.date after now) (values_above_ascend refset as_of.date after now) in (
         take count w.0,
         stand_take lists kept w.0 count w.1,
         sym (take-map (λ (s : StampedRow). s.row) count w.0) ∙ ap (take count) w.2

@@ -26,7 +26,11 @@ module _ {X : Type 0} (P : X → Type 0) where
   each_of_rest [] ys each = each
   each_of_rest (x ∷ xs) ys each = each_of_rest xs ys each.1
 
-  -- and of the one that stands between them
+  -- of each before one that stands in a list, of that one, and of each behind it
+  pub each_of_parts : (xs : List X) (x : X) (ys : List X) → AllByRecursion P (xs ++ x ∷ ys) → AllByRecursion P xs × P x × AllByRecursion P ys
+  each_of_parts xs x ys each = let rest = each_of_rest xs (x ∷ ys) each in (each_of_front xs (x ∷ ys) each, rest.0, rest.1)
+
+  -- of that one
   pub each_at_middle : (xs : List X) (x : X) (ys : List X) → AllByRecursion P (xs ++ x ∷ ys) → P x
   each_at_middle xs x ys each = (each_of_rest xs (x ∷ ys) each).0
 

@@ -1,6 +1,7 @@
 -- What a test keeps of a list, and what it finds there.
-use Rattle.std.proofs.Common.{◌≡◌, ℕ, ◌≤◌, List, [], ◌∷◌, length, map, Option, Some, Bool, true, false, cond, suc, refl, sym, ap, subst, arith}
-use Rattle.std.specs.List.{filter, find, count_by}
+use Rattle.std.proofs.Common.{◌≡◌, ℕ, ◌≤◌, List, [], ◌∷◌, length, map, Option, Some, Bool, true, false, cond, suc, refl, ap, ◌∙◌, subst, arith}
+use Rattle.std.specs.Prelude.{◌&&◌}
+use Rattle.std.specs.List.{filter, find}
 use Rattle.std.proofs.lemmas.List.Sums.{length-filter, count_by-le-length}
 
 -- a test keeps no more than there are
@@ -24,3 +25,13 @@ found_passes p (y ∷ xs) x found =
       | true ↦ λ passes e. let same : y ≡ x = cc in subst (λ z. p z ≡ true) same passes
       | false ↦ λ fails e. found_passes p xs x e
     ] refl found
+
+-- what passes two tests is what passes one of what passes the other
+pub filter_of_both : {X : Type 0} (p q both : X → Bool) (xs : List X) → ((x : X) → both x ≡ (p x && q x)) → filter both xs ≡ filter q (filter p xs)
+filter_of_both p q both [] each = refl
+filter_of_both p q both (x ∷ xs) each =
+    let rest = filter_of_both p q both xs each in
+    elim (p x) as (λ b. p x ≡ b → cond (both x) (x ∷ filter both xs) (filter both xs) ≡ filter q (cond b (x ∷ filter p xs) (filter p xs))) [
+      | true ↦ λ e. let f : both x ≡ q x = each x ∙ ap (λ b. b && q x) e in rw (f, rest) refl
+      | false ↦ λ e. let f : both x ≡ false = each x ∙ ap (λ b. b && q x) e in rw f rest
+    ] refl

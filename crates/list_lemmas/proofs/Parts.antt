@@ -26,6 +26,10 @@ drop_none (x ∷ xs) = refl
 pub taken_at_most : {X : Type 0} (n : ℕ) (xs : List X) → length (take n xs) ≤ n
 taken_at_most n xs = omega (arith, length-take n xs)
 
+-- before a place so many are taken as its number says, counted from 0
+pub taken_before : {X : Type 0} (xs : List X) (i : ℕ) → i < length xs → 0 + length (take i xs) ≡ i
+taken_before xs i within = omega (arith, within, length-take i xs)
+
 -- ---- more
 
 -- one more of the first, which was read
@@ -60,10 +64,10 @@ pub same_first_and_rest : {X : Type 0} (x y : X) (xs ys : List X) → x ∷ xs �
 same_first_and_rest x y xs ys same = (cc, cc)
 
 -- behind its place a list is the same, whatever stands there
-pub same_behind : {X : Type 0} (n : ℕ) (before after : List X) (x y : X) → length before < n → drop n (before ++ x ∷ after) ≡ drop n (before ++ y ∷ after)
-same_behind zero before after x y short = absurd (omega (arith, short))
-same_behind (suc n) [] after x y short = refl
-same_behind (suc n) (z ∷ before) after x y short = same_behind n before after x y (omega (arith, short))
+pub drop_beyond : {X : Type 0} (n : ℕ) (before after : List X) (x y : X) → length before < n → drop n (before ++ x ∷ after) ≡ drop n (before ++ y ∷ after)
+drop_beyond zero before after x y short = absurd (omega (arith, short))
+drop_beyond (suc n) [] after x y short = refl
+drop_beyond (suc n) (z ∷ before) after x y short = drop_beyond n before after x y (omega (arith, short))
 
 -- the first so many, where it is one of them
 pub take_beyond : {X : Type 0} (n : ℕ) (before after : List X) (x : X) → length before < n → take n (before ++ x ∷ after) ≡ before ++ x ∷ take (n - (length before + 1)) after

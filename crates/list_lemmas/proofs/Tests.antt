@@ -4,12 +4,16 @@ use Rattle.std.specs.Prelude.{◌==◌, ◌&&◌}
 use Rattle.std.specs.Option.{is_some}
 use Rattle.std.specs.Ordering.{nat_cmp, ordering_then, is_lt}
 use Rattle.std.specs.declared.cmp.Ordering.TheVariants.{Less, Equal, Greater}
-use Rattle.std.proofs.lemmas.Bool.{and_parts, and_from, eqb-true}
+use Rattle.std.proofs.lemmas.Bool.{and_parts, and_from, eqb-true, eq-eqb}
 use Rattle.std.proofs.lemmas.Cmp.{ranked}
 
 -- two numbers are two others
 pub both_numbers : (k l i j : ℕ) → (k == l && i == j) ≡ true → (k ≡ l) × (i ≡ j)
 both_numbers k l i j same = let parts = and_parts (k == l) (i == j) same in (eqb-true k l parts.0, eqb-true i j parts.1)
+
+-- and so the test says
+pub both_numbers_from : (k l i j : ℕ) → k ≡ l → i ≡ j → (k == l && i == j) ≡ true
+both_numbers_from k l i j first second = and_from (k == l) (i == j) (eq-eqb k l first) (eq-eqb i j second)
 
 -- three tests that pass
 pub all_three : (a b c : Bool) → a ≡ true → b ≡ true → c ≡ true → (a && b && c) ≡ true

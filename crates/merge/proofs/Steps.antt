@@ -1,48 +1,35 @@
 -- Lemmas on one step of a merge.
-use Rattle.std.proofs.Common.{◌≡◌, ℕ, zero, suc, ◌+◌, ◌-◌, ◌<◌, ◌≤◌, Bool, true, false, List, [], ◌∷◌, ◌++◌, length, take, drop, map, not, refl, sym, ap, subst, inl, inr, ◌∙◌, arith, add-one, append_assoc, append-nil, length-drop}
+use Rattle.std.proofs.Common.{◌≡◌, ℕ, zero, suc, ◌+◌, ◌-◌, ◌<◌, ◌≤◌, Bool, true, false, List, [], ◌∷◌, ◌++◌, length, take, drop, map, not, refl, sym, ap, subst, inl, ◌∙◌, arith, add-one, append_assoc, append-nil, length-drop}
 use Rattle.std.specs.Prelude.{Option, Some, None, slice_get, if◌then◌else◌}
 use Rattle.std.specs.List.{AllByRecursion, AllZip, filter, drop-map}
-use Rattle.std.proofs.lemmas.List.{map-append, take_all}
+use Rattle.std.proofs.lemmas.List.{map-append, take_rest}
 use Rattle.std.proofs.lemmas.List.Elements.{filter-append}
 use Rattle.std.specs.Ordering.{is_lt}
 use Rattle.std.specs.declared.cmp.Ordering.TheVariants.{Less, Equal, Greater}
+use Rattle.std.proofs.lemmas.Slice.Zip.{all_zipped_more}
 use Rattle.rf2_values.specs.Key.{key_of, key_cmp}
 use Rattle.history_model.specs.declared.stamped.StampedRow.{StampedRow}
 use Rattle.history_model.specs.InOrder.{Has, IsAscending}
 use Rattle.history_model.specs.History.{stamped_cmp}
 use Rattle.history_model.specs.Lists.{AreLists, union}
-use Rattle.history_model.specs.Private.{ShareNoKey}
-use Rattle.history_model.proofs.InOrder.{Has-append_left, Has-append_right, Has-append_cases, above, below_all, in_order_first}
+use Rattle.history_model.proofs.InOrder.{above, below_all}
 use Rattle.history_model.proofs.Keys.{stamped_total, same_key}
+use Rattle.history_model.proofs.Items.{Has-drop}
+use Rattle.history_model.proofs.Filtered.{IsAscending-drop}
+use Rattle.history_model.proofs.Unions.{AreTwo, union_none, union_left, union_right}
 use Rattle.segment.specs.declared.place.RowPlace.{RowPlace}
 use Rattle.segment.specs.Standing.{record_len, row_place, with_places, places_of}
 use Rattle.merge.specs.declared.Taken.{Taken}
 use Rattle.merge.specs.Merged.{StandsTaken, taken_of_a, taken_of_b}
 use Rattle.merge.specs.Private.{of_a, of_b, next_place}
 
--- both ascend, and no key is in both
-record AreApart (xs ys : List StampedRow) : Type 0 where
-  xs_ascend : IsAscending stamped_cmp xs
-  ys_ascend : IsAscending stamped_cmp ys
-  apart : ShareNoKey xs ys
-
-are_apart : (xs ys : List StampedRow) → AreLists (xs ∷ ys ∷ []) → AreApart xs ys
+are_apart : (xs ys : List StampedRow) → AreLists (xs ∷ ys ∷ []) → AreTwo xs ys
 are_apart xs ys are = record { xs_ascend = are.ascending.0; ys_ascend = are.ascending.1.0; apart = are.apart.0.0 }
 
-IsAscending-drop : (n : ℕ) (xs : List StampedRow) → IsAscending stamped_cmp xs → IsAscending stamped_cmp (drop n xs)
-IsAscending-drop zero xs up = up
-IsAscending-drop (suc n) [] up = up
-IsAscending-drop (suc n) (x ∷ xs) up = IsAscending-drop n xs up.1
-
-Has-drop : {X : Type 0} (n : ℕ) (xs : List X) (z : X) → Has (drop n xs) z → Has xs z
-Has-drop zero xs z h = h
-Has-drop (suc n) [] z h = h
-Has-drop (suc n) (x ∷ xs) z h = inr (Has-drop n xs z h)
-
-AreApart-drop : (xs ys : List StampedRow) (i j : ℕ) → AreApart xs ys → AreApart (drop i xs) (drop j ys)
-AreApart-drop xs ys i j h = record {
-  xs_ascend = IsAscending-drop i xs h.xs_ascend;
-  ys_ascend = IsAscending-drop j ys h.ys_ascend;
+AreTwo-drop : (xs ys : List StampedRow) (i j : ℕ) → AreTwo xs ys → AreTwo (drop i xs) (drop j ys)
+AreTwo-drop xs ys i j h = record {
+  xs_ascend = IsAscending-drop stamped_cmp i xs h.xs_ascend;
+  ys_ascend = IsAscending-drop stamped_cmp j ys h.ys_ascend;
   apart = λ s t p q. h.apart s t (Has-drop i xs s p) (Has-drop j ys t q);
 }
 
@@ -56,26 +43,6 @@ IsFirst x (y ∷ ys) = stamped_cmp x y ≡ Less
 below_each : (x : StampedRow) (ys : List StampedRow) → IsAscending stamped_cmp ys → IsFirst x ys → AllByRecursion (λ y. stamped_cmp x y ≡ Less) ys
 below_each x [] up first = tt
 below_each x (y ∷ ys) up first = (first, below_all stamped_total x y ys first up.0)
-
-union_a : (x : StampedRow) (xs ys : List StampedRow) → AreApart (x ∷ xs) ys → IsFirst x ys → union (x ∷ xs) ys ≡ x ∷ union xs ys
-unfolding union
-union_a x xs ys h first =
-    in_order_first stamped_total x xs ys h.xs_ascend h.ys_ascend (λ s t p q e. h.apart s t p q (same_key (key_of s.row) (key_of t.row) e)) (below_each x ys h.ys_ascend first)
-    ((x ∷ xs) ++ ys) (xs ++ ys)
-    (λ z. Has-append_cases (x ∷ xs) ys z) (λ z k. elim k [ inl p ↦ Has-append_left (x ∷ xs) ys z p | inr q ↦ Has-append_right (x ∷ xs) ys z q ])
-    (λ z. Has-append_cases xs ys z) (λ z k. elim k [ inl p ↦ Has-append_left xs ys z p | inr q ↦ Has-append_right xs ys z q ])
-
-union_b : (y : StampedRow) (xs ys : List StampedRow) → AreApart xs (y ∷ ys) → IsFirst y xs → union xs (y ∷ ys) ≡ y ∷ union xs ys
-unfolding union
-union_b y xs ys h first =
-    in_order_first stamped_total y ys xs h.ys_ascend h.xs_ascend (λ s t p q e. h.apart t s q p (sym (same_key (key_of s.row) (key_of t.row) e))) (below_each y xs h.xs_ascend first)
-    (xs ++ (y ∷ ys)) (xs ++ ys)
-    (λ z k. elim (Has-append_cases xs (y ∷ ys) z k) [ inl p ↦ inr p | inr q ↦ inl q ]) (λ z k. elim k [ inl p ↦ Has-append_right xs (y ∷ ys) z p | inr q ↦ Has-append_left xs (y ∷ ys) z q ])
-    (λ z k. elim (Has-append_cases xs ys z k) [ inl p ↦ inr p | inr q ↦ inl q ]) (λ z k. elim k [ inl p ↦ Has-append_right xs ys z p | inr q ↦ Has-append_left xs ys z q ])
-
-union_none : union [] [] ≡ []
-unfolding union
-union_none = refl
 
 -- a row that isn't above another one with another key is below it
 not_above : (x y : StampedRow) → (key_of x.row ≡ key_of y.row → ⊥) → is_lt (stamped_cmp y x) ≡ false → stamped_cmp x y ≡ Less
@@ -102,12 +69,12 @@ record IsNextOf (p : RowPlace) (at : ℕ) (left both : List StampedRow) (joined 
   place_is : p ≡ row_place row at
   first : both ≡ row ∷ joined rest
 
-next_of_a : (xs ys : List StampedRow) (at to : ℕ) (t : Taken) → AreApart xs ys → t.second ≡ false → next_place (places_from at xs) (places_from to ys) ≡ Some t
+next_of_a : (xs ys : List StampedRow) (at to : ℕ) (t : Taken) → AreTwo xs ys → t.second ≡ false → next_place (places_from at xs) (places_from to ys) ≡ Some t
     → IsNextOf t.place at xs (union xs ys) (λ rest. union rest ys)
 unfolding row_place
 next_of_a [] [] at to t h side e = absurd cc
 next_of_a [] (y ∷ ys) at to t h side e = absurd cc
-next_of_a (x ∷ xs) [] at to t h side e = record { row = x; rest = xs; left_is = refl; place_is = (let same : of_a (row_place x at) ≡ t = cc in sym (ap (λ (u : Taken). u.place) same)); first = union_a x xs [] h tt }
+next_of_a (x ∷ xs) [] at to t h side e = record { row = x; rest = xs; left_is = refl; place_is = (let same : of_a (row_place x at) ≡ t = cc in sym (ap (λ (u : Taken). u.place) same)); first = union_left x xs [] h (below_each x [] h.ys_ascend tt) }
 next_of_a (x ∷ xs) (y ∷ ys) at to t h side e =
     elim (is_lt (stamped_cmp y x)) as (λ b. is_lt (stamped_cmp y x) ≡ b → Some (if b then of_b (row_place y to) else of_a (row_place x at)) ≡ Some t → IsNextOf t.place at (x ∷ xs) (union (x ∷ xs) (y ∷ ys)) (λ rest. union rest (y ∷ ys))) [
       | true ↦ λ is e. absurd (let same : of_b (row_place y to) ≡ t = cc in let sides = ap (λ (u : Taken). u.second) same in cc)
@@ -116,16 +83,16 @@ next_of_a (x ∷ xs) (y ∷ ys) at to t h side e =
         rest = xs;
         left_is = refl;
         place_is = (let same : of_a (row_place x at) ≡ t = cc in sym (ap (λ (u : Taken). u.place) same));
-        first = union_a x xs (y ∷ ys) h (not_above x y (h.apart x y (inl refl) (inl refl)) is);
+        first = union_left x xs (y ∷ ys) h (below_each x (y ∷ ys) h.ys_ascend (not_above x y (h.apart x y (inl refl) (inl refl)) is));
       }
     ] refl e
 
-next_of_b : (xs ys : List StampedRow) (at to : ℕ) (t : Taken) → AreApart xs ys → t.second ≡ true → next_place (places_from at xs) (places_from to ys) ≡ Some t
+next_of_b : (xs ys : List StampedRow) (at to : ℕ) (t : Taken) → AreTwo xs ys → t.second ≡ true → next_place (places_from at xs) (places_from to ys) ≡ Some t
     → IsNextOf t.place to ys (union xs ys) (λ rest. union xs rest)
 unfolding row_place
 next_of_b [] [] at to t h side e = absurd cc
 next_of_b (x ∷ xs) [] at to t h side e = absurd cc
-next_of_b [] (y ∷ ys) at to t h side e = record { row = y; rest = ys; left_is = refl; place_is = (let same : of_b (row_place y to) ≡ t = cc in sym (ap (λ (u : Taken). u.place) same)); first = union_b y [] ys h tt }
+next_of_b [] (y ∷ ys) at to t h side e = record { row = y; rest = ys; left_is = refl; place_is = (let same : of_b (row_place y to) ≡ t = cc in sym (ap (λ (u : Taken). u.place) same)); first = union_right y [] ys h (below_each y [] h.xs_ascend tt) }
 next_of_b (x ∷ xs) (y ∷ ys) at to t h side e =
     elim (is_lt (stamped_cmp y x)) as (λ b. is_lt (stamped_cmp y x) ≡ b → Some (if b then of_b (row_place y to) else of_a (row_place x at)) ≡ Some t → IsNextOf t.place to (y ∷ ys) (union (x ∷ xs) (y ∷ ys)) (λ rest. union (x ∷ xs) rest)) [
       | false ↦ λ is e. absurd (let same : of_a (row_place x at) ≡ t = cc in let sides = ap (λ (u : Taken). u.second) same in cc)
@@ -134,16 +101,13 @@ next_of_b (x ∷ xs) (y ∷ ys) at to t h side e =
         rest = ys;
         left_is = refl;
         place_is = (let same : of_b (row_place y to) ≡ t = cc in sym (ap (λ (u : Taken). u.place) same));
-        first = union_b y (x ∷ xs) ys h (below y x is);
+        first = union_right y (x ∷ xs) ys h (below_each y (x ∷ xs) h.xs_ascend (below y x is));
       }
     ] refl e
 
-whole_rest : (i : ℕ) (a : List RowPlace) → take (length a - i) (drop i a) ≡ drop i a
-whole_rest i a = take_all (length a - i) (drop i a) (omega (arith, length-drop i a))
-
 -- the next of two slices from places on
 pub next_from : (i j : ℕ) (a b : List RowPlace) (next : Option Taken) → next ≡ next_place (take (length a - i) (drop i a)) (take (length b - j) (drop j b)) → next_place (drop i a) (drop j b) ≡ next
-next_from i j a b next is = sym (is ∙ ap (λ (l : List RowPlace). next_place l (take (length b - j) (drop j b))) (whole_rest i a) ∙ ap (next_place (drop i a)) (whole_rest j b))
+next_from i j a b next is = sym (is ∙ ap (λ (l : List RowPlace). next_place l (take (length b - j) (drop j b))) (take_rest a i) ∙ ap (next_place (drop i a)) (take_rest b j))
 
 -- ---- and where it stands in the whole list
 
@@ -176,7 +140,7 @@ turn_a : (xs ys : List StampedRow) (i j : ℕ) (t : Taken) → AreLists (xs ∷ 
 turn_a xs ys i j t are side e =
     let of_xs = left_places i 0 xs in
     let of_ys = left_places j 0 ys in
-    let next = next_of_a (drop i xs) (drop j ys) of_xs.0 of_ys.0 t (AreApart-drop xs ys i j (are_apart xs ys are)) side
+    let next = next_of_a (drop i xs) (drop j ys) of_xs.0 of_ys.0 t (AreTwo-drop xs ys i j (are_apart xs ys are)) side
     (subst (λ (l : List RowPlace). next_place l (places_from of_ys.0 (drop j ys)) ≡ Some t) (left_posted i of_xs.0 xs of_xs.1) (subst (λ (l : List RowPlace). next_place (drop i (places_of xs)) l ≡ Some t) (left_posted j of_ys.0 ys of_ys.1) e)) in
     record {
       row = next.row;
@@ -193,7 +157,7 @@ turn_b : (xs ys : List StampedRow) (i j : ℕ) (t : Taken) → AreLists (xs ∷ 
 turn_b xs ys i j t are side e =
     let of_xs = left_places i 0 xs in
     let of_ys = left_places j 0 ys in
-    let next = next_of_b (drop i xs) (drop j ys) of_xs.0 of_ys.0 t (AreApart-drop xs ys i j (are_apart xs ys are)) side
+    let next = next_of_b (drop i xs) (drop j ys) of_xs.0 of_ys.0 t (AreTwo-drop xs ys i j (are_apart xs ys are)) side
     (subst (λ (l : List RowPlace). next_place l (places_from of_ys.0 (drop j ys)) ≡ Some t) (left_posted i of_xs.0 xs of_xs.1) (subst (λ (l : List RowPlace). next_place (drop i (places_of xs)) l ≡ Some t) (left_posted j of_ys.0 ys of_ys.1) e)) in
     record {
       row = next.row;
@@ -278,12 +242,6 @@ pub record AreTaken (xs ys : List StampedRow) (taken : List Taken) (left after :
   pub stand : AllZip (StandsTaken xs ys) taken (take (length taken) left)
   pub after_is : after ≡ drop (length taken) left
 
-pub zip_push : {X Y : Type 0} (R : X → Y → Type 0) (xs : List X) (ys : List Y) (x : X) (y : Y) → AllZip R xs ys → R x y → AllZip R (xs ++ x ∷ []) (ys ++ y ∷ [])
-zip_push R [] [] x y all r = (r, tt)
-zip_push R [] (b ∷ ys) x y all r = absurd all
-zip_push R (a ∷ xs) [] x y all r = absurd all
-zip_push R (a ∷ xs) (b ∷ ys) x y all r = (all.0, zip_push R xs ys x y all.1 r)
-
 take_one : {X : Type 0} (k : ℕ) (xs : List X) (x : X) (rest : List X) → drop k xs ≡ x ∷ rest → take (suc k) xs ≡ take k xs ++ x ∷ []
 take_one zero [] x rest e = absurd cc
 take_one zero (y ∷ xs) x rest e = let same : y ≡ x = cc in ap (λ z. z ∷ []) same
@@ -300,7 +258,7 @@ taken_push xs ys taken left after t next so_far turn =
     let longer = length_push taken t in
     record {
       stand = subst (λ n. AllZip (StandsTaken xs ys) (taken ++ t ∷ []) (take n left)) (sym longer)
-          (subst (λ l. AllZip (StandsTaken xs ys) (taken ++ t ∷ []) l) (sym (take_one (length taken) left turn.row next rest)) (zip_push (StandsTaken xs ys) taken (take (length taken) left) t turn.row so_far.stand turn.stands));
+          (subst (λ l. AllZip (StandsTaken xs ys) (taken ++ t ∷ []) l) (sym (take_one (length taken) left turn.row next rest)) (all_zipped_more (StandsTaken xs ys) taken (take (length taken) left) t turn.row so_far.stand turn.stands));
       after_is = sym (one_less (length taken) left turn.row next rest) ∙ ap (λ n. drop n left) (sym longer);
     }
 

@@ -2,11 +2,11 @@
 use Rattle.std.proofs.Common.{◌≡◌, ℕ, zero, suc, ◌+◌, ◌<◌, Bool, true, false, cond, List, [], ◌∷◌, ◌++◌, length, get_or, map, take, drop, refl, sym, ap, ◌∙◌, append-nil, append_assoc}
 use Rattle.std.specs.Prelude.{◌&&◌, insert, flat_map}
 use Rattle.std.specs.List.{filter, take-map, drop-map}
-use Rattle.std.proofs.lemmas.List.{take_more, map-append, length-map}
+use Rattle.std.proofs.lemmas.List.{take_more, map-append}
 use Rattle.std.proofs.lemmas.List.Elements.{filter-append}
 use Rattle.std.specs.declared.cmp.Ordering.{Ordering}
+use Rattle.std.proofs.lemmas.Bool.{and_parts}
 use Rattle.history_model.specs.InOrder.{put, in_order}
-use Rattle.history_model.proofs.Filtered.{both}
 use Rattle.plain_history.proofs.Placing.{in_order_push}
 
 pub map_take : {X Y : Type 0} (f : X → Y) (n : ℕ) (xs : List X) → map f (take n xs) ≡ take n (map f xs)
@@ -30,19 +30,6 @@ filter-map f p (x ∷ xs) =
       | false ↦ rest
     ]
 
-pub length-filter-map : {X Y : Type 0} (f : X → Y) (p : Y → Bool) (xs : List X) → length (filter p (map f xs)) ≡ length (filter (λ x. p (f x)) xs)
-length-filter-map f p xs = ap length (filter-map f p xs) ∙ length-map (filter (λ x. p (f x)) xs) f
-
--- two tests in turn
-pub filter_twice : {X : Type 0} (q p : X → Bool) (xs : List X) → filter (λ x. q x && p x) xs ≡ filter p (filter q xs)
-filter_twice q p [] = refl
-filter_twice q p (x ∷ xs) =
-    let rest = filter_twice q p xs in
-    elim (q x) as (λ t. cond (t && p x) (x ∷ filter (λ x. q x && p x) xs) (filter (λ x. q x && p x) xs) ≡ filter p (cond t (x ∷ filter q xs) (filter q xs))) [
-      | true ↦ ap (λ ys. cond (p x) (x ∷ ys) ys) rest
-      | false ↦ rest
-    ]
-
 -- one list more
 pub flat_map_push : {X Y : Type 0} (f : X → List Y) (xs : List X) (x : X) → flat_map f (xs ++ x ∷ []) ≡ flat_map f xs ++ f x
 flat_map_push f [] x = append-nil (f x)
@@ -52,7 +39,7 @@ module _ {X : Type 0} (q p : X → Bool) where
   -- one element, where both tests hold and where one fails
   both_of_one : (x : X) (t : Bool) → (q x && p x) ≡ t → filter p (filter q (x ∷ [])) ≡ cond t (x ∷ []) []
   both_of_one x true e =
-      let b = both (q x) (p x) e in
+      let b = and_parts (q x) (p x) e in
       ap (λ r. filter p (cond r (x ∷ []) [])) b.0 ∙ ap (λ r. cond r (x ∷ []) []) b.1
   both_of_one x false e =
       elim (q x) as (λ r. (r && p x) ≡ false → filter p (cond r (x ∷ []) []) ≡ []) [ true ↦ λ f. ap (λ s. cond s (x ∷ []) []) f | false ↦ λ f. refl ] e

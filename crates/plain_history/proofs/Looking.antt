@@ -1,5 +1,5 @@
 -- A key that is looked for row by row.
-use Rattle.std.proofs.Common.{◌≡◌, ℕ, zero, suc, ◌+◌, ◌<◌, List, [], ◌∷◌, ◌++◌, length, get_or, map, take, refl, sym, ap, subst, inl, inr, ◌∙◌, arith}
+use Rattle.std.proofs.Common.{◌≡◌, ℕ, ◌+◌, ◌<◌, List, [], ◌∷◌, ◌++◌, length, get_or, map, take, sym, ap, subst, inl, inr, ◌∙◌}
 use Rattle.std.proofs.lemmas.List.{take_more}
 use Rattle.rf2_values.specs.declared.key.Key.{Key}
 use Rattle.rf2_values.specs.Row.{RowValue}
@@ -8,19 +8,15 @@ use Rattle.history_model.specs.declared.stamped.StampedRow.{StampedRow}
 use Rattle.history_model.specs.InOrder.{Has}
 use Rattle.history_model.proofs.InOrder.{Has-append_cases}
 use Rattle.history_model.proofs.Filtered.{Has-map, Has-map_from}
+use Rattle.history_model.proofs.Items.{Has-get_or}
 use Rattle.import_check.specs.Known.{IsUnknown}
-
-has_at : {X : Type 0} (xs : List X) (i : ℕ) (d : X) → i < length xs → Has xs (get_or xs i d)
-has_at [] i d lt = absurd (omega arith)
-has_at (x ∷ xs) zero d lt = inl refl
-has_at (x ∷ xs) (suc i) d lt = inr (has_at xs i d (omega arith))
 
 abbrev rows_of : List StampedRow → List RowValue
 rows_of rows = map (λ (s : StampedRow). s.row) rows
 
 module _ (rows : List StampedRow) (i : ℕ) (s : StampedRow) (lt : i < length rows) (is : s ≡ get_or rows i s) where
   pub row_there : Has (rows_of rows) s.row
-  row_there = Has-map_from (λ (s : StampedRow). s.row) rows s (subst (λ (r : StampedRow). Has rows r) (sym is) (has_at rows i s lt))
+  row_there = Has-map_from (λ (s : StampedRow). s.row) rows s (subst (λ (r : StampedRow). Has rows r) (sym is) (Has-get_or rows i s lt))
 
   -- the next row has another key too
   pub none_more : (key : Key) → IsUnknown (rows_of (take i rows)) key → (key_of s.row ≡ key → ⊥) → IsUnknown (rows_of (take (i + 1) rows)) key

@@ -1,13 +1,9 @@
 -- Where the letters of a name end.
-use Rattle.std.proofs.Common.{◌≡◌, ◌<◌, ◌≤◌, ◌+◌, ℕ, List, length, take, drop, get_or, codes, All, sym, ◌∙◌, ap, subst, arith, inl, inr, ◌-◌}
+use Rattle.std.proofs.Common.{◌≡◌, ◌<◌, ◌≤◌, ◌+◌, ℕ, List, length, take, drop, get_or, codes, All, sym, ◌∙◌, ap, subst, arith, inl, inr}
 use Rattle.std.proofs.lemmas.Bool.{cases_order}
 use Rattle.std.proofs.lemmas.List.{get_or-take, get_or-drop, length-drop, length-take-le, take_all}
 use Rattle.memchr.specs.Find.{OccursAt}
 use Rattle.release_folder.specs.Names.{IsColumnLetter, BeginsAsRefset}
-
--- what stands from this place on
-pub rest_of : (name : List ℕ) (i : ℕ) → take (length name - i) (drop i name) ≡ drop i name
-rest_of name i = take_all (length name - i) (drop i name) (omega (arith, length-drop i name))
 
 -- behind so many letters stands an `R`
 stands : (name : List ℕ) (r : BeginsAsRefset name) → (r.columns < length name) × (get_or name r.columns 0 ≡ 82)

@@ -1,11 +1,12 @@
 -- The files of parts, one after the other.
 use Rattle.std.specs.List.{AllZip}
 use Rattle.std.specs.List.Sorted.{IsPermutation, IsSortedBy}
-use Rattle.std.proofs.Common.{◌≡◌, List, [], ◌∷◌, ◌++◌, length, All, suc, refl, sym, ◌∙◌, ap, subst, append_assoc, append-nil, arith}
+use Rattle.std.proofs.Common.{◌≡◌, List, [], ◌∷◌, ◌++◌, length, All, refl, sym, ◌∙◌, ap, subst, append_assoc, append-nil, arith}
 use Rattle.std.proofs.lemmas.List.{nil_from_length}
 use Rattle.std.proofs.lemmas.List.Elements.{All-append, All-nil, All-cons, All-head, All-tail, All-drop}
 use Rattle.std.proofs.lemmas.List.Sorted.{All-permutation, IsPermutation-sym, length_permutation}
 use Rattle.std.proofs.Math.Seq.{drop-append_seam}
+use Rattle.std.proofs.lemmas.Slice.Zip.{all_zipped_more, AllZip-long}
 use Rattle.import_check.specs.InOrder.{joined}
 use Rattle.import_check.specs.declared.release.ReleaseFile.{ReleaseFile}
 use Rattle.import_check.specs.declared.scope.Scope.{Scope}
@@ -14,19 +15,6 @@ use Rattle.release_folder.specs.Names.{IsTakenFile, AreInOrder, AreOfParts, AreF
 use Rattle.release_folder.specs.Private.{IsTakenPart, AddFolders, AddSorted}
 
 -- ---- lists that belong to each other
-
-module _ {A B : Type 0} (R : A → B → Type 0) where
-  zip_push : (xs : List A) (ys : List B) (x : A) (y : B) → AllZip R xs ys → R x y → AllZip R (xs ++ x ∷ []) (ys ++ y ∷ [])
-  zip_push [] [] x y all r = (r, tt)
-  zip_push [] (b ∷ ys) x y all r = absurd all
-  zip_push (a ∷ xs) [] x y all r = absurd all
-  zip_push (a ∷ xs) (b ∷ ys) x y all r = (all.0, zip_push xs ys x y all.1 r)
-
-  zip_long : (xs : List A) (ys : List B) → AllZip R xs ys → length ys ≡ length xs
-  zip_long [] [] all = refl
-  zip_long [] (y ∷ ys) all = absurd all
-  zip_long (x ∷ xs) [] all = absurd all
-  zip_long (x ∷ xs) (y ∷ ys) all = ap suc (zip_long xs ys all.1)
 
 joined_push : (lists : List (List ReleaseFile)) (files : List ReleaseFile) → joined (lists ++ files ∷ []) ≡ joined lists ++ files
 joined_push [] files = append-nil files
@@ -46,7 +34,7 @@ add_more folders part before files more (rest, are, files_are) (sorted, sorts, m
   rest ++ sorted,
   record {
     lists = are.lists ++ sorted ∷ [];
-    each = zip_push (λ (p : Part) (l : List ReleaseFile). AreSorted p.files.items l) folders are.lists part sorted are.each sorts;
+    each = all_zipped_more (λ (p : Part) (l : List ReleaseFile). AreSorted p.files.items l) folders are.lists part sorted are.each sorts;
     files_are = ap (λ l. l ++ sorted) are.files_are ∙ sym (joined_push are.lists sorted);
   },
   more_are ∙ ap (λ l. l ++ sorted) files_are ∙ append_assoc before rest sorted,
@@ -84,7 +72,7 @@ of_parts terminology sorted refset folders files sorts same in_order_2 (rest, ar
 pub in_order : (scope : Scope) (terminology : List ReleaseFile) (refset : List Part) (files : List ReleaseFile) → AreFolders scope (length refset) → AreOfParts terminology refset files → AreInOrder scope files
 in_order scope terminology refset files few parts =
     let rest = parts.rest_sorted in
-    let long : length rest.lists ≡ length refset = zip_long (λ (p : Part) (l : List ReleaseFile). AreSorted p.files.items l) parts.folders rest.lists rest.each ∙ length_permutation refset parts.folders parts.same_folders in
+    let long : length rest.lists ≡ length refset = AllZip-long (λ (p : Part) (l : List ReleaseFile). AreSorted p.files.items l) parts.folders rest.lists rest.each ∙ length_permutation refset parts.folders parts.same_folders in
     record {
       first = parts.first;
       others = rest.lists;

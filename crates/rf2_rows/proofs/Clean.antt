@@ -11,12 +11,11 @@ use Rattle.std.proofs.lemmas.Str.Ascii.{IsAscii-from_all}
 use Rattle.std.proofs.lemmas.Str.Parse.{not_in_digits}
 use Rattle.std.proofs.lemmas.Fmt.{digits_decimal}
 use Rattle.rf2_values.specs.declared.row.Kind.TheVariants as kind
-use Rattle.rf2_values.specs.Time.{IsTime}
 use Rattle.rf2_values.specs.Row.{line_of}
 use Rattle.rf2_values.specs.Member.{IsMemberByte}
 use Rattle.rf2_rows.specs.Line.{Column, Identifier, Time, Active, ConceptReference, ComponentReference, Number, Text, Any, MayStand}
 use Rattle.rf2_rows.specs.Private.{AllStand}
-use Rattle.rf2_values.proofs.Decimals.{own, decimal_is_utf8}
+use Rattle.rf2_values.proofs.Decimals.{own, decimal_is_utf8, time_below}
 use Rattle.rf2_rows.proofs.Splits.{IsFree}
 
 pub record IsClean (text : List ℕ) : Type 0 where
@@ -45,9 +44,6 @@ digit_is_clean d low high = record {
   no_lf = All-cons (λ b. eqb b 10 ≡ false) d [] (ne_eqb d 10 (λ (h : d ≡ 10). omega arith)) (λ k x l. absurd (omega arith));
   utf8 = byte_is_utf8 d (omega arith);
 }
-
-time_below : (t : ℕ) → IsTime t → t < 2 ^ 64
-time_below t h = let to = h.year_to in omega arith
 
 free_from : (c : ℕ) (text : List ℕ) → All (λ b. b ≢ c) text → IsFree c text
 free_from c text h = λ k d l. ne_eqb _ c (h k d l)

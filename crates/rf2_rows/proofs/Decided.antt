@@ -7,7 +7,7 @@ use Rattle.std.specs.Str.Parse.{digits_value}
 use Rattle.std.specs.Int.{from_be_bytes, w128}
 use Rattle.std.proofs.lemmas.Bool.{both_ways, cases_Bool, cases_eq, cases_lt}
 use Rattle.std.proofs.lemmas.Bool.Decides.{nat_tests}
-use Rattle.std.proofs.lemmas.List.{take_at}
+use Rattle.std.proofs.lemmas.List.{take_at, append_cancel_left}
 use Rattle.std.proofs.lemmas.List.Elements.{All-cons}
 use Rattle.std.proofs.lemmas.List.Splits.{join_with_byte-slice_split}
 use Rattle.std.proofs.lemmas.Str.{IsUtf8-from_is_utf8, is_utf8-from_IsUtf8}
@@ -27,7 +27,7 @@ use Rattle.rf2_values.specs.Text.{IsText, IsColumn, IsFurther, further_columns}
 use Rattle.rf2_values.specs.Private.{tabbed}
 use Rattle.rf2_values.specs.Member.{IsMemberByte}
 use Rattle.rf2_values.specs.Row.{RowValue, version, IsVersion, IsOfClass, IsConcept, IsComponent, IsIdOf, IsBody, Spells, SpellsColumns, SpellsId, kind_of, kind_of_body, id_text, later_columns, body_columns, flag, line_limit, line_of}
-use Rattle.rf2_values.proofs.Decimals.{decimal_is_plain}
+use Rattle.rf2_values.proofs.Decimals.{decimal_is_plain, time_below}
 use Rattle.rf2_values.proofs.FurtherColumns.{columns_are_further, further_tabbed}
 use Rattle.rf2_values.proofs.Lengths.{length-line}
 use Rattle.rf2_rows.specs.declared.fault.LineFault.{LineFault}
@@ -39,7 +39,6 @@ use Rattle.rf2_rows.specs.File.{IsHeader, SpellsEach, shape_with, IsReleaseFile,
 use Rattle.rf2_rows.proofs.Faults.{id_length}
 use Rattle.rf2_rows.proofs.Files.{is_release_file}
 use Rattle.rf2_rows.proofs.RowLaws.{columns_len}
-use Rattle.rf2_rows.proofs.FileLaws.{same_rest}
 
 -- ---- facts that hold or don't
 
@@ -195,9 +194,6 @@ class_small c n h = let high = h.sctid.high in omega arith
 component_small : (n : ℕ) → IsComponent n → n < 2 ^ 64
 component_small n h = let high = h.sctid.high in omega arith
 
-time_small : (t : ℕ) → IsTime t → t < 2 ^ 64
-time_small t h = let to = h.year_to in omega arith
-
 neither : (text : List ℕ) (b : Bool) → (text ≡ flag false → ⊥) → (text ≡ flag true → ⊥) → text ≡ flag b → ⊥
 neither text false nought one e = nought e
 neither text true nought one e = one e
@@ -314,7 +310,7 @@ column (Identifier kind.Relationship) text = of_class class.Relationship text
 column (Identifier kind.Association) text = faulty fault.MemberId (is_member text)
 column (Identifier kind.Concrete) text = of_class class.Relationship text
 column (Identifier kind.Member) text = faulty fault.MemberId (is_member text)
-column Time text = faulty fault.Time (spelled IsTime time_small is_time text)
+column Time text = faulty fault.Time (spelled IsTime time_below is_time text)
 column Active text = faulty fault.Active (is_flag text)
 column ConceptReference text = faulty fault.Reference (spelled IsConcept (class_small class.Concept) (is_of_class class.Concept) text)
 column ComponentReference text = faulty fault.Reference (spelled IsComponent component_small is_component text)
@@ -508,7 +504,7 @@ column_names kind.Member text short =
       | inl found ↦
           elim (is_further found.0) [
             | inl is ↦ inl (length (further_columns found.0), (found.0, is, refl, found.1, short))
-            | inr wrong ↦ inr (λ n h. wrong (subst IsFurther (same_rest (header kind.Member) h.0 found.0 (sym h.3 ∙ found.1)) h.1))
+            | inr wrong ↦ inr (λ n h. wrong (subst IsFurther (append_cancel_left (header kind.Member) h.0 found.0 (sym h.3 ∙ found.1)) h.1))
           ]
     ]
 

@@ -5,7 +5,7 @@ use Rattle.std.specs.Global.{Vec}
 use Rattle.std.specs.List.{AllByRecursion, starts_with}
 use Rattle.std.specs.Str.{IsUtf8}
 use Rattle.std.proofs.lemmas.Bool.{and_parts, not-true, ltb-true, cond-false, eqb-true, ne_eqb}
-use Rattle.std.proofs.lemmas.List.{append-nil, drop_at}
+use Rattle.std.proofs.lemmas.List.{append-nil, append_cancel_left}
 use Rattle.std.proofs.lemmas.List.Elements.{All-cons, All-append}
 use Rattle.std.proofs.lemmas.Str.{IsUtf8-from_ascii, IsUtf8-nil, IsUtf8-append}
 use Rattle.std.proofs.lemmas.Str.Ascii.{IsAscii-from_all}
@@ -135,9 +135,6 @@ is_first_line kind.Member n text h =
     let names = h.1 in
     subst IsFirstLine (sym h.3) (first_line_with (header kind.Member) h.0 (λ k d l. ne_eqb _ 10 (names.no_lf k d l)) names.utf8 (subst (λ (t : List ℕ). length t ≤ line_limit) h.3 h.4) (tested kind.Member))
 
-pub same_rest : (xs a b : List ℕ) → xs ++ a ≡ xs ++ b → a ≡ b
-same_rest xs a b e = sym (drop_at xs a (length xs) refl) ∙ ap (λ (t : List ℕ). drop (length xs) t) e ∙ drop_at xs b (length xs) refl
-
 -- column names say one number of further columns
 pub one_further : (k : Kind) (m n : ℕ) (text : List ℕ) → IsHeader k m text → IsHeader k n text → m ≡ n
 one_further kind.Concept m n text g h = g.0 ∙ sym h.0
@@ -146,7 +143,7 @@ one_further kind.Relationship m n text g h = g.0 ∙ sym h.0
 one_further kind.Association m n text g h = g.0 ∙ sym h.0
 one_further kind.Concrete m n text g h = g.0 ∙ sym h.0
 one_further kind.Member m n text g h =
-    let names : g.0 ≡ h.0 = same_rest (header kind.Member) g.0 h.0 (sym g.3 ∙ h.3) in
+    let names : g.0 ≡ h.0 = append_cancel_left (header kind.Member) g.0 h.0 (sym g.3 ∙ h.3) in
     g.2 ∙ ap (λ (t : List ℕ). length (further_columns t)) names ∙ sym h.2
 
 -- ---- the lines of a release file

@@ -1,10 +1,12 @@
 -- Files and their lines.
-use Rattle.std.proofs.Common.{◌≡◌, ℕ, suc, ◌+◌, ◌⊎◌, List, [], ◌∷◌, ◌++◌, length, take, drop, take-append-drop, Result, Ok, Err, refl, sym, ap, subst, ◌∙◌, inl, inr, append_assoc}
+use Rattle.std.proofs.Common.{◌≡◌, ℕ, ◌+◌, ◌⊎◌, List, [], ◌∷◌, ◌++◌, length, take, drop, take-append-drop, Result, Ok, Err, refl, sym, ap, subst, ◌∙◌, inl, inr, append_assoc}
 use Rattle.std.specs.Prelude.{nat_eq, MatchResult, IfOk, IfErr}
 use Rattle.std.specs.Global.{Vec}
-use Rattle.std.specs.List.{AllZip, starts_with}
+use Rattle.std.specs.List.{starts_with}
 use Rattle.std.proofs.lemmas.Bool.{cases_Bool, cond-true, cond-false}
 use Rattle.std.specs.Cmp.Lexicographic.{same_text}
+use Rattle.std.proofs.lemmas.Slice.Zip.{all_zipped_more}
+use Rattle.list_lemmas.proofs.Parts.{zip_lengths}
 use Rattle.rf2_values.specs.declared.row.Kind.{Kind}
 use Rattle.rf2_rows.specs.declared.fault.RowFault.{RowFault}
 use Rattle.rf2_rows.specs.declared.fault.RowFault.TheVariants as rowfault
@@ -18,18 +20,6 @@ use Rattle.rf2_rows.specs.Private.{IsLineReading, at_line_of}
 use Rattle.rf2_rows.specs.File.{InLines, mark, without_mark, lines_in, IsHeader, SpellsEach, shape_with, IsReleaseFile, IsFaultOfRows, IsFaultOfLines, IsFaultOfFile, IsFaultThat}
 use Rattle.rf2_rows.proofs.Lines.{in_lines}
 
-zip_push : {A B : Type 0} (R : A → B → Type 0) (xs : List A) (ys : List B) (x : A) (y : B) → AllZip R xs ys → R x y → AllZip R (xs ++ x ∷ []) (ys ++ y ∷ [])
-zip_push R [] [] x y all r = (r, tt)
-zip_push R [] (b ∷ bs) x y all r = absurd all
-zip_push R (a ∷ rest) [] x y all r = absurd all
-zip_push R (a ∷ rest) (b ∷ bs) x y all r = (all.0, zip_push R rest bs x y all.1 r)
-
-pub zip_length : {A B : Type 0} (R : A → B → Type 0) (xs : List A) (ys : List B) → AllZip R xs ys → length xs ≡ length ys
-zip_length R [] [] all = refl
-zip_length R [] (b ∷ bs) all = absurd all
-zip_length R (a ∷ rest) [] all = absurd all
-zip_length R (a ∷ rest) (b ∷ bs) all = ap suc (zip_length R rest bs all.1)
-
 -- the lines before spell the rows so far, and those left follow
 abbrev pub SoFar : Shape → List (List ℕ) → List RowValue → List (List ℕ) → Type 0
 SoFar shape lines rows left = (before : List (List ℕ)) × (before ++ left ≡ lines) × SpellsEach shape rows before
@@ -39,14 +29,14 @@ pub one_more : (shape : Shape) (lines : List (List ℕ)) (rows : List RowValue) 
 one_more shape lines rows left rest line v h e spelled = (
   h.0 ++ line ∷ [],
   append_assoc h.0 (line ∷ []) rest ∙ ap (λ (x : List (List ℕ)). h.0 ++ x) (sym e) ∙ h.1,
-  zip_push (λ w text. HasShape shape w × Spells w text) rows h.0 v line h.2 spelled,
+  all_zipped_more (λ w text. HasShape shape w × Spells w text) rows h.0 v line h.2 spelled,
 )
 
 pub fault_there : (shape : Shape) (lines : List (List ℕ)) (rows : List RowValue) (left rest : List (List ℕ)) (line : List ℕ) (e : RowFault) (n : ℕ)
     → SoFar shape lines rows left → left ≡ line ∷ rest → IsLineReading shape line (Err e) → n ≡ length rows + 2 → IsFaultThat (IsFaultOfRows shape lines) (at_line_of n e)
 fault_there shape lines rows left rest line rowfault.OutOfMemory n h is given at = tt
 fault_there shape lines rows left rest line (rowfault.Line f) n h is given at =
-    (rows, h.0, line, rest, sym h.1 ∙ ap (λ (x : List (List ℕ)). h.0 ++ x) is, h.2, given, at ∙ ap (λ (k : ℕ). k + 2) (zip_length (λ w text. HasShape shape w × Spells w text) rows h.0 h.2))
+    (rows, h.0, line, rest, sym h.1 ∙ ap (λ (x : List (List ℕ)). h.0 ++ x) is, h.2, given, at ∙ ap (λ (k : ℕ). k + 2) (zip_lengths (λ w text. HasShape shape w × Spells w text) rows h.0 h.2))
 
 -- ---- a file that was read
 

@@ -3,7 +3,7 @@ use Rattle.std.proofs.Common.{◌≡◌, ◌≢◌, ℕ, ◌<◌, ◌≤◌, Boo
 use Rattle.std.specs.Prelude.{nat_eq, MatchOption}
 use Rattle.std.specs.Cmp.Lexicographic.{pointwise, same_text}
 use Rattle.std.proofs.lemmas.Bool.{eqb-true}
-use Rattle.std.proofs.lemmas.List.{append-nil}
+use Rattle.std.proofs.lemmas.List.{append-nil, append_cancel_left}
 use Rattle.std.proofs.lemmas.List.Elements.{All-nil}
 use Rattle.std.proofs.lemmas.Str.{IsUtf8-nil}
 use Rattle.rf2_values.specs.declared.row.Kind.{Kind}
@@ -12,7 +12,6 @@ use Rattle.rf2_values.specs.Text.{IsFurther, further_columns}
 use Rattle.rf2_values.specs.Row.{line_limit}
 use Rattle.rf2_rows.specs.Line.{header}
 use Rattle.rf2_rows.specs.File.{IsHeader}
-use Rattle.rf2_rows.proofs.FileLaws.{same_rest}
 
 -- what a text has behind its beginning
 pub behind_prefix : (front text others : List ℕ) → pointwise nat_eq (take (length front) text) front ≡ true → others ≡ drop (length front) text → text ≡ front ++ others
@@ -30,7 +29,7 @@ named_alone kind.Member text e short =
 
 member_names : (text others : List ℕ) (r : Option ℕ) → text ≡ header kind.Member ++ others → length text ≤ line_limit
     → MatchOption r (IsFurther others → ⊥) (λ n. IsFurther others × (n ≡ length (further_columns others))) → MatchOption r ((n : ℕ) → ¬ (IsHeader kind.Member n text)) (λ n. IsHeader kind.Member n text)
-member_names text others None e short wrong = λ n h. wrong (subst IsFurther (same_rest (header kind.Member) h.0 others (sym h.3 ∙ e)) h.1)
+member_names text others None e short wrong = λ n h. wrong (subst IsFurther (append_cancel_left (header kind.Member) h.0 others (sym h.3 ∙ e)) h.1)
 member_names text others (Some n) e short found = (others, found.0, found.1, e, short)
 
 pub named_members : (k : Kind) (text others : List ℕ) (r : Option ℕ) → k ≡ kind.Member → text ≡ header k ++ others → length text ≤ line_limit

@@ -14,16 +14,17 @@ use Rattle.rf2_values.specs.declared.row.RefsetMember.{RefsetMember}
 use Rattle.rf2_values.specs.Member.{member_text}
 use Rattle.rf2_values.specs.Text.{IsColumn, further_columns}
 use Rattle.rf2_values.specs.Private.{tabbed}
-use Rattle.rf2_values.specs.Time.{IsTime}
 use Rattle.rf2_values.specs.Row.{RowValue, IsVersion, IsBody, IsConcept, IsComponent, IsIdOf, Spells, SpellsColumns, SpellsId, id_text, canonical, later_columns, body_columns, kind_of, kind_of_body, flag, line_of}
 use Rattle.rf2_rows.specs.declared.shape.Shape.{Shape}
 use Rattle.rf2_rows.specs.Line.{Column, Identifier, Time, Active, ConceptReference, ComponentReference, Number, Text, Any, MayStand, HasFault, FirstFault, columns, own_columns, columns_of, HasShape, IsFaultOf}
 use Rattle.rf2_rows.specs.File.{shape_with}
 use Rattle.rf2_rows.specs.Private.{AllStand}
 use Rattle.std.specs.Int.{from_be_bytes, w128}
+use Rattle.list_lemmas.proofs.Parts.{same_first_and_rest}
 use Rattle.rf2_values.proofs.Ids.{same_ids}
 use Rattle.rf2_values.proofs.Members.{member_text_spells}
 use Rattle.rf2_values.proofs.FurtherColumns.{tabbed_line, tabbed_further, each_is_column}
+use Rattle.rf2_values.proofs.Decimals.{time_below}
 use Rattle.rf2_rows.proofs.Splits.{split-joined}
 use Rattle.rf2_rows.proofs.Clean.{all_clean, all_no_tab, line_is_utf8}
 
@@ -155,9 +156,6 @@ same_concepts m n hm hn ms ns e =
     let high = hn.sctid.high in
     same_decimals m n (omega arith) (omega arith) ms ns e
 
-same_texts : (a b : List ℕ) (ms ns : List (List ℕ)) → a ∷ ms ≡ b ∷ ns → (a ≡ b) × (ms ≡ ns)
-same_texts a b ms ns e = (cc, cc)
-
 same_bodies : (a b : Body) → IsBody a → IsBody b → kind_of_body a ≡ kind_of_body b → body_columns a ≡ body_columns b → a ≡ b
 same_bodies (body.Concept a) (body.Concept b) ha hb k e =
     let low = ha.sctid.high in
@@ -166,9 +164,9 @@ same_bodies (body.Concept a) (body.Concept b) ha hb k e =
     ap (λ (n : ℕ). body.Concept (record { definition_status = n })) status
 same_bodies (body.Description a) (body.Description b) ha hb k e =
     let concept = same_concepts a.concept b.concept ha.0 hb.0 _ _ e in
-    let language = same_texts a.language_code b.language_code _ _ concept.1 in
+    let language = same_first_and_rest a.language_code b.language_code _ _ concept.1 in
     let type_id = same_concepts a.type_id b.type_id ha.2 hb.2 _ _ language.1 in
-    let term = same_texts a.term b.term _ _ type_id.1 in
+    let term = same_first_and_rest a.term b.term _ _ type_id.1 in
     let significance = same_concepts a.case_significance b.case_significance ha.4 hb.4 _ _ term.1 in
     let made : ℕ → List ℕ → ℕ → List ℕ → ℕ → Body = λ c l t m s. body.Description (record { concept = c; language_code = l; type_id = t; term = m; case_significance = s }) in
     ap (λ c. made c a.language_code a.type_id a.term a.case_significance) concept.0 ∙ ap (λ l. made b.concept l a.type_id a.term a.case_significance) language.0 ∙ ap (λ t. made b.concept b.language_code t a.term a.case_significance) type_id.0 ∙ ap (λ m. made b.concept b.language_code b.type_id m a.case_significance) term.0 ∙ ap (λ s. made b.concept b.language_code b.type_id b.term s) significance.0
@@ -191,7 +189,7 @@ same_bodies (body.Association a) (body.Association b) ha hb k e =
     ap (λ s. made s a.referenced a.target) refset.0 ∙ ap (λ r. made b.refset r a.target) referenced.0 ∙ ap (λ t. made b.refset b.referenced t) target.0
 same_bodies (body.Concrete a) (body.Concrete b) ha hb k e =
     let source = same_concepts a.source b.source ha.0 hb.0 _ _ e in
-    let value = same_texts a.value b.value _ _ source.1 in
+    let value = same_first_and_rest a.value b.value _ _ source.1 in
     let low = ha.2 in
     let high = hb.2 in
     let group = same_decimals a.group b.group (omega arith) (omega arith) _ _ value.1 in
@@ -207,9 +205,6 @@ same_bodies (body.Member a) (body.Member b) ha hb k e =
     let made : ℕ → ℕ → List ℕ → Body = λ s r f. body.Member (record { refset = s; referenced = r; further = f }) in
     ap (λ s. made s a.referenced a.further) refset.0 ∙ ap (λ r. made b.refset r a.further) referenced.0 ∙ ap (λ f. made b.refset b.referenced f) further
 same_bodies a b ha hb k e = absurd cc
-
-time_below : (t : ℕ) → IsTime t → t < 2 ^ 64
-time_below t h = let to = h.year_to in omega arith
 
 same_versions : (v w : RowValue) → v.id ≡ w.id → v.time ≡ w.time → v.active ≡ w.active → v.module_id ≡ w.module_id → v.body ≡ w.body → v ≡ w
 same_versions v w id time active modul body =

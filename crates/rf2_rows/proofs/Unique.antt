@@ -3,6 +3,7 @@ use Rattle.std.proofs.Common.{◌≡◌, ℕ, suc, ◌+◌, ◌⊎◌, List, [],
 use Rattle.std.specs.Prelude.{MatchResult, IfOk, IfErr}
 use Rattle.std.specs.Global.{Vec}
 use Rattle.std.specs.Str.{IsUtf8}
+use Rattle.list_lemmas.proofs.Parts.{same_first_and_rest}
 use Rattle.rf2_values.specs.declared.sctid.Class.{Class}
 use Rattle.rf2_values.specs.declared.row.Kind.{Kind}
 use Rattle.rf2_values.specs.declared.row.Kind.TheVariants as kind
@@ -89,27 +90,24 @@ one_first_line_fault kind text f g (inr a) (inr b) =
       | inr good ↦ elim b.1 [ inl bad ↦ absurd (bad.0 good.0) | inr also ↦ good.2 ∙ sym also.2 ]
     ]
 
-heads : {X : Type 0} (x y : X) (xs ys : List X) → x ∷ xs ≡ y ∷ ys → (x ≡ y) × (xs ≡ ys)
-heads x y xs ys e = (cc, cc)
-
 -- lines that are cut at a faulty one, where those before it spell rows, are cut there alone
 one_cut : (shape : Shape) (rows others : List RowValue) (before until : List (List ℕ)) (t u : List ℕ) (after rest : List (List ℕ)) (f g : LineFault)
     → before ++ t ∷ after ≡ until ++ u ∷ rest → SpellsEach shape rows before → SpellsEach shape others until → IsFaultOf shape t f → IsFaultOf shape u g → (length before ≡ length until) × (f ≡ g)
 one_cut shape rows others [] [] t u after rest f g e a b ft fu =
-    let same = (heads t u after rest e).0 in
+    let same = (same_first_and_rest t u after rest e).0 in
     (refl, one_fault_of_line shape u f g (subst (λ (x : List ℕ). IsFaultOf shape x f) same ft) fu)
 one_cut shape rows [] [] (y ∷ ys) t u after rest f g e a b ft fu = absurd b
 one_cut shape rows (w ∷ ws) [] (y ∷ ys) t u after rest f g e a b ft fu =
-    let same = (heads t y after (ys ++ u ∷ rest) e).0 in
+    let same = (same_first_and_rest t y after (ys ++ u ∷ rest) e).0 in
     absurd (spelled_has_no_fault shape w y f b.0.0 b.0.1 (subst (λ (x : List ℕ). IsFaultOf shape x f) same ft))
 one_cut shape [] others (x ∷ xs) [] t u after rest f g e a b ft fu = absurd a
 one_cut shape (v ∷ vs) others (x ∷ xs) [] t u after rest f g e a b ft fu =
-    let same = (heads x u (xs ++ t ∷ after) rest e).0 in
+    let same = (same_first_and_rest x u (xs ++ t ∷ after) rest e).0 in
     absurd (spelled_has_no_fault shape v x g a.0.0 a.0.1 (subst (λ (y : List ℕ). IsFaultOf shape y g) (sym same) fu))
 one_cut shape [] others (x ∷ xs) (y ∷ ys) t u after rest f g e a b ft fu = absurd a
 one_cut shape (v ∷ vs) [] (x ∷ xs) (y ∷ ys) t u after rest f g e a b ft fu = absurd b
 one_cut shape (v ∷ vs) (w ∷ ws) (x ∷ xs) (y ∷ ys) t u after rest f g e a b ft fu =
-    let later = one_cut shape vs ws xs ys t u after rest f g (heads x y (xs ++ t ∷ after) (ys ++ u ∷ rest) e).1 a.1 b.1 ft fu in
+    let later = one_cut shape vs ws xs ys t u after rest f g (same_first_and_rest x y (xs ++ t ∷ after) (ys ++ u ∷ rest) e).1 a.1 b.1 ft fu in
     (ap suc later.0, later.1)
 
 one_fault_of_rows : (shape : Shape) (lines : List (List ℕ)) (m n : ℕ) (f g : LineFault) → IsFaultOfRows shape lines m f → IsFaultOfRows shape lines n g → (m ≡ n) × (f ≡ g)

@@ -5,6 +5,7 @@ use Rattle.std.specs.Result.{result_ok}
 use Rattle.std.specs.Str.{IsUtf8}
 use Rattle.std.specs.Str.Parse.{ParsesUnsigned, AllDigits, digits_value}
 use Rattle.rf2_values.specs.Private.{IsPlain}
+use Rattle.rf2_values.specs.Time.{IsTime}
 use Rattle.std.proofs.lemmas.Bool.{cases_eq}
 use Rattle.std.proofs.lemmas.Str.{IsUtf8-from_ascii}
 use Rattle.std.proofs.lemmas.Str.Parse.{IsNumeralModel, numerals_by_value, tells_digits, parse_plain}
@@ -12,6 +13,10 @@ use Rattle.std.proofs.lemmas.Fmt.{IsAscii-decimal, decimal_nonempty, first_decim
 
 pub own : IsNumeralModel (AllDigits 10) (digits_value 10)
 own = numerals_by_value (AllDigits 10) tells_digits
+
+-- a day is a number of 64 bits
+pub time_below : (t : ℕ) → IsTime t → t < 2 ^ 64
+time_below t h = let to = h.year_to in omega arith
 
 pub decimal_is_plain : (n : ℕ) → n < 2 ^ 64 → IsPlain (decimal n)
 decimal_is_plain n lt =

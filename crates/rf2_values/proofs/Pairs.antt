@@ -1,7 +1,7 @@
 -- Two digits at a step of the check.
 use Rattle.std.proofs.Common.{◌≡◌, ℕ, zero, suc, ◌+◌, ◌*◌, ◌/◌, ◌%◌, ◌<◌, ◌≤◌, Bool, true, false, ◌&&◌, List, [], ◌∷◌, refl, ap, ◌∙◌, arith}
 use Rattle.std.specs.Prelude.{◌==◌}
-use Rattle.std.proofs.lemmas.Bool.{and_parts}
+use Rattle.std.proofs.lemmas.Bool.{and_parts, eqb-true}
 use Rattle.std.proofs.lemmas.Bool.Decides.{nat_tests}
 use Rattle.rf2_values.specs.Sctid.{products, turns, entry, check_from}
 use Rattle.rf2_values.proofs.Digits.{from_right, check_step, product_below, turn_below}
@@ -45,9 +45,6 @@ even_turns = (0 ∷ 1 ∷ 2 ∷ 3 ∷ 4 ∷ 5 ∷ 6 ∷ 7 ∷ 8 ∷ 9 ∷ [])
 
 -- ---- all cases
 
-same : (m n : ℕ) → (m == n) ≡ true → m ≡ n
-same m n e = grind (arith, nat_tests, e)
-
 each : ℕ → (ℕ → Bool) → Bool
 each zero p = true
 each (suc n) p = p n && each n p
@@ -58,7 +55,7 @@ at_each zero i p e lt = absurd (omega arith)
 at_each (suc n) i p e lt =
     let parts = and_parts (p n) (each n p) e in
     elim (i == n) as (λ t. (i == n) ≡ t → p i ≡ true) [
-      | true ↦ λ f. ap p (same i n f) ∙ parts.0
+      | true ↦ λ f. ap p (eqb-true i n f) ∙ parts.0
       | false ↦ λ f. at_each n i p parts.1 (grind (arith, nat_tests, f, lt))
     ] refl
 
@@ -69,7 +66,7 @@ pub pair_at : (i digits : ℕ) → i < 4 → digits < 100 → entry pairs i digi
 unfolding each pair_is_right
 pair_at i digits small two =
     let row = at_each 4 i (λ i. each 100 (pair_is_right i)) refl small in
-    same (entry pairs i digits) (turned_pair i digits) (at_each 100 digits (pair_is_right i) row two)
+    eqb-true (entry pairs i digits) (turned_pair i digits) (at_each 100 digits (pair_is_right i) row two)
 
 turn_is_right : ℕ → ℕ → Bool
 turn_is_right i digit = entry even_turns i digit == entry turns (2 * i) digit
@@ -78,7 +75,7 @@ pub even_turn_at : (i digit : ℕ) → i < 4 → digit < 10 → entry even_turns
 unfolding each turn_is_right
 even_turn_at i digit small one =
     let row = at_each 4 i (λ i. each 10 (turn_is_right i)) refl small in
-    same (entry even_turns i digit) (entry turns (2 * i) digit) (at_each 10 digit (turn_is_right i) row one)
+    eqb-true (entry even_turns i digit) (entry turns (2 * i) digit) (at_each 10 digit (turn_is_right i) row one)
 
 is_associative : ℕ → ℕ → ℕ → Bool
 is_associative a b c = entry products (entry products a b) c == entry products a (entry products b c)
@@ -88,7 +85,7 @@ unfolding each is_associative
 associative a b c la lb lc =
     let for_a = at_each 10 a (λ a. each 10 (λ b. each 10 (is_associative a b))) refl la in
     let for_b = at_each 10 b (λ b. each 10 (is_associative a b)) for_a lb in
-    same _ _ (at_each 10 c (is_associative a b) for_b lc)
+    eqb-true _ _ (at_each 10 c (is_associative a b) for_b lc)
 
 pub even_turn_below : (i j : ℕ) → i < 4 → j < 10 → entry even_turns i j < 10
 even_turn_below i j small one = let e = even_turn_at i j small one in let lt = turn_below (2 * i) j in omega arith

@@ -5,12 +5,8 @@ use Rattle.std.specs.Cmp.{IsTotalOrder}
 use Rattle.std.specs.declared.cmp.Ordering.{Ordering}
 use Rattle.std.specs.declared.cmp.Ordering.TheVariants.{Less}
 use Rattle.std.proofs.lemmas.List.{take_more, take_all}
+use Rattle.list_lemmas.proofs.Each.{each_of_pushed, each_at_middle}
 use Rattle.history_model.specs.InOrder.{IsAscending}
-use Rattle.segment.proofs.SegmentLaws.{all_push}
-
-all_last : {X : Type 0} (P : X → Type 0) (xs : List X) (l : X) → AllByRecursion P (xs ++ l ∷ []) → P l
-all_last P [] l all = all.0
-all_last P (x ∷ xs) l all = all_last P xs l all.1
 
 all_front : {X : Type 0} (P : X → Type 0) (xs : List X) (y : X) (ys : List X) → AllByRecursion P (xs ++ y ∷ ys) → AllByRecursion P (xs ++ y ∷ [])
 all_front P [] y ys all = (all.0, tt)
@@ -20,7 +16,7 @@ all_front P (x ∷ xs) y ys all = (all.0, all_front P xs y ys all.1)
 pub ascends_push : {X : Type 0} {cmp : X → X → Ordering} (o : IsTotalOrder cmp) (xs : List X) (l y : X) → IsAscending cmp (xs ++ l ∷ []) → cmp l y ≡ Less → IsAscending cmp ((xs ++ l ∷ []) ++ y ∷ [])
 ascends_push o [] l y up below = ((below, tt), (tt, tt))
 ascends_push {X} {cmp} o (x ∷ xs) l y up below =
-    (all_push (λ (z : X). cmp x z ≡ Less) (xs ++ l ∷ []) y up.0 (o.trans x l y (all_last (λ (z : X). cmp x z ≡ Less) xs l up.0) below), ascends_push o xs l y up.1 below)
+    (each_of_pushed (λ (z : X). cmp x z ≡ Less) (xs ++ l ∷ []) y up.0 (o.trans x l y (each_at_middle (λ (z : X). cmp x z ≡ Less) xs l [] up.0) below), ascends_push o xs l y up.1 below)
 
 pub last_below : {X : Type 0} (cmp : X → X → Ordering) (xs : List X) (l y : X) → IsAscending cmp ((xs ++ l ∷ []) ++ y ∷ []) → cmp l y ≡ Less
 last_below cmp [] l y up = up.0.0

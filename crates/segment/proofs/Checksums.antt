@@ -1,10 +1,12 @@
 -- Records that begin with a checksum.
-use Rattle.std.proofs.Common.{◌≡◌, ℕ, ◌+◌, ◌-◌, ◌^◌, ◌<◌, ◌≤◌, List, [], ◌∷◌, ◌++◌, zero, suc, length, take, drop, get_or, Option, Some, None, refl, sym, ap, subst, ◌∙◌, append_assoc, arith, inl, inr}
+use Rattle.std.proofs.Common.{◌≡◌, ℕ, ◌+◌, ◌-◌, ◌^◌, ◌<◌, ◌≤◌, List, [], ◌∷◌, ◌++◌, suc, length, take, drop, get_or, Option, Some, None, refl, sym, ap, subst, ◌∙◌, append_assoc, arith, inl, inr}
 use Rattle.std.specs.Option.{option_map}
 use Rattle.std.specs.List.{AllByRecursion}
 use Rattle.std.specs.Int.{w32, to_be_bytes, from_be_bytes}
 use Rattle.std.proofs.lemmas.List.{length-append, take_at, drop_at, take-append-drop, append_cancel_left, take-append-le, drop-append-le}
 use Rattle.std.proofs.lemmas.Bool.{cases_lt}
+use Rattle.list_lemmas.proofs.Each.{each_of_parts, each_of_both, each_of_dropped}
+use Rattle.list_lemmas.proofs.Parts.{drop_beyond, same_first_and_rest}
 use Rattle.rf2_values.specs.declared.row.Kind.{Kind}
 use Rattle.rf2_values.specs.Row.{kind_of}
 use Rattle.history_model.specs.declared.stamped.StampedRow.{StampedRow}
@@ -75,9 +77,6 @@ has_head bytes head behind fits read s x e =
     let parts = parts_are head (crc32c (spelled (fields_of s))) behind (spelled (fields_of s) ++ x) (sym read ∙ head_at bytes s x fits e) in
     record { head_is = parts.0; behind_is = parts.1 }
 
-pub rest_is : (rest x : List ℕ) → Some rest ≡ Some x → rest ≡ x
-rest_is rest x e = cc
-
 -- what is cut off before so many bytes are left
 pub cut_before : (fields x behind rest : List ℕ) (len : ℕ) → behind ≡ fields ++ x → rest ≡ x → len ≡ length behind - length rest → take len behind ≡ fields
 cut_before fields x behind rest len e same len_is =
@@ -98,27 +97,6 @@ split_there bytes head behind front rest fits read whole sum only =
 
 -- ---- a byte that was changed
 
-same_past : (n : ℕ) (before after : List ℕ) (b c : ℕ) → length before < n → drop n (before ++ b ∷ after) ≡ drop n (before ++ c ∷ after)
-same_past zero before after b c short = absurd (omega (arith, short))
-same_past (suc n) [] after b c short = refl
-same_past (suc n) (x ∷ before) after b c short = same_past n before after b c (omega (arith, short))
-
-pub all_split : (P : ℕ → Type 0) (xs : List ℕ) (y : ℕ) (ys : List ℕ) → AllByRecursion P (xs ++ y ∷ ys) → AllByRecursion P xs × P y × AllByRecursion P ys
-all_split P [] y ys all = (tt, all.0, all.1)
-all_split P (x ∷ xs) y ys all = let rest = all_split P xs y ys all.1 in ((all.0, rest.0), rest.1, rest.2)
-
-pub all_joined : (P : ℕ → Type 0) (xs : List ℕ) (y : ℕ) (ys : List ℕ) → AllByRecursion P xs → P y → AllByRecursion P ys → AllByRecursion P (xs ++ y ∷ ys)
-all_joined P [] y ys all p others = (p, others)
-all_joined P (x ∷ xs) y ys all p others = (all.0, all_joined P xs y ys all.1 p others)
-
-all_drop : (P : ℕ → Type 0) (n : ℕ) (xs : List ℕ) → AllByRecursion P xs → AllByRecursion P (drop n xs)
-all_drop P zero xs all = all
-all_drop P (suc n) [] all = tt
-all_drop P (suc n) (x ∷ xs) all = all_drop P n xs all.1
-
-same_first : (b c : ℕ) (after : List ℕ) → b ∷ after ≡ c ∷ after → b ≡ c
-same_first b c after e = cc
-
 checked_is : (s : StampedRow) → record_in forms.Checked s ≡ to_be_bytes w32 (crc32c (spelled (fields_of s))) ++ spelled (fields_of s)
 unfolding record_in field_bytes
 checked_is s = refl
@@ -133,17 +111,17 @@ sum_of s = ap (take 4) (checked_is s) ∙ take_at (to_be_bytes w32 (crc32c (spel
 pub changed_byte_is_noticed : ChangedByteIsNoticed
 changed_byte_is_noticed s other before after byte changed all small is others = elim (cases_lt (length before) 4) [
   | inl short ↦
-      let fields : spelled (fields_of s) ≡ spelled (fields_of other) = sym (behind_sum s) ∙ ap (drop 4) is ∙ same_past 4 before after byte changed short ∙ ap (drop 4) (sym others) ∙ behind_sum other in
+      let fields : spelled (fields_of s) ≡ spelled (fields_of other) = sym (behind_sum s) ∙ ap (drop 4) is ∙ drop_beyond 4 before after byte changed short ∙ ap (drop 4) (sym others) ∙ behind_sum other in
       let same : record_in forms.Checked s ≡ record_in forms.Checked other = checked_is s ∙ ap (λ (l : List ℕ). to_be_bytes w32 (crc32c l) ++ l) fields ∙ sym (checked_is other) in
-      same_first byte changed after (append_cancel_left before (byte ∷ after) (changed ∷ after) (sym is ∙ same ∙ others))
+      (same_first_and_rest byte changed after after (append_cancel_left before (byte ∷ after) (changed ∷ after) (sym is ∙ same ∙ others))).0
   | inr long ↦
-      let parts = all_split (λ b. b < 256) before byte after all in
+      let parts = each_of_parts (λ b. b < 256) before byte after all in
       let front = drop 4 before in
       let of_s : spelled (fields_of s) ≡ front ++ byte ∷ after = sym (behind_sum s) ∙ ap (drop 4) is ∙ drop-append-le 4 before (byte ∷ after) long in
       let of_other : spelled (fields_of other) ≡ front ++ changed ∷ after = sym (behind_sum other) ∙ ap (drop 4) others ∙ drop-append-le 4 before (changed ∷ after) long in
-      let fronts = all_drop (λ b. b < 256) 4 before parts.0 in
-      let small_s : crc32c (front ++ byte ∷ after) < 2 ^ 32 = is_number_of_32_bits (front ++ byte ∷ after) (all_joined (λ b. b < 256) front byte after fronts parts.1 parts.2) in
-      let small_other : crc32c (front ++ changed ∷ after) < 2 ^ 32 = is_number_of_32_bits (front ++ changed ∷ after) (all_joined (λ b. b < 256) front changed after fronts small parts.2) in
+      let fronts = each_of_dropped (λ b. b < 256) 4 before parts.0 in
+      let small_s : crc32c (front ++ byte ∷ after) < 2 ^ 32 = is_number_of_32_bits (front ++ byte ∷ after) (each_of_both (λ b. b < 256) front (byte ∷ after) fronts (parts.1, parts.2)) in
+      let small_other : crc32c (front ++ changed ∷ after) < 2 ^ 32 = is_number_of_32_bits (front ++ changed ∷ after) (each_of_both (λ b. b < 256) front (changed ∷ after) fronts (small, parts.2)) in
       let sums : to_be_bytes w32 (crc32c (spelled (fields_of s))) ≡ to_be_bytes w32 (crc32c (spelled (fields_of other))) =
       sym (sum_of s) ∙ ap (take 4) is ∙ take-append-le 4 before (byte ∷ after) long ∙ sym (take-append-le 4 before (changed ∷ after) long) ∙ ap (take 4) (sym others) ∙ sum_of other in
       let numbers : crc32c (front ++ byte ∷ after) ≡ crc32c (front ++ changed ∷ after) =

@@ -4,6 +4,7 @@ use Rattle.std.specs.List.{AllByRecursion}
 use Rattle.std.specs.Int.{Width, w16, w32, byte_len, from_be_bytes, to_be_bytes}
 use Rattle.std.proofs.lemmas.Bool.{ltb-false, le-ltb, eqb-true}
 use Rattle.std.proofs.lemmas.List.{take_at, drop_at, take-append-drop, length-append, length-take, append-nil, nil_from_length}
+use Rattle.std.proofs.lemmas.Option.{same_Some, cond_some}
 use Rattle.segment.specs.Records.{Field, Number, Text, field_bytes, spelled}
 use Rattle.segment.specs.Private.Reading.{Form, Wide, Counted, form_of, Fits, ◌>>=◌, cut_at, number_at, text_at, field_at, fields_at, all_at, record_bytes_at}
 use Rattle.segment.proofs.Numbers.{IsBytes, IsBytes-take, IsBytes-drop, limit, number_length, number_back, number_again}
@@ -12,9 +13,6 @@ use Rattle.segment.proofs.Numbers.{IsBytes, IsBytes-take, IsBytes-drop, limit, n
 bind_some : {A B : Type 0} (r : Option A) (f : A → Option B) (y : B) → (r >>= f) ≡ Some y → (x : A) × (r ≡ Some x) × (f x ≡ Some y)
 bind_some (Some x) f y e = (x, refl, e)
 bind_some None f y e = absurd cc
-
-some_is : {A : Type 0} (x y : A) → Some x ≡ Some y → x ≡ y
-some_is x y e = cc
 
 -- bytes that are a front and a rest
 pub record Parts (bytes front rest : List ℕ) : Type 0 where
@@ -52,7 +50,7 @@ number_some w bytes p fits e =
     let back : to_be_bytes w (from_be_bytes w c.0.0) ≡ c.0.0 = number_back w c.0.0 k.1 k.2 in
     let made : ℕ × List ℕ = (from_be_bytes w c.0.0, c.0.1) in
     let there : Parts bytes (to_be_bytes w made.0) made.1 = subst (λ (front : List ℕ). Parts bytes front c.0.1) (sym back) k.0 in
-    subst (λ (q : ℕ × List ℕ). Parts bytes (to_be_bytes w q.0) q.1) (some_is made p c.2) there
+    subst (λ (q : ℕ × List ℕ). Parts bytes (to_be_bytes w q.0) q.1) (same_Some made p c.2) there
 
 pub number_again_at : (w : Width) (n : ℕ) (rest : List ℕ) → n < limit w → number_at w (to_be_bytes w n ++ rest) ≡ Some (n, rest)
 unfolding number_at
@@ -85,11 +83,11 @@ unfolding field_bytes
 field_some (Wide w) bytes p fits e =
     let a = bind_some (number_at w bytes) (λ n. Some (Number w n.0, n.1)) p e in
     let made : Field × List ℕ = (Number w a.0.0, a.0.1) in
-    subst (λ (q : Field × List ℕ). Parts bytes (field_bytes q.0) q.1) (some_is made p a.2) (number_some w bytes a.0 fits a.1)
+    subst (λ (q : Field × List ℕ). Parts bytes (field_bytes q.0) q.1) (same_Some made p a.2) (number_some w bytes a.0 fits a.1)
 field_some Counted bytes p fits e =
     let a = bind_some (text_at bytes) (λ text. Some (Text text.0, text.1)) p e in
     let made : Field × List ℕ = (Text a.0.0, a.0.1) in
-    subst (λ (q : Field × List ℕ). Parts bytes (field_bytes q.0) q.1) (some_is made p a.2) (text_some bytes a.0 fits a.1)
+    subst (λ (q : Field × List ℕ). Parts bytes (field_bytes q.0) q.1) (same_Some made p a.2) (text_some bytes a.0 fits a.1)
 
 field_again : (f : Field) (rest : List ℕ) → Fits f → field_at (form_of f) (field_bytes f ++ rest) ≡ Some (f, rest)
 unfolding field_bytes
@@ -100,14 +98,14 @@ field_again (Text text) rest fits = ap (λ (r : Option (List ℕ × List ℕ)). 
 pub fields_some : (forms : List Form) (bytes : List ℕ) (p : List Field × List ℕ) → IsBytes bytes → fields_at forms bytes ≡ Some p → Parts bytes (spelled p.0) p.1
 fields_some [] bytes p fits e =
     let none : List Field = [] in
-    subst (λ (q : List Field × List ℕ). Parts bytes (spelled q.0) q.1) (some_is (none, bytes) p e) (record { whole = refl; rest_fits = fits })
+    subst (λ (q : List Field × List ℕ). Parts bytes (spelled q.0) q.1) (same_Some (none, bytes) p e) (record { whole = refl; rest_fits = fits })
 fields_some (form ∷ forms) bytes p fits e =
     let a = bind_some (field_at form bytes) (λ field. fields_at forms field.1 >>= λ fields. Some (field.0 ∷ fields.0, fields.1)) p e in
     let first = field_some form bytes a.0 fits a.1 in
     let b = bind_some (fields_at forms a.0.1) (λ fields. Some (a.0.0 ∷ fields.0, fields.1)) p a.2 in
     let others = fields_some forms a.0.1 b.0 first.rest_fits b.1 in
     let made : List Field × List ℕ = (a.0.0 ∷ b.0.0, b.0.1) in
-    subst (λ (q : List Field × List ℕ). Parts bytes (spelled q.0) q.1) (some_is made p b.2) (Parts-then bytes (field_bytes a.0.0) a.0.1 (spelled b.0.0) b.0.1 first others)
+    subst (λ (q : List Field × List ℕ). Parts bytes (spelled q.0) q.1) (same_Some made p b.2) (Parts-then bytes (field_bytes a.0.0) a.0.1 (spelled b.0.0) b.0.1 first others)
 
 -- fields that stand there are read
 pub fields_again : (fields : List Field) (rest : List ℕ) → AllByRecursion Fits fields → fields_at (map form_of fields) (spelled fields ++ rest) ≡ Some (fields, rest)
@@ -117,15 +115,11 @@ fields_again (f ∷ fields) rest fits =
     ∙ ap (λ (r : Option (Field × List ℕ)). r >>= λ field. fields_at (map form_of fields) field.1 >>= λ others. Some (field.0 ∷ others.0, others.1)) (field_again f (spelled fields ++ rest) fits.0)
     ∙ ap (λ (r : Option (List Field × List ℕ)). r >>= λ others. Some (f ∷ others.0, others.1)) (fields_again fields rest fits.1)
 
-ended : {A : Type 0} (b : Bool) (x y : A) → cond b (Some x) None ≡ Some y → (b ≡ true) × (x ≡ y)
-ended true x y e = (refl, cc)
-ended false x y e = absurd cc
-
 pub all_some : (forms : List Form) (bytes : List ℕ) (fields : List Field) → IsBytes bytes → all_at forms bytes ≡ Some fields → bytes ≡ spelled fields
 all_some forms bytes fields fits e =
     let a = bind_some (fields_at forms bytes) (λ x. cond (eqb (length x.1) 0) (Some x.0) None) fields e in
     let parts = fields_some forms bytes a.0 fits a.1 in
-    let end = ended (eqb (length a.0.1) 0) a.0.0 fields a.2 in
+    let end = cond_some (eqb (length a.0.1) 0) a.0.0 fields a.2 in
     parts.whole ∙ ap (λ (rest : List ℕ). spelled a.0.0 ++ rest) (nil_from_length a.0.1 (eqb-true _ _ end.0)) ∙ append-nil (spelled a.0.0) ∙ ap spelled end.1
 
 pub all_again : (fields : List Field) → AllByRecursion Fits fields → all_at (map form_of fields) (spelled fields) ≡ Some fields

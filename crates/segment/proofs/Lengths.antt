@@ -1,9 +1,11 @@
 -- A changed byte that doesn't say how long a record is leaves it as long as it was.
-use Rattle.std.proofs.Common.{◌≡◌, ◌≢◌, ◌⊎◌, inl, inr, ℕ, zero, suc, ◌+◌, ◌-◌, ◌^◌, ◌<◌, ◌≤◌, List, [], ◌∷◌, ◌++◌, length, take, drop, map, Option, Some, None, refl, sym, ap, subst, ◌∙◌, arith, length-append, length-take, length-drop, append_assoc}
+use Rattle.std.proofs.Common.{◌≡◌, ◌≢◌, ◌⊎◌, inl, inr, ℕ, ◌+◌, ◌-◌, ◌^◌, ◌<◌, ◌≤◌, List, [], ◌∷◌, ◌++◌, length, take, drop, map, Option, Some, None, refl, sym, ap, subst, ◌∙◌, arith, length-append, length-take, length-drop, append_assoc}
 use Rattle.std.specs.List.{AllByRecursion}
 use Rattle.std.specs.Int.{Width, w8, w16, w32, byte_len, from_be_bytes, to_be_bytes}
 use Rattle.std.proofs.lemmas.Bool.{cases_lt}
 use Rattle.std.proofs.lemmas.List.{take-append-le, drop-append-le, take_at, drop_at}
+use Rattle.list_lemmas.proofs.Each.{each_of_parts, each_of_both, each_of_taken}
+use Rattle.list_lemmas.proofs.Parts.{drop_beyond, take_beyond, same_first_and_rest}
 use Rattle.rf2_values.specs.Row.{kind_of}
 use Rattle.rf2_values.specs.declared.row.Kind.{Kind}
 use Rattle.history_model.specs.declared.stamped.StampedRow.{StampedRow}
@@ -13,25 +15,7 @@ use Rattle.segment.specs.Private.Reading.{Form, Wide, Counted, form_of, Fits, co
 use Rattle.segment.proofs.Numbers.{limit, number_length, number_again}
 use Rattle.segment.proofs.FieldLaws.{fields_again}
 use Rattle.segment.proofs.RecordLaws.{behind_head, code_kind, common_fits, forms_are, length-record_in, parts_are, row_fits, same_behind}
-use Rattle.segment.proofs.Checksums.{all_split, all_joined, changed_byte_is_noticed}
-
-all_take : (P : ℕ → Type 0) (n : ℕ) (xs : List ℕ) → AllByRecursion P xs → AllByRecursion P (take n xs)
-all_take P zero xs all = tt
-all_take P (suc n) [] all = tt
-all_take P (suc n) (x ∷ xs) all = (all.0, all_take P n xs all.1)
-
--- where the byte is, in bytes of which it is one
-past : (n : ℕ) (before after : List ℕ) (b c : ℕ) → length before < n → drop n (before ++ b ∷ after) ≡ drop n (before ++ c ∷ after)
-past zero before after b c short = absurd (omega (arith, short))
-past (suc n) [] after b c short = refl
-past (suc n) (x ∷ before) after b c short = past n before after b c (omega (arith, short))
-
-taken : (n : ℕ) (before after : List ℕ) (b : ℕ) → length before < n → take n (before ++ b ∷ after) ≡ before ++ b ∷ take (n - (length before + 1)) after
-taken zero before after b short = absurd (omega (arith, short))
-taken (suc n) [] after b short = let e : suc n - (0 + 1) ≡ n = omega arith in ap (λ (m : ℕ). b ∷ take m after) (sym e)
-taken (suc n) (x ∷ before) after b short =
-    let e : suc n - (suc (length before) + 1) ≡ n - (length before + 1) = omega arith in
-    ap (λ (l : List ℕ). x ∷ l) (taken n before after b (omega (arith, short)) ∙ ap (λ (m : ℕ). before ++ b ∷ take m after) (sym e))
+use Rattle.segment.proofs.Checksums.{changed_byte_is_noticed}
 
 -- what stands behind the first of two fields
 behind : (first others x : List ℕ) (bytes : List ℕ) (n : ℕ) → (first ++ others) ++ x ≡ bytes → length first ≡ n → others ++ x ≡ drop n bytes
@@ -46,9 +30,6 @@ as_long fs gs x y same fits others e =
     let both : Some (fs, x) ≡ Some (gs, y) = sym (fields_again fs x fits) ∙ ap (fields_at (map form_of fs)) e ∙ ap (λ (l : List Form). fields_at l (spelled gs ++ y)) same ∙ fields_again gs y others in
     let parts = parts_are fs gs x y both in
     ap (λ (l : List Field). length (spelled l)) parts.0
-
-first_form : (f g : Form) (fs gs : List Form) → f ∷ fs ≡ g ∷ gs → (f ≡ g) × (fs ≡ gs)
-first_form f g fs gs e = (cc, cc)
 
 width_is : (w v : Width) → Wide w ≡ Wide v → w ≡ v
 width_is w v e = cc
@@ -66,8 +47,8 @@ same_room (f ∷ fs) [] x y before after b c same fits others is also free = abs
 same_room (Number w n ∷ fs) (Text u ∷ gs) x y before after b c same fits others is also free = absurd cc
 same_room (Text t ∷ fs) (Number v m ∷ gs) x y before after b c same fits others is also free = absurd cc
 same_room (Number w n ∷ fs) (Number v m ∷ gs) x y before after b c same fits others is also free =
-    let widths : w ≡ v = width_is w v (first_form (Wide w) (Wide v) (map form_of fs) (map form_of gs) same).0 in
-    let rest = (first_form (Wide w) (Wide v) (map form_of fs) (map form_of gs) same).1 in
+    let widths : w ≡ v = width_is w v (same_first_and_rest (Wide w) (Wide v) (map form_of fs) (map form_of gs) same).0 in
+    let rest = (same_first_and_rest (Wide w) (Wide v) (map form_of fs) (map form_of gs) same).1 in
     let long = number_length w n in
     let also_long : length (to_be_bytes v m) ≡ byte_len w = number_length v m ∙ ap byte_len (sym widths) in
     let here = behind (to_be_bytes w n) (spelled fs) x (before ++ b ∷ after) (byte_len w) is long in
@@ -75,12 +56,12 @@ same_room (Number w n ∷ fs) (Number v m ∷ gs) x y before after b c same fits
     let lengths = length-append (to_be_bytes w n) (spelled fs) in
     let also_lengths = length-append (to_be_bytes v m) (spelled gs) in
     elim (cases_lt (length before) (byte_len w)) [
-      | inl short ↦ (let on = as_long fs gs x y rest fits.1 others.1 (here ∙ past (byte_len w) before after b c short ∙ sym there) in omega (arith, on, lengths, also_lengths, long, also_long))
+      | inl short ↦ (let on = as_long fs gs x y rest fits.1 others.1 (here ∙ drop_beyond (byte_len w) before after b c short ∙ sym there) in omega (arith, on, lengths, also_lengths, long, also_long))
       | inr far ↦ (let on = same_room fs gs x y (drop (byte_len w) before) after b c rest fits.1 others.1 (here ∙ cut (byte_len w) before after b far) (there ∙ cut (byte_len w) before after c far)
           (λ says. free (far, subst (SaysLength fs) (length-drop (byte_len w) before) says)) in omega (arith, on, lengths, also_lengths, long, also_long))
     ]
 same_room (Text t ∷ fs) (Text u ∷ gs) x y before after b c same fits others is also free =
-    let rest = (first_form Counted Counted (map form_of fs) (map form_of gs) same).1 in
+    let rest = (same_first_and_rest Counted Counted (map form_of fs) (map form_of gs) same).1 in
     let n = 2 + length t in
     elim (cases_lt (length before) 2) [
       | inl short ↦ absurd (free (inl short))
@@ -97,7 +78,7 @@ same_room (Text t ∷ fs) (Text u ∷ gs) x y before after b c same fits others 
           let lengths = length-append (to_be_bytes w16 (length t) ++ t) (spelled fs) in
           let also_lengths = length-append (to_be_bytes w16 (length u) ++ u) (spelled gs) in
           elim (cases_lt (length before) n) [
-            | inl near ↦ (let on = as_long fs gs x y rest fits.1 others.1 (here ∙ past n before after b c near ∙ sym there) in omega (arith, on, lengths, also_lengths, long, also_long))
+            | inl near ↦ (let on = as_long fs gs x y rest fits.1 others.1 (here ∙ drop_beyond n before after b c near ∙ sym there) in omega (arith, on, lengths, also_lengths, long, also_long))
             | inr beyond ↦ (let on = same_room fs gs x y (drop n before) after b c rest fits.1 others.1 (here ∙ cut n before after b beyond) (there ∙ cut n before after c beyond)
                 (λ says. free (inr (beyond, subst (SaysLength fs) (length-drop n before) says))) in omega (arith, on, lengths, also_lengths, long, also_long))
           ]
@@ -131,7 +112,7 @@ module _ (s t : StampedRow) (x y before after : List ℕ) (byte changed : ℕ) (
     (here : record_in forms.Checked s ++ x ≡ before ++ byte ∷ after) (there : record_in forms.Checked t ++ y ≡ before ++ changed ∷ after) where
   of_short : length before < 4 → length (record_in forms.Checked t) ≡ length (record_in forms.Checked s)
   of_short short =
-      let same = same_behind s t x y is other (sym (behind_head forms.Checked s x) ∙ ap (drop 4) here ∙ past 4 before after byte changed short ∙ ap (drop 4) (sym there) ∙ behind_head forms.Checked t y) in
+      let same = same_behind s t x y is other (sym (behind_head forms.Checked s x) ∙ ap (drop 4) here ∙ drop_beyond 4 before after byte changed short ∙ ap (drop 4) (sym there) ∙ behind_head forms.Checked t y) in
       ap (λ (r : StampedRow). length (record_in forms.Checked r)) (sym same.0)
 
   of_long : 4 ≤ length before → length (record_in forms.Checked t) ≡ length (record_in forms.Checked s)
@@ -160,8 +141,8 @@ changed_record_is_none s t x y before after byte changed is other all small diff
     let n = length (record_in forms.Checked s) in
     let inside : length before < n = omega (arith, within, length-record_in forms.Checked s) in
     let rest = take (n - (length before + 1)) after in
-    let one : record_in forms.Checked s ≡ before ++ byte ∷ rest = sym (take_at (record_in forms.Checked s) x n refl) ∙ ap (take n) here ∙ taken n before after byte inside in
+    let one : record_in forms.Checked s ≡ before ++ byte ∷ rest = sym (take_at (record_in forms.Checked s) x n refl) ∙ ap (take n) here ∙ take_beyond n before after byte inside in
     let two : record_in forms.Checked t ≡ before ++ changed ∷ rest =
-    sym (take_at (record_in forms.Checked t) y n (same_length s t x y before after byte changed is other free here there)) ∙ ap (take n) there ∙ taken n before after changed inside in
-    let parts = all_split (λ b. b < 256) before byte after all in
-    differs (changed_byte_is_noticed s t before rest byte changed (all_joined (λ b. b < 256) before byte rest parts.0 parts.1 (all_take (λ b. b < 256) (n - (length before + 1)) after parts.2)) small one two)
+    sym (take_at (record_in forms.Checked t) y n (same_length s t x y before after byte changed is other free here there)) ∙ ap (take n) there ∙ take_beyond n before after changed inside in
+    let parts = each_of_parts (λ b. b < 256) before byte after all in
+    differs (changed_byte_is_noticed s t before rest byte changed (each_of_both (λ b. b < 256) before (byte ∷ rest) parts.0 (parts.1, each_of_taken (λ b. b < 256) (n - (length before + 1)) after parts.2)) small one two)

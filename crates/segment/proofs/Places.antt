@@ -1,7 +1,7 @@
 -- Records at places.
-use Rattle.std.proofs.Common.{◌≡◌, ℕ, ◌+◌, ◌-◌, ◌≤◌, List, [], ◌∷◌, ◌++◌, length, take, drop, refl, sym, ap, ◌∙◌, arith}
-use Rattle.std.specs.List.{AllByRecursion}
+use Rattle.std.proofs.Common.{◌≡◌, ℕ, ◌+◌, ◌-◌, ◌≤◌, List, ◌∷◌, ◌++◌, length, take, drop, refl, sym, ap, ◌∙◌, arith}
 use Rattle.std.proofs.lemmas.List.{take-append-drop, length-append, length-drop, take_at, drop_at}
+use Rattle.list_lemmas.proofs.Each.{each_at_middle}
 use Rattle.history_model.specs.declared.stamped.StampedRow.{StampedRow}
 use Rattle.checksum.specs.declared.form.Form.{Form}
 use Rattle.checksum.specs.declared.form.Form.TheVariants as forms
@@ -35,11 +35,8 @@ place_found form bytes place s after in_range is e =
       bytes_are = ap (take (length (record_of s))) e ∙ take_at (record_in form s) after (length (record_of s)) (length-record_in form s);
     }
 
-all_at : {X : Type 0} (P : X → Type 0) (before : List X) (x : X) (after : List X) → AllByRecursion P (before ++ x ∷ after) → P x
-all_at P [] x after all = all.0
-all_at P (y ∷ before) x after all = all_at P before x after all.1
-
-first_record : (form : Form) (s : StampedRow) (after : List StampedRow) → segment_in form (s ∷ after) ≡ record_in form s ++ segment_in form after
+-- the first record, and those behind it
+pub first_record : (form : Form) (s : StampedRow) (after : List StampedRow) → segment_in form (s ∷ after) ≡ record_in form s ++ segment_in form after
 unfolding segment_in
 first_record form s after = refl
 
@@ -49,7 +46,7 @@ each_at_its_place form before after s bytes is =
     let whole : bytes ≡ front ++ (record_in form s ++ segment_in form after) = is.bytes_are ∙ pieces_join form before (s ∷ after) ∙ ap (λ (l : List ℕ). front ++ l) (first_record form s after) in
     let rest : drop (length (segment_of before)) bytes ≡ record_in form s ++ segment_in form after = ap (drop (length (segment_of before))) whole ∙ drop_at front (record_in form s ++ segment_in form after) (length (segment_of before)) (length-segment_in form before) in
     record {
-      is = all_at IsStamped before s after is.each;
+      is = each_at_middle IsStamped before s after is.each;
       next_is = ap length (push_plain before s) ∙ length-append (segment_of before) (record_of s);
       bytes_are = ap (take (length (record_of s))) rest ∙ take_at (record_in form s) (segment_in form after) (length (record_of s)) (length-record_in form s);
     }

@@ -1,5 +1,5 @@
 -- Rows and their places.
-use Rattle.std.proofs.Common.{◌≡◌, ℕ, ◌+◌, List, [], ◌∷◌, ◌++◌, length, refl, sym, ap, subst, inl, inr, ◌∙◌, arith}
+use Rattle.std.proofs.Common.{◌≡◌, ℕ, ◌+◌, ◌≤◌, List, [], ◌∷◌, ◌++◌, length, map, refl, sym, ap, subst, inl, inr, ◌∙◌, arith}
 use Rattle.std.proofs.lemmas.List.{length-append}
 use Rattle.rf2_values.specs.Key.{key_of}
 use Rattle.history_model.specs.declared.stamped.StampedRow.{StampedRow}
@@ -10,6 +10,7 @@ use Rattle.checksum.specs.declared.form.Form.TheVariants as forms
 use Rattle.segment.specs.Records.{record_of, segment_of, IsSegmentIn, IsRecordAt}
 use Rattle.segment.specs.Standing.{record_len, row_place, with_places, EachStandsAtItsByte}
 use Rattle.segment.proofs.Places.{each_at_its_place}
+use Rattle.segment.proofs.RecordLaws.{length-record}
 use Rattle.segment.proofs.SegmentLaws.{push_plain, no_rows_plain}
 
 -- what a place says of its row
@@ -39,9 +40,20 @@ says at (r ∷ rows) x h = elim h [ inl e ↦ subst (λ (y : StampedRow × RowPl
 
 -- ---- where its record is
 
-at_byte : (s : StampedRow) (at : ℕ) → (row_place s at).at ≡ at
+-- a row's place has the byte that it was made with
+pub place_at : (s : StampedRow) (at : ℕ) → (row_place s at).at ≡ at
 unfolding row_place
-at_byte s at = refl
+place_at s at = refl
+
+-- and as many bytes as the row's record
+pub place_bytes : (s : StampedRow) (at : ℕ) → (row_place s at).bytes ≡ length (record_of s)
+unfolding row_place
+place_bytes s at = refl
+
+-- there is a place for each row
+pub as_many_places : (at : ℕ) (rows : List StampedRow) → length (map (λ (x : StampedRow × RowPlace). x.1) (with_places at rows)) ≡ length rows
+as_many_places at [] = refl
+as_many_places at (s ∷ rows) = let rest = as_many_places (at + record_len s) rows in omega (arith, rest)
 
 -- the rows before one, and those after it
 pub record Between (at : ℕ) (rows : List StampedRow) (x : StampedRow × RowPlace) : Type 0 where
@@ -50,9 +62,32 @@ pub record Between (at : ℕ) (rows : List StampedRow) (x : StampedRow × RowPla
   pub rows_are : rows ≡ before ++ x.0 ∷ after
   pub at_is : x.1.at ≡ at + length (segment_of before)
 
-first_len : (r : StampedRow) (rows : List StampedRow) → length (segment_of (r ∷ rows)) ≡ length (record_of r) + length (segment_of rows)
+-- how long the records of one row and of others are
+pub segment_length_more : (r : StampedRow) (rows : List StampedRow) → length (segment_of (r ∷ rows)) ≡ length (record_of r) + length (segment_of rows)
 unfolding segment_of
-first_len r rows = length-append (record_of r) (segment_of rows)
+segment_length_more r rows = length-append (record_of r) (segment_of rows)
+
+-- each record has some bytes
+pub rows_at_most_bytes : (rows : List StampedRow) → length rows ≤ length (segment_of rows)
+rows_at_most_bytes [] = omega arith
+rows_at_most_bytes (r ∷ rows) = let rest = rows_at_most_bytes rows in omega (arith, rest, segment_length_more r rows, length-record r)
+
+-- the record of one row more stands behind those of the others
+pub with_places_push : (at : ℕ) (rows : List StampedRow) (s : StampedRow) → with_places at (rows ++ s ∷ []) ≡ with_places at rows ++ (s, row_place s (at + length (segment_of rows))) ∷ []
+with_places_push at [] s =
+    let none = ap length no_rows_plain in
+    let same : at ≡ at + length (segment_of []) = omega (arith, none) in
+    ap (λ n. (s, row_place s n) ∷ []) same
+with_places_push at (r ∷ rows) s =
+    let same : at + record_len r + length (segment_of rows) ≡ at + length (segment_of (r ∷ rows)) = omega (arith, segment_length_more r rows) in
+    ap (λ l. (r, row_place r at) ∷ l) (with_places_push (at + record_len r) rows s ∙ ap (λ n. with_places (at + record_len r) rows ++ (s, row_place s n) ∷ []) same)
+
+-- and ends where the records of all do
+pub record_ends : (rows : List StampedRow) (s : StampedRow) (at : ℕ) (place : RowPlace) → at ≡ length (segment_of rows) → place ≡ row_place s at → at + place.bytes ≡ length (segment_of (rows ++ s ∷ []))
+record_ends rows s at place here is =
+    let long = ap (λ (p : RowPlace). p.bytes) is ∙ place_bytes s at in
+    let whole = ap length (push_plain rows s) ∙ length-append (segment_of rows) (record_of s) in
+    omega (arith, long, whole, here)
 
 pub between : (at : ℕ) (rows : List StampedRow) (x : StampedRow × RowPlace) → Has (with_places at rows) x → Between at rows x
 between at [] x h = absurd h
@@ -61,7 +96,7 @@ between at (r ∷ rows) x h = elim h [
     before = [];
     after = rows;
     rows_are = refl;
-    at_is = (let a = at_byte r at in let none = ap length no_rows_plain in omega arith);
+    at_is = (let a = place_at r at in let none = ap length no_rows_plain in omega arith);
   })
   | inr t ↦
       let w = between (at + record_len r) rows x t in
@@ -69,7 +104,7 @@ between at (r ∷ rows) x h = elim h [
         before = r ∷ w.before;
         after = w.after;
         rows_are = ap (λ (l : List StampedRow). r ∷ l) w.rows_are;
-        at_is = (let a = w.at_is in let l = first_len r w.before in omega arith);
+        at_is = (let a = w.at_is in let l = segment_length_more r w.before in omega arith);
       }
 ]
 

@@ -1,8 +1,9 @@
 -- Segments: one record after the other.
 use Rattle.std.proofs.Common.{◌≡◌, ℕ, ◌+◌, ◌<◌, List, [], ◌∷◌, ◌++◌, length, take, get_or, refl, sym, ap, ◌∙◌, append_assoc, arith}
 use Rattle.std.specs.List.{AllByRecursion, flat_map}
-use Rattle.std.proofs.lemmas.List.{take_more, append-nil, length-append}
+use Rattle.std.proofs.lemmas.List.{append-nil, length-append}
 use Rattle.std.proofs.lemmas.List.Concat.{flat_map-append}
+use Rattle.list_lemmas.proofs.Parts.{take_one_more}
 use Rattle.history_model.specs.declared.stamped.StampedRow.{StampedRow}
 use Rattle.checksum.specs.declared.form.Form.{Form}
 use Rattle.checksum.specs.declared.form.Form.TheVariants as forms
@@ -15,15 +16,8 @@ pub segment_push : (form : Form) (rows : List StampedRow) (s : StampedRow) → s
 unfolding segment_in
 segment_push form rows s = flat_map-append (record_in form) rows (s ∷ []) ∙ ap (λ (end : List ℕ). flat_map (record_in form) rows ++ end) (append-nil (record_in form s))
 
-pub taken_more : (rows : List StampedRow) (i : ℕ) (s : StampedRow) → i < length rows → s ≡ get_or rows i s → take (i + 1) rows ≡ take i rows ++ s ∷ []
-taken_more rows i s lt is = take_more rows i s lt ∙ ap (λ (t : StampedRow). take i rows ++ t ∷ []) (sym is)
-
 pub segment_more : (form : Form) (rows : List StampedRow) (i : ℕ) (s : StampedRow) → i < length rows → s ≡ get_or rows i s → segment_in form (take (i + 1) rows) ≡ segment_in form (take i rows) ++ record_in form s
-segment_more form rows i s lt is = ap (segment_in form) (taken_more rows i s lt is) ∙ segment_push form (take i rows) s
-
-pub all_push : {X : Type 0} (P : X → Type 0) (xs : List X) (x : X) → AllByRecursion P xs → P x → AllByRecursion P (xs ++ x ∷ [])
-all_push P [] x all p = (p, tt)
-all_push P (y ∷ ys) x all p = (all.0, all_push P ys x all.1 p)
+segment_more form rows i s lt is = ap (segment_in form) (take_one_more rows i s lt is) ∙ segment_push form (take i rows) s
 
 pub no_rows : (form : Form) → segment_in form [] ≡ []
 unfolding segment_in
@@ -73,6 +67,11 @@ unfolding segment_in segment_of
 plain_segment [] = refl
 plain_segment (s ∷ rows) = ap (λ (l : List ℕ). l ++ segment_in forms.Plain rows) (plain_record s) ∙ ap (λ (l : List ℕ). record_of s ++ l) (plain_segment rows)
 
+-- how long the records of both of two lists are
+pub segment_length_both : (xs ys : List StampedRow) → length (segment_of (xs ++ ys)) ≡ length (segment_of xs) + length (segment_of ys)
+unfolding segment_of
+segment_length_both xs ys = ap length (flat_map-append record_of xs ys) ∙ length-append (flat_map record_of xs) (flat_map record_of ys)
+
 pub length-segment_in : (form : Form) (rows : List StampedRow) → length (segment_in form rows) ≡ length (segment_of rows)
 unfolding segment_in segment_of
 length-segment_in form [] = refl
@@ -99,7 +98,7 @@ unfolding segment_of
 push_plain rows s = flat_map-append record_of rows (s ∷ []) ∙ ap (λ (end : List ℕ). flat_map record_of rows ++ end) (append-nil (record_of s))
 
 pub more_plain : (rows : List StampedRow) (i : ℕ) (s : StampedRow) → i < length rows → s ≡ get_or rows i s → segment_of (take (i + 1) rows) ≡ segment_of (take i rows) ++ record_of s
-more_plain rows i s lt is = ap segment_of (taken_more rows i s lt is) ∙ push_plain (take i rows) s
+more_plain rows i s lt is = ap segment_of (take_one_more rows i s lt is) ∙ push_plain (take i rows) s
 
 pub no_rows_plain : segment_of [] ≡ []
 unfolding segment_of

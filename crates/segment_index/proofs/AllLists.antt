@@ -1,8 +1,8 @@
 -- What is kept of the rows of several segments, with one segment more, and with one in the place of two.
 use Rattle.std.proofs.Common.{◌≡◌, ℕ, suc, List, [], ◌∷◌, ◌++◌, length, map, refl, sym, ap, subst, ◌∙◌}
 use Rattle.std.specs.Prelude.{slice_set, remove}
-use Rattle.std.specs.List.{AllByRecursion}
 use Rattle.std.proofs.lemmas.List.{length-map}
+use Rattle.list_lemmas.proofs.Each.{each_of_front}
 use Rattle.history_model.specs.declared.stamped.StampedRow.{StampedRow}
 use Rattle.history_model.specs.InOrder.{IsAscending}
 use Rattle.history_model.specs.History.{stamped_cmp}
@@ -22,16 +22,12 @@ use Rattle.segment_index.specs.Indexed.{IsIndexed, AreIndexed}
 
 -- ---- the first of some lists
 
-all_before : {X : Type 0} (P : X → Type 0) (xs ys : List X) → AllByRecursion P (xs ++ ys) → AllByRecursion P xs
-all_before P [] ys all = tt
-all_before P (x ∷ xs) ys all = (all.0, all_before P xs ys all.1)
-
 apart_before : (xs ys : List (List StampedRow)) → EachApart (xs ++ ys) → EachApart xs
 apart_before [] ys apart = tt
-apart_before (x ∷ xs) ys apart = (all_before (λ others. ShareNoKey x others) xs ys apart.0, apart_before xs ys apart.1)
+apart_before (x ∷ xs) ys apart = (each_of_front (λ others. ShareNoKey x others) xs ys apart.0, apart_before xs ys apart.1)
 
 pub lists_before : (xs ys : List (List StampedRow)) → AreLists (xs ++ ys) → AreLists xs
-lists_before xs ys are = record { ascending = all_before (λ rows. IsAscending stamped_cmp rows) xs ys are.ascending; apart = apart_before xs ys are.apart }
+lists_before xs ys are = record { ascending = each_of_front (λ rows. IsAscending stamped_cmp rows) xs ys are.ascending; apart = apart_before xs ys are.apart }
 
 -- ---- there are as many lists of each
 

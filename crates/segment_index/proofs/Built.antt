@@ -9,7 +9,7 @@ use Rattle.segment.specs.declared.place.RowPlace.{RowPlace}
 use Rattle.segment.specs.Records.{record_of, segment_of}
 use Rattle.segment.specs.Standing.{record_len, row_place, with_places, places_of}
 use Rattle.segment.proofs.SegmentLaws.{push_plain, no_rows_plain}
-use Rattle.segment.proofs.RecordLaws.{length-record}
+use Rattle.segment.proofs.Posting.{as_many_places, place_bytes, with_places_push}
 use Rattle.as_of_index.specs.Places.{place_cmp}
 use Rattle.as_of_index.specs.Postings.{posted_all}
 use Rattle.as_of_index.proofs.Pushing.{posted_push}
@@ -19,7 +19,6 @@ use Rattle.term_prefix.specs.Pushed.{posted_term}
 use Rattle.links.specs.Edges.{Edges, no_edges, edges_of, joined_edges, posted_edges}
 use Rattle.links.proofs.Posted.{pushed_one_by_one}
 use Rattle.segment_index.specs.Indexed.{terms_of, links_of, IsBuilt}
-use Rattle.segment_index.proofs.Moving.{length-places}
 
 -- ---- no rows
 
@@ -33,33 +32,10 @@ none_built rows places terms links none no_places no_terms no_links = record {
 
 -- ---- one row more
 
-pub place_bytes : (s : StampedRow) (at : ℕ) → (row_place s at).bytes ≡ length (record_of s)
-unfolding row_place
-place_bytes s at = refl
-
--- its record stands behind those of the others
-with_places_push : (at : ℕ) (rows : List StampedRow) (s : StampedRow) → with_places at (rows ++ s ∷ []) ≡ with_places at rows ++ (s, row_place s (at + length (segment_of rows))) ∷ []
-unfolding segment_of
-with_places_push at [] s = let none : at ≡ at + length (segment_of []) = omega arith in ap (λ n. (s, row_place s n) ∷ []) none
-with_places_push at (r ∷ rows) s =
-    let both = length-append (record_of r) (segment_of rows) in
-    let same : at + record_len r + length (segment_of rows) ≡ at + length (segment_of (r ∷ rows)) = omega (arith, both) in
-    ap (λ l. (r, row_place r at) ∷ l) (with_places_push (at + record_len r) rows s ∙ ap (λ n. with_places (at + record_len r) rows ++ (s, row_place s n) ∷ []) same)
-
 placed_push : (rows : List StampedRow) (s : StampedRow) (at : ℕ) (place : RowPlace) → at ≡ length (segment_of rows) → place ≡ row_place s at → with_places 0 (rows ++ s ∷ []) ≡ with_places 0 rows ++ (s, place) ∷ []
 placed_push rows s at place here is =
     let same : 0 + length (segment_of rows) ≡ at = omega (arith, here) in
     with_places_push 0 rows s ∙ ap (λ n. with_places 0 rows ++ (s, row_place s n) ∷ []) same ∙ sym (ap (λ (p : RowPlace). with_places 0 rows ++ (s, p) ∷ []) is)
-
--- each record has some bytes
-pub as_many_bytes : (rows : List StampedRow) → length rows ≤ length (segment_of rows)
-unfolding segment_of
-as_many_bytes [] = omega arith
-as_many_bytes (r ∷ rows) =
-    let rest = as_many_bytes rows in
-    let both = length-append (record_of r) (segment_of rows) in
-    let long = length-record r in
-    omega (arith, rest, both, long)
 
 pub built_push : (rows next : List StampedRow) (places more : List RowPlace) (terms terms' : List TermAt) (links links' : Edges) (bytes bytes' number : ℕ) (row : StampedRow) (place : RowPlace) → IsBuilt rows places terms links bytes → place ≡ row_place row bytes → number ≡ length rows
     → next ≡ rows ++ row ∷ [] → more ≡ places ++ place ∷ [] → terms' ≡ terms ++ posted_term row.row number → links' ≡ joined_edges links (edges_of row.row number) → bytes' ≡ bytes + place.bytes → IsBuilt next more terms' links' bytes'
@@ -79,7 +55,7 @@ built_push rows next places more terms terms' links links' bytes bytes' number r
 
 pub place_taken_away : (rows : List StampedRow) (places more left : List RowPlace) (place : RowPlace) (number : ℕ) → places ≡ places_of rows → number ≡ length rows → more ≡ places ++ place ∷ [] → left ≡ take number more → left ≡ places
 place_taken_away rows places more left place number is number_is more_is left_is =
-    let count : number ≡ length places = number_is ∙ sym (length-places 0 rows) ∙ sym (ap length is) in
+    let count : number ≡ length places = number_is ∙ sym (as_many_places 0 rows) ∙ sym (ap length is) in
     left_is ∙ (λ i. take (count i) (more_is i)) ∙ take-append_seam places (place ∷ [])
 
 pub row_taken_away : (rows more left : List StampedRow) (row : StampedRow) (number : ℕ) → number ≡ length rows → more ≡ rows ++ row ∷ [] → left ≡ take number more → left ≡ rows
@@ -87,13 +63,6 @@ row_taken_away rows more left row number number_is more_is left_is = left_is ∙
 
 pub built_same : (rows same : List StampedRow) (places same_places : List RowPlace) (terms same_terms : List TermAt) (links same_links : Edges) (bytes : ℕ) → IsBuilt rows places terms links bytes → same ≡ rows → same_places ≡ places → same_terms ≡ terms → same_links ≡ links → IsBuilt same same_places same_terms same_links bytes
 built_same rows same places same_places terms same_terms links same_links bytes is r p t l = rw (r, p, t, l) is
-
--- where a row's record ends, behind those of the others
-pub ends_within : (rows : List StampedRow) (row : StampedRow) (at : ℕ) (place : RowPlace) → at ≡ length (segment_of rows) → place ≡ row_place row at → at + place.bytes ≡ length (segment_of (rows ++ row ∷ []))
-ends_within rows row at place here is =
-    let len = ap (λ (p : RowPlace). p.bytes) is ∙ place_bytes row at in
-    let whole = ap length (push_plain rows row) ∙ length-append (segment_of rows) (record_of row) in
-    omega (arith, len, whole, here)
 
 -- ---- the first rows
 

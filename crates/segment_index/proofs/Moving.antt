@@ -1,7 +1,6 @@
 -- Places that are moved behind one another.
 use Rattle.std.specs.List.{AllZip, sum_by}
-use Rattle.std.proofs.Common.{◌≡◌, inl, inr, ℕ, suc, ◌+◌, ◌<◌, List, [], ◌∷◌, ◌++◌, length, take, map, get_or, refl, sym, ap, ◌∙◌, arith, length-append}
-use Rattle.std.proofs.lemmas.List.{take_more}
+use Rattle.std.proofs.Common.{◌≡◌, inl, inr, ℕ, suc, ◌+◌, List, [], ◌∷◌, ◌++◌, length, map, refl, sym, ap, ◌∙◌, arith, length-append}
 use Rattle.std.proofs.lemmas.List.Sums.{sum_by-cons, sum_by-append}
 use Rattle.history_model.specs.declared.stamped.StampedRow.{StampedRow}
 use Rattle.history_model.specs.InOrder.{Has}
@@ -76,19 +75,6 @@ places_append at [] ys = let none : at ≡ at + length (segment_of []) = omega a
 places_append at (x ∷ xs) ys =
     let same : (at + record_len x) + length (segment_of xs) ≡ at + length (segment_of (x ∷ xs)) = omega (arith, length-append (record_of x) (segment_of xs)) in
     ap (λ (l : List RowPlace). row_place x at ∷ l) (places_append (at + record_len x) xs ys ∙ ap (λ (n : ℕ). places_from (at + record_len x) xs ++ places_from n ys) same)
-
-pub zip_length : {X Y : Type 0} (R : X → Y → Type 0) (xs : List X) (ys : List Y) → AllZip R xs ys → length xs ≡ length ys
-zip_length R [] [] all = refl
-zip_length R [] (y ∷ ys) all = absurd all
-zip_length R (x ∷ xs) [] all = absurd all
-zip_length R (x ∷ xs) (y ∷ ys) all = ap suc (zip_length R xs ys all.1)
-
-pub length-places : (at : ℕ) (rows : List StampedRow) → length (places_from at rows) ≡ length rows
-length-places at [] = refl
-length-places at (r ∷ rows) = ap suc (length-places (at + record_len r) rows)
-
-pub next_taken : (taken : List Taken) (i : ℕ) (t : Taken) → i < length taken → t ≡ get_or taken i t → take (i + 1) taken ≡ take i taken ++ t ∷ []
-next_taken taken i t within is = take_more taken i t within ∙ ap (λ (u : Taken). take i taken ++ u ∷ []) (sym is)
 
 pub moved_length : (at : ℕ) (taken : List Taken) → length (moved_from at taken) ≡ length taken
 moved_length at [] = refl

@@ -1,10 +1,11 @@
 -- The rows of two lists of which some are taken.
 use Rattle.std.specs.Prelude.{min, Some, None, Option, IsSome, IfSome, slice_get, option_map}
 use Rattle.std.specs.List.{AllZip, sum_by}
-use Rattle.std.proofs.Common.{◌≡◌, ℕ, zero, suc, Bool, true, ◌+◌, ◌-◌, ◌^◌, ◌<◌, ◌≤◌, List, [], ◌∷◌, ◌++◌, length, take, drop, get_or, refl, sym, ap, subst, ◌∙◌, arith, length-append}
-use Rattle.std.proofs.lemmas.List.{take_all, take_min, length-take}
+use Rattle.std.proofs.Common.{◌≡◌, ℕ, Bool, true, ◌+◌, ◌-◌, ◌^◌, ◌<◌, ◌≤◌, List, [], ◌∷◌, ◌++◌, length, take, drop, get_or, refl, sym, ap, subst, ◌∙◌, arith, length-append}
+use Rattle.std.proofs.lemmas.List.{take_all, take_min, length-take, drop-drop, take-take, nil_from_length, drop_min}
 use Rattle.std.proofs.lemmas.List.Sums.{sum_by-cons}
 use Rattle.std.proofs.lemmas.Option.{slice_get-map, slice_get_read}
+use Rattle.list_lemmas.proofs.Parts.{zip_lengths, take_sum}
 use Rattle.history_model.specs.declared.stamped.StampedRow.{StampedRow}
 use Rattle.history_model.specs.Lists.{AreLists, union}
 use Rattle.history_model.proofs.Unions.{sum_by-union, length-union}
@@ -12,7 +13,8 @@ use Rattle.segment.specs.declared.place.RowPlace.{RowPlace}
 use Rattle.segment.specs.Records.{record_of, segment_of}
 use Rattle.segment.specs.Standing.{record_len, places_of}
 use Rattle.checksum.specs.declared.form.Form.TheVariants as forms
-use Rattle.segment.proofs.SegmentLaws.{pieces_join, plain_segment}
+use Rattle.segment.proofs.SegmentLaws.{segment_length_both}
+use Rattle.segment.proofs.Posting.{as_many_places, rows_at_most_bytes}
 use Rattle.merge.specs.declared.MergeProgress.{MergeProgress}
 use Rattle.merge.specs.declared.Taken.{Taken}
 use Rattle.merge.specs.Merged.{IsOf, IsNew, count_left, rows_left, StandsTaken}
@@ -22,8 +24,8 @@ use Rattle.segment_index.specs.declared.index_merge.MergeMark.{MergeMark}
 use Rattle.segment_index.specs.Output.{OutputRows, IsMarkOf, IsOutput, HasPostings, left_count}
 use Rattle.segment_index.specs.Private.{moved_from}
 use Rattle.segment_index.specs.Indexed.{IsIndexed}
-use Rattle.segment_index.proofs.Built.{first_places, segment_within, as_many_bytes}
-use Rattle.segment_index.proofs.Moving.{places_append, places_from, length-places, moved_places, moved_bytes, moved_length, zip_length}
+use Rattle.segment_index.proofs.Built.{first_places, segment_within}
+use Rattle.segment_index.proofs.Moving.{places_append, places_from, moved_places, moved_bytes, moved_length}
 
 -- ---- the union of two lists
 
@@ -41,24 +43,6 @@ both_bytes a b are =
 
 -- ---- taking a few more
 
-pub take_more : {X : Type 0} (k n : ℕ) (xs : List X) → take (k + n) xs ≡ take k xs ++ take n (drop k xs)
-take_more zero n xs = let none : 0 + n ≡ n = omega arith in ap (λ (i : ℕ). take i xs) none
-take_more (suc k) zero [] = let more : suc k + 0 ≡ suc k = omega arith in ap (λ (i : ℕ). take i []) more
-take_more (suc k) (suc n) [] = let more : suc k + suc n ≡ suc (k + suc n) = omega arith in ap (λ (i : ℕ). take i []) more
-take_more {X = X} (suc k) n (x ∷ xs) = let more : suc k + n ≡ suc (k + n) = omega arith in ap (λ (i : ℕ). take i (x ∷ xs)) more ∙ ap (λ (l : List X). x ∷ l) (take_more k n xs)
-
-pub drop_more : {X : Type 0} (k n : ℕ) (xs : List X) → drop (k + n) xs ≡ drop n (drop k xs)
-drop_more zero n xs = let none : 0 + n ≡ n = omega arith in ap (λ (i : ℕ). drop i xs) none
-drop_more (suc k) zero [] = let more : suc k + 0 ≡ suc k = omega arith in ap (λ (i : ℕ). drop i []) more
-drop_more (suc k) (suc n) [] = let more : suc k + suc n ≡ suc (k + suc n) = omega arith in ap (λ (i : ℕ). drop i []) more
-drop_more (suc k) n (x ∷ xs) = let more : suc k + n ≡ suc (k + n) = omega arith in ap (λ (i : ℕ). drop i (x ∷ xs)) more ∙ drop_more k n xs
-
-pub take_fewer : {X : Type 0} (k m : ℕ) (xs : List X) → k ≤ m → take k (take m xs) ≡ take k xs
-take_fewer zero m xs le = refl
-take_fewer (suc k) zero xs le = absurd (omega (arith, le))
-take_fewer (suc k) (suc m) [] le = refl
-take_fewer {X = X} (suc k) (suc m) (x ∷ xs) le = ap (λ (l : List X). x ∷ l) (take_fewer k m xs (omega (arith, le)))
-
 -- ---- the places of two lists of an index
 
 index_at : (index : List (List RowPlace)) (lists : List (List StampedRow)) (i : ℕ) (rows : List StampedRow) → Lists index lists → slice_get lists i ≡ Some rows → slice_get index i ≡ Some (places_of rows)
@@ -68,10 +52,10 @@ pub list_is : (index : List (List RowPlace)) (lists : List (List StampedRow)) (i
 list_is index lists i rows list same is found = let e : Some list ≡ Some (places_of rows) = sym found ∙ index_at index lists i rows same is in cc
 
 pub of_lists : (m : MergeProgress) (a b : List StampedRow) (p q : List RowPlace) → p ≡ places_of a → q ≡ places_of b → IsOf m a b → IsOf m p q
-of_lists m a b p q is_a is_b of = (ap length is_a ∙ length-places 0 a ∙ of.0, ap length is_b ∙ length-places 0 b ∙ of.1)
+of_lists m a b p q is_a is_b of = (ap length is_a ∙ as_many_places 0 a ∙ of.0, ap length is_b ∙ as_many_places 0 b ∙ of.1)
 
 pub of_rows : (m : MergeProgress) (a b : List StampedRow) (p q : List RowPlace) → p ≡ places_of a → q ≡ places_of b → IsOf m p q → IsOf m a b
-of_rows m a b p q is_a is_b of = (sym (ap length is_a ∙ length-places 0 a) ∙ of.0, sym (ap length is_b ∙ length-places 0 b) ∙ of.1)
+of_rows m a b p q is_a is_b of = (sym (ap length is_a ∙ as_many_places 0 a) ∙ of.0, sym (ap length is_b ∙ as_many_places 0 b) ∙ of.1)
 
 -- ---- nothing is taken
 
@@ -79,14 +63,10 @@ no_bytes : length (segment_of []) ≡ 0
 unfolding segment_of
 no_bytes = refl
 
-none_long : (rows : List StampedRow) → length rows ≡ 0 → rows ≡ []
-none_long [] none = refl
-none_long (r ∷ rows) none = absurd (omega (arith, none))
-
 union_none : (a b : List StampedRow) → length a + length b ≡ 0 → [] ≡ union a b
 unfolding union
 union_none a b none =
-    sym (ap (λ (l : List StampedRow). union l b) (none_long a (omega (arith, none))) ∙ ap (λ (l : List StampedRow). union [] l) (none_long b (omega (arith, none))))
+    sym (ap (λ (l : List StampedRow). union l b) (nil_from_length a (omega (arith, none))) ∙ ap (λ (l : List StampedRow). union [] l) (nil_from_length b (omega (arith, none))))
 
 -- what is posted, if all is: where no row is left all is posted
 abbrev pub AreComplete : List StampedRow → List StampedRow → MergeProgress → Option OutputPostings → Type 0
@@ -122,19 +102,10 @@ new_output a b mark places postings are short new rows bytes none complete = rec
 pub left_agrees : (m : OutputRows) (mark : MergeMark) → mark.progress.a_place ≤ mark.progress.a_len → mark.progress.b_place ≤ mark.progress.b_len → IsMarkOf m mark → count_left mark.progress ≡ left_count m
 left_agrees m mark a_within b_within is = omega (arith, a_within, b_within, is.lengths.0, is.lengths.1, is.places_are)
 
-drop_min : {X : Type 0} (n : ℕ) (xs : List X) → drop (min n (length xs)) xs ≡ drop n xs
-drop_min zero [] = refl
-drop_min zero (x ∷ xs) = let none : min 0 (length (x ∷ xs)) ≡ 0 = omega arith in ap (λ (i : ℕ). drop i (x ∷ xs)) none
-drop_min (suc n) [] = let none : min (suc n) 0 ≡ 0 = omega arith in ap (λ (i : ℕ). drop i []) none
-drop_min (suc n) (x ∷ xs) = let less : min (suc n) (length (x ∷ xs)) ≡ suc (min n (length xs)) = omega arith in ap (λ (i : ℕ). drop i (x ∷ xs)) less ∙ drop_min n xs
-
-segment_append : (xs ys : List StampedRow) → length (segment_of (xs ++ ys)) ≡ length (segment_of xs) + length (segment_of ys)
-segment_append xs ys = ap length (sym (plain_segment (xs ++ ys)) ∙ pieces_join forms.Plain xs ys ∙ (λ i. plain_segment xs i ++ plain_segment ys i)) ∙ length-append (segment_of xs) (segment_of ys)
-
 bytes_then : (a b : List StampedRow) (old : MergeMark) (taken : List Taken) (n : ℕ) {places : List RowPlace} {was : Option OutputPostings} → IsOutput a b old places was → AllZip (StandsTaken a b) taken (take n (drop old.rows (union a b)))
     → old.bytes + sum_by (λ (t : Taken). t.place.bytes) taken ≡ length (segment_of (take old.rows (union a b) ++ take n (drop old.rows (union a b))))
 bytes_then a b old taken n is standing =
-    omega (arith, is.mark_is.bytes_are, moved_bytes a b taken (take n (drop old.rows (union a b))) standing, segment_append (take old.rows (union a b)) (take n (drop old.rows (union a b))))
+    omega (arith, is.mark_is.bytes_are, moved_bytes a b taken (take n (drop old.rows (union a b))) standing, segment_length_both (take old.rows (union a b)) (take n (drop old.rows (union a b))))
 
 -- the bytes of the rows taken and of those to come are at most those of both lists
 pub step_fits : (a b : List StampedRow) (old : MergeMark) (taken : List Taken) (n : ℕ) (places : List RowPlace) (was : Option OutputPostings) → IsOutput a b old places was → AllZip (StandsTaken a b) taken (take n (rows_left old.progress a b))
@@ -143,7 +114,7 @@ step_fits a b old taken n places was is stand =
     let u = union a b in
     let standing = subst (λ (l : List StampedRow). AllZip (StandsTaken a b) taken (take n l)) is.mark_is.left_are stand in
     let one = bytes_then a b old taken n is standing in
-    let same = ap (λ (l : List StampedRow). length (segment_of l)) (sym (take_more old.rows n u)) in
+    let same = ap (λ (l : List StampedRow). length (segment_of l)) (sym (take_sum old.rows n u)) in
     omega (arith, one, same, segment_within (old.rows + n) u, both_bytes a b is.lists, is.short)
 
 -- up to n rows more are taken
@@ -161,19 +132,19 @@ step_output a b old next places more taken n was postings is a1 b1 a2 b2 of coun
     let whole = both_long a b is.lists in
     let standing = subst (λ (l : List StampedRow). AllZip (StandsTaken a b) taken (take n l)) mark.left_are stand in
     let added = ap length more_is ∙ length-append places (moved_from old.bytes taken) in
-    let had = ap length is.places_are ∙ length-places 0 (take k u) ∙ length-take k u in
+    let had = ap length is.places_are ∙ as_many_places 0 (take k u) ∙ length-take k u in
     let moved = moved_places a b old.bytes taken (take n (drop k u)) standing in
-    let moved_count = ap length moved ∙ length-places old.bytes (take n (drop k u)) ∙ sym (zip_length (StandsTaken a b) taken (take n (drop k u)) standing) in
+    let moved_count = ap length moved ∙ as_many_places old.bytes (take n (drop k u)) ∙ sym (zip_lengths (StandsTaken a b) taken (take n (drop k u)) standing) in
     let rows : next.rows ≡ k + length taken = omega (arith, added, had, moved_count, rows_is, whole, mark.lengths.0, mark.lengths.1, mark.places_are, a1, b1) in
     let rows_n : next.rows ≡ min (k + n) (length u) = omega (arith, rows, count, before, whole) in
-    let taken_are : take next.rows u ≡ take k u ++ take n (drop k u) = ap (λ (i : ℕ). take i u) rows_n ∙ take_min (k + n) u ∙ take_more k n u in
+    let taken_are : take next.rows u ≡ take k u ++ take n (drop k u) = ap (λ (i : ℕ). take i u) rows_n ∙ take_min (k + n) u ∙ take_sum k n u in
     let at_end : old.bytes ≡ 0 + length (segment_of (take k u)) = omega (arith, mark.bytes_are) in
     let places_are : more ≡ places_of (take next.rows u) =
     more_is ∙ ap (λ (l : List RowPlace). l ++ moved_from old.bytes taken) is.places_are ∙ ap (λ (l : List RowPlace). places_of (take k u) ++ l) moved
     ∙ ap (λ (at : ℕ). places_of (take k u) ++ places_from at (take n (drop k u))) at_end
     ∙ sym (ap places_of taken_are ∙ places_append 0 (take k u) (take n (drop k u))) in
     let left_is : rows_left next.progress a b ≡ drop next.rows u =
-    others ∙ ap (drop n) mark.left_are ∙ sym (drop_more k n u) ∙ sym (ap (λ (i : ℕ). drop i u) rows_n ∙ drop_min (k + n) u) in
+    others ∙ ap (drop n) mark.left_are ∙ sym ((sym (drop-drop n k u))) ∙ sym (ap (λ (i : ℕ). drop i u) rows_n ∙ drop_min (k + n) u) in
     record {
       lists = is.lists;
       short = is.short;
@@ -198,7 +169,7 @@ cut_output a b old mark places less postings is a1 b1 a2 b2 fewer at less_is =
       lists = is.lists;
       short = is.short;
       mark_is = at;
-      places_are = less_is ∙ ap (take mark.rows) is.places_are ∙ first_places mark.rows 0 (take old.rows u) ∙ ap places_of (take_fewer mark.rows old.rows u fewer);
+      places_are = less_is ∙ ap (take mark.rows) is.places_are ∙ first_places mark.rows 0 (take old.rows u) ∙ ap places_of (take-take mark.rows old.rows u fewer);
       posted = is.posted;
       complete = λ done. is.complete (omega (arith, done, fewer, at.lengths.0, at.lengths.1, is.mark_is.lengths.0, is.mark_is.lengths.1, at.places_are, is.mark_is.places_are, a1, b1, a2, b2));
     }
@@ -243,12 +214,12 @@ pub more_taken : (a b : List StampedRow) (old next : MergeMark) (places more : L
     → length taken ≡ min n (count_left old.progress) → more ≡ places ++ moved_from old.bytes taken → next.rows ≡ length more → next.rows ≡ old.rows + min n (length a + length b - old.rows)
 more_taken a b old next places more taken n was postings is a1 b1 count more_is rows_is =
     let before = left_agrees (record { a = a; b = b; taken = old.rows }) old a1 b1 is.mark_is in
-    let had = ap length is.places_are ∙ length-places 0 (take old.rows (union a b)) ∙ length-take old.rows (union a b) in
+    let had = ap length is.places_are ∙ as_many_places 0 (take old.rows (union a b)) ∙ length-take old.rows (union a b) in
     omega (arith, rows_is, ap length more_is ∙ length-append places (moved_from old.bytes taken), moved_length old.bytes taken, had, count, before, both_long a b is.lists, is.mark_is.lengths.0, is.mark_is.lengths.1, is.mark_is.places_are, a1, b1)
 
 -- there are few rows where their records have few bytes
 pub few_rows : (a b : List StampedRow) → length (segment_of a) + length (segment_of b) < 2 ^ 32 → length a + length b < 2 ^ 32
-few_rows a b short = omega (arith, short, as_many_bytes a, as_many_bytes b)
+few_rows a b short = omega (arith, short, rows_at_most_bytes a, rows_at_most_bytes b)
 
 pub found_same : (lists : List (List StampedRow)) (i : ℕ) (a b : List StampedRow) → slice_get lists i ≡ Some a → slice_get lists i ≡ Some b → a ≡ b
 found_same lists i a b is other = let same : Some a ≡ Some b = sym is ∙ other in cc

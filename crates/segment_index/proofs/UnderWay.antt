@@ -1,12 +1,14 @@
 -- What is posted of two segments, merged while their store goes on.
 use Rattle.std.specs.Prelude.{Some, None, Option, slice_get, slice_index_or, option_map}
-use Rattle.std.proofs.Common.{◌≡◌, ℕ, zero, suc, ◌+◌, ◌-◌, ◌^◌, ◌<◌, List, [], ◌∷◌, ◌++◌, length, map, get_or, length-append, refl, sym, ap, subst, ◌∙◌, arith}
-use Rattle.std.proofs.lemmas.Option.{slice_get-map, slice_get-get_or}
+use Rattle.std.proofs.Common.{◌≡◌, ℕ, zero, suc, ◌+◌, ◌-◌, ◌^◌, ◌<◌, List, [], ◌∷◌, ◌++◌, length, map, get_or, length-append, sym, ap, subst, ◌∙◌, arith}
+use Rattle.std.proofs.lemmas.Option.{slice_get-map, slice_get-get_or, get_or_from_slice_get}
+use Rattle.std.proofs.lemmas.List.{get_or_read, get_or_append_left}
 use Rattle.history_model.specs.declared.stamped.StampedRow.{StampedRow}
 use Rattle.history_model.specs.InOrder.{IsAscending}
 use Rattle.history_model.specs.Lists.{AreLists, union}
 use Rattle.segment.specs.declared.place.RowPlace.{RowPlace}
 use Rattle.segment.specs.Standing.{places_of}
+use Rattle.segment.proofs.Posting.{as_many_places}
 use Rattle.as_of_index.specs.Numbers.{TwoLists, AreKnown}
 use Rattle.as_of_index.specs.Places.{Lists, place_cmp}
 use Rattle.term_prefix.specs.Terms.{TermAt}
@@ -24,46 +26,30 @@ use Rattle.segment_index.specs.Indexed.{AreIndexed}
 use Rattle.segment_index.specs.Output.{HasPostings}
 use Rattle.segment_index.specs.UnderWay.{IsPostingsMerge, IsUnderWay, places_at, terms_at, edges_at}
 use Rattle.segment_index.proofs.Built.{ascending_places}
-use Rattle.segment_index.proofs.Moving.{length-places}
 
 abbrev pub two : List RowPlace → List RowPlace → TwoLists
 two first second = record { first = first; second = second }
 
 -- ---- the item at a place
 
-pub item_is : {X : Type 0} (xs : List X) (i : ℕ) (x d : X) → slice_get xs i ≡ Some x → slice_index_or xs i d ≡ x
-item_is [] i x d at = absurd cc
-item_is (y ∷ xs) zero x d at = let same : Some y ≡ Some x = at in cc
-item_is (y ∷ xs) (suc i) x d at = item_is xs i x d at
-
-pub item_read : {X : Type 0} (xs : List X) (i : ℕ) (x d : X) → i < length xs → x ≡ get_or xs i x → slice_index_or xs i d ≡ x
-item_read [] i x d within at = absurd (omega (arith, within))
-item_read (y ∷ xs) zero x d within at = sym at
-item_read (y ∷ xs) (suc i) x d within at = item_read xs i x d (omega (arith, within)) at
-
 pub read_at : {X : Type 0} (xs shown : List X) (i : ℕ) (x d : X) → shown ≡ xs → i < length xs → x ≡ get_or shown i x → slice_index_or xs i d ≡ x
-read_at {X = X} xs shown i x d same within at = item_read xs i x d within (subst (λ (l : List X). x ≡ get_or l i x) same at)
-
-item_before : {X : Type 0} (xs : List X) (y : X) (i : ℕ) (d : X) → i < length xs → slice_index_or (xs ++ y ∷ []) i d ≡ slice_index_or xs i d
-item_before [] y i d within = absurd (omega (arith, within))
-item_before (x ∷ xs) y zero d within = refl
-item_before (x ∷ xs) y (suc i) d within = item_before xs y i d (omega (arith, within))
+read_at {X = X} xs shown i x d same within at = (sym (get_or_read xs i x within (subst (λ (l : List X). x ≡ get_or l i x) same at) d))
 
 -- ---- a segment more
 
 module _ (places : List (List RowPlace)) (terms : List (List TermAt)) (links : List Edges) (p : List RowPlace) (ts : List TermAt) (e : Edges) (terms_many : length terms ≡ length places) (links_many : length links ≡ length places) where
   two_before : (m : PostingsMerge) → m.i < length places → m.j < length places → places_at (places ++ p ∷ []) m ≡ places_at places m
   two_before m i_in j_in =
-      ap (λ (l : List RowPlace). two l (slice_index_or (places ++ p ∷ []) m.j [])) (item_before places p m.i [] i_in) ∙ ap (λ (l : List RowPlace). two (slice_index_or places m.i []) l) (item_before places p m.j [] j_in)
+      ap (λ (l : List RowPlace). two l (slice_index_or (places ++ p ∷ []) m.j [])) (get_or_append_left places (p ∷ []) [] m.i i_in) ∙ ap (λ (l : List RowPlace). two (slice_index_or places m.i []) l) (get_or_append_left places (p ∷ []) [] m.j j_in)
 
   still_merge : (m : PostingsMerge) → IsPostingsMerge places terms links m → IsPostingsMerge (places ++ p ∷ []) (terms ++ ts ∷ []) (links ++ e ∷ []) m
   still_merge m is =
       let more = length-append places (p ∷ []) in
       let both = two_before m is.first_within is.second_within in
-      let i_terms = item_before terms ts m.i [] (omega (arith, is.first_within, terms_many)) in
-      let j_terms = item_before terms ts m.j [] (omega (arith, is.second_within, terms_many)) in
-      let i_links = item_before links e m.i no_edges (omega (arith, is.first_within, links_many)) in
-      let j_links = item_before links e m.j no_edges (omega (arith, is.second_within, links_many)) in
+      let i_terms = get_or_append_left terms (ts ∷ []) [] m.i (omega (arith, is.first_within, terms_many)) in
+      let j_terms = get_or_append_left terms (ts ∷ []) [] m.j (omega (arith, is.second_within, terms_many)) in
+      let i_links = get_or_append_left links (e ∷ []) no_edges m.i (omega (arith, is.first_within, links_many)) in
+      let j_links = get_or_append_left links (e ∷ []) no_edges m.j (omega (arith, is.second_within, links_many)) in
       record {
         first_within = omega (arith, is.first_within, more);
         second_within = omega (arith, is.second_within, more);
@@ -97,7 +83,7 @@ linked_at (r ∷ lists) (e ∷ links) zero rows are at = let same : r ≡ rows =
 linked_at (r ∷ lists) (e ∷ links) (suc i) rows are at = linked_at lists links i rows are.1 at
 
 pub placed_at : (lists : List (List StampedRow)) (places : List (List RowPlace)) (i : ℕ) (rows : List StampedRow) → Lists places lists → slice_get lists i ≡ Some rows → slice_index_or places i [] ≡ places_of rows
-placed_at lists places i rows same at = ap (λ (l : List (List RowPlace)). slice_index_or l i []) same ∙ item_is (map places_of lists) i (places_of rows) [] (slice_get-map places_of lists i ∙ ap (option_map places_of) at)
+placed_at lists places i rows same at = ap (λ (l : List (List RowPlace)). slice_index_or l i []) same ∙ get_or_from_slice_get (map places_of lists) i (places_of rows) [] (slice_get-map places_of lists i ∙ ap (option_map places_of) at)
 
 -- ---- the two segments
 
@@ -126,8 +112,8 @@ module _ (lists : List (List StampedRow)) (places : List (List RowPlace)) (are :
 
   pub both_few : length (slice_index_or places i []) + length (slice_index_or places j []) < 2 ^ 32
   both_few =
-      let first = ap length (placed_at lists places i a_rows are a_at) ∙ length-places 0 a_rows in
-      let second = ap length (placed_at lists places j b_rows are b_at) ∙ length-places 0 b_rows in
+      let first = ap length (placed_at lists places i a_rows are a_at) ∙ as_many_places 0 a_rows in
+      let second = ap length (placed_at lists places j b_rows are b_at) ∙ as_many_places 0 b_rows in
       omega (arith, first, second, (both a_rows b_rows a_at b_at).1)
 
 -- ---- a merge that went on

@@ -3,6 +3,7 @@ use Rattle.std.specs.Prelude.{◌==◌, nat_le}
 use Rattle.std.specs.List.{AllByRecursion, filter}
 use Rattle.std.proofs.Common.{◌≡◌, inl, inr, ℕ, zero, suc, ◌+◌, ◌≤◌, Bool, true, false, cond, List, [], ◌∷◌, length, map, take, refl, sym, ap, subst, ◌∙◌, arith}
 use Rattle.std.proofs.lemmas.Bool.Decides.{nat_tests}
+use Rattle.std.proofs.lemmas.Bool.{false_from_ne_true}
 use Rattle.rf2_values.specs.Row.{RowValue}
 use Rattle.blocks.specs.declared.slots.Slot.{Slot}
 use Rattle.blocks.specs.declared.slots.Slot.TheVariants.{A}
@@ -12,7 +13,7 @@ use Rattle.history_model.specs.Brought.{IsLatestDay, brought_by}
 use Rattle.history_model.proofs.InOrder.{same_ascending, Has-put_all_cases, Has-put_all_old}
 use Rattle.history_model.proofs.Keys.{stamped_total}
 use Rattle.history_model.proofs.Releases.{then_is_history}
-use Rattle.history_model.proofs.Chains.{stamp_is}
+use Rattle.history_model.proofs.Chains.{stamp_is, imports_then}
 use Rattle.directory.specs.Listings.{DirectoryValue}
 use Rattle.directory.specs.declared.layout.Layout.{Layout}
 use Rattle.segment.proofs.SegmentLaws.{one_segment}
@@ -56,10 +57,6 @@ each_stop_leaves_a_copy asked file copy state has c image =
 
 -- ---- the first imports are those of the first releases
 
-imports_after : (h : History) (release : List RowValue) → (after_release h release).imports ≡ h.imports + 1
-unfolding after_release
-imports_after h release = refl
-
 stays_one : (h : History) (release : List RowValue) (n : ℕ) → IsHistory h → n ≤ h.imports → up_to n (after_release h release).rows ≡ up_to n h.rows
 unfolding after_release
 stays_one h release n is le =
@@ -77,7 +74,7 @@ stays_one h release n is le =
 stays : (releases : List (List RowValue)) (h : History) (n : ℕ) → IsHistory h → n ≤ h.imports → up_to n (then_all h releases).rows ≡ up_to n h.rows
 stays [] h n is le = refl
 stays (release ∷ releases) h n is le =
-    stays releases (after_release h release) n (then_is_history h release is) (omega (arith, le, imports_after h release)) ∙ stays_one h release n is le
+    stays releases (after_release h release) n (then_is_history h release is) (omega (arith, le, imports_then h release)) ∙ stays_one h release n is le
 
 all_up_to : (n k : ℕ) (rows : List StampedRow) → k ≤ n → AllByRecursion (λ (s : StampedRow). (1 ≤ s.import) × (s.import ≤ k)) rows → up_to n rows ≡ rows
 unfolding up_to
@@ -97,7 +94,7 @@ first_at releases h zero m is same le =
     λ i. record { imports = imports i; rows = rows i }
 first_at [] h (suc n) m is same le = absurd (omega (arith, le))
 first_at (release ∷ releases) h (suc n) m is same le =
-    first_at releases (after_release h release) n m (then_is_history h release is) (omega (arith, same, imports_after h release)) (omega (arith, le))
+    first_at releases (after_release h release) n m (then_is_history h release is) (omega (arith, same, imports_then h release)) (omega (arith, le))
 
 none_is_history : IsHistory no_history
 none_is_history = record { ascending = tt; numbered = tt }
@@ -107,17 +104,13 @@ first_imports_are_releases releases n le = first_at releases no_history n n none
 
 -- ---- what is shown and said of them
 
-not_true : (b : Bool) → (b ≡ true → ⊥) → b ≡ false
-not_true true never = absurd (never refl)
-not_true false never = refl
-
 filter_filter : {X : Type 0} (p q : X → Bool) → ((x : X) → p x ≡ true → q x ≡ true) → (xs : List X) → filter p (filter q xs) ≡ filter p xs
 filter_filter p q so [] = refl
 filter_filter p q so (x ∷ xs) =
     elim (q x) as (λ b. q x ≡ b → filter p (cond b (x ∷ filter q xs) (filter q xs)) ≡ cond (p x) (x ∷ filter p xs) (filter p xs)) [
       | true ↦ λ e. ap (λ l. cond (p x) (x ∷ l) l) (filter_filter p q so xs)
       | false ↦ λ e.
-          let fails : p x ≡ false = not_true (p x) (λ passes. let there = so x passes in absurd cc) in
+          let fails : p x ≡ false = false_from_ne_true (p x) (λ passes. let there = so x passes in absurd cc) in
           filter_filter p q so xs ∙ sym (ap (λ b. cond b (x ∷ filter p xs) (filter p xs)) fails)
     ] refl
 

@@ -2,7 +2,7 @@
 use Rattle.std.proofs.Common.{◌≡◌, inl, inr, ℕ, zero, suc, ◌+◌, ◌*◌, ◌<◌, ◌≤◌, List, [], ◌∷◌, ◌++◌, length, get_or, take, drop, refl, sym, ap, subst, ◌∙◌, arith}
 use Rattle.std.specs.Int.{div_ceil}
 use Rattle.std.specs.List.{AllByRecursion}
-use Rattle.std.proofs.lemmas.List.{append-nil, take_all, take_more}
+use Rattle.std.proofs.lemmas.List.{append-nil, take_all, take_more, get_or_default}
 use Rattle.std.proofs.lemmas.List.Elements.{All-nil, All-cons, All-head, All-tail, length_all_zip}
 use Rattle.disk_model.specs.Disk.{DiskState, IsOutside, Moments, LeavesOnly, EachImage}
 use Rattle.disk_model.proofs.MomentSteps.{joined, weaker, at_end}
@@ -21,6 +21,7 @@ use Rattle.store_image.specs.Ahead.{BeginsWith}
 use Rattle.store_image.specs.Kept.{IsSegmentOf, AreSegments, pieces_of, entry_at}
 use Rattle.store_image.specs.Reading.{IsAt}
 use Rattle.store_image.proofs.Unlisted.{begins_holds}
+use Rattle.store_image.proofs.Beside.{blocks_cover}
 use Rattle.store_copy.specs.Copying.{up_to, before, lists_up_to, entries_from, end_from}
 use Rattle.fault_counts.specs.declared.fault.ReadFault.TheVariants as reading
 use Rattle.store_copy.specs.Answers.{IsFailure}
@@ -32,9 +33,6 @@ use Rattle.store_copy.proofs.Listing.{end-append, end_least}
 use Rattle.store_copy.proofs.UpTo.{lists-append}
 
 -- ---- the pieces of segments one behind the other
-
-blocks_cover : (bytes : ℕ) → bytes ≤ 4096 * div_ceil bytes 4096
-blocks_cover bytes = omega arith
 
 piece_elsewhere : (range : ℕ × ℕ) (piece : ℕ × List ℕ) (old new : List ℕ) → SameOutside (range ∷ []) old new → piece.0 + length piece.1 ≤ range.0 → Holds piece old → Holds piece new
 piece_elsewhere range piece old new same below holds = record {
@@ -192,17 +190,12 @@ segment_at file (f ∷ entries) (l ∷ lists) zero e rows are held lt is_e is_ro
 segment_at file (f ∷ entries) (l ∷ lists) (suc i) e rows are held lt is_e is_rows =
     segment_at file entries lists i e rows are.1 (All-tail (λ p. Holds p file) (start_of (extent_of f), segment_in f.form l) (pieces_of entries lists) held) (omega (arith, lt)) is_e is_rows
 
-same_or : {X : Type 0} (xs : List X) (i : ℕ) (d e : X) → i < length xs → get_or xs i d ≡ get_or xs i e
-same_or [] i d e lt = absurd (omega (arith, lt))
-same_or (x ∷ xs) zero d e lt = refl
-same_or (x ∷ xs) (suc i) d e lt = same_or xs i d e (omega (arith, lt))
-
 -- it is still there, whatever stands for an entry that isn't listed
 pub segment_still : (old new : Moments) (entries : List Entry) (lists : List (List StampedRow)) (i : ℕ) (d : Entry) (rows : List StampedRow) → new ≡ old → AreSegments entries lists → HoldsAll (pieces_of entries lists) old.state.now → i < length lists → rows ≡ get_or lists i rows → IsAt new.state.now (get_or entries i d) rows
 segment_still old new entries lists i d rows same are held lt is =
     let e = get_or entries i d in
     let listed : i < length entries = omega (arith, lt, length_all_zip IsSegmentOf entries lists are) in
-    let at = segment_at old.state.now entries lists i e rows are held lt (same_or entries i d e listed) is in
+    let at = segment_at old.state.now entries lists i e rows are held lt (get_or_default entries i d e listed) is in
     subst (λ (m : Moments). IsAt m.state.now e rows) (sym same) at
 
 pub first_entry : (left behind : List Entry) (entry : Entry) → left ≡ entry ∷ behind → AllByRecursion IsEntry left → IsEntry entry × AllByRecursion IsEntry behind

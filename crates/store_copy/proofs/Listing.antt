@@ -14,9 +14,12 @@ use Rattle.directory.specs.declared.layout.Layout.{Layout}
 use Rattle.directory.specs.declared.layout.Layout.TheVariants as layouts
 use Rattle.directory.specs.Listings.{DirectoryValue, IsEntry, IsListing, HasForm, form_of, most_entries}
 use Rattle.directory.specs.Places.{AreApart, AreBeside, end_block, extent_of, extents_of}
+use Rattle.directory.proofs.Adding.{has_written_form}
 use Rattle.segment.specs.Records.{IsSegment, segment_of, record_of}
+use Rattle.segment.proofs.Posting.{segment_length_more}
 use Rattle.store_image.specs.Kept.{AreSegments, IsKept, entry_at}
 use Rattle.store_image.proofs.Windowed.{record_least}
+use Rattle.store_image.proofs.Damaged.{segments_count as as_many_lists}
 use Rattle.store_copy.specs.Copying.{up_to, before, lists_up_to, entries_from, end_from, copied_listing}
 use Rattle.store_copy.specs.Private.Writing.{MayBeSegment}
 use Rattle.store_copy.proofs.UpTo.{up_to_ascends, up_to_all, lists_all, lists_are, listed_up_to, up_to_is_history, lists_kinds, lists_count}
@@ -57,15 +60,10 @@ entries_apart form first (rows ∷ lists) =
     let e = extent_of (entry_at form first rows) in
     (beside_above e (extents_of (entries_from form (end_block e) lists)) (starts form (end_block e) (end_block e) lists (omega arith)), entries_apart form (end_block e) lists)
 
-plain_form : (layout : Layout) (entry : Entry) → entry.form ≡ form_of layout → HasForm layout entry
-plain_form layouts.One entry is = is
-plain_form layouts.Two entry is = is
-plain_form layouts.Three entry is = tt
-
 entries_forms : (layout : Layout) (first : ℕ) (lists : List (List StampedRow)) → AllByRecursion (HasForm layout) (entries_from (form_of layout) first lists)
 entries_forms layout first [] = tt
 entries_forms layout first (rows ∷ lists) =
-    (plain_form layout (entry_at (form_of layout) first rows) refl, entries_forms layout (end_block (extent_of (entry_at (form_of layout) first rows))) lists)
+    (has_written_form layout (entry_at (form_of layout) first rows) refl, entries_forms layout (end_block (extent_of (entry_at (form_of layout) first rows))) lists)
 
 -- ---- rows that a segment may have
 
@@ -102,18 +100,14 @@ lists_some n (rows ∷ lists) = before_some (up_to n rows) (lists_up_to n lists)
 
 -- some rows of a segment are no more than all, and have no more bytes
 module _ (n : ℕ) where
-  first_len : (s : StampedRow) (rows : List StampedRow) → length (segment_of (s ∷ rows)) ≡ length (record_of s) + length (segment_of rows)
-  unfolding segment_of
-  first_len s rows = length-append (record_of s) (segment_of rows)
-
   pub fewer : (rows : List StampedRow) → (length (segment_of (up_to n rows)) ≤ length (segment_of rows)) × (length (up_to n rows) ≤ length rows)
   unfolding up_to
   fewer [] = (omega arith, omega arith)
   fewer (s ∷ rows) =
       let rest = fewer rows in
-      let all = first_len s rows in
+      let all = segment_length_more s rows in
       elim (nat_le s.import n) as (λ b. (length (segment_of (cond b (s ∷ up_to n rows) (up_to n rows))) ≤ length (segment_of (s ∷ rows))) × (length (cond b (s ∷ up_to n rows) (up_to n rows)) ≤ length (s ∷ rows))) [
-        | true ↦ (omega (arith, rest.0, all, first_len s (up_to n rows)), omega (arith, rest.1))
+        | true ↦ (omega (arith, rest.0, all, segment_length_more s (up_to n rows)), omega (arith, rest.1))
         | false ↦ (omega (arith, rest.0, all), omega (arith, rest.1))
       ]
 

@@ -1,8 +1,9 @@
 -- One segment more in the directory of a copy.
-use Rattle.std.proofs.Common.{◌≡◌, ℕ, zero, suc, ◌+◌, ◌^◌, ◌<◌, ◌≤◌, List, [], ◌∷◌, length, get_or, take, drop, sym, ap, subst, ◌∙◌, arith, length-take}
+use Rattle.std.proofs.Common.{◌≡◌, ℕ, ◌+◌, ◌^◌, ◌<◌, ◌≤◌, List, length, get_or, take, drop, sym, ap, subst, ◌∙◌, arith, length-take}
 use Rattle.std.specs.Int.{div_ceil}
 use Rattle.std.specs.List.{AllByRecursion}
 use Rattle.std.proofs.lemmas.List.{take-append-drop}
+use Rattle.list_lemmas.proofs.Each.{each_of_taken}
 use Rattle.blocks.specs.Extents.{block_limit}
 use Rattle.history_model.specs.declared.stamped.StampedRow.{StampedRow}
 use Rattle.directory.specs.declared.entry.Entry.{Entry}
@@ -16,11 +17,6 @@ use Rattle.store_copy.specs.Private.Writing.{MayBeSegment, next_entry}
 use Rattle.store_copy.proofs.UpTo.{lists-join}
 use Rattle.store_copy.proofs.Listing.{copied_is_listing, end-append, end_grows, entries-append}
 use Rattle.store_copy.proofs.Done.{done_none, done_some}
-
-all_taken : (P : List StampedRow → Type 0) (k : ℕ) (lists : List (List StampedRow)) → AllByRecursion P lists → AllByRecursion P (take k lists)
-all_taken P zero lists all = tt
-all_taken P (suc k) [] all = tt
-all_taken P (suc k) (rows ∷ lists) all = (all.0, all_taken P k lists all.1)
 
 module _ (layout : Layout) (n : ℕ) (lists : List (List StampedRow)) (i : ℕ) (rows : List StampedRow) (lt : i < length lists) (is : rows ≡ get_or lists i rows) (copied : DirectoryValue) (first : ℕ) (copied_is : copied ≡ copied_listing layout n (take i lists)) (first_is : first ≡ end_from 4 (lists_up_to n (take i lists))) (size : Size) (bytes_is : size.bytes ≡ length (segment_of (up_to n rows))) (rows_is : size.rows ≡ length (up_to n rows)) where
   -- nothing is listed of the segment
@@ -54,7 +50,7 @@ module _ (layout : Layout) (n : ℕ) (lists : List (List StampedRow)) (i : ℕ) 
     pub next_listed : n < 2 ^ 32 → length lists ≤ most_entries layout → AllByRecursion MayBeSegment lists → first + div_ceil size.bytes 4096 ≤ block_limit → IsListing (with_entry copied (next_entry copied.layout first size))
     next_listed small few each fits =
         subst IsListing (sym copied_more)
-        (copied_is_listing layout n (take (i + 1) lists) small (omega (arith, few, length-take (i + 1) lists)) (all_taken MayBeSegment (i + 1) lists each) (omega (arith, fits, first_more)))
+        (copied_is_listing layout n (take (i + 1) lists) small (omega (arith, few, length-take (i + 1) lists)) (each_of_taken MayBeSegment (i + 1) lists each) (omega (arith, fits, first_more)))
 
     pub too_large : block_limit < first + div_ceil size.bytes 4096 → block_limit < end_from 4 (lists_up_to n lists)
     too_large large =

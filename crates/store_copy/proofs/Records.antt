@@ -1,6 +1,6 @@
 -- The record of a row, in a file that has the segment.
 use Rattle.std.proofs.Common.{◌≡◌, inl, inr, ℕ, zero, suc, ◌+◌, ◌*◌, ◌<◌, ◌≤◌, ◌++◌, List, [], ◌∷◌, length, get_or, map, take, drop, refl, sym, ap, ◌∙◌, arith, length-take, length-drop}
-use Rattle.std.proofs.lemmas.List.{ext_get_or, get_or-take, get_or-drop}
+use Rattle.list_lemmas.proofs.Parts.{part_of_piece, take_whole, drop_none}
 use Rattle.directory.specs.declared.entry.Entry.{Entry}
 use Rattle.history_model.specs.declared.stamped.StampedRow.{StampedRow}
 use Rattle.history_model.specs.InOrder.{Has}
@@ -14,20 +14,6 @@ use Rattle.store_image.specs.Reading.{IsAt}
 use Rattle.store_image.proofs.Windowed.{record_least}
 use Rattle.store_copy.specs.Private.Writing.{IsThere}
 
--- a part of a piece of the file
-within_piece : (place n j m : ℕ) (file piece : List ℕ) → take n (drop place file) ≡ piece → length piece ≡ n → place + n ≤ length file → j + m ≤ n → take m (drop (place + j) file) ≡ take m (drop j piece)
-within_piece place n j m file piece is long there fits =
-    ext_get_or 0 (take m (drop (place + j) file)) (take m (drop j piece)) (simp (length-take, length-drop) (omega (arith, long, there, fits))) (λ i lt.
-    let here : i < m = omega (arith, length-take m (drop (place + j) file), lt) in
-    get_or-take m (drop (place + j) file) i 0 here
-    ∙ get_or-drop (place + j) file i 0
-    ∙ ap (λ k. get_or file k 0) (omega arith)
-    ∙ sym (get_or-drop place file (j + i) 0)
-    ∙ sym (get_or-take n (drop place file) (j + i) 0 (omega (arith, here, fits)))
-    ∙ ap (λ l. get_or l (j + i) 0) is
-    ∙ sym (get_or-drop j piece i 0)
-    ∙ sym (get_or-take m (drop j piece) i 0 here))
-
 pub there_at : (file : List ℕ) (entry : Entry) (rows : List StampedRow) (s : StampedRow) (p : RowPlace) → IsAt file entry rows → Has (with_places 0 rows) (s, p) → IsThere entry.form (4096 * entry.first + p.at) s p file
 there_at file entry rows s p at h =
     let piece = segment_in entry.form rows in
@@ -36,7 +22,7 @@ there_at file entry rows s p at h =
     let bytes : p.bytes ≡ length (record_of s) = told.bytes_are in
     let got = ap length found.bytes_are in
     let ends : p.at + p.bytes ≤ length piece = omega (arith, got, length-take (length (record_of s)) (drop p.at piece), length-drop p.at piece, length-record_in entry.form s, record_least s, bytes) in
-    let is = within_piece (4096 * entry.first) (length piece) p.at p.bytes file piece at.1.bytes refl at.1.within ends ∙ ap (λ n. take n (drop p.at piece)) bytes ∙ found.bytes_are in
+    let is = part_of_piece (4096 * entry.first) (length piece) p.at p.bytes file piece at.1.bytes refl at.1.within ends ∙ ap (λ n. take n (drop p.at piece)) bytes ∙ found.bytes_are in
     record {
       whole = ap length is ∙ length-record_in entry.form s ∙ sym bytes;
       is = is;
@@ -52,19 +38,6 @@ at_index from [] i p lt is = absurd (omega (arith, lt))
 at_index from (x ∷ rows) zero p lt is = (x, inl (ap (λ (q : RowPlace). (x, q)) (sym is)), refl)
 at_index from (x ∷ rows) (suc i) p lt is = let w = at_index (from + record_len x) rows i p (omega (arith, lt)) is in (w.0, inr w.1, ap (λ (l : List StampedRow). x ∷ l) w.2)
 
--- there is a row for each place
-pub places_long : (from : ℕ) (rows : List StampedRow) → length (map (λ (x : StampedRow × RowPlace). x.1) (with_places from rows)) ≡ length rows
-places_long from [] = refl
-places_long from (x ∷ rows) = let rest = places_long (from + record_len x) rows in omega (arith, rest)
-
-take_all : (bytes : List ℕ) → take (length bytes) bytes ≡ bytes
-take_all [] = refl
-take_all (b ∷ bytes) = ap (λ l. b ∷ l) (take_all bytes)
-
-drop_none : (bytes : List ℕ) → drop 0 bytes ≡ bytes
-drop_none [] = refl
-drop_none (b ∷ bytes) = refl
-
 -- the bytes that were read are the row's record
 pub read_is : (form : Form) (from : ℕ) (s : StampedRow) (p : RowPlace) (file bytes : List ℕ) → bytes ≡ take p.bytes (drop from file) → IsThere form from s p file → IsRecordAt form bytes 0 s p.bytes
 read_is form from s p file bytes read there =
@@ -73,5 +46,5 @@ read_is form from s p file bytes read there =
     record {
       is = there.stamped;
       next_is = omega (arith, long);
-      bytes_are = ap (λ n. take n (drop 0 bytes)) (sym (length-record_in form s)) ∙ ap (λ (l : List ℕ). take (length (record_in form s)) (drop 0 l)) is ∙ ap (take (length (record_in form s))) (drop_none (record_in form s)) ∙ take_all (record_in form s);
+      bytes_are = ap (λ n. take n (drop 0 bytes)) (sym (length-record_in form s)) ∙ ap (λ (l : List ℕ). take (length (record_in form s)) (drop 0 l)) is ∙ ap (take (length (record_in form s))) (drop_none (record_in form s)) ∙ take_whole (record_in form s);
     }

@@ -4,6 +4,7 @@ use Rattle.std.specs.Prelude.{Option, Some, None}
 use Rattle.std.specs.List.{filter, sum_by}
 use Rattle.std.specs.declared.cmp.Ordering.TheVariants.{Less}
 use Rattle.std.proofs.lemmas.List.Sums.{sum_by-cons}
+use Rattle.list_lemmas.proofs.Tests.{less_from_test}
 use Rattle.rf2_values.specs.declared.key.Key.{Key}
 use Rattle.rf2_values.specs.Row.{RowValue}
 use Rattle.rf2_values.specs.Key.{key_of}
@@ -13,7 +14,7 @@ use Rattle.history_model.specs.KeyOrder.{is_after, rows_after}
 use Rattle.history_model.proofs.InOrder.{Has-all, not_below_itself, same_ascending}
 use Rattle.history_model.proofs.Filtered.{Has-filter, Has-filter_from, IsAscending-filter}
 use Rattle.history_model.proofs.Keys.{rows_total}
-use Rattle.as_of_index.proofs.KeyOrder.{further, is_lt_of, lt_is, not_after_itself}
+use Rattle.as_of_index.proofs.KeyOrder.{further, is_lt_of, not_after_itself}
 use Rattle.as_of_index.proofs.Paging.{fewer}
 
 pub left_after : Option Key → List RowValue → List RowValue
@@ -114,7 +115,7 @@ module _ (last : Option Key) (rows : List RowValue) (b : RowValue) (first : IsFi
       (λ z h.
       let w = Has-filter (is_after (Some (key_of b))) rows z h in
       elim (subst (λ ys. Has ys z) first.left_is (Has-filter_from (is_after last) rows z w.0 (further last (key_of b) (key_of z) first.comes_after w.1))) [
-        | inl s ↦ absurd (not_below_itself rows_total z (subst (λ y. row_cmp y z ≡ Less) s (lt_is (row_cmp b z) w.1)))
+        | inl s ↦ absurd (not_below_itself rows_total z (subst (λ y. row_cmp y z ≡ Less) s (less_from_test (row_cmp b z) w.1)))
         | inr t ↦ t
       ])
 

@@ -5,16 +5,12 @@ use Rattle.std.specs.List.Sorted.{IsPermutation}
 use Rattle.std.proofs.lemmas.Bool.{cases_eq}
 use Rattle.std.proofs.lemmas.List.Edits.{Swapped, swapped_from_swap, length-swap}
 use Rattle.std.proofs.lemmas.List.Sorted.{IsPermutation-keeps}
+use Rattle.list_lemmas.proofs.Each.{each_at_place}
 use Rattle.rf2_values.specs.declared.key.Key.{Key}
 use Rattle.store_image.specs.Private.Keys.{AreDisjoint, EachKeyOnce}
 
 pub turned : (ks ls : List Key) → AreDisjoint ks ls → AreDisjoint ls ks
 turned ks ls apart = λ key h k. apart key k h
-
-pub all_get : {X : Type 0} (P : X → Type 0) (xs : List X) (i : ℕ) (d : X) → i < length xs → AllByRecursion P xs → P (get_or xs i d)
-all_get P [] i d lt all = absurd (omega (arith, lt))
-all_get P (x ∷ xs) zero d lt all = all.0
-all_get P (x ∷ xs) (suc i) d lt all = all_get P xs i d (omega (arith, lt)) all.1
 
 all_from_get : {X : Type 0} (P : X → Type 0) (xs : List X) (d : X) → ((i : ℕ) → i < length xs → P (get_or xs i d)) → AllByRecursion P xs
 all_from_get P [] d each = tt
@@ -27,8 +23,8 @@ EachApartAt lists = (i j : ℕ) → (i ≡ j → ⊥) → i < length lists → j
 at_from_once : (lists : List (List Key)) → EachKeyOnce lists → EachApartAt lists
 at_from_once [] once i j other lt below = absurd (omega (arith, lt))
 at_from_once (ks ∷ lists) once zero zero other lt below = absurd (other refl)
-at_from_once (ks ∷ lists) once zero (suc j) other lt below = all_get (AreDisjoint ks) lists j [] (omega (arith, below)) once.0
-at_from_once (ks ∷ lists) once (suc i) zero other lt below = turned ks (get_or lists i []) (all_get (AreDisjoint ks) lists i [] (omega (arith, lt)) once.0)
+at_from_once (ks ∷ lists) once zero (suc j) other lt below = each_at_place (AreDisjoint ks) lists j [] (omega (arith, below)) once.0
+at_from_once (ks ∷ lists) once (suc i) zero other lt below = turned ks (get_or lists i []) (each_at_place (AreDisjoint ks) lists i [] (omega (arith, lt)) once.0)
 at_from_once (ks ∷ lists) once (suc i) (suc j) other lt below = at_from_once lists once.1 i j (λ e. other (ap suc e)) (omega (arith, lt)) (omega (arith, below))
 
 once_from_at : (lists : List (List Key)) → EachApartAt lists → EachKeyOnce lists

@@ -1,27 +1,25 @@
 -- A byte of a directory of version 3 that was changed, in the current slot or in the other one.
-use Rattle.std.proofs.Common.{◌≡◌, ◌≢◌, ◌⊎◌, inl, inr, ℕ, zero, suc, ◌+◌, ◌-◌, ◌<◌, ◌≤◌, List, [], ◌∷◌, ◌++◌, length, take, drop, get_or, refl, sym, ap, subst, ◌∙◌, arith, length-append, length-drop}
+use Rattle.std.proofs.Common.{◌≡◌, ◌≢◌, ◌⊎◌, inl, inr, ℕ, ◌+◌, ◌-◌, ◌<◌, ◌≤◌, List, ◌∷◌, ◌++◌, length, take, drop, get_or, refl, sym, ap, subst, ◌∙◌, arith, length-append, length-drop}
 use Rattle.std.specs.List.{AllByRecursion}
 use Rattle.std.specs.Int.{w64, from_be_bytes}
 use Rattle.std.proofs.lemmas.Bool.{cases_lt, cases_eq}
 use Rattle.std.proofs.lemmas.List.{take-append-le, drop-append-le}
+use Rattle.list_lemmas.proofs.Each.{each_of_taken, each_of_dropped}
+use Rattle.list_lemmas.proofs.Parts.{take_beyond}
 use Rattle.blocks.specs.declared.slots.Slot.{Slot}
 use Rattle.blocks.specs.declared.slots.Slot.TheVariants.{A, B}
 use Rattle.blocks.specs.Slots.{IsGreatest, IsOpen, content_at, content_of, epoch_of, gate_at, other}
 use Rattle.blocks.proofs.Windows.{window_same}
+use Rattle.blocks.proofs.SlotFrames.{content_within, other-other}
 use Rattle.directory.specs.declared.layout.Layout.{Layout}
 use Rattle.directory.specs.declared.layout.Layout.TheVariants as layouts
 use Rattle.directory.specs.Listings.{DirectoryValue}
 use Rattle.directory.specs.Content.{HasMark, HasSum, Lists, MayPrecede}
-use Rattle.directory.proofs.Noticed.{all_take, marked, may_not_precede, not_three, noticed, same_at, taken_past}
+use Rattle.directory.proofs.Noticed.{marked, may_not_precede, not_three, noticed, same_at}
 use Rattle.directory.proofs.Spelled.{one_listing}
 use Rattle.store_image.specs.declared.fault.Damage.TheVariants as damages
 use Rattle.store_image.specs.Damage.{IsDamaged}
 use Rattle.store_image.specs.Changed.{IsChanged, IsNoticed, ChangedDirectoryIsDamaged, ChangedOtherIsDamaged}
-
-pub all_drop : (P : ℕ → Type 0) (n : ℕ) (xs : List ℕ) → AllByRecursion P xs → AllByRecursion P (drop n xs)
-all_drop P zero xs all = all
-all_drop P (suc n) [] all = tt
-all_drop P (suc n) (x ∷ xs) all = all_drop P n xs all.1
 
 -- neither gate is in a content block, and neither content block is in the other
 gate_apart : (slot one : Slot) (p : ℕ) → content_at slot ≤ p → p < content_at slot + 4096 → gate_at one ≢ p
@@ -34,16 +32,8 @@ content_apart : (slot : Slot) (p i : ℕ) → content_at slot ≤ p → p < cont
 content_apart A p i le lt ge below e = omega (arith, lt, ge, e)
 content_apart B p i le lt ge below e = omega (arith, le, below, e)
 
-content_within : (slot : Slot) → content_at slot + 4096 ≤ 16384
-content_within A = omega arith
-content_within B = omega arith
-
 same_length : (before after : List ℕ) (b c : ℕ) → length (before ++ b ∷ after) ≡ length (before ++ c ∷ after)
 same_length before after b c = length-append before (b ∷ after) ∙ sym (length-append before (c ∷ after))
-
-other_twice : (slot : Slot) → other (other slot) ≡ slot
-other_twice A = refl
-other_twice B = refl
 
 one_or_other : (slot one : Slot) → (one ≡ slot) ⊎ (one ≡ other slot)
 one_or_other A A = inl refl
@@ -61,7 +51,7 @@ none_greatest file slot one k opened also same greatest = elim (one_or_other slo
       omega (arith, same, below, at)
   | inr is ↦
       let g = subst (λ (s : Slot). IsGreatest s k file) is greatest in
-      let above = subst (λ (s : Slot). IsOpen s file → epoch_of (content_of s file) < k) (other_twice slot) g.above in
+      let above = subst (λ (s : Slot). IsOpen s file → epoch_of (content_of s file) < k) (other-other slot) g.above in
       let below = above opened in
       let at = g.epoch_is in
       omega (arith, same, below, at)
@@ -99,7 +89,7 @@ module _ (before after : List ℕ) (byte changed : ℕ) (is : IsChanged before b
 
   parts : (b : ℕ) → content_of one (before ++ b ∷ after) ≡ front ++ b ∷ rest
   unfolding content_of
-  parts b = ap (take 4096) (drop-append-le (content_at one) before (b ∷ after) le) ∙ taken_past 4096 front after b (omega (arith, length-drop (content_at one) before, lt, le))
+  parts b = ap (take 4096) (drop-append-le (content_at one) before (b ∷ after) le) ∙ take_beyond 4096 front after b (omega (arith, length-drop (content_at one) before, lt, le))
 
   other_still : content_of (other one) new ≡ content_of (other one) old
   unfolding content_of
@@ -109,7 +99,7 @@ module _ (before after : List ℕ) (byte changed : ℕ) (is : IsChanged before b
 
   small_bytes : AllByRecursion (λ b. b < 256) (front ++ byte ∷ rest)
   unfolding content_of
-  small_bytes = subst (AllByRecursion (λ b. b < 256)) (parts byte) (all_take (λ b. b < 256) 4096 (drop (content_at one) old) (all_drop (λ b. b < 256) (content_at one) old is.bytes))
+  small_bytes = subst (AllByRecursion (λ b. b < 256)) (parts byte) (each_of_taken (λ b. b < 256) 4096 (drop (content_at one) old) (each_of_dropped (λ b. b < 256) (content_at one) old is.bytes))
 
   -- behind the epoch a change leaves it
   same_epoch : content_at one + 8 ≤ length before → mine ≡ epoch_of (content_of one old)
@@ -160,12 +150,12 @@ module _ (before after : List ℕ) (byte changed : ℕ) (is : IsChanged before b
           whole = whole_still;
           open_gate = also;
           epoch_is = refl;
-          above = subst (λ (s : Slot). IsOpen s new → epoch_of (content_of s new) < others) (sym (other_twice one)) (λ opened_too. above);
+          above = subst (λ (s : Slot). IsOpen s new → epoch_of (content_of s new) < others) (sym (other-other one)) (λ opened_too. above);
         },
         refl,
       ),
       λ d lists beside.
-          let may = subst (λ (s : Slot). IsOpen s new → MayPrecede d.layout (content_of s new)) (other_twice one) beside in
+          let may = subst (λ (s : Slot). IsOpen s new → MayPrecede d.layout (content_of s new)) (other-other one) beside in
           precedes_none d.layout (how d lists) (may (open_still one opened)),
     )
 
@@ -223,7 +213,7 @@ changed_other_is_damaged before after byte changed h epoch entries stands is ope
     let sum = summed_three (content_of one (before ++ byte ∷ after)) marks (stands.other_is_whole opened) in
     noticed_there before after byte changed is one le lt current.whole opened marks sum (λ far also.
     let mine = same_epoch before after byte changed is one le lt current.whole far in
-    let still = other_still before after byte changed is one le lt current.whole ∙ ap (λ (s : Slot). content_of s (before ++ byte ∷ after)) (other_twice slot) in
+    let still = other_still before after byte changed is one le lt current.whole ∙ ap (λ (s : Slot). content_of s (before ++ byte ∷ after)) (other-other slot) in
     let others = ap epoch_of still in
     let above = current.above opened in
     let at = current.epoch_is in

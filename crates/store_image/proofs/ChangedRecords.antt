@@ -4,11 +4,15 @@ use Rattle.std.proofs.Common.{◌≡◌, ◌≢◌, ℕ, zero, suc, ◌+◌, ◌
 use Rattle.std.specs.List.{AllByRecursion}
 use Rattle.std.proofs.lemmas.List.{append_assoc, drop-append-le, drop_at, take-append-drop, take-append-le, take_at}
 use Rattle.std.proofs.lemmas.List.Elements.{All-head, All-tail}
+use Rattle.std.proofs.lemmas.Option.{same_Some}
+use Rattle.list_lemmas.proofs.Each.{each_of_taken, each_of_dropped}
+use Rattle.list_lemmas.proofs.Parts.{take_beyond}
 use Rattle.blocks.specs.Extents.{start_of}
 use Rattle.blocks.specs.declared.slots.Slot.{Slot}
 use Rattle.blocks.specs.declared.slots.Slot.TheVariants.{A, B}
 use Rattle.blocks.specs.Slots.{IsOpen, content_at, content_of, epoch_of, gate_at, other}
 use Rattle.blocks.proofs.Windows.{window_same}
+use Rattle.blocks.proofs.SlotFrames.{content_within}
 use Rattle.history_model.specs.declared.stamped.StampedRow.{StampedRow}
 use Rattle.history_model.specs.History.{History}
 use Rattle.checksum.specs.declared.form.Form.{Form}
@@ -18,11 +22,12 @@ use Rattle.directory.specs.declared.layout.Layout.TheVariants as layouts
 use Rattle.directory.specs.Listings.{DirectoryValue, IsEntry}
 use Rattle.directory.specs.Places.{extent_of}
 use Rattle.directory.specs.Content.{MayPrecede}
-use Rattle.directory.proofs.Noticed.{all_take, same_at, taken_past}
+use Rattle.directory.proofs.Noticed.{same_at}
 use Rattle.segment.specs.Records.{IsOfLength, IsStamped, record_in, record_of, segment_in, segment_of}
 use Rattle.segment.proofs.RecordLaws.{length-record_in}
-use Rattle.segment.proofs.SegmentLaws.{goes_on, length-segment_in, pieces_join}
+use Rattle.segment.proofs.SegmentLaws.{goes_on, length-segment_in, pieces_join, no_rows}
 use Rattle.segment.proofs.Lengths.{changed_record_is_none}
+use Rattle.segment.proofs.Places.{first_record}
 use Rattle.store_image.specs.Pieces.{Holds, HoldsAll}
 use Rattle.store_image.specs.Kept.{AreSegments, pieces_of}
 use Rattle.store_image.specs.Images.{IsStore, Represents}
@@ -30,7 +35,6 @@ use Rattle.store_image.specs.Reading.{IsAt}
 use Rattle.store_image.specs.Damage.{HasDirectory}
 use Rattle.store_image.specs.Changed.{ChangedRecordIsNoStore}
 use Rattle.store_image.proofs.Damaged.{one_directory}
-use Rattle.store_image.proofs.ChangedBytes.{all_drop}
 
 -- ---- a listed segment
 
@@ -44,18 +48,11 @@ segment_at file (e ∷ entries) (x ∷ lists) zero entry are held is =
 segment_at file (e ∷ entries) (x ∷ lists) (suc k) entry are held is =
     segment_at file entries lists k entry are.1 (All-tail (λ piece. Holds piece file) (start_of (extent_of e), segment_in e.form x) (pieces_of entries lists) held) is
 
-some_is : {X : Type 0} (x y : X) → Some x ≡ Some y → x ≡ y
-some_is x y e = cc
-
 -- ---- bytes behind the slots leave the current directory
 
 gate_within : (slot : Slot) → gate_at slot < 16384
 gate_within A = omega arith
 gate_within B = omega arith
-
-content_inside : (slot : Slot) → content_at slot + 4096 ≤ 16384
-content_inside A = omega arith
-content_inside B = omega arith
 
 module _ (before after : List ℕ) (byte changed : ℕ) (h : History) (epoch : ℕ) (entries : List Entry) (stands : Represents (before ++ byte ∷ after) h layouts.Three epoch entries) (far : 16384 ≤ length before) where
   abbrev old : List ℕ
@@ -73,8 +70,8 @@ module _ (before after : List ℕ) (byte changed : ℕ) (h : History) (epoch : �
   same_content : (slot : Slot) → content_of slot new ≡ content_of slot old
   unfolding content_of
   same_content slot =
-      window_same (content_at slot) 4096 new old (omega (arith, long_new, content_inside slot)) (omega (arith, long_old, content_inside slot))
-      (λ i ge below. sym (same_at before after byte changed i (λ e. omega (arith, far, e, below, content_inside slot))))
+      window_same (content_at slot) 4096 new old (omega (arith, long_new, content_within slot)) (omega (arith, long_old, content_within slot))
+      (λ i ge below. sym (same_at before after byte changed i (λ e. omega (arith, far, e, below, content_within slot))))
 
   opened : (slot : Slot) → IsOpen slot old → IsOpen slot new
   opened slot is = sym (same_at before after byte changed (gate_at slot) (λ e. omega (arith, far, e, gate_within slot))) ∙ is
@@ -116,14 +113,6 @@ module _ (before after : List ℕ) (byte changed : ℕ) (h : History) (epoch : �
 
 -- ---- the records
 
-cons_join : (form : Form) (s : StampedRow) (rows : List StampedRow) → segment_in form (s ∷ rows) ≡ record_in form s ++ segment_in form rows
-unfolding segment_in
-cons_join form s rows = refl
-
-none_joins : (form : Form) → segment_in form [] ≡ []
-unfolding segment_in
-none_joins form = refl
-
 not_empty : (front : List ℕ) (b : ℕ) (rest : List ℕ) → front ++ b ∷ rest ≡ [] → ⊥
 not_empty [] b rest e = absurd cc
 not_empty (x ∷ front) b rest e = absurd cc
@@ -135,10 +124,10 @@ split_rows (x ∷ front) s behind all = let on = split_rows front s behind all.1
 -- the changed record is none, and nothing else stands there
 none_begins : (s : StampedRow) (behind more : List StampedRow) (P rest : List ℕ) (byte changed place : ℕ) → IsStamped s → AllByRecursion IsStamped more → AllByRecursion (λ b. b < 256) (P ++ byte ∷ rest) → changed < 256 → byte ≢ changed → place < length (record_of s) → (IsOfLength s place → ⊥) → length P ≡ place
     → segment_in forms.Checked (s ∷ behind) ≡ P ++ byte ∷ rest → P ++ changed ∷ rest ≡ segment_in forms.Checked more → ⊥
-none_begins s behind [] P rest byte changed place is all bytes small differs within free at here there = not_empty P changed rest (there ∙ none_joins forms.Checked)
+none_begins s behind [] P rest byte changed place is all bytes small differs within free at here there = not_empty P changed rest (there ∙ no_rows forms.Checked)
 none_begins s behind (t ∷ more) P rest byte changed place is all bytes small differs within free at here there =
     changed_record_is_none s t (segment_in forms.Checked behind) (segment_in forms.Checked more) P rest byte changed is all.0 bytes small differs (omega (arith, within, at)) (λ says. free (subst (IsOfLength s) at says))
-    (sym (cons_join forms.Checked s behind) ∙ here) (sym (cons_join forms.Checked t more) ∙ sym there)
+    (sym (first_record forms.Checked s behind) ∙ here) (sym (first_record forms.Checked t more) ∙ sym there)
 
 no_rows_there : (s : StampedRow) (behind rows front : List StampedRow) (part rest : List ℕ) (byte changed place : ℕ) → AllByRecursion IsStamped (front ++ s ∷ behind) → AllByRecursion IsStamped rows
     → AllByRecursion (λ b. b < 256) (part ++ byte ∷ rest) → changed < 256 → byte ≢ changed → place < length (record_of s) → (IsOfLength s place → ⊥) → length part ≡ length (segment_of front) + place
@@ -156,14 +145,14 @@ no_rows_there s behind rows front part rest byte changed place each others bytes
     ap (λ (l : List ℕ). l ++ (P ++ changed ∷ rest)) first ∙ sym (append_assoc (take m part) P (changed ∷ rest)) ∙ ap (λ (l : List ℕ). l ++ changed ∷ rest) (take-append-drop m part) in
     let split = split_rows front s behind each in
     let more = goes_on form front rows (P ++ changed ∷ rest) split.0 others (whole ∙ sym also) in
-    let fits = subst (AllByRecursion (λ b. b < 256)) (drop-append-le m part (byte ∷ rest) room) (all_drop (λ b. b < 256) m (part ++ byte ∷ rest) bytes) in
+    let fits = subst (AllByRecursion (λ b. b < 256)) (drop-append-le m part (byte ∷ rest) room) (each_of_dropped (λ b. b < 256) m (part ++ byte ∷ rest) bytes) in
     none_begins s behind more.0 P rest byte changed place split.1 more.3 fits small differs within free placed parts more.2
 
 -- ---- a whole store
 
 -- the bytes of a segment, with one of them
 window_of : (start n : ℕ) (before after : List ℕ) (b : ℕ) → start ≤ length before → length (drop start before) < n → take n (drop start (before ++ b ∷ after)) ≡ drop start before ++ b ∷ take (n - (length (drop start before) + 1)) after
-window_of start n before after b le lt = ap (take n) (drop-append-le start before (b ∷ after) le) ∙ taken_past n (drop start before) after b lt
+window_of start n before after b le lt = ap (take n) (drop-append-le start before (b ∷ after) le) ∙ take_beyond n (drop start before) after b lt
 
 each_entry : (entries : List Entry) (k : ℕ) (entry : Entry) → AllByRecursion IsEntry entries → slice_get entries k ≡ Some entry → IsEntry entry
 each_entry [] k entry all is = absurd cc
@@ -174,14 +163,14 @@ record_inside : (front behind : List StampedRow) (s : StampedRow) → length (se
 record_inside front behind s =
     let form : Form = forms.Checked in
     let join = ap length (pieces_join form front (s ∷ behind)) ∙ length-append (segment_in form front) (segment_in form (s ∷ behind)) in
-    let next = ap length (cons_join form s behind) ∙ length-append (record_in form s) (segment_in form behind) in
+    let next = ap length (first_record form s behind) ∙ length-append (record_in form s) (segment_in form behind) in
     omega (arith, join, next, length-segment_in form front, length-segment_in form (front ++ s ∷ behind), length-record_in form s)
 
 pub changed_record_is_no_store : ChangedRecordIsNoStore
 changed_record_is_no_store before after byte changed h epoch entries s place stands is there free store =
     let kept = stands.says.kept in
     let here = segment_at (before ++ byte ∷ after) entries stands.lists there.number there.entry kept.segments stands.stands.pieces_are there.entry_is in
-    let rows_are : here.0 ≡ there.front ++ s ∷ there.behind = some_is here.0 (there.front ++ s ∷ there.behind) (sym here.1 ∙ there.list_is) in
+    let rows_are : here.0 ≡ there.front ++ s ∷ there.behind = same_Some here.0 (there.front ++ s ∷ there.behind) (sym here.1 ∙ there.list_is) in
     let at_here = subst (λ (l : List StampedRow). IsAt (before ++ byte ∷ after) there.entry l) rows_are here.2 in
     let entry_is = each_entry entries there.number there.entry kept.listing.entries there.entry_is in
     let start = start_of (extent_of there.entry) in
@@ -202,7 +191,7 @@ changed_record_is_no_store before after byte changed h epoch entries s place sta
     let two : segment_in form other_one.0 ≡ part ++ changed ∷ rest =
     sym other_one.2.1.bytes ∙ ap (λ k. take k (drop start (before ++ changed ∷ after))) (length-segment_in form other_one.0 ∙ other_one.2.0.bytes) ∙ window_of start n before after changed past inside in
     let bytes : AllByRecursion (λ b. b < 256) (part ++ byte ∷ rest) =
-    subst (AllByRecursion (λ b. b < 256)) (window_of start n before after byte past inside) (all_take (λ b. b < 256) n (drop start (before ++ byte ∷ after)) (all_drop (λ b. b < 256) start (before ++ byte ∷ after) is.bytes)) in
+    subst (AllByRecursion (λ b. b < 256)) (window_of start n before after byte past inside) (each_of_taken (λ b. b < 256) n (drop start (before ++ byte ∷ after)) (each_of_dropped (λ b. b < 256) start (before ++ byte ∷ after) is.bytes)) in
     no_rows_there s there.behind other_one.0 there.front part rest byte changed place at_here.0.is.each other_one.2.0.is.each bytes is.small is.differs there.within free at_part
     (subst (λ (f : Form). segment_in f (there.front ++ s ∷ there.behind) ≡ part ++ byte ∷ rest) there.checked one)
     (subst (λ (f : Form). segment_in f other_one.0 ≡ part ++ changed ∷ rest) there.checked two)

@@ -5,11 +5,10 @@ use Rattle.disk_model.specs.Disk.{DiskState, IsImage, EachImage, SameBut, after_
 use Rattle.disk_model.specs.Private.Put.{length-put}
 use Rattle.disk_model.proofs.Images.{write_frame, settled_only}
 use Rattle.blocks.specs.declared.slots.Slot.{Slot}
-use Rattle.blocks.specs.declared.slots.Slot.TheVariants.{A, B}
 use Rattle.blocks.specs.declared.slots.Current.{Current}
 use Rattle.blocks.specs.Slots.{other, gate_at, content_at, content_of}
 use Rattle.blocks.specs.Publication.{IsClosedOrBefore, IsOldOrNext}
-use Rattle.blocks.proofs.SlotFrames.{gate_within, greatest_beyond, content_beyond, content_beside, same_place}
+use Rattle.blocks.proofs.SlotFrames.{gate_within, greatest_beyond, content_beyond, content_beside, same_place, content_within}
 use Rattle.blocks.proofs.SlotImages.{Either, now-after_write}
 use Rattle.blocks.proofs.Windows.{window_same, window_put}
 use Rattle.directory.specs.declared.layout.Layout.{Layout}
@@ -56,14 +55,10 @@ written_piece s new at bytes beyond some on_disk c image =
       bytes = ap (λ (l : List ℕ). take (length bytes) (drop at l)) is ∙ window_put s.now at (length bytes) bytes refl;
     }
 
-slots_end : (slot : Slot) → content_at slot + 4096 ≤ 16384
-slots_end A = omega arith
-slots_end B = omega arith
-
 -- a change within a slot leaves the pieces
 pub pieces_beside : (slot : Slot) (pieces : List (ℕ × List ℕ)) (d c : List ℕ) → SameBut (gate_at slot) (content_at slot + 4096) d c → HoldsAll pieces d → HoldsAll pieces c
 pieces_beside slot pieces d c same are k e lt =
-    let holds = are k e lt in piece_kept (gate_at slot) (content_at slot + 4096) d c same (get_or pieces k e) (inl (omega (arith, slots_end slot, holds.behind))) holds
+    let holds = are k e lt in piece_kept (gate_at slot) (content_at slot + 4096) d c same (get_or pieces k e) (inl (omega (arith, content_within slot, holds.behind))) holds
 
 -- ---- the other slot
 

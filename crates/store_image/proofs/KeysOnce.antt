@@ -7,9 +7,10 @@ use Rattle.std.specs.List.Sorted.{IsPermutation}
 use Rattle.std.specs.Ordering.{is_lt}
 use Rattle.std.specs.declared.cmp.Ordering.{Ordering}
 use Rattle.std.specs.declared.cmp.Ordering.TheVariants.{Less, Equal, Greater}
-use Rattle.std.proofs.lemmas.List.{append-nil, drop_more, get_or-map, length-map}
+use Rattle.std.proofs.lemmas.List.{append-nil, drop_more, get_or-map, length-map, map-append}
 use Rattle.std.proofs.lemmas.List.Elements.{All-cons, All-head, All-tail, recursion_from_All}
 use Rattle.std.proofs.lemmas.List.Sorted.{All-permutation, IsPermutation-append_left, IsPermutation-map, IsPermutation-middle, IsPermutation-sym, sum_by_pushed, sum_by_popped}
+use Rattle.list_lemmas.proofs.Each.{each_of_pushed}
 use Rattle.rf2_values.specs.declared.key.Key.{Key}
 use Rattle.rf2_values.specs.Key.{key_cmp}
 use Rattle.rf2_values.specs.Private.{keys_total}
@@ -29,25 +30,17 @@ pub no_keys : (places : List RowPlace) → length places ≡ 0 → keys_of place
 no_keys [] none = refl
 no_keys (p ∷ places) none = absurd (omega (arith, none))
 
-map-joined : {X Y : Type 0} (f : X → Y) (xs ys : List X) → map f (xs ++ ys) ≡ map f xs ++ map f ys
-map-joined f [] ys = refl
-map-joined f (x ∷ xs) ys = ap (λ l. f x ∷ l) (map-joined f xs ys)
-
 ascends_behind : (before left : List Key) → IsAscending key_cmp (before ++ left) → IsAscending key_cmp left
 ascends_behind [] left up = up
 ascends_behind (k ∷ before) left up = ascends_behind before left up.1
 
 -- ---- places that are skipped
 
-all_push : {X : Type 0} (P : X → Type 0) (xs : List X) (x : X) → AllByRecursion P xs → P x → AllByRecursion P (xs ++ x ∷ [])
-all_push P [] x all here = (here, tt)
-all_push P (y ∷ xs) x all here = (all.0, all_push P xs x all.1 here)
-
 pub one_skipped : (key : Key) (places left behind : List RowPlace) (first : RowPlace) → IsBehind key places left → left ≡ first ∷ behind → key_cmp first.key key ≡ Less → IsBehind key places behind
 one_skipped key places left behind first is left_is less = record {
   before = is.before ++ first ∷ [];
   whole = is.whole ∙ ap (λ l. is.before ++ l) left_is ∙ sym (append_assoc is.before (first ∷ []) behind);
-  below = all_push (λ (p : RowPlace). key_cmp p.key key ≡ Less) is.before first is.below less;
+  below = each_of_pushed (λ (p : RowPlace). key_cmp p.key key ≡ Less) is.before first is.below less;
 }
 
 pub fewer_left : (key : Key) (places left : List RowPlace) → IsBehind key places left → length left < length places + 1
@@ -148,7 +141,7 @@ module _ (old rests : List Rest) (rest : Rest) (moved : IsPermutation old (rest 
   pub round_ascends : (key : Key) (left : List RowPlace) → IsBehind key rest.places.now left → IsAscending key_cmp (keys_of left)
   round_ascends key left is =
       let up = All-head (λ r. IsAscending key_cmp (keys_in r)) rest rests all_ascend in
-      ascends_behind (keys_of is.before) (keys_of left) (subst (λ (k : List Key). IsAscending key_cmp k) (ap keys_of is.whole ∙ map-joined (λ (p : RowPlace). p.key) is.before left) up.1)
+      ascends_behind (keys_of is.before) (keys_of left) (subst (λ (k : List Key). IsAscending key_cmp k) (ap keys_of is.whole ∙ map-append (λ (p : RowPlace). p.key) is.before left) up.1)
 
   taken_out : EachKeyOnce (map keys_in old) ↔ EachKeyOnce (keys_in rest ∷ map keys_in rests)
   taken_out =
@@ -171,7 +164,7 @@ module _ (old rests : List Rest) (rest : Rest) (moved : IsPermutation old (rest 
   -- what is below all others goes
   module _ (next : Rest) (least : IsUpperBound first_cmp next rests) (less : key_cmp rest.first next.first ≡ Less) (left : List RowPlace) (is : IsBehind next.first rest.places.now left) where
     keys_whole : keys_in rest ≡ (rest.first ∷ keys_of is.before) ++ keys_of left
-    keys_whole = ap (λ l. rest.first ∷ l) (ap keys_of is.whole ∙ map-joined (λ (p : RowPlace). p.key) is.before left)
+    keys_whole = ap (λ l. rest.first ∷ l) (ap keys_of is.whole ∙ map-append (λ (p : RowPlace). p.key) is.before left)
 
     below : (places : List RowPlace) → AllByRecursion (λ (p : RowPlace). key_cmp p.key next.first ≡ Less) places → AllByRecursion (λ (k : Key). key_cmp k next.first ≡ Less) (keys_of places)
     below [] all = tt

@@ -1,8 +1,9 @@
 -- The kinds of the rows that a directory lists, in the version that comes next.
-use Rattle.std.specs.Prelude.{All, Some, slice_get, slice_set, remove}
-use Rattle.std.proofs.Common.{◌≡◌, inl, inr, ℕ, zero, suc, List, [], ◌∷◌, sym, subst}
+use Rattle.std.specs.Prelude.{All, Some, slice_get, slice_set}
+use Rattle.std.proofs.Common.{◌≡◌, inl, inr, ℕ, List, sym, subst}
 use Rattle.std.specs.List.{AllByRecursion}
 use Rattle.std.proofs.lemmas.List.Elements.{recursion_from_All, All-from_recursion}
+use Rattle.list_lemmas.proofs.Each.{each_at_number, each_of_set, each_of_removed}
 use Rattle.rf2_values.specs.declared.row.Kind.{Kind}
 use Rattle.rf2_values.specs.declared.row.Kind.TheVariants as kinds
 use Rattle.rf2_values.specs.Row.{kind_of}
@@ -40,24 +41,6 @@ of_risen old e lists rises all = λ k d lt. λ i s below. has_risen old e.layout
 
 -- ---- two lists replaced by the rows of both
 
-module _ {X : Type 0} (P : X → Type 0) where
-  got : (xs : List X) (i : ℕ) (x : X) → slice_get xs i ≡ Some x → AllByRecursion P xs → P x
-  got [] i x e all = absurd (cc)
-  got (y ∷ ys) zero x e all = subst P (cc) all.0
-  got (y ∷ ys) (suc i) x e all = got ys i x e all.1
-
-  set_all : (xs : List X) (i : ℕ) (x : X) → P x → AllByRecursion P xs → AllByRecursion P (slice_set xs i x)
-  set_all [] zero x is all = tt
-  set_all [] (suc i) x is all = tt
-  set_all (y ∷ ys) zero x is all = (is, all.1)
-  set_all (y ∷ ys) (suc i) x is all = (all.0, set_all ys i x is all.1)
-
-  removed_all : (xs : List X) (j : ℕ) → AllByRecursion P xs → AllByRecursion P (remove xs j)
-  removed_all [] zero all = tt
-  removed_all [] (suc j) all = tt
-  removed_all (y ∷ ys) zero all = all.1
-  removed_all (y ∷ ys) (suc j) all = (all.0, removed_all ys j all.1)
-
 union_kinds : (layout : Layout) (a b : List StampedRow) → AreOfLayout layout a → AreOfLayout layout b → AreOfLayout layout (union a b)
 union_kinds layout a b first second = All-from_recursion Fits (union a b) (all_from_has Fits (union a b) each) where
   Fits : StampedRow → Type 0
@@ -72,5 +55,5 @@ union_kinds layout a b first second = All-from_recursion Fits (union a b) (all_f
 pub merged_kinds : (layout : Layout) (lists : List (List StampedRow)) (i j : ℕ) (a b : List StampedRow) → slice_get lists i ≡ Some a → slice_get lists j ≡ Some b → All (AreOfLayout layout) lists → All (AreOfLayout layout) (merged lists i j a b)
 merged_kinds layout lists i j a b a_is b_is all =
     let each : AllByRecursion (AreOfLayout layout) lists = recursion_from_All (AreOfLayout layout) lists all in
-    let both : AreOfLayout layout (union a b) = union_kinds layout a b (got (AreOfLayout layout) lists i a a_is each) (got (AreOfLayout layout) lists j b b_is each) in
-    All-from_recursion (AreOfLayout layout) (merged lists i j a b) (removed_all (AreOfLayout layout) (slice_set lists i (union a b)) j (set_all (AreOfLayout layout) lists i (union a b) both each))
+    let both : AreOfLayout layout (union a b) = union_kinds layout a b (each_at_number (AreOfLayout layout) lists i a a_is each) (each_at_number (AreOfLayout layout) lists j b b_is each) in
+    All-from_recursion (AreOfLayout layout) (merged lists i j a b) (each_of_removed (AreOfLayout layout) (slice_set lists i (union a b)) j (each_of_set (AreOfLayout layout) lists i (union a b) each both))

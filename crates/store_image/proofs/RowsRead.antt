@@ -3,8 +3,9 @@ use Rattle.std.proofs.Common.{◌≡◌, ℕ, ◌+◌, ◌<◌, ◌≤◌, ◌++
 use Rattle.std.specs.Prelude.{Option, Some, None}
 use Rattle.std.specs.List.{AllByRecursion}
 use Rattle.std.specs.declared.cmp.Ordering.TheVariants.{Less}
-use Rattle.std.proofs.lemmas.List.{take_at, drop_at, take-append-drop}
+use Rattle.std.proofs.lemmas.List.{take_at, drop_at, take-append-drop, map_push}
 use Rattle.std.proofs.lemmas.List.Elements.{All-push, recursion_from_All}
+use Rattle.list_lemmas.proofs.Each.{each_of_pushed}
 use Rattle.rf2_values.specs.declared.key.Key.{Key}
 use Rattle.rf2_values.specs.Key.{key_of, key_cmp}
 use Rattle.history_model.specs.declared.stamped.StampedRow.{StampedRow}
@@ -18,7 +19,8 @@ use Rattle.segment.specs.Standing.{record_len, row_place, with_places, places_of
 use Rattle.segment.proofs.Ascending.{ascends_push, ascends_front, last_below}
 use Rattle.segment.proofs.Decoded.{reads_on}
 use Rattle.segment.proofs.RecordLaws.{same_records, length-record_in}
-use Rattle.segment.proofs.SegmentLaws.{push_plain, all_push, no_rows_plain, goes_on, length-segment_in}
+use Rattle.segment.proofs.SegmentLaws.{push_plain, no_rows_plain, goes_on, length-segment_in}
+use Rattle.segment.proofs.Posting.{segment_length_more, with_places_push, record_ends}
 use Rattle.store_image.specs.declared.fault.RowsFault.{RowsFault}
 use Rattle.store_image.specs.declared.fault.RowsFault.TheVariants as faults
 use Rattle.store_image.specs.declared.reading.ReadTo.{ReadTo}
@@ -36,31 +38,14 @@ keys_from at [] = refl
 keys_from at (s ∷ rows) =
     ap (λ k. k ∷ map (λ (p : RowPlace). p.key) (map (λ (x : StampedRow × RowPlace). x.1) (with_places (at + record_len s) rows))) (key_posted s at) ∙ ap (λ l. key_of s.row ∷ l) (keys_from (at + record_len s) rows)
 
-first_len : (s : StampedRow) (rows : List StampedRow) → length (segment_of (s ∷ rows)) ≡ length (record_of s) + length (segment_of rows)
-unfolding segment_of
-first_len s rows = length-append (record_of s) (segment_of rows)
-
-with_more_from : (at : ℕ) (rows : List StampedRow) (s : StampedRow) → with_places at (rows ++ s ∷ []) ≡ with_places at rows ++ (s, row_place s (at + length (segment_of rows))) ∷ []
-with_more_from at [] s =
-    let none = ap length no_rows_plain in
-    let same : at ≡ at + length (segment_of []) = omega (arith, none) in
-    ap (λ n. (s, row_place s n) ∷ []) same
-with_more_from at (r ∷ rows) s =
-    let same : at + record_len r + length (segment_of rows) ≡ at + length (segment_of (r ∷ rows)) = omega (arith, first_len r rows) in
-    ap (λ l. (r, row_place r at) ∷ l) (with_more_from (at + record_len r) rows s ∙ ap (λ n. with_places (at + record_len r) rows ++ (s, row_place s n) ∷ []) same)
-
 -- one row more has the place where those before it end
 with_more : (at : ℕ) (rows : List StampedRow) (s : StampedRow) → at ≡ length (segment_of rows) → with_places 0 (rows ++ s ∷ []) ≡ with_places 0 rows ++ (s, row_place s at) ∷ []
 with_more at rows s is =
     let same : 0 + length (segment_of rows) ≡ at = omega (arith, is) in
-    with_more_from 0 rows s ∙ ap (λ n. with_places 0 rows ++ (s, row_place s n) ∷ []) same
-
-map-more : {X Y : Type 0} (f : X → Y) (xs : List X) (x : X) → map f (xs ++ x ∷ []) ≡ map f xs ++ f x ∷ []
-map-more f [] x = refl
-map-more f (y ∷ xs) x = ap (λ l. f y ∷ l) (map-more f xs x)
+    with_places_push 0 rows s ∙ ap (λ n. with_places 0 rows ++ (s, row_place s n) ∷ []) same
 
 pub places_more : (at : ℕ) (rows : List StampedRow) (s : StampedRow) → at ≡ length (segment_of rows) → places_of (rows ++ s ∷ []) ≡ places_of rows ++ row_place s at ∷ []
-places_more at rows s is = ap (map (λ (x : StampedRow × RowPlace). x.1)) (with_more at rows s is) ∙ map-more (λ (x : StampedRow × RowPlace). x.1) (with_places 0 rows) (s, row_place s at)
+places_more at rows s is = ap (map (λ (x : StampedRow × RowPlace). x.1)) (with_more at rows s is) ∙ map_push (λ (x : StampedRow × RowPlace). x.1) (with_places 0 rows) (s, row_place s at)
 
 -- the places of rows, and where their records end
 abbrev pub ArePlaced : List RowPlace → ℕ → List StampedRow → Type 0
@@ -69,17 +54,11 @@ ArePlaced places bytes rows = (places ≡ places_of rows) × (bytes ≡ length (
 pub none_placed : (places : List RowPlace) (rows : List StampedRow) → places ≡ [] → rows ≡ [] → ArePlaced places 0 rows
 none_placed places rows no_places none = (no_places ∙ sym (ap places_of none), sym (ap (λ (l : List StampedRow). length (segment_of l)) none ∙ ap length no_rows_plain))
 
-pub placed_end : (rows : List StampedRow) (s : StampedRow) (bytes : ℕ) (place : RowPlace) → bytes ≡ length (segment_of rows) → place ≡ row_place s bytes → bytes + place.bytes ≡ length (segment_of (rows ++ s ∷ []))
-unfolding row_place
-placed_end rows s bytes place is place_is =
-    let long = ap length (push_plain rows s) ∙ length-append (segment_of rows) (record_of s) in
-    omega (arith, is, long, ap (λ (p : RowPlace). p.bytes) place_is)
-
 pub placed_more : (places more : List RowPlace) (bytes : ℕ) (rows next : List StampedRow) (s : StampedRow) (place : RowPlace) → ArePlaced places bytes rows → place ≡ row_place s bytes → more ≡ places ++ place ∷ [] → next ≡ rows ++ s ∷ [] → ArePlaced more (bytes + place.bytes) next
 placed_more places more bytes rows next s place are place_is more_is next_is =
     subst (λ (l : List StampedRow). ArePlaced more (bytes + place.bytes) l) (sym next_is) (
       more_is ∙ (λ i. are.0 i ++ place_is i ∷ []) ∙ sym (places_more bytes rows s are.1),
-      placed_end rows s bytes place are.1 place_is,
+      record_ends rows s bytes place are.1 place_is,
     )
 
 -- ---- the order
@@ -109,7 +88,7 @@ more_are_read to imports next key rows more s read is next_is low key_is above m
     subst (λ (r : List StampedRow). AreReadTo (record { at = next; last = Some key }) imports r) (sym more_is) (record {
       last_is = (rows, s, refl, key_is);
       at_is = more_bytes to imports next rows s read next_is;
-      each = all_push IsStamped rows s read.each is;
+      each = each_of_pushed IsStamped rows s read.each is;
       ascending = comes to.last rows s read.last_is read.ascending (subst (λ k. IsAbove k to.last) key_is above);
       numbered = All-push (λ (t : StampedRow). t.import ≤ imports) rows s read.numbered low;
     })

@@ -1,10 +1,11 @@
 -- Segments, as their entries say.
-use Rattle.std.proofs.Common.{◌≡◌, ℕ, zero, suc, ◌+◌, ◌*◌, ◌<◌, ◌≤◌, ◌++◌, List, [], ◌∷◌, length, get_or, map, take, drop, refl, sym, ap, ◌∙◌, subst, arith, length-take, length-drop, length-append}
+use Rattle.std.proofs.Common.{◌≡◌, ℕ, zero, suc, ◌+◌, ◌*◌, ◌<◌, ◌≤◌, ◌++◌, List, [], ◌∷◌, length, get_or, take, drop, refl, sym, ap, ◌∙◌, subst, arith, length-take, length-drop, length-append}
 use Rattle.std.specs.Prelude.{None}
 use Rattle.std.specs.List.{AllByRecursion}
 use Rattle.std.proofs.lemmas.List.Sums.{sum_by_push, sum_by-take-le}
-use Rattle.std.proofs.lemmas.List.{append-nil, take_more}
+use Rattle.std.proofs.lemmas.List.{append-nil, take_more, nil_from_length}
 use Rattle.std.proofs.lemmas.List.Elements.{All-nil, All-push, All-head, All-tail, AllZip-push}
+use Rattle.list_lemmas.proofs.Each.{each_of_pushed}
 use Rattle.blocks.specs.Extents.{start_of}
 use Rattle.store_image.specs.Private.Reading.{bytes_of}
 use Rattle.directory.specs.declared.entry.Entry.{Entry}
@@ -72,10 +73,6 @@ not_next faults.Damaged imports entry rows file why begins more = λ others is n
     let count = is.0.count in
     why begins others (at_segment file entry others is) numbered (omega (arith, more, count))
 
-nothing : {X : Type 0} (xs : List X) → length xs ≡ 0 → xs ≡ []
-nothing [] none = refl
-nothing (x ∷ xs) none = absurd (omega (arith, none))
-
 pub wrong_end : (to : ReadTo) (imports : ℕ) (entry : Entry) (rows : List StampedRow) (file : List ℕ) → AreReadTo to imports rows → length rows ≡ entry.rows → (to.at ≡ entry.bytes → ⊥) → BeginsWith entry.form rows (bytes_of (extent_of entry) file)
     → IsNotReadAt faults.Damaged imports entry file
 wrong_end to imports entry rows file read count wrong begins others is numbered =
@@ -83,7 +80,7 @@ wrong_end to imports entry rows file read count wrong begins others is numbered 
     let on = goes_on entry.form rows others begins.0 read.each segment.each (sym begins.1 ∙ segment.bytes_are) in
     let others_count = is.0.count in
     let long = ap length on.1 in
-    let none = nothing on.0 (omega (arith, count, others_count, long, length-append rows on.0)) in
+    let none = nil_from_length on.0 (omega (arith, count, others_count, long, length-append rows on.0)) in
     let same : others ≡ rows = on.1 ∙ ap (λ (l : List StampedRow). rows ++ l) none ∙ append-nil rows in
     wrong (read.at_is ∙ sym (ap (λ (l : List StampedRow). length (segment_of l)) same) ∙ is.0.bytes)
 
@@ -100,7 +97,7 @@ at_found file entry rows is found begins =
     let long = ap length begins.1 in
     let bytes : length (segment_in entry.form rows) ≡ entry.bytes = length-segment_in entry.form rows ∙ found.bytes in
     let most = length-take entry.bytes (drop start file) in
-    let rest_none = nothing begins.0 (omega (arith, long, most, bytes, length-append (segment_in entry.form rows) begins.0, length-segment_in entry.form rows)) in
+    let rest_none = nil_from_length begins.0 (omega (arith, long, most, bytes, length-append (segment_in entry.form rows) begins.0, length-segment_in entry.form rows)) in
     let same : bytes_of (extent_of entry) file ≡ segment_in entry.form rows = begins.1 ∙ ap (λ (l : List ℕ). segment_in entry.form rows ++ l) rest_none ∙ append-nil (segment_in entry.form rows) in
     let whole = ap length same in
     let first = is.first in
@@ -129,14 +126,6 @@ entry_there imports file (e ∷ entries) (rows ∷ lists) zero d lt are numbered
 entry_there imports file (e ∷ entries) (rows ∷ lists) (suc i) d lt are numbered held =
     entry_there imports file entries lists i d (omega (arith, lt)) are.1 numbered.1 (All-tail (λ piece. Holds piece file) (start_of (extent_of e), segment_in e.form rows) (pieces_of entries lists) held)
 
-all_pushed : {X : Type 0} (P : X → Type 0) (xs : List X) (x : X) → AllByRecursion P xs → P x → AllByRecursion P (xs ++ x ∷ [])
-all_pushed P [] x all p = (p, tt)
-all_pushed P (y ∷ xs) x all p = (all.0, all_pushed P xs x all.1 p)
-
-pub map-push : {X Y : Type 0} (f : X → Y) (xs : List X) (x : X) → map f (xs ++ x ∷ []) ≡ map f xs ++ f x ∷ []
-map-push f [] x = refl
-map-push f (y ∷ xs) x = ap (λ l. f y ∷ l) (map-push f xs x)
-
 -- the bytes of the entries so far, and of one more
 pub bytes_more : (entries : List Entry) (i : ℕ) (d : Entry) → i < length entries → bytes_listed (take (i + 1) entries) ≡ bytes_listed (take i entries) + (get_or entries i d).bytes
 bytes_more entries i d lt =
@@ -158,7 +147,7 @@ module _ (entries : List Entry) (i : ℕ) (d : Entry) (lists more : List (List S
       (subst (λ (l : List Entry). AreSegments l (lists ++ rows ∷ [])) (sym front) (AllZip-push IsSegmentOf (take i entries) lists (get_or entries i d) rows are is))
 
   pub more_numbered : (imports : ℕ) → AllByRecursion (AreNumbered imports) lists → AreNumbered imports rows → AllByRecursion (AreNumbered imports) more
-  more_numbered imports all low = subst (λ l. AllByRecursion (AreNumbered imports) l) (sym more_is) (all_pushed (AreNumbered imports) lists rows all low)
+  more_numbered imports all low = subst (λ l. AllByRecursion (AreNumbered imports) l) (sym more_is) (each_of_pushed (AreNumbered imports) lists rows all low)
 
   pub more_held : (file : List ℕ) → AreSegments (take i entries) lists → HoldsAll (pieces_of (take i entries) lists) file → IsAt file (get_or entries i d) rows → HoldsAll (pieces_of (take (i + 1) entries) more) file
   more_held file are held is =

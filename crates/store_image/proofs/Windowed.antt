@@ -2,8 +2,9 @@
 use Rattle.std.proofs.Common.{◌≡◌, ◌⊎◌, inl, inr, ℕ, ◌+◌, ◌-◌, ◌*◌, ◌<◌, ◌≤◌, ◌++◌, List, [], ◌∷◌, length, min, take, drop, refl, sym, ap, ◌∙◌, subst, arith, length-take, length-drop, length-append}
 use Rattle.std.proofs.lemmas.Bool.{cases_lt}
 use Rattle.std.specs.List.{copy_within}
-use Rattle.std.proofs.lemmas.List.{take-append-drop, take-append-le, take-take, take_at, drop-take, drop-drop, drop_at, take_all}
+use Rattle.std.proofs.lemmas.List.{take-append-le, take-take, take_at, drop-take, drop-drop, drop_at, take_all}
 use Rattle.std.proofs.lemmas.List.Edits.{take-paste}
+use Rattle.list_lemmas.proofs.Parts.{take_sum}
 use Rattle.rf2_values.specs.declared.row.Kind.{Kind}
 use Rattle.rf2_values.specs.declared.row.Kind.TheVariants as kinds
 use Rattle.rf2_values.specs.Row.{kind_of}
@@ -95,13 +96,6 @@ not_found_in form segments.BadSegment w extent at file same from sees full none 
 
 -- ---- a window that moves on
 
--- so many and then so many more
-take_joined : (n m : ℕ) (xs : List ℕ) → take (n + m) xs ≡ take n xs ++ take m (drop n xs)
-take_joined n m xs =
-    sym (take-append-drop n (take (n + m) xs))
-    ∙ ap (λ (l : List ℕ). l ++ drop n (take (n + m) xs)) (take-take n (n + m) xs (omega arith))
-    ∙ ap (λ (l : List ℕ). take n xs ++ l) (drop-take n m xs)
-
 none_taken : (xs : List ℕ) → take 0 xs ≡ []
 none_taken [] = refl
 none_taken (x ∷ xs) = refl
@@ -192,10 +186,10 @@ module _ (w : Window) (count read place : ℕ) (file : List ℕ) (count_is : cou
 
   pub sees_more : (items : List ℕ) → take w.len items ≡ take w.len w.bytes.items → take read (drop w.len items) ≡ take read (drop place file) → take (w.len + read) items ≡ take (w.len + read) (drop w.from (bytes_of w.extent file))
   sees_more items front behind =
-      take_joined w.len read items
+      take_sum w.len read items
       ∙ ap (λ (l : List ℕ). l ++ take read (drop w.len items)) (front ∙ sees.bytes)
       ∙ ap (λ (l : List ℕ). take w.len (drop w.from (bytes_of w.extent file)) ++ l) (behind ∙ read_on)
-      ∙ sym (take_joined w.len read (drop w.from (bytes_of w.extent file)))
+      ∙ sym (take_sum w.len read (drop w.from (bytes_of w.extent file)))
 
   pub ended_still : w.from + (w.len + read) < w.asked + count → length (bytes_of w.extent file) ≤ w.from + (w.len + read)
   ended_still fewer = elim (cases_lt (w.from + w.len) w.asked) [

@@ -1,6 +1,7 @@
 -- One store and one release give one answer, unless memory lacks or the device fails.
 use Rattle.std.proofs.Common.{◌≡◌, ℕ, ◌++◌, Bool, List, [], ◌∷◌, sym, ap, subst, ◌∙◌, Result, Ok, Err, inl, inr, Option, Some}
 use Rattle.std.specs.Prelude.{unwrap_or}
+use Rattle.list_lemmas.proofs.Tests.{one_value}
 use Rattle.rf2_values.specs.Row.{RowValue}
 use Rattle.history_model.specs.declared.stamped.StampedRow.{StampedRow}
 use Rattle.history_model.specs.declared.receipt.Receipt.{Receipt}
@@ -19,14 +20,11 @@ use Rattle.history_store.specs.Checking.{HasFailed}
 use Rattle.history_store.proofs.Foreseen.{one_receipt, refused_again, not_taken_then}
 use Rattle.store_life.specs.Laws.{OneImport}
 
-one_some : {X : Type 0} (x y : X) (o : Option X) → o ≡ Some x → o ≡ Some y → x ≡ y
-one_some {X} x y o e f = ap (λ (p : Option X). unwrap_or p x) (sym e ∙ f)
-
 -- a segment goes to one place
 one_next : (rows : List StampedRow) (catalog next other : Catalog) → IsCatalogAfter rows catalog next → IsCatalogAfter rows catalog other → other ≡ next
 one_next [] catalog next other a b = b ∙ sym a
 one_next (s ∷ rows) catalog next other a b =
-    let first : b.first ≡ a.first = one_some b.first a.first _ b.place a.place in
+    let first : b.first ≡ a.first = one_value _ b.first a.first b.place a.place in
     b.next_is ∙ ap (λ (k : ℕ). record (next_catalog catalog) { entries = catalog.entries ++ entry_at (form_of catalog.layout) k (s ∷ rows) ∷ [] }) first ∙ sym a.next_is
 
 -- a store that is like another, with the other's parts

@@ -17,6 +17,8 @@ use Rattle.history_model.specs.InOrder.{Has, IsAscending, put}
 use Rattle.history_model.specs.Private.{IsPlace}
 use Rattle.history_model.specs.Queries.{is_above}
 use Rattle.history_model.proofs.InOrder.{Has-all, all_from_has, Has-append_left, Has-append_right, Has-append_cases, Has-put_cases, Has-put_old, Has-put_new, IsAscending-put}
+use Rattle.history_model.proofs.Filtered.{IsAscending-take}
+use Rattle.history_model.proofs.Items.{Has-flat_map, Has-flat_map_from, Has-permuted, Has-take, Has-slice_get}
 use Rattle.as_of_index.specs.declared.chosen.Chosen.{Chosen}
 use Rattle.segment.specs.declared.place.RowPlace.{RowPlace}
 use Rattle.segment.specs.Standing.{places_of}
@@ -27,22 +29,16 @@ use Rattle.term_prefix.specs.declared.search.Search.{Search}
 use Rattle.term_prefix.specs.declared.search.Bounds.{Bounds}
 use Rattle.term_prefix.specs.declared.search.Candidate.TheVariants as candidates
 use Rattle.term_prefix.specs.Private.{chosen_at, IsFull, IsTaken, Counts, AreKept, SaysTaken, SaysCandidate, IsOfDescription, AreBounds}
-use Rattle.as_of_index.proofs.Ordered.{IsAscending-take}
 use Rattle.as_of_index.specs.Private.Search.{SplitsAt}
-use Rattle.as_of_index.proofs.Paging.{less_from}
-use Rattle.as_of_index.proofs.First.{Has-take, taken_or_above, length-put, put_there, put_new}
+use Rattle.as_of_index.proofs.First.{taken_or_above, length-put, put_there, put_new}
 use Rattle.as_of_index.proofs.First.{Falls}
 use Rattle.std.specs.List.Sorted.{IsPermutation}
 use Rattle.std.proofs.lemmas.List.Sorted.{IsPermutation-sym}
-use Rattle.as_of_index.proofs.Numbered.{Has-flat_map, Has-flat_map_from}
-use Rattle.as_of_index.proofs.Pushing.{Has-permuted}
+use Rattle.std.proofs.lemmas.Option.{same_Some}
+use Rattle.list_lemmas.proofs.Tests.{less_from_below}
+use Rattle.list_lemmas.proofs.Parts.{taken_at_most}
 use Rattle.term_prefix.specs.declared.text.Term.{Term}
 use Rattle.as_of_index.proofs.Current.{chosen_total}
-
-few : {X : Type 0} (n : ℕ) (xs : List X) → length (take n xs) ≤ n
-few zero xs = omega arith
-few (suc n) [] = omega arith
-few (suc n) (x ∷ xs) = let le = few n xs in omega arith
 
 lower : (a b : Chosen) → chosen_cmp a b ≡ Less → a.at.key.id < b.at.key.id
 lower a b e = ranked a.at.key.id b.at.key.id Less (sym e)
@@ -63,8 +59,8 @@ module _ (lists : List (List StampedRow)) (search : Search) where
   kept_more seen kept k a w =
       let up = IsAscending-put chosen_total k kept a.ascending in
       record {
-        ascending = IsAscending-take chosen_cmp (put chosen_cmp k kept) search.limit up;
-        few = few search.limit (put chosen_cmp k kept);
+        ascending = IsAscending-take chosen_cmp search.limit (put chosen_cmp k kept) up;
+        taken_at_most = taken_at_most search.limit (put chosen_cmp k kept);
         all = λ m h now. elim (Has-append_cases seen (k ∷ []) m h) [
           | inl l ↦ elim (a.all m l now) [
             | inl t ↦ taken_id search.limit (put chosen_cmp k kept) t.0 m.at.key.id up (Has-put_old chosen_cmp k kept t.0 t.1) t.2
@@ -95,7 +91,7 @@ module _ (lists : List (List StampedRow)) (search : Search) where
   pub kept_other : (seen kept : List Chosen) (k : Chosen) → AreKept lists search seen kept → IsTaken search.limit kept k.at.key.id ⊎ (Counts lists search k → ⊥) → AreKept lists search (seen ++ k ∷ []) kept
   kept_other seen kept k a w = record {
     ascending = a.ascending;
-    few = a.few;
+    taken_at_most = a.few;
     all = λ m h now. elim (Has-append_cases seen (k ∷ []) m h) [
       | inl l ↦ a.all m l now
       | inr r ↦ elim r [
@@ -112,7 +108,7 @@ module _ (lists : List (List StampedRow)) (search : Search) where
   pub kept_same : (seen others kept : List Chosen) → ((k : Chosen) → Has seen k → Has others k) → ((k : Chosen) → Has others k → Has seen k) → AreKept lists search seen kept → AreKept lists search others kept
   kept_same seen others kept f g a = record {
     ascending = a.ascending;
-    few = a.few;
+    taken_at_most = a.few;
     all = λ k h now. a.all k (g k h) now;
     only = λ k h. let o = a.only k h in (f k o.0, o.1);
   }
@@ -134,10 +130,6 @@ terms_same lists search n seen kept ts others same are =
             Has-append_right seen (those ys) k (Has-flat_map_from (λ (t : Term). chosen_at lists n t.row) ys m.0 k (Has-permuted ys xs same m.0 m.1) m.2)
       ]
 
-pub ok_so : {A B : Type 0} (r : Result A B) (P Q : Type 0) → (P → Q) → OnOk r P → OnOk r Q
-ok_so (Ok x) P Q f p = f p
-ok_so (Err e) P Q f p = tt
-
 -- ---- whether one is taken
 
 highest : (kept : List Chosen) (i : ℕ) (l j : Chosen) → IsAscending chosen_cmp kept → slice_get kept i ≡ Some l → length kept ≡ i + 1 → Has kept j → j.at.key.id ≤ l.at.key.id
@@ -154,16 +146,11 @@ highest (k ∷ m ∷ kept) (suc i) l j up e len h = elim h [
   | inr t ↦ highest (m ∷ kept) i l j up.1 e (omega arith) t
 ]
 
-pub there_at : (kept : List Chosen) (i : ℕ) (l : Chosen) → slice_get kept i ≡ Some l → Has kept l
-there_at [] i l e = absurd (cc)
-there_at (k ∷ kept) zero l e = inl (cc)
-there_at (k ∷ kept) (suc i) l e = inr (there_at kept i l e)
-
 pub says_by_last : (limit : ℕ) (kept : List Chosen) (id i : ℕ) (l : Chosen) → slice_get kept i ≡ Some l → length kept ≡ i + 1 → limit ≤ length kept → IsAscending chosen_cmp kept → SaysTaken limit kept id (nat_le l.at.key.id id)
 says_by_last limit kept id i l e len full up =
     elim (nat_le l.at.key.id id) as (λ b. nat_le l.at.key.id id ≡ b → SaysTaken limit kept id b) [
       | true ↦ λ f. (full, λ j h. let le = highest kept i l j up e len h in let last : l.at.key.id ≤ id = grind (arith, nat_tests, f) in omega arith)
-      | false ↦ λ f. λ k. (l, there_at kept i l e, grind (arith, nat_tests, f))
+      | false ↦ λ f. λ k. (l, Has-slice_get kept i l e, grind (arith, nat_tests, f))
     ] refl
 
 pub says_last : (limit : ℕ) (kept : List Chosen) (id : ℕ) (l : Chosen) → slice_get kept (length kept - 1) ≡ Some l → limit ≤ length kept → IsAscending chosen_cmp kept → SaysTaken limit kept id (nat_le l.at.key.id id)
@@ -213,7 +200,7 @@ module _ (kept : List Chosen) (i id : ℕ) (w : SplitsAt (λ j. nat_lt j.at.key.
     put_new chosen_cmp k (λ j. nat_lt j.at.key.id k.at.key.id) (high k) kept i (omega arith) splits_by_k (λ m f.
         let same : m ≡ j = (let g = sym f ∙ at_place kept i j lt e in cc) in
         subst (λ (x : Chosen). chosen_cmp k x ≡ Less) (sym same)
-        (less_from k.at.key.id j.at.key.id (let p = rest_at (λ x. nat_lt x.at.key.id id) kept i j w (at_place kept i j lt e) in lower_id j p other))),
+        (less_from_below k.at.key.id j.at.key.id (let p = rest_at (λ x. nat_lt x.at.key.id id) kept i j w (at_place kept i j lt e) in lower_id j p other))),
   ) where
     lower_id : (j : Chosen) → nat_lt j.at.key.id id ≡ false → (j.at.key.id ≡ id → ⊥) → k.at.key.id < j.at.key.id
     lower_id j p other = apart (λ e. other e) (grind (arith, nat_tests, p)) where
@@ -286,11 +273,6 @@ module _ (lists : List (List StampedRow)) (search : Search) (n i : ℕ) where
 
 -- ---- one of a list more
 
-pub got_of : {X : Type 0} (xs : List X) (i : ℕ) (d : X) → i < length xs → Has xs (get_or xs i d)
-got_of [] i d lt = absurd (omega arith)
-got_of (x ∷ xs) zero d lt = inl refl
-got_of (x ∷ xs) (suc i) d lt = inr (got_of xs i d (omega arith))
-
 pub pieces_more : {X : Type 0} (seen : List Chosen) (f : X → List Chosen) (ts : List X) (i : ℕ) (d : X) → i < length ts → seen ++ flat_map f (take (i + 1) ts) ≡ (seen ++ flat_map f (take i ts)) ++ f (get_or ts i d)
 pieces_more seen f ts i d lt =
     ap (λ xs. seen ++ flat_map f xs) (take_more ts i d lt)
@@ -299,17 +281,14 @@ pieces_more seen f ts i d lt =
 
 -- ---- what is answered of a row
 
-some_is : {X : Type 0} (x y : X) → Some x ≡ Some y → x ≡ y
-some_is x y e = cc
-
 module _ (lists : List (List StampedRow)) (search : Search) (kept : List Chosen) (n i : ℕ) where
   one_place : (p q : RowPlace) → IsPlaceOfRow lists n i p → IsPlaceOfRow lists n i q → p ≡ q
-  one_place p q e f = some_is p q (sym e ∙ f)
+  one_place p q e f = same_Some p q (sym e ∙ f)
 
   -- where a list has an id of a row, the row has a place
   place_of_id : (id : ℕ) (o : Option RowPlace) → Some id ≡ option_map (λ (p : RowPlace). p.key.id) o → (at : RowPlace) × (o ≡ Some at) × (id ≡ at.key.id)
   place_of_id id None e = absurd (cc)
-  place_of_id id (Some at) e = (at, refl, some_is id at.key.id e)
+  place_of_id id (Some at) e = (at, refl, same_Some id at.key.id e)
 
   pub says_none : None ≡ option_map (λ (p : RowPlace). p.key.id) (item_at (map places_of lists) n i) → SaysCandidate lists search kept n i candidates.Old
   says_none none at place counts = absurd (let ids = none ∙ ap (option_map (λ (p : RowPlace). p.key.id)) place in cc)
@@ -339,17 +318,12 @@ module _ (lists : List (List StampedRow)) (search : Search) (kept : List Chosen)
 
 -- ---- what is known of the rows behind and before one
 
-place_there : (ps : List RowPlace) (i : ℕ) (p : RowPlace) → slice_get ps i ≡ Some p → Has ps p
-place_there [] i p e = absurd (cc)
-place_there (q ∷ ps) zero p e = inl (cc)
-place_there (q ∷ ps) (suc i) p e = inr (place_there ps i p e)
-
 nth_below : (ps : List RowPlace) (i j : ℕ) (p q : RowPlace) → IsAscending place_cmp ps → slice_get ps i ≡ Some p → slice_get ps j ≡ Some q → i < j → place_cmp p q ≡ Less
 nth_below [] i j p q up e f lt = absurd (cc)
 nth_below (x ∷ ps) i zero p q up e f lt = absurd (omega arith)
 nth_below (x ∷ ps) zero (suc j) p q up e f lt =
     let same : x ≡ p = cc in
-    subst (λ y. place_cmp y q ≡ Less) same (Has-all (λ y. place_cmp x y ≡ Less) ps q up.0 (place_there ps j q f))
+    subst (λ y. place_cmp y q ≡ Less) same (Has-all (λ y. place_cmp x y ≡ Less) ps q up.0 (Has-slice_get ps j q f))
 nth_below (x ∷ ps) (suc i) (suc j) p q up e f lt = nth_below ps i j p q up.1 e f (omega arith)
 
 row_below : (index : List (List RowPlace)) → AllByRecursion (λ places. IsAscending place_cmp places) index → (n i j : ℕ) (p q : RowPlace) → item_at index n i ≡ Some p → item_at index n j ≡ Some q → i < j → place_cmp p q ≡ Less

@@ -2,15 +2,17 @@
 use Rattle.std.proofs.Common.{◌≡◌, ℕ, zero, suc, ◌+◌, ◌-◌, ◌<◌, ◌≤◌, Bool, true, false, List, [], ◌∷◌, ◌++◌, length, map, take, drop, refl, sym, ap, subst, inl, inr, ◌∙◌, arith, append_assoc, take_all}
 use Rattle.std.specs.declared.cmp.Ordering.{Ordering}
 use Rattle.std.specs.Option.{option_map}
-use Rattle.std.proofs.lemmas.Option.{slice_get-map}
+use Rattle.std.proofs.lemmas.Option.{slice_get-map, same_Some}
 use Rattle.std.specs.Prelude.{Option, Some, None, slice_get, Result, Ok, Err, OnOk, OnErr, if◌then◌else◌}
-use Rattle.std.specs.List.{AllByRecursion}
 use Rattle.std.specs.List.Sorted.{IsPermutation}
 use Rattle.std.specs.Ordering.{nat_cmp, is_lt}
 use Rattle.std.specs.Cmp.{IsStrictWeakOrder}
 use Rattle.std.specs.Cmp.Lexicographic.{slice_cmp}
 use Rattle.std.proofs.lemmas.Cmp.{nat_list_cmp_total}
-use Rattle.std.proofs.lemmas.List.Sorted.{ranks_by, IsPermutation-trans, IsPermutation-append_left, IsPermutation-append_comm, IsPermutation-middle}
+use Rattle.std.proofs.lemmas.List.Sorted.{ranks_by, IsPermutation-append_left}
+use Rattle.std.proofs.lemmas.List.{map_push}
+use Rattle.list_lemmas.proofs.Each.{each_of_pushed}
+use Rattle.list_lemmas.proofs.Parts.{permuted_with_last}
 use Rattle.rf2_values.specs.declared.row.Body.{Body}
 use Rattle.rf2_values.specs.declared.row.Body.TheVariants as body
 use Rattle.rf2_values.specs.Row.{RowValue}
@@ -18,7 +20,6 @@ use Rattle.history_model.specs.InOrder.{Has}
 use Rattle.history_model.proofs.InOrder.{Has-all, Has-append_cases}
 use Rattle.segment.specs.Standing.{places_of}
 use Rattle.as_of_index.specs.Numbers.{TwoLists, number_in_both}
-use Rattle.as_of_index.proofs.Current.{map-push}
 use Rattle.as_of_index.proofs.Unions.{merged_postings}
 use Rattle.term_prefix.specs.declared.merging.Next.TheVariants.{First, Second, Neither}
 use Rattle.term_prefix.specs.declared.text.Term.{Term}
@@ -31,9 +32,6 @@ use Rattle.term_prefix.proofs.Laid.{added}
 
 -- ---- the item of a list that is next
 
-some_is : {X : Type 0} (x y : X) → Some x ≡ Some y → x ≡ y
-some_is x y e = cc
-
 -- the item stands there, and splits the list so, with n items up to it
 record IsNextAt {X : Type 0} (xs : List X) (i n : ℕ) (x : X) : Type 0 where
   within : i < length xs
@@ -43,7 +41,7 @@ record IsNextAt {X : Type 0} (xs : List X) (i n : ℕ) (x : X) : Type 0 where
 stands_at : {X : Type 0} (xs : List X) (i : ℕ) (x : X) → slice_get xs i ≡ Some x → IsNextAt xs i (suc i) x
 stands_at [] i x e = absurd cc
 stands_at (y ∷ xs) zero x e =
-    let same : y ≡ x = some_is y x e in
+    let same : y ≡ x = same_Some y x e in
     record { within = omega arith; taken = ap (λ z. z ∷ []) same; left = ap (λ z. z ∷ xs) same }
 stands_at (y ∷ xs) (suc i) x e =
     let n = stands_at xs i x e in
@@ -63,12 +61,6 @@ none_at (y ∷ xs) (suc i) e = let n = none_at xs i e in (n.0, let le = n.1 in o
 
 -- ---- one more at the end
 
-between : {X : Type 0} (xs ys out : List X) (z : X) → IsPermutation (xs ++ ys) out → IsPermutation ((xs ++ z ∷ []) ++ ys) (out ++ z ∷ [])
-between xs ys out z p =
-    subst (λ zs. IsPermutation zs (out ++ z ∷ [])) (sym (append_assoc xs (z ∷ []) ys))
-    (IsPermutation-trans (xs ++ z ∷ ys) (z ∷ (xs ++ ys)) (out ++ z ∷ []) (IsPermutation-middle xs z ys)
-    (IsPermutation-trans (z ∷ (xs ++ ys)) ((xs ++ ys) ++ z ∷ []) (out ++ z ∷ []) (IsPermutation-append_comm (z ∷ []) (xs ++ ys)) (IsPermutation-append_left (z ∷ []) (xs ++ ys) out p)))
-
 behind : {X : Type 0} (xs ys out : List X) (z : X) → IsPermutation (xs ++ ys) out → IsPermutation (xs ++ (ys ++ z ∷ [])) (out ++ z ∷ [])
 behind xs ys out z p = subst (λ zs. IsPermutation zs (out ++ z ∷ [])) (append_assoc xs ys (z ∷ [])) (IsPermutation-append_left (z ∷ []) (xs ++ ys) out p)
 
@@ -78,13 +70,9 @@ is_under t u = is_lt (slice_cmp nat_cmp t.folded u.folded)
 order : IsStrictWeakOrder is_under
 order = ranks_by nat_list_cmp_total (λ (t : TermAt). t.folded)
 
-all-push : {X : Type 0} (P : X → Type 0) (xs : List X) (x : X) → AllByRecursion P xs → P x → AllByRecursion P (xs ++ x ∷ [])
-all-push P [] x all one = (one, tt)
-all-push P (y ∷ xs) x all one = (all.0, all-push P xs x all.1 one)
-
 rise-push : (ts : List TermAt) (z : TermAt) → TextsRise ts → ((t : TermAt) → Has ts t → is_under z t ≡ false) → TextsRise (ts ++ z ∷ [])
 rise-push [] z up above = (tt, tt)
-rise-push (t ∷ ts) z up above = (all-push (λ u. is_under u t ≡ false) ts z up.0 (above t (inl refl)), rise-push ts z up.1 (λ u there. above u (inr there)))
+rise-push (t ∷ ts) z up above = (each_of_pushed (λ u. is_under u t ≡ false) ts z up.0 (above t (inl refl)), rise-push ts z up.1 (λ u there. above u (inr there)))
 
 rise-left : (i : ℕ) (ts : List TermAt) → TextsRise ts → TextsRise (drop i ts)
 rise-left zero ts up = up
@@ -131,13 +119,13 @@ next_first : (o p : Option TermAt) → next_of o p ≡ First → (t : TermAt) ×
 next_first None None e = absurd cc
 next_first None (Some u) e = absurd cc
 next_first (Some t) None e = (t, refl, λ v f. absurd cc)
-next_first (Some t) (Some u) e = (t, refl, λ v f. subst (λ x. is_under x t ≡ false) (some_is u v f) (lesser_first t u e))
+next_first (Some t) (Some u) e = (t, refl, λ v f. subst (λ x. is_under x t ≡ false) (same_Some u v f) (lesser_first t u e))
 
 next_second : (o p : Option TermAt) → next_of o p ≡ Second → (u : TermAt) × (p ≡ Some u) × ((t : TermAt) → o ≡ Some t → is_under t u ≡ false)
 next_second None None e = absurd cc
 next_second None (Some u) e = (u, refl, λ v f. absurd cc)
 next_second (Some t) None e = absurd cc
-next_second (Some t) (Some u) e = (u, refl, λ v f. subst (λ x. is_under x u ≡ false) (some_is t v f) (lesser_second t u e))
+next_second (Some t) (Some u) e = (u, refl, λ v f. subst (λ x. is_under x u ≡ false) (same_Some t v f) (lesser_second t u e))
 
 next_neither : (o p : Option TermAt) → next_of o p ≡ Neither → (o ≡ None) × (p ≡ None)
 next_neither None None e = (refl, refl)
@@ -163,7 +151,7 @@ none_seen text ts us i t view_is e there = let none = ap (λ xs. slice_get xs i)
 pub put_out : (text : List ℕ) (ts : List Term) (folded : List ℕ) (row : ℕ) (text' : List ℕ) (ts' : List Term) (number : ℕ → ℕ) (t u : TermAt) → AreLaid 0 ts (length text) × HaveHeads text ts → AddsTerm text ts folded row text' ts'
     → folded ≡ u.folded → row ≡ number u.row → Some u ≡ Some t → terms_at text' ts' ≡ terms_at text ts ++ moved number t ∷ []
 put_out text ts folded row text' ts' number t u kept adds text_is row_is same =
-    let is = some_is u t same in
+    let is = same_Some u t same in
     let fold_of_t = text_is ∙ ap (λ (x : TermAt). x.folded) is in
     let row_of_t = row_is ∙ ap (λ (x : TermAt). number x.row) is in
     (added text ts folded row text' ts' kept.0 kept.1 adds).seen
@@ -189,8 +177,8 @@ module _ (lists : TwoLists) (a b : List TermAt) (up : TextsRise a × TextsRise b
         second_within = h.second_within;
         same =
             subst (λ xs. IsPermutation (map of_first xs ++ map of_second (take m.taken.second b)) (m.terms ++ of_first t ∷ [])) (sym n.taken)
-            (subst (λ xs. IsPermutation (xs ++ map of_second (take m.taken.second b)) (m.terms ++ of_first t ∷ [])) (sym (map-push of_first (take m.taken.first a) t))
-            (between (map of_first (take m.taken.first a)) (map of_second (take m.taken.second b)) m.terms (of_first t) h.same));
+            (subst (λ xs. IsPermutation (xs ++ map of_second (take m.taken.second b)) (m.terms ++ of_first t ∷ [])) (sym (map_push of_first (take m.taken.first a) t))
+            (permuted_with_last (map of_first (take m.taken.first a)) (map of_second (take m.taken.second b)) m.terms (of_first t) h.same));
         rising = rise-push m.terms (of_first t) h.rising (λ s k. h.first_left s t k (in_a t (inl refl)));
         first_left = above-push m.terms (drop (m.taken.first + 1) a) (of_first t) (λ s u k l. h.first_left s u k (in_a u (inr l))) (λ u l. Has-all (λ v. is_under v t ≡ false) (drop (m.taken.first + 1) a) u rest.0 l);
         second_left = above-push m.terms (drop m.taken.second b) (of_first t) h.second_left (least b m.taken.second t up.1 low);
@@ -207,7 +195,7 @@ module _ (lists : TwoLists) (a b : List TermAt) (up : TextsRise a × TextsRise b
         second_within = omega (arith, lt);
         same =
             subst (λ xs. IsPermutation (map of_first (take m.taken.first a) ++ map of_second xs) (m.terms ++ of_second u ∷ [])) (sym n.taken)
-            (subst (λ xs. IsPermutation (map of_first (take m.taken.first a) ++ xs) (m.terms ++ of_second u ∷ [])) (sym (map-push of_second (take m.taken.second b) u))
+            (subst (λ xs. IsPermutation (map of_first (take m.taken.first a) ++ xs) (m.terms ++ of_second u ∷ [])) (sym (map_push of_second (take m.taken.second b) u))
             (behind (map of_first (take m.taken.first a)) (map of_second (take m.taken.second b)) m.terms (of_second u) h.same));
         rising = rise-push m.terms (of_second u) h.rising (λ s k. h.second_left s u k (in_b u (inl refl)));
         first_left = above-push m.terms (drop m.taken.first a) (of_second u) h.first_left (least a m.taken.first u up.0 low);

@@ -7,7 +7,7 @@ use Rattle.std.specs.Ordering.{nat_cmp, is_lt}
 use Rattle.std.specs.Cmp.Lexicographic.{slice_cmp}
 use Rattle.std.proofs.lemmas.Cmp.{nat_list_cmp_total}
 use Rattle.std.proofs.lemmas.List.Sorted.{ranks_by, sorted_far}
-use Rattle.std.proofs.lemmas.List.{take-append-le, drop-append-le, take-append-drop, length-append, length-drop, length-take-le, take-map}
+use Rattle.std.proofs.lemmas.List.{take-append-le, drop-append-le, take-append-drop, length-append, length-drop, length-take-le, take-map, map_push}
 use Rattle.std.proofs.Math.Seq.{drop-append_seam}
 use Rattle.std.proofs.lemmas.Fn.{always_returns_same}
 use Rattle.std.specs.Cmp.{IsStrictWeakOrder}
@@ -15,7 +15,6 @@ use Rattle.std.specs.Fn.{Called, ComparesAs}
 use Rattle.std.specs.declared.cmp.Ordering.{Ordering}
 use denote.Ref.{Bor}
 use denote.Param.Members.{Mut}
-use Rattle.as_of_index.proofs.Current.{map-push}
 use Rattle.term_prefix.specs.declared.text.Term.{Term}
 use Rattle.term_prefix.specs.Terms.{TermAt, TextsRise}
 use Rattle.term_prefix.specs.Pushed.{posted_term, term_of_body}
@@ -25,12 +24,11 @@ use Rattle.term_prefix.proofs.Heads.{by_head}
 use Rattle.segment.proofs.Numbers.{IsBytes, IsBytes-take, IsBytes-drop}
 use Rattle.std.specs.List.Sorted.{IsPermutation}
 use Rattle.history_model.specs.InOrder.{Has}
-use Rattle.as_of_index.proofs.Pushing.{Has-permuted}
-use Rattle.as_of_index.proofs.Ordered.{has_at}
 use Rattle.rf2_values.specs.declared.row.Body.TheVariants as body
 use Rattle.rf2_values.specs.declared.row.Description.{Description}
 use Rattle.rf2_values.specs.Row.{RowValue}
 use Rattle.history_model.specs.Queries.{folded as folding}
+use Rattle.history_model.proofs.Items.{Has-get_or, Has-permuted}
 
 -- ---- one after the other
 
@@ -98,16 +96,16 @@ added text ts folded row text' ts' a heads w =
     let one : take (length folded) (drop (length text) (text ++ folded)) ≡ folded = ap (take (length folded)) (drop-append_seam text folded) ∙ take_all (length folded) folded (omega arith) in
     let seen : terms_at text' ts' ≡ terms_at text ts ++ record { folded = folded; row = row } ∷ [] =
     (λ i. terms_at (w.texts i) (w.terms i))
-    ∙ map-push (term_at (text ++ folded)) ts t
+    ∙ map_push (term_at (text ++ folded)) ts t
     ∙ ap (λ xs. xs ++ term_at (text ++ folded) t ∷ []) (terms-append text folded ts (laid-each 0 ts (length text) a))
     ∙ ap (λ (f : List ℕ). terms_at text ts ++ record { folded = f; row = row } ∷ []) one in
     record {
       laid = subst (λ x. AreLaid 0 x (length text')) (sym w.terms) (subst (λ x. AreLaid 0 (ts ++ t ∷ []) (length x)) (sym w.texts) (subst (λ n. AreLaid 0 (ts ++ t ∷ []) n) (sym (length-append text folded)) (laid-push 0 ts (length text) (length folded) (head 16 folded) row a)));
       heads =
           ap (map (λ (u : Term). u.head)) w.terms
-          ∙ map-push (λ (u : Term). u.head) ts t
+          ∙ map_push (λ (u : Term). u.head) ts t
           ∙ ap (λ ns. ns ++ head 16 folded ∷ []) heads
-          ∙ sym (map-push head_of_fold (terms_at text ts) (record { folded = folded; row = row }))
+          ∙ sym (map_push head_of_fold (terms_at text ts) (record { folded = folded; row = row }))
           ∙ ap (map head_of_fold) (sym seen);
       seen = seen;
     }
@@ -158,7 +156,7 @@ module _ (text : List ℕ) where
       let order = ranks_by nat_list_cmp_total (headed text) in
       let sorted = up is_lower order (always_returns_same g (λ a r. is_lt r ≡ is_lower a.0.now a.1.0.now) f (λ a r f' k. (ap is_lt (h a r f' k).0, (h a r f' k).1))) in
       let each : (t : Term) → Has ts t → HasHead text t = λ t there. heads_at text old heads t (Has-permuted old ts same t there) in
-      (heads_from text ts each, rises ts (λ i j d le lt. sym (ap is_lt (as_headed text text (get_or ts j d) (get_or ts i d) bytes bytes (each _ (has_at ts j d lt)) (each _ (has_at ts i d (omega arith))))) ∙ sorted_far is_lower order ts sorted i j d le lt))
+      (heads_from text ts each, rises ts (λ i j d le lt. sym (ap is_lt (as_headed text text (get_or ts j d) (get_or ts i d) bytes bytes (each _ (Has-get_or ts j d lt)) (each _ (Has-get_or ts i d (omega arith))))) ∙ sorted_far is_lower order ts sorted i j d le lt))
 
 -- ---- a row that is pushed
 

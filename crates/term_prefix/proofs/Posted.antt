@@ -6,6 +6,7 @@ use Rattle.rf2_values.specs.declared.row.Body.TheVariants as body
 use Rattle.rf2_values.specs.Row.{RowValue}
 use Rattle.std.proofs.lemmas.List.{length-append}
 use Rattle.std.proofs.lemmas.List.Sorted.{length_permutation}
+use Rattle.std.proofs.lemmas.Bool.{and_parts}
 use Rattle.history_model.specs.declared.stamped.StampedRow.{StampedRow}
 use Rattle.history_model.specs.InOrder.{Has}
 use Rattle.as_of_index.specs.declared.as_of.AsOf.{AsOf}
@@ -13,7 +14,7 @@ use Rattle.as_of_index.specs.Places.{item_at}
 use Rattle.as_of_index.specs.Postings.{posted_all}
 use Rattle.as_of_index.specs.Private.Postings.{numbered}
 use Rattle.history_model.specs.Queries.{snapshot, is_above, is_term, is_term_above, begins_with, folded}
-use Rattle.history_model.proofs.Filtered.{both}
+use Rattle.history_model.proofs.Items.{Has-if}
 use Rattle.as_of_index.proofs.Pushing.{stands, IsPostedAs, posted_as, all_more, all_set, all_removed}
 use Rattle.as_of_index.specs.Current.{rows_seen}
 use Rattle.term_prefix.specs.Terms.{TermAt}
@@ -47,11 +48,7 @@ of_body row i (body.Concrete x) t a e h = absurd h
 of_body row i (body.Member m) t a e h = absurd h
 
 of_row : (row : RowValue) (i : ℕ) (t : TermAt) → Has (posted_term row i) t → IsTermOf t row × (t.row ≡ i)
-of_row row i t h =
-    elim row.active as (λ b. row.active ≡ b → Has (if b then term_of_body row.body i else []) t → IsTermOf t row × (t.row ≡ i)) [
-      | true ↦ λ e k. of_body row i row.body t e refl k
-      | false ↦ λ e k. absurd k
-    ] refl h
+of_row row i t h = let active = Has-if row.active (term_of_body row.body i) t h in of_body row i row.body t active.0 refl active.1
 
 pub term_stands : (lists : List (List StampedRow)) (terms : List (List TermAt)) → ArePosted lists terms → (x : ℕ × TermAt) → Has (numbered 0 terms) x → (s : StampedRow) × (item_at lists x.0 x.1.row ≡ Some s) × IsTermOf x.1 s.row
 term_stands lists terms a x h = stands posted_term (λ (t : TermAt). t.row) IsTermOf of_row lists terms a x h
@@ -68,7 +65,7 @@ body_posted prefix i (body.Member m) e = absurd (cc)
 
 row_posted : (prefix : List ℕ) (after : Option ℕ) (row : RowValue) (i : ℕ) → is_term_above prefix after row ≡ true → (t : TermAt) × Has (posted_term row i) t × (t.row ≡ i)
 row_posted prefix after row i e =
-    let w = both row.active (begins_with prefix row.body) (both (is_term prefix row) (is_above after row.id) e).0 in
+    let w = and_parts row.active (begins_with prefix row.body) (and_parts (is_term prefix row) (is_above after row.id) e).0 in
     let t = body_posted prefix i row.body w.1 in
     (t.0, subst (λ b. Has (if b then term_of_body row.body i else []) t.0) (sym w.0) t.1, t.2)
 

@@ -10,9 +10,10 @@ use Rattle.std.specs.declared.cmp.Ordering.TheVariants.{Less, Equal, Greater}
 use Rattle.std.proofs.lemmas.Bool.Decides.{nat_tests}
 use Rattle.std.proofs.lemmas.Cmp.{nat_list_cmp_total}
 use Rattle.std.proofs.lemmas.List.Sorted.{ranks_by}
+use Rattle.std.proofs.lemmas.Bool.{and_parts}
 use Rattle.history_model.specs.InOrder.{Has}
 use Rattle.history_model.proofs.InOrder.{Has-all, Has-append_left, Has-append_right, Has-append_cases}
-use Rattle.history_model.proofs.Filtered.{both, Has-map, Has-map_from, Has-filter, Has-filter_from}
+use Rattle.history_model.proofs.Filtered.{Has-map, Has-map_from, Has-filter, Has-filter_from}
 use Rattle.term_prefix.specs.declared.text.Term.{Term}
 use Rattle.as_of_index.specs.Private.Search.{SplitsAt}
 use Rattle.term_prefix.specs.Terms.{TermAt, TextsRise}
@@ -26,7 +27,7 @@ begins_above [] [] e = refl
 begins_above [] (x ∷ t) e = refl
 begins_above (y ∷ p) [] e = absurd (cc)
 begins_above (y ∷ p) (x ∷ t) e =
-    let w = both (nat_eq y x) (starts_with nat_eq t p) e in
+    let w = and_parts (nat_eq y x) (starts_with nat_eq t p) e in
     let same : x ≡ y = grind (arith, nat_tests, w.0) in
     ap (λ r. is_lt (ordering_then r (slice_cmp nat_cmp t p))) (subst (λ n. nat_cmp x n ≡ Equal) same (tied_itself nat_cmp_total x)) ∙ begins_above p t w.1
 
@@ -41,7 +42,7 @@ between [] t u a b e = refl
 between (y ∷ p) [] u a b e = absurd (cc)
 between (y ∷ p) (x ∷ t) [] a b e = absurd (cc)
 between (y ∷ p) (x ∷ t) (z ∷ u) a b e =
-    let w = both (nat_eq y z) (starts_with nat_eq u p) e in
+    let w = and_parts (nat_eq y z) (starts_with nat_eq u p) e in
     let same : z ≡ y = grind (arith, nat_tests, w.0) in
     elim (then_not (nat_cmp x y) (slice_cmp nat_cmp t p) a) [
       | inl g ↦ elim (then_not (nat_cmp z x) (slice_cmp nat_cmp u t) b) [

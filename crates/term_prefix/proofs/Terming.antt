@@ -6,7 +6,10 @@ use Rattle.std.specs.List.{filter, starts_with}
 use Rattle.std.specs.Ordering.{nat_cmp, ordering_then}
 use Rattle.std.specs.Cmp.{nat_cmp_total, ranked, tied_itself}
 use Rattle.std.specs.declared.cmp.Ordering.TheVariants.{Less, Equal}
-use Rattle.std.proofs.lemmas.List.{take_more, length-take}
+use Rattle.std.proofs.lemmas.List.{take_more}
+use Rattle.std.proofs.lemmas.Bool.{and_parts}
+use Rattle.list_lemmas.proofs.Tests.{less_from_below}
+use Rattle.list_lemmas.proofs.Parts.{taken_before}
 use Rattle.rf2_values.specs.declared.row.Kind.TheVariants as kinds
 use Rattle.rf2_values.specs.declared.row.Body.{Body}
 use Rattle.rf2_values.specs.declared.row.Body.TheVariants as body
@@ -18,8 +21,9 @@ use Rattle.history_model.specs.InOrder.{Has, IsAscending}
 use Rattle.history_model.specs.History.{row_cmp}
 use Rattle.history_model.specs.Queries.{get, snapshot, is_above, is_term, is_term_above, begins_with, folded, terms_above, search_terms}
 use Rattle.history_model.proofs.InOrder.{Has-append_left, Has-append_right, Has-append_cases}
-use Rattle.history_model.proofs.Filtered.{both, Has-filter, Has-filter_from, Has-map, Has-map_from, IsAscending-filter}
+use Rattle.history_model.proofs.Filtered.{Has-filter, Has-filter_from, Has-map, Has-map_from, IsAscending-filter}
 use Rattle.history_model.proofs.Keys.{rows_total}
+use Rattle.history_model.proofs.Items.{Has-flat_map, Has-flat_map_from}
 use Rattle.segment.specs.declared.place.RowPlace.{RowPlace}
 use Rattle.as_of_index.specs.declared.chosen.Chosen.{Chosen}
 use Rattle.term_prefix.specs.declared.search.Search.{Search}
@@ -36,8 +40,7 @@ use Rattle.term_prefix.specs.Terms.{TermAt}
 use Rattle.term_prefix.specs.Pushed.{ArePosted}
 use Rattle.term_prefix.specs.Private.{begins, begun, chosen_at, AreOfDescriptions, AreKept}
 use Rattle.term_prefix.proofs.Posted.{HasFolded, IsTermOf, term_stands, term_of_description}
-use Rattle.as_of_index.proofs.Numbered.{stands_there, place_of_row, Has-flat_map, Has-flat_map_from, Has-option, Has-option_from}
-use Rattle.as_of_index.proofs.Paging.{less_from}
+use Rattle.as_of_index.proofs.Numbered.{stands_there, place_of_row, Has-option, Has-option_from}
 use Rattle.as_of_index.proofs.Among.{looked_up}
 use Rattle.as_of_index.proofs.First.{same_first}
 use Rattle.as_of_index.proofs.Current.{standing_row, one_row, shown_ascends, current_where, AllCurrent, rows_for, stand_for, length-rows_for, row_for, for_row, ascending_rows_for}
@@ -54,14 +57,11 @@ terms-push n (us ∷ terms) ts =
     ap (λ xs. in_list n us ++ xs) (terms-push (n + 1) terms ts ∙ ap (λ k. numbered (n + 1) terms ++ in_list k ts) (omega arith))
     ∙ sym (append_assoc (in_list n us) (numbered (n + 1) terms) (in_list (n + length (us ∷ terms)) ts))
 
-taken_len : (terms : List (List TermAt)) (i : ℕ) → i < length terms → 0 + length (take i terms) ≡ i
-taken_len terms i lt = let e = length-take i terms in grind (arith, e)
-
 pub terms-more : (terms : List (List TermAt)) (i : ℕ) (ts : List TermAt) → i < length terms → ts ≡ get_or terms i ts → numbered 0 (take (i + 1) terms) ≡ numbered 0 (take i terms) ++ in_list i ts
 terms-more terms i ts lt is =
     ap (numbered 0) (take_more terms i ts lt ∙ ap (λ x. take i terms ++ x ∷ []) (sym is))
     ∙ terms-push 0 (take i terms) ts
-    ∙ ap (λ k. numbered 0 (take i terms) ++ in_list k ts) (taken_len terms i lt)
+    ∙ ap (λ k. numbered 0 (take i terms) ++ in_list k ts) (taken_before terms i lt)
 
 -- ---- one list more
 
@@ -190,7 +190,7 @@ described_those lists terms posts n ts lt is text those which t h at place =
 first_id : (a b : RowValue) → kind_of a ≡ kinds.Description → kind_of b ≡ kinds.Description → a.id < b.id → row_cmp a b ≡ Less
 first_id a b e f lt =
     ap (λ r. ordering_then r (ordering_then (nat_cmp a.id b.id) (nat_cmp a.time b.time))) (subst (λ k. nat_cmp (kind_place (kind_of a)) (kind_place k) ≡ Equal) (e ∙ sym f) (tied_itself nat_cmp_total (kind_place (kind_of a))))
-    ∙ ap (λ r. ordering_then r (nat_cmp a.time b.time)) (less_from a.id b.id lt)
+    ∙ ap (λ r. ordering_then r (nat_cmp a.time b.time)) (less_from_below a.id b.id lt)
 
 module _ (lists : List (List StampedRow)) (are : ArePlaces (map places_of lists)) (terms : List (List TermAt)) (posts : ArePosted lists terms) (prefix : List ℕ) (search : Search) where
   -- what is posted of a place that begins so
@@ -260,7 +260,7 @@ module _ (lists : List (List StampedRow)) (are : ArePlaces (map places_of lists)
     from_wanted : (row : RowValue) → Has wanted row → Has found_rows row ⊎ ((search.limit ≤ length found_rows) × ((y : RowValue) → Has found_rows y → row_cmp y row ≡ Less))
     from_wanted row h =
         let f = Has-filter (is_term_above prefix search.after) (snapshot (rows_seen search.as_of lists) search.as_of.date) row h in
-        let u = both (is_term prefix row) (is_above search.after row.id) f.1 in
+        let u = and_parts (is_term prefix row) (is_above search.after row.id) f.1 in
         let g = term_of_description lists terms posts prefix search.as_of search.after row f.0 f.1 in
         let n = g.x.0 in
         let term = g.x.1 in
@@ -271,7 +271,7 @@ module _ (lists : List (List StampedRow)) (are : ArePlaces (map places_of lists)
         let stands = stands_there lists n term.row post.0 at post.1 p.1 in
         let key_is : at.key ≡ key_of row = (standing_row lists are n at post.0 stands).1 ∙ ap (λ (z : StampedRow). key_of z.row) (sym own) ∙ ap key_of g.same in
         let now = current_where lists are search.as_of n at post.0 row stands f.0 key_is in
-        let body_begins = (both row.active (begins_with prefix row.body) u.0).1 in
+        let body_begins = (and_parts row.active (begins_with prefix row.body) u.0).1 in
         let begins_so : begins (folded prefix) term ≡ true = begins_to prefix term.folded post.0.row.body post.2.folded_is (subst (λ (z : RowValue). begins_with prefix z.body ≡ true) now.0 body_begins) in
         let kind : kind_of row ≡ kinds.Description = ap kind_of now.0 ∙ described term.folded post.0.row post.0.row.body refl post.2.folded_is in
         let id_is : at.key.id ≡ row.id = ap (λ (k : Key). k.id) key_is in

@@ -1,9 +1,10 @@
 use Rattle.std.specs.List.{sum_by}
 use Rattle.std.proofs.Common.{◌+◌, ◌++◌, [], ◌∷◌, sym, ap, subst, ◌∙◌, take, map, rules, arith}
 use Rattle.std.proofs.lemmas.List.Sums.{sum_by_push}
+use Rattle.std.proofs.lemmas.List.{map_push}
 use Rattle.history_model.specs.declared.stamped.StampedRow.{StampedRow}
 use Rattle.segment.specs.Standing.{StandsAt}
-use Rattle.as_of_index.proofs.Current.{stand_at, stand_end, map-push, rows_push, first_rows}
+use Rattle.as_of_index.proofs.Current.{stand_at, stand_end, rows_push, first_rows}
 use Rattle.rf2_values.specs.Key.{key_of}
 use Rattle.as_of_index.proofs.SameKeys.{key_there, keys_push}
 use Rattle.as_of_index.proofs.chosen.read_all.Goals as goal
@@ -35,7 +36,7 @@ loop-k-preserved g c =
           c.in_ok-push.ensures.items
           ∙ ap (λ xs. xs ++ found.found.row ∷ []) (so_far.rows honest rows stand)
           ∙ ap (λ (s : StampedRow). map (λ (s : StampedRow). s.row) (take c.loop-k.k-index rows) ++ s.row ∷ []) same
-          ∙ sym (map-push (λ (s : StampedRow). s.row) (take c.loop-k.k-index rows) w.0)
+          ∙ sym (map_push (λ (s : StampedRow). s.row) (take c.loop-k.k-index rows) w.0)
           ∙ ap (λ xs. map (λ (s : StampedRow). s.row) xs) (sym w.2);
       keys = λ rows stand.
           let w = stand_at (g.R.RowReader.lists a.reader.now) a.places.now rows c.loop-k.k-index c.k-item.result stand c.loop-k-test.true c.k-item.is in
@@ -43,7 +44,7 @@ loop-k-preserved g c =
           ap (map key_of) c.in_ok-push.ensures.items
           ∙ keys_push c.loop-k.rows.items (map (λ (s : StampedRow). s.row) first) found.found.row w.0.row (so_far.keys rows stand)
           (key_there (g.R.RowReader.lists a.reader.now) c.k-item.result.segment c.k-item.result.at w.0 found.found.row w.1 found.ensures.keyed)
-          ∙ ap (map key_of) (sym (map-push (λ (s : StampedRow). s.row) first w.0) ∙ ap (map (λ (s : StampedRow). s.row)) (sym w.2));
+          ∙ ap (map key_of) (sym (map_push (λ (s : StampedRow). s.row) first w.0) ∙ ap (map (λ (s : StampedRow). s.row)) (sym w.2));
     }
 
 pub returns-in_err-found-clause-undamaged : goal.returns-in_err-found-clause-undamaged

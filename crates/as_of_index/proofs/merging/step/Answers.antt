@@ -1,7 +1,8 @@
 use Rattle.std.proofs.Common.{ap, arith}
+use Rattle.std.proofs.lemmas.Option.{slice_get_within}
+use Rattle.list_lemmas.proofs.Parts.{one_longer}
 use Rattle.as_of_index.specs.declared.merging.TakenCount.{TakenCount}
-use Rattle.as_of_index.proofs.Counted.{number_within}
-use Rattle.as_of_index.proofs.Turns.{first_taken, second_taken, one_longer}
+use Rattle.as_of_index.proofs.Turns.{first_taken, second_taken}
 use Rattle.as_of_index.proofs.merging.step.Goals as goal
 
 pub returns-then-is_first_next-clause-merged : goal.returns-then-is_first_next-clause-merged
@@ -11,7 +12,7 @@ returns-then-is_first_next-clause-merged g c = first_taken g.T.Posting.kind g.me
 pub returns-then-is_first_next-clause-left : goal.returns-then-is_first_next-clause-left
 returns-then-is_first_next-clause-left g c =
     let next = c.is_first_next.ensures.first c.if-is_first_next.true in
-    let within = number_within c.args.first.now c.args.taken.now.first next.x next.there in
+    let within = slice_get_within c.args.first.now c.args.taken.now.first next.x next.there in
     let first = ap (λ (t : TakenCount). t.first) c.take_first.ensures.taken in
     let second = ap (λ (t : TakenCount). t.second) c.take_first.ensures.taken in
     omega (arith, within, first, second)
@@ -19,7 +20,7 @@ returns-then-is_first_next-clause-left g c =
 pub returns-then-is_first_next-clause-room : goal.returns-then-is_first_next-clause-room
 returns-then-is_first_next-clause-room g c =
     let next = c.is_first_next.ensures.first c.if-is_first_next.true in
-    let within = number_within c.args.first.now c.args.taken.now.first next.x next.there in
+    let within = slice_get_within c.args.first.now c.args.taken.now.first next.x next.there in
     let first = ap (λ (t : TakenCount). t.first) c.take_first.ensures.taken in
     let second = ap (λ (t : TakenCount). t.second) c.take_first.ensures.taken in
     let longer = one_longer _ _ _ (c.take_first.ensures.pushed next.x next.there) in
@@ -34,7 +35,7 @@ returns-else-is_first_next-clause-merged g c = second_taken g.T.Posting.kind g.m
 pub returns-else-is_first_next-clause-left : goal.returns-else-is_first_next-clause-left
 returns-else-is_first_next-clause-left g c =
     let next = c.is_first_next.ensures.second c.if-is_first_next.false c.requires.left in
-    let within = number_within c.args.second.now c.args.taken.now.second next.x next.there in
+    let within = slice_get_within c.args.second.now c.args.taken.now.second next.x next.there in
     let first = ap (λ (t : TakenCount). t.first) c.take_second.ensures.taken in
     let second = ap (λ (t : TakenCount). t.second) c.take_second.ensures.taken in
     omega (arith, within, first, second)
@@ -42,7 +43,7 @@ returns-else-is_first_next-clause-left g c =
 pub returns-else-is_first_next-clause-room : goal.returns-else-is_first_next-clause-room
 returns-else-is_first_next-clause-room g c =
     let next = c.is_first_next.ensures.second c.if-is_first_next.false c.requires.left in
-    let within = number_within c.args.second.now c.args.taken.now.second next.x next.there in
+    let within = slice_get_within c.args.second.now c.args.taken.now.second next.x next.there in
     let first = ap (λ (t : TakenCount). t.first) c.take_second.ensures.taken in
     let second = ap (λ (t : TakenCount). t.second) c.take_second.ensures.taken in
     let longer = one_longer _ _ _ (c.take_second.ensures.pushed next.x next.there) in

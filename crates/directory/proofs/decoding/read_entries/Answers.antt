@@ -1,7 +1,8 @@
 use Rattle.std.proofs.Common.{rules, ◌+◌, List, sym, ap, subst, ◌∙◌, arith}
 use Rattle.std.specs.Option.{is_some}
+use Rattle.list_lemmas.proofs.Tests.{none_from_test}
 use Rattle.directory.specs.declared.entry.Entry.{Entry}
-use Rattle.directory.proofs.Reading.{HasRead, none_read, next_read, met_is, not_found, no_table_without_next, no_table_with_overlap}
+use Rattle.directory.proofs.Reading.{HasRead, none_read, next_read, met_is, no_table_without_next, no_table_with_overlap}
 use Rattle.directory.proofs.decoding.read_entries.Goals as goal
 
 pub loop-init : goal.loop-init
@@ -32,7 +33,7 @@ loop-preserved c =
     record {
       read = subst (λ (entries : List Entry). HasRead c.args.bytes.now c.args.count (c.loop.counter + 1) entries c.in-Some.behind.now) (sym pushed.items)
           (next_read c.args.bytes.now c.args.count c.loop.counter c.loop.entries.items c.loop.rest.now c.in-Some.behind.now c.in-Some.entry c.loop.invariant.read c.in-Some.ensures.found c.in-Some.ensures.allowed
-          (sym met ∙ not_found c.extent_met-met.result (sym c.is_some.ensures ∙ c.if-is_some.false)));
+          (sym met ∙ none_from_test c.extent_met-met.result (sym c.is_some.ensures ∙ c.if-is_some.false)));
       len_is = pushed.len ∙ ap (λ n. n + 1) c.loop.invariant.len_is;
       room = search (rules);
     }

@@ -3,11 +3,13 @@ use Rattle.std.specs.Int.{div_ceil}
 use Rattle.std.proofs.Common.{◌≡◌, ◌≤◌, List, inl, inr, refl, sym, ap, subst, ◌∙◌, arith}
 use Rattle.std.proofs.lemmas.Option.{slice_get-get_or}
 use Rattle.std.proofs.lemmas.Result.{err_from_is_err_and}
+use Rattle.store_image.proofs.Damaged.{segments_count as lists_count}
+use Rattle.list_lemmas.proofs.Each.{each_at_number}
 use Rattle.directory.specs.declared.entry.Entry.{Entry}
 use Rattle.directory.specs.Listings.{form_of}
 use Rattle.directory.specs.Fit.{fit}
 use Rattle.history_store.specs.Merging.{AreFewest}
-use Rattle.history_store.proofs.BegunMerge.{all_at, no_entry, lacks_output, both_short}
+use Rattle.history_store.proofs.BegunMerge.{no_entry, lacks_output, both_short}
 use Rattle.store_image.proofs.Damaged.{segments_count}
 use Rattle.history_store.proofs.beginning.begin.Goals as goal
 
@@ -42,7 +44,7 @@ returns-clause-begun c =
       bytes = sum.1;
       bytes_fit = omega (arith, sum.0, sum.1);
       rows_are = refl;
-      rows_fit = omega (arith, sum.0, all_at (λ e. e.rows ≤ e.bytes) c.args.directory.now.entries c.in-Some.i a c.requires.long a_is, all_at (λ e. e.rows ≤ e.bytes) c.args.directory.now.entries c.in-Some.j b c.requires.long b_is);
+      rows_fit = omega (arith, sum.0, each_at_number (λ e. e.rows ≤ e.bytes) c.args.directory.now.entries c.in-Some.i a a_is c.requires.long, each_at_number (λ e. e.rows ≤ e.bytes) c.args.directory.now.entries c.in-Some.j b b_is c.requires.long);
       place = ap (λ (x : List Entry). fit (div_ceil c.in-Some-checked_add.bytes 4096) x None) (sym same) ∙ ap (λ n. fit n l None) (sym c.blocks-2.ensures) ∙ c.in_ok-first.ensures.fit;
       form = c.form.ensures ∙ ap form_of c.layout.ensures;
       none_taken = c.new.ensures.none;

@@ -1,9 +1,10 @@
 use Rattle.std.proofs.Common.{◌≤◌, ◌++◌, ◌∷◌, [], List, sym, ap, subst, ◌∙◌, arith, append_assoc}
 use Rattle.std.specs.List.{AllByRecursion}
+use Rattle.list_lemmas.proofs.Each.{each_at_middle as middle_all}
 use Rattle.history_model.specs.declared.stamped.StampedRow.{StampedRow}
 use Rattle.segment.specs.Records.{segment_in, IsStamped}
 use Rattle.segment.proofs.SegmentLaws.{no_rows}
-use Rattle.history_store.proofs.Places.{segment_begins, middle_all, more_placed}
+use Rattle.history_store.proofs.Places.{segment_begins, more_placed}
 use Rattle.history_store.proofs.placing.place_all.Goals as goal
 
 pub loop-row-init : goal.loop-row-init

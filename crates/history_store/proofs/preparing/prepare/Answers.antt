@@ -3,10 +3,11 @@ use Rattle.std.specs.List.{AllByRecursion}
 use Rattle.history_model.specs.declared.stamped.StampedRow.{StampedRow}
 use Rattle.history_model.specs.InOrder.{IsAscending}
 use Rattle.history_model.specs.History.{stamped, stamped_cmp}
+use Rattle.history_model.proofs.Receipts.{length-stamped}
 use Rattle.segment.specs.Records.{IsSegmentIn, segment_of}
 use Rattle.history_store.specs.MergeInProgress.{merge_of}
 use Rattle.history_store.specs.Private.Prepared.{IsPlacedAt}
-use Rattle.history_store.proofs.NewSegment.{ascending_stamped, from_one, added_listing, prepared_is, length-stamped}
+use Rattle.history_store.proofs.NewSegment.{ascending_stamped, from_one, added_listing, prepared_is}
 use Rattle.history_store.proofs.preparing.prepare.Goals as goal
 
 pub place_all-requires-clause-short : goal.place_all-requires-clause-short

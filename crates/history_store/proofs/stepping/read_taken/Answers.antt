@@ -1,10 +1,10 @@
 use Rattle.std.specs.List.{AllZip}
 use Rattle.std.proofs.Common.{◌+◌, ◌++◌, [], ◌∷◌, List, take, sym, ap, subst, ◌∙◌, add-one, rules, arith}
 use Rattle.std.proofs.lemmas.List.{take_more, take_all}
+use Rattle.std.proofs.lemmas.Slice.Zip.{all_zipped_more as zip_push}
 use Rattle.history_model.specs.declared.stamped.StampedRow.{StampedRow}
 use Rattle.segment.specs.Standing.{StandsAt}
 use Rattle.merge.specs.declared.Taken.{Taken}
-use Rattle.merge.proofs.Steps.{zip_push}
 use Rattle.blocks.specs.Cache.{AgreesWith}
 use Rattle.blocks.proofs.Looked.{some_more}
 use Rattle.disk_model.specs.Disk.{Moments}

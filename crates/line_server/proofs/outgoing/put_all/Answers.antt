@@ -1,11 +1,11 @@
 use Rattle.std.proofs.Common.{◌≤◌, ◌<◌, length, drop, arith}
-use Rattle.std.proofs.lemmas.List.{length-drop}
-use Rattle.line_server.proofs.Sent.{appends_taken, rest_of}
+use Rattle.std.proofs.lemmas.List.{length-drop, take_rest}
+use Rattle.line_server.proofs.Sent.{appends_taken}
 use Rattle.line_server.proofs.outgoing.put_all.Goals as goal
 
 pub loop-done-preserved : goal.loop-done-preserved
 loop-done-preserved g c =
-    let e = rest_of c.loop-done.done c.args.bytes.now in
+    let e = take_rest c.args.bytes.now c.loop-done.done in
     let n : c.in-Ok.n ≤ length (drop c.loop-done.done c.args.bytes.now) = rw e at c.in-Ok.ensures.bound in
     let len = length-drop c.loop-done.done c.args.bytes.now in
     let within : c.loop-done.done < length c.args.bytes.now = c.loop-done-test.true in

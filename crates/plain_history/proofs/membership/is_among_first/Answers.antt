@@ -1,8 +1,8 @@
 use Rattle.std.proofs.Common.{length, sym, ap, ◌∙◌}
 use Rattle.std.specs.List.{filter}
 use Rattle.std.specs.Prelude.{nat_lt}
+use Rattle.list_lemmas.proofs.Kept.{length-filter-map}
 use Rattle.history_model.specs.Queries.{component_of}
-use Rattle.plain_history.proofs.Listed.{length-filter-map}
 use Rattle.plain_history.proofs.membership.is_among_first.Goals as goal
 
 pub returns : goal.returns

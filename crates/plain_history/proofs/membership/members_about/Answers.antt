@@ -1,10 +1,11 @@
-use Rattle.std.proofs.Common.{◌++◌, ◌∷◌, [], ap, sym, ◌∙◌, map, take, take_all, append-nil}
+use Rattle.std.proofs.Common.{◌++◌, ◌∷◌, [], refl, ap, sym, ◌∙◌, map, take, take_all, append-nil}
 use Rattle.std.specs.Prelude.{true, false, ◌&&◌}
 use Rattle.std.specs.List.{filter}
 use Rattle.std.proofs.lemmas.List.{map-append}
+use Rattle.list_lemmas.proofs.Kept.{filter_of_both}
 use Rattle.rf2_values.specs.declared.row.Kind.TheVariants.{Member}
 use Rattle.history_model.specs.Queries.{is_current, is_about, is_member_of, snapshot, about, members_about}
-use Rattle.plain_history.proofs.Listed.{filtered_next, filter_twice}
+use Rattle.plain_history.proofs.Listed.{filtered_next}
 use Rattle.plain_history.proofs.membership.members_about.Goals as goal
 use Rattle.plain_history.proofs.membership.members_about.Goals.{then-is_member_about_at+in_ok-push, else-is_member_about_at}
 
@@ -31,4 +32,4 @@ unfolding members_about about snapshot
 returns c =
     let a = c.args in
     c.loop-row.invariant ∙ ap (λ xs. filter (λ row. is_about Member a.id row && is_member_of a.refset row.body) (filter (is_current a.rows.now a.date) xs)) (take_all c.loop-row.row-index a.rows.now c.loop-row-test.false)
-    ∙ filter_twice (is_about Member a.id) (λ row. is_member_of a.refset row.body) (filter (is_current a.rows.now a.date) a.rows.now)
+    ∙ filter_of_both (is_about Member a.id) (λ row. is_member_of a.refset row.body) (λ row. is_about Member a.id row && is_member_of a.refset row.body) (filter (is_current a.rows.now a.date) a.rows.now) (λ row. refl)

@@ -1,11 +1,12 @@
 use Rattle.std.proofs.Common.{◌≡◌, ℕ, false, true, List, [], ◌∷◌, ◌++◌, refl, sym, ap, subst, ◌∙◌}
 use Rattle.std.specs.List.{AllByRecursion}
 use Rattle.std.proofs.lemmas.Result.{err_from_is_err_and}
+use Rattle.list_lemmas.proofs.Each.{each_of_pushed}
 use Rattle.history_model.specs.declared.stamped.StampedRow.{StampedRow}
 use Rattle.history_model.specs.InOrder.{IsAscending}
 use Rattle.history_model.specs.History.{stamped_cmp}
 use Rattle.segment.specs.Records.{segment_in, IsStamped}
-use Rattle.segment.proofs.SegmentLaws.{no_rows, all_push}
+use Rattle.segment.proofs.SegmentLaws.{no_rows}
 use Rattle.segment.proofs.Decoded.{only_memory, record_goes_on, order_goes_on, ends, reads_on, grows_shorter, some_left, none_left}
 use Rattle.segment.proofs.decoding.decode.Goals as goal
 
@@ -42,7 +43,7 @@ loop-rest-preserved c =
     let up : IsAscending stamped_cmp (rows ++ row ∷ []) = subst (λ (l : List StampedRow). IsAscending stamped_cmp (l ++ row ∷ [])) c.deref.ensures.value (c.if-not-comes_after.ensures.0 refl) in
     record {
       bytes = reads_on c.args.form rows c.args.bytes.now c.loop-rest.rest.now c.in_ok-row.after.now row c.loop-rest.invariant.bytes c.in_ok-row.ensures.1 ∙ ap (λ (l : List StampedRow). segment_in c.args.form l ++ c.in_ok-row.after.now) (sym more);
-      each = subst (λ (l : List StampedRow). AllByRecursion IsStamped l) (sym more) (all_push IsStamped rows row c.loop-rest.invariant.each c.in_ok-row.ensures.0);
+      each = subst (λ (l : List StampedRow). AllByRecursion IsStamped l) (sym more) (each_of_pushed IsStamped rows row c.loop-rest.invariant.each c.in_ok-row.ensures.0);
       ascending = subst (λ (l : List StampedRow). IsAscending stamped_cmp l) (sym more) up;
     }
 

@@ -2,10 +2,10 @@ use Rattle.std.proofs.Common.{◌+◌, List, length, ap, ◌∙◌, arith}
 use Rattle.std.proofs.lemmas.List.{take_all}
 use Rattle.history_model.specs.declared.stamped.StampedRow.{StampedRow}
 use Rattle.segment.specs.Records.{segment_of}
+use Rattle.segment.proofs.Posting.{as_many_places as places_long}
 use Rattle.store_copy.specs.declared.planning.Size.{Size}
 use Rattle.store_copy.specs.Copying.{up_to}
 use Rattle.store_copy.proofs.Listing.{fewer}
-use Rattle.store_copy.proofs.Records.{places_long}
 use Rattle.store_copy.proofs.Steps.{step_at, kept_bytes, kept_rows, left_out, taken_fewer, none_bytes, none_rows}
 use Rattle.store_copy.proofs.planning.size_up_to.Goals as goal
 use Rattle.store_copy.proofs.planning.size_up_to.Goals.{then-place-imports, else-place-imports}

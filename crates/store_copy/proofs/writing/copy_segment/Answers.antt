@@ -9,10 +9,11 @@ use Rattle.blocks.proofs.Within.{within_none, within_on}
 use Rattle.history_model.specs.declared.stamped.StampedRow.{StampedRow}
 use Rattle.directory.specs.Places.{extent_of}
 use Rattle.segment.specs.Records.{segment_in, segment_of}
+use Rattle.segment.proofs.Posting.{as_many_places as places_long}
 use Rattle.store_image.specs.Ahead.{BeginsWith}
 use Rattle.store_copy.specs.Copying.{up_to}
 use Rattle.store_copy.specs.Private.Writing.{ArePending, IsThere}
-use Rattle.store_copy.proofs.Records.{places_long, there_at}
+use Rattle.store_copy.proofs.Records.{there_at}
 use Rattle.store_copy.proofs.Steps.{all_written, kept, kept_bytes, left_out, no_pending, none_bytes, step_at, taken_fewer}
 use Rattle.store_copy.proofs.writing.copy_segment.Goals as goal
 use Rattle.store_copy.proofs.writing.copy_segment.Goals.{then-place-imports+in-Ok, else-place-imports}

@@ -1,11 +1,11 @@
 use Rattle.std.specs.BinaryHeap.{heap_items}
 use Rattle.std.proofs.Common.{List, [], map, sym, subst}
+use Rattle.list_lemmas.proofs.Each.{each_at_place as all_get}
 use Rattle.history_model.specs.InOrder.{IsAscending}
 use Rattle.rf2_values.specs.declared.key.Key.{Key}
 use Rattle.rf2_values.specs.Key.{key_cmp}
 use Rattle.segment.specs.Standing.{places_of}
 use Rattle.store_image.specs.Private.Keys.{Opens, keys_of, keys_in}
-use Rattle.store_image.proofs.AnyOrder.{all_get}
 use Rattle.store_image.proofs.KeysOnce.{as_many_lists, list_keys, list_opens}
 use Rattle.store_image.proofs.apart.are_apart.Goals as goal
 

@@ -1,7 +1,7 @@
 use Rattle.std.specs.Prelude.{map}
 use Rattle.std.specs.List.{AllByRecursion}
 use Rattle.std.proofs.Common.{◌≡◌, ◌++◌, ℕ, List, [], ◌∷◌, get_or, take, sym, ap, subst, ◌∙◌, arith, take_all, length-take, rules}
-use Rattle.std.proofs.lemmas.List.{length-map}
+use Rattle.std.proofs.lemmas.List.{length-map, map_push as map-push}
 use Rattle.disk_model.specs.Disk.{Moments}
 use Rattle.directory.specs.declared.entry.Entry.{Entry}
 use Rattle.history_model.specs.declared.stamped.StampedRow.{StampedRow}
@@ -15,7 +15,7 @@ use Rattle.store_image.specs.Reading.{IsAt}
 use Rattle.store_image.specs.Private.Reading.{IsNotReadAt}
 use Rattle.store_image.specs.Damage.{AreThere}
 use Rattle.store_image.specs.Private.Keys.{keys_of, EachKeyOnce}
-use Rattle.store_image.proofs.Segments.{bytes_more, bytes_up_to, bytes_within, map-push, more_segments, more_numbered, more_held}
+use Rattle.store_image.proofs.Segments.{bytes_more, bytes_up_to, bytes_within, more_segments, more_numbered, more_held}
 use Rattle.store_image.proofs.Damaged.{not_read_at, segments_count}
 use Rattle.store_image.proofs.Asked.{stops_in}
 use Rattle.store_image.proofs.KeyLists.{ascending_keys, lists_from_once, once_from_lists}

@@ -1,8 +1,9 @@
 use Rattle.std.proofs.Common.{◌++◌, get_or, sym, subst, take, take_all, append-nil}
 use Rattle.std.specs.Prelude.{flat_map}
+use Rattle.history_model.proofs.Items.{Has-get_or}
 use Rattle.term_prefix.specs.declared.text.Term.{Term}
 use Rattle.term_prefix.specs.Private.{chosen_at, AreKept}
-use Rattle.term_prefix.proofs.FirstKept.{no_bounds, pieces_more, got_of}
+use Rattle.term_prefix.proofs.FirstKept.{no_bounds, pieces_more}
 use Rattle.term_prefix.proofs.search.keep_current.Goals as goal
 
 pub loop-term-init : goal.loop-term-init
@@ -19,7 +20,7 @@ loop-term-preserved c = λ lists listed_so described seen start.
     let so_far = c.loop-term.invariant lists listed_so described seen start in
     let some = seen ++ flat_map (λ (t : Term). chosen_at lists a.segment t.row) (take i a.terms.now) in
     rw (pieces_more seen (λ (t : Term). chosen_at lists a.segment t.row) a.terms.now i first c.loop-term-test.true)
-    (c.in_ok-keep_row.ensures lists listed_so (described t (got_of a.terms.now i first c.loop-term-test.true)) some so_far.0 so_far.1)
+    (c.in_ok-keep_row.ensures lists listed_so (described t (Has-get_or a.terms.now i first c.loop-term-test.true)) some so_far.0 so_far.1)
 
 pub returns : goal.returns
 returns c = λ lists listed_so described seen start.

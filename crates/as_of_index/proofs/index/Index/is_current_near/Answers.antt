@@ -1,7 +1,8 @@
 use Rattle.std.proofs.Common.{sym, ap, subst, ◌∙◌}
+use Rattle.list_lemmas.proofs.Tests.{one_value}
 use Rattle.rf2_values.specs.Key.{key_of}
 use Rattle.segment.specs.Standing.{StandsAt}
-use Rattle.as_of_index.proofs.OnePlace.{place_from_test, test_from_place, same_standing, same_answer, no_answer}
+use Rattle.as_of_index.proofs.OnePlace.{place_from_test, test_from_place, same_standing, no_answer}
 use Rattle.as_of_index.proofs.Early.{current_is_early}
 use Rattle.as_of_index.proofs.index.Index.is_current_near.Goals as goal
 
@@ -14,7 +15,7 @@ returns-in-Some c = λ lists listed_so.
           let e = place_from_test c.in-Some.n c.in-Some.p a.segment a.at.now (sym c.is_same_place.ensures ∙ h) in
           (w.0, subst (λ n. StandsAt lists n a.at.now w.0) e.0 (subst (λ p. StandsAt lists c.in-Some.n p w.0) e.1 w.1), w.2),
       λ k.
-          let e = same_standing lists are c.in-Some.n a.segment c.in-Some.p a.at.now w.0 k.0 w.1 k.1 (ap key_of (same_answer _ w.0.row k.0.row w.2 k.2)) in
+          let e = same_standing lists are c.in-Some.n a.segment c.in-Some.p a.at.now w.0 k.0 w.1 k.1 (ap key_of (one_value _ w.0.row k.0.row w.2 k.2)) in
           c.is_same_place.ensures ∙ test_from_place c.in-Some.n c.in-Some.p a.segment a.at.now e.0 e.1,
     )
 

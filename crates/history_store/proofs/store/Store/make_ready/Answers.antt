@@ -1,11 +1,12 @@
 use Rattle.std.proofs.Common.{◌≡◌, ◌+◌, false, refl, ap, ◌∙◌, arith, rules, length, vec_len, ◌≤◌}
 use Rattle.std.proofs.lemmas.Result.{err_from_is_err_and}
 use Rattle.std.proofs.lemmas.Bool.Decides.{nat_tests}
+use Rattle.std.proofs.lemmas.List.{nil_from_length as nothing}
 use Rattle.history_store.specs.StoreValue.{IsAcknowledged}
 use Rattle.history_store.specs.declared.checking.Next.TheVariants as nexts
 use Rattle.history_store.specs.declared.refusal.Refusal.TheVariants as refusals
 use Rattle.history_store.proofs.Held.{held_stands}
-use Rattle.history_store.proofs.Imported.{at_mid, nothing, not_prepared, unprepared_refused}
+use Rattle.history_store.proofs.Imported.{at_mid, not_prepared, unprepared_refused}
 use Rattle.history_store.proofs.TakenByKey.{not_prepared_at_all}
 use Rattle.history_store.proofs.Checked.{admitted, not_later, turned_back, ready_at, foreseen, foreseen_at_all, checked_after, counted_but, not_device}
 use Rattle.history_store.proofs.store.Store.make_ready.Goals as goal

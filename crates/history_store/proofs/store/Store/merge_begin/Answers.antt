@@ -1,7 +1,8 @@
 use Rattle.std.proofs.Common.{sym, ap, refl, ◌∙◌}
 use Rattle.std.proofs.lemmas.Result.{err_from_is_err_and}
+use Rattle.list_lemmas.proofs.Tests.{none_from_test as goes_not_on}
 use Rattle.history_store.specs.MergeInProgress.{merge_of}
-use Rattle.history_store.proofs.GoingOn.{goes_on, goes_not_on}
+use Rattle.history_store.proofs.GoingOn.{goes_on}
 use Rattle.history_store.proofs.BegunMerge.{segments_long, begun_merge, all_left, is_begun, not_begun, unbegun_refused}
 use Rattle.history_store.proofs.Held.{held_stands}
 use Rattle.history_store.proofs.store.Store.merge_begin.Goals as goal

@@ -1,21 +1,22 @@
 use Rattle.std.proofs.Common.{◌^◌, ◌<◌, ◌++◌, ◌∷◌, [], List, length, refl, sym, subst, arith}
 use Rattle.history_model.specs.declared.stamped.StampedRow.{StampedRow}
 use Rattle.segment.specs.Records.{segment_of}
-use Rattle.segment_index.proofs.Built.{as_many_bytes, built_push, built_same, ends_within, place_taken_away, row_taken_away}
+use Rattle.segment.proofs.Posting.{rows_at_most_bytes, record_ends}
+use Rattle.segment_index.proofs.Built.{built_push, built_same, place_taken_away, row_taken_away}
 use Rattle.segment_index.proofs.builder.IndexBuilder.push.Goals as goal
 
 pub overflow_add-self : goal.overflow_add-self
 overflow_add-self c =
     let short = subst (λ (l : List StampedRow). length (segment_of (l ++ c.args.row.now ∷ [])) < 2 ^ 32) (sym c.self.view_is) c.requires in
-    let ends = ends_within c.self.inside.rows c.args.row.now c.self.inside.bytes c.new-at.result c.self.invariant.bytes_are c.new-at.ensures in
+    let ends = record_ends c.self.inside.rows c.args.row.now c.self.inside.bytes c.new-at.result c.self.invariant.bytes_are c.new-at.ensures in
     omega (arith, short, ends)
 
 -- there are no more rows than bytes of their records
 pub overflow_cast-len : goal.overflow_cast-len
 overflow_cast-len c =
     let short = subst (λ (l : List StampedRow). length (segment_of (l ++ c.args.row.now ∷ [])) < 2 ^ 32) (sym c.self.view_is) c.requires in
-    let ends = ends_within c.self.inside.rows c.args.row.now c.self.inside.bytes c.new-at.result c.self.invariant.bytes_are c.new-at.ensures in
-    let few = as_many_bytes c.self.inside.rows in
+    let ends = record_ends c.self.inside.rows c.args.row.now c.self.inside.bytes c.new-at.result c.self.invariant.bytes_are c.new-at.ensures in
+    let few = rows_at_most_bytes c.self.inside.rows in
     let count = c.len-len.ensures in
     let bytes = c.self.invariant.bytes_are in
     omega (arith, short, ends, few, count, bytes)

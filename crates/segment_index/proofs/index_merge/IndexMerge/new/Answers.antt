@@ -1,8 +1,8 @@
 use Rattle.std.proofs.Common.{◌≡◌, length, refl, sym, subst, arith}
 use Rattle.std.specs.Prelude.{Some, slice_get}
+use Rattle.segment.proofs.Posting.{rows_at_most_bytes}
 use Rattle.history_model.proofs.Listings.{two_lists}
 use Rattle.merge.specs.Merged.{IsNew}
-use Rattle.segment_index.proofs.Built.{as_many_bytes}
 use Rattle.segment_index.proofs.Outputs.{AreComplete, new_output, none_complete, some_left, list_at}
 use Rattle.segment_index.proofs.index_merge.IndexMerge.new.Goals as goal
 use Rattle.segment_index.proofs.index_merge.IndexMerge.new.Goals.{then-is_done, else-is_done}
@@ -17,7 +17,7 @@ pub new-progress-requires : goal.new-progress-requires
 new-progress-requires c =
     let first = list_at c.args.index.now c.rows-rows.result.now c.args.i c.index-rows-i.result c.copy-a.result c.rows-rows.ensures (omega (arith, c.requires.places, c.requires.within)) c.index-rows-i.is c.copy-a.ensures in
     let second = list_at c.args.index.now c.rows-rows.result.now c.args.j c.index-rows-j.result c.copy-b.result c.rows-rows.ensures c.requires.within c.index-rows-j.is c.copy-b.ensures in
-    omega (arith, c.requires.short c.copy-a.result c.copy-b.result first second, as_many_bytes c.copy-a.result, as_many_bytes c.copy-b.result, c.len.ensures, c.len-2.ensures)
+    omega (arith, c.requires.short c.copy-a.result c.copy-b.result first second, rows_at_most_bytes c.copy-a.result, rows_at_most_bytes c.copy-b.result, c.len.ensures, c.len-2.ensures)
 
 pub invariant_of-result : goal.invariant_of-result
 invariant_of-result c =

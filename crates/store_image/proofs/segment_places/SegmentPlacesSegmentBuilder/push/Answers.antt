@@ -1,7 +1,8 @@
 use Rattle.std.proofs.Common.{◌^◌, ◌<◌, ◌++◌, ◌∷◌, [], List, length, sym, ap, subst, ◌∙◌, arith}
 use Rattle.history_model.specs.declared.stamped.StampedRow.{StampedRow}
 use Rattle.segment.specs.Records.{segment_of}
-use Rattle.store_image.proofs.RowsRead.{placed_end, placed_more}
+use Rattle.segment.proofs.Posting.{record_ends as placed_end}
+use Rattle.store_image.proofs.RowsRead.{placed_more}
 use Rattle.store_image.proofs.segment_places.SegmentPlacesSegmentBuilder.push.Goals as goal
 
 pub overflow_add-self : goal.overflow_add-self
