@@ -14,7 +14,7 @@ def fold(line):
         return [line]
     indent = re.match(r"\s*", line).group()
     body = line[len(indent):]
-    more = indent if not re.match(r"(ensures|requires|pub |abbrev )", body) else indent + "    "
+    more = indent + "    " if not indent or re.match(r"(ensures|requires|pub |abbrev )", body) else indent
     depth, best = 0, None
     for i, c in enumerate(line):
         if c in "({[":

@@ -51,25 +51,13 @@ abbrev pub UsesRoom : MemDisk → MemDisk → ℕ → ℕ → Type 0
 UsesRoom old new used_calls used_bytes = (end calls bytes : ℕ)
     → HasRoomFor old end (calls + used_calls) (bytes + used_bytes) → HasRoomFor new end calls bytes
 
--- how often its calls have failed
-abbrev pub failure_count : MemDisk → ℕ
-failure_count d = d.failures
-
--- how many bytes its reads were asked for
-abbrev pub bytes_read_of : MemDisk → ℕ
-bytes_read_of d = d.bytes_read
-
--- how many calls but reads it was asked for
-abbrev pub other_calls_of : MemDisk → ℕ
-other_calls_of d = d.other_calls
-
--- a disk in memory is honest
+-- what a disk in memory shows: it is honest
 abbrev pub memory_view : MemDisk → DiskView
 memory_view d =
     record {
       is_honest = Unit {0};
       moments = memory_moments d;
-      failures = failure_count d;
-      bytes_read = bytes_read_of d;
-      other_calls = other_calls_of d;
+      failures = d.failures;
+      bytes_read = d.bytes_read;
+      other_calls = d.other_calls;
     }

@@ -15,6 +15,12 @@ pub record DiskView : Type 1 where
   -- how many calls but reads were made, whatever they answered; it has 64 bits
   pub other_calls : ℕ
 
+-- no call was counted yet
+pub record IsUnused (view : DiskView) : Type 0 where
+  pub failures : view.failures ≡ 0
+  pub bytes_read : view.bytes_read ≡ 0
+  pub other_calls : view.other_calls ≡ 0
+
 -- a count stays as it was
 abbrev pub Stays : ℕ → ℕ → Type 0
 Stays old new = new ≡ old

@@ -1,6 +1,5 @@
-ghost use Rattle.std.specs.Prelude.{◌≡◌, ◌≤◌, [], Some, length, IfOk, IsErr, MatchResult};
+ghost use Rattle.std.specs.Prelude.{◌≡◌, ◌≤◌, Some, length, IfOk, IsErr, MatchResult};
 ghost use Rattle.fault_counts.specs.Counting.{CountsEach};
-ghost use Rattle.disk_model.specs.Change.{made};
 
 use crate::{Disk, DiskFault, OpenFault};
 use fault_counts::raised;
@@ -26,14 +25,12 @@ pub struct FileDisk {
 }
 
 impl FileDisk {
-    ghost use Rattle.disk_model.specs.FileDisk.{failures_of, fault_of};
-    ghost use Rattle.disk_model.specs.FileDisk.{bytes_read_of, other_calls_of};
+    ghost use Rattle.disk_model.specs.FileDisk.{file_view, fault_of};
+    ghost use Rattle.disk_model.specs.View.{IsUnused};
 
     /// A file that exists, for reading and writing.
     pub fn open<R: Files<File = File>>(rt: &R, path: &str) -> Result<FileDisk, OpenFault>
-        ensures failures { IfOk result (λ disk. failures_of disk ≡ 0) }
-        ensures bytes_read { IfOk result (λ disk. bytes_read_of disk ≡ 0) }
-        ensures other_calls { IfOk result (λ disk. other_calls_of disk ≡ 0) }
+        ensures unused { IfOk result (λ disk. IsUnused (file_view disk)) }
     {
         let file = OpenOptions::new().read(true).write(true).open(rt, path);
         FileDisk::of(file)
@@ -41,9 +38,7 @@ impl FileDisk {
 
     /// A file for reading and writing, which is made empty where there is none.
     pub fn open_or_make<R: Files<File = File>>(rt: &R, path: &str) -> Result<FileDisk, OpenFault>
-        ensures failures { IfOk result (λ disk. failures_of disk ≡ 0) }
-        ensures bytes_read { IfOk result (λ disk. bytes_read_of disk ≡ 0) }
-        ensures other_calls { IfOk result (λ disk. other_calls_of disk ≡ 0) }
+        ensures unused { IfOk result (λ disk. IsUnused (file_view disk)) }
     {
         let file = OpenOptions::new()
             .read(true)
@@ -56,9 +51,7 @@ impl FileDisk {
     /// Locks the file, and waits until the device has what an earlier process wrote, before
     /// anything of it is read. What is no regular file is refused.
     fn of(opened: io::Result<File>) -> Result<FileDisk, OpenFault>
-        ensures failures { IfOk result (λ disk. failures_of disk ≡ 0) }
-        ensures bytes_read { IfOk result (λ disk. bytes_read_of disk ≡ 0) }
-        ensures other_calls { IfOk result (λ disk. other_calls_of disk ≡ 0) }
+        ensures unused { IfOk result (λ disk. IsUnused (file_view disk)) }
     {
         let file = opened?;
         if !file.metadata()?.is_file() {

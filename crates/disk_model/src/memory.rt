@@ -2,7 +2,8 @@ ghost use Rattle.std.specs.Prelude.{◌≡◌, ◌⊎◌, ◌↔◌, ℕ, ◌+�
 ghost use Rattle.std.specs.Prelude.{take, drop, min};
 ghost use Rattle.std.specs.Prelude.{IsTrue, IsOk, IfOk, IsErr, OnOk, OnErr, Contains};
 ghost use Rattle.disk_model.specs.Disk.{IsImage, Fails, followed_by, settled, after_write};
-ghost use Rattle.disk_model.specs.Disk.{after_cut, raised_by};
+ghost use Rattle.disk_model.specs.Disk.{after_cut};
+ghost use Rattle.disk_model.specs.View.{OnlyReads, Calls, Stays, RisesBy};
 ghost use Rattle.fault_counts.specs.Counting.{CountsEach};
 ghost use Rattle.disk_model.specs.Change.{made, replayed};
 ghost use Rattle.disk_model.specs.Choice.{IsChosen};
@@ -43,7 +44,8 @@ pub struct MemDisk {
 impl MemDisk {
     ghost use Rattle.disk_model.specs.MemDisk.{memory_moments, first_bytes, record_of, faults_of};
     ghost use Rattle.disk_model.specs.MemDisk.{changes_of, state_after};
-    ghost use Rattle.disk_model.specs.MemDisk.{failure_count, bytes_read_of, other_calls_of};
+    ghost use Rattle.disk_model.specs.MemDisk.{memory_view};
+    ghost use Rattle.disk_model.specs.View.{IsUnused};
     ghost use Rattle.disk_model.specs.MemDisk.{SameRecord};
     ghost use Rattle.disk_model.specs.MemDisk.{HasRoomFor, KeepsRoom, UsesRoom};
     ghost use Rattle.disk_model.specs.Faults.{no_faults, written_as, cut_as, synced_as};
@@ -53,9 +55,7 @@ impl MemDisk {
         ensures moments { memory_moments result ≡ made [] }
         ensures kept { record_of result ≡ [] }
         ensures faults { faults_of result ≡ no_faults }
-        ensures failures { failure_count result ≡ 0 }
-        ensures bytes_read { bytes_read_of result ≡ 0 }
-        ensures other_calls { other_calls_of result ≡ 0 }
+        ensures unused { IsUnused (memory_view result) }
     {
         MemDisk::from_bytes(alloc, Vec::new(alloc))
     }
@@ -65,9 +65,7 @@ impl MemDisk {
         ensures moments { memory_moments result ≡ made bytes.items }
         ensures kept { record_of result ≡ [] }
         ensures faults { faults_of result ≡ no_faults }
-        ensures failures { failure_count result ≡ 0 }
-        ensures bytes_read { bytes_read_of result ≡ 0 }
-        ensures other_calls { other_calls_of result ≡ 0 }
+        ensures unused { IsUnused (memory_view result) }
     {
         MemDisk {
             alloc,
@@ -85,9 +83,7 @@ impl MemDisk {
     pub fn set_fuse(&mut self, calls: u64)
         ensures fuse { faults_of self.new ≡ record (faults_of self.old) { fuse = Some calls } }
         ensures kept { SameRecord self.old self.new }
-        ensures failures { failure_count self.new ≡ failure_count self.old }
-        ensures bytes_read { bytes_read_of self.new ≡ bytes_read_of self.old }
-        ensures other_calls { other_calls_of self.new ≡ other_calls_of self.old }
+        ensures meters { Calls Stays Stays Stays (memory_view self.old) (memory_view self.new) }
         ensures room { KeepsRoom self.old self.new }
     {
         self.faults.fuse = Some(calls);
@@ -101,9 +97,7 @@ impl MemDisk {
         ensures fails { faults_of self.new
             ≡ record (faults_of self.old) { change_break = Some (calls, part) } }
         ensures kept { SameRecord self.old self.new }
-        ensures failures { failure_count self.new ≡ failure_count self.old }
-        ensures bytes_read { bytes_read_of self.new ≡ bytes_read_of self.old }
-        ensures other_calls { other_calls_of self.new ≡ other_calls_of self.old }
+        ensures meters { Calls Stays Stays Stays (memory_view self.old) (memory_view self.new) }
         ensures room { KeepsRoom self.old self.new }
     {
         self.faults.change_break = Some((calls, part));
@@ -114,9 +108,7 @@ impl MemDisk {
         ensures fails { faults_of self.new
             ≡ record (faults_of self.old) { read_break = Some calls } }
         ensures kept { SameRecord self.old self.new }
-        ensures failures { failure_count self.new ≡ failure_count self.old }
-        ensures bytes_read { bytes_read_of self.new ≡ bytes_read_of self.old }
-        ensures other_calls { other_calls_of self.new ≡ other_calls_of self.old }
+        ensures meters { Calls Stays Stays Stays (memory_view self.old) (memory_view self.new) }
         ensures room { KeepsRoom self.old self.new }
     {
         self.faults.read_break = Some(calls);
@@ -129,9 +121,7 @@ impl MemDisk {
         ensures room { OnOk result (HasRoomFor self.new bytes calls bytes) }
         ensures succeeds { HasRoomFor self.old bytes calls bytes → IsOk result }
         ensures kept { SameRecord self.old self.new }
-        ensures failures { failure_count self.new ≡ failure_count self.old }
-        ensures bytes_read { bytes_read_of self.new ≡ bytes_read_of self.old }
-        ensures other_calls { other_calls_of self.new ≡ other_calls_of self.old }
+        ensures meters { Calls Stays Stays Stays (memory_view self.old) (memory_view self.new) }
         ensures faults { faults_of self.new ≡ faults_of self.old }
         // Whatever it answers, what needed no memory before needs none after.
         ensures keeps { KeepsRoom self.old self.new }
@@ -150,14 +140,14 @@ impl MemDisk {
 
     /// How many bytes its reads were asked for since it was made, by those that failed too.
     pub fn bytes_read(&self) -> u64
-        ensures { result ≡ bytes_read_of self.now }
+        ensures { result ≡ (memory_view self.now).bytes_read }
     {
         self.bytes_read
     }
 
     /// How many calls but reads were made since it was made, those that failed too.
     pub fn other_calls(&self) -> u64
-        ensures { result ≡ other_calls_of self.now }
+        ensures { result ≡ (memory_view self.now).other_calls }
     {
         self.other_calls
     }
@@ -204,9 +194,7 @@ impl MemDisk {
             (record_of self.new ≡ record_of self.old ++ written_as fate at bytes.now ∷ []) }
         ensures err { OnErr result (record_of self.new ≡ record_of self.old) }
         ensures first { first_bytes self.new ≡ first_bytes self.old }
-        ensures failures { failure_count self.new ≡ failure_count self.old }
-        ensures bytes_read { bytes_read_of self.new ≡ bytes_read_of self.old }
-        ensures other_calls { other_calls_of self.new ≡ other_calls_of self.old }
+        ensures meters { Calls Stays Stays Stays (memory_view self.old) (memory_view self.new) }
         ensures faults { faults_of self.new ≡ faults_of self.old }
         ensures succeeds { HasRoomFor self.old (at + length bytes.now) 1 (length bytes.now)
             → IsOk result }
@@ -229,9 +217,7 @@ impl MemDisk {
         ensures ok { OnOk result (record_of self.new ≡ record_of self.old ++ cut_as fate len ∷ []) }
         ensures err { OnErr result (record_of self.new ≡ record_of self.old) }
         ensures first { first_bytes self.new ≡ first_bytes self.old }
-        ensures failures { failure_count self.new ≡ failure_count self.old }
-        ensures bytes_read { bytes_read_of self.new ≡ bytes_read_of self.old }
-        ensures other_calls { other_calls_of self.new ≡ other_calls_of self.old }
+        ensures meters { Calls Stays Stays Stays (memory_view self.old) (memory_view self.new) }
         ensures faults { faults_of self.new ≡ faults_of self.old }
         ensures succeeds { HasRoomFor self.old 0 1 0 → IsOk result }
         ensures room { UsesRoom self.old self.new 1 0 }
@@ -250,9 +236,7 @@ impl MemDisk {
         ensures ok { OnOk result (record_of self.new ≡ record_of self.old ++ synced_as fate) }
         ensures err { OnErr result (record_of self.new ≡ record_of self.old) }
         ensures first { first_bytes self.new ≡ first_bytes self.old }
-        ensures failures { failure_count self.new ≡ failure_count self.old }
-        ensures bytes_read { bytes_read_of self.new ≡ bytes_read_of self.old }
-        ensures other_calls { other_calls_of self.new ≡ other_calls_of self.old }
+        ensures meters { Calls Stays Stays Stays (memory_view self.old) (memory_view self.new) }
         ensures faults { faults_of self.new ≡ faults_of self.old }
         ensures succeeds { HasRoomFor self.old 0 1 0 → IsOk result }
         ensures room { UsesRoom self.old self.new 1 0 }
@@ -269,9 +253,8 @@ impl MemDisk {
         ensures kept { SameRecord self.old self.new }
         ensures faults { faults_of self.new ≡ faults_of self.old }
         ensures room { KeepsRoom self.old self.new }
-        ensures failures { CountsEach result (failure_count self.old) (failure_count self.new) }
-        ensures bytes_read { bytes_read_of self.new ≡ bytes_read_of self.old }
-        ensures other_calls { other_calls_of self.new ≡ other_calls_of self.old }
+        ensures meters { Calls (CountsEach result) Stays Stays
+            (memory_view self.old) (memory_view self.new) }
     {
         match (noted, fate) {
             (Ok(()), Fate::Passes) => Ok(()),
@@ -285,9 +268,8 @@ impl MemDisk {
         ensures kept { SameRecord self.old self.new }
         ensures faults { faults_of self.new ≡ faults_of self.old }
         ensures room { KeepsRoom self.old self.new }
-        ensures failures { CountsEach result (failure_count self.old) (failure_count self.new) }
-        ensures bytes_read { bytes_read_of self.new ≡ bytes_read_of self.old }
-        ensures other_calls { other_calls_of self.new ≡ other_calls_of self.old }
+        ensures meters { Calls (CountsEach result) Stays Stays
+            (memory_view self.old) (memory_view self.new) }
     {
         self.failures = raised(self.failures);
         Err(DiskFault)
@@ -296,7 +278,6 @@ impl MemDisk {
 
 impl Disk for MemDisk {
     ghost use Rattle.disk_model.specs.MemDisk.{memory_moments, first_bytes, record_of, faults_of};
-    ghost use Rattle.disk_model.specs.MemDisk.{failure_count, bytes_read_of, other_calls_of};
     ghost use Rattle.disk_model.specs.MemDisk.{memory_view};
     ghost use Rattle.disk_model.specs.MemDisk.{SameRecord, HasRoomFor, KeepsRoom, UsesRoom};
     ghost use Rattle.disk_model.specs.Change.{Write, Cut, Sync};
@@ -311,9 +292,8 @@ impl Disk for MemDisk {
         ensures value { IfOk result (λ n. n ≡ length (memory_moments self.old).state.now) }
         ensures moments { memory_moments self.new ≡ memory_moments self.old }
         ensures kept { SameRecord self.old self.new }
-        ensures failures { CountsEach result (failure_count self.old) (failure_count self.new) }
-        ensures bytes_read { bytes_read_of self.new ≡ bytes_read_of self.old }
-        ensures other_calls { other_calls_of self.new ≡ raised_by (other_calls_of self.old) 1 }
+        ensures meters { Calls (CountsEach result) Stays (RisesBy 1)
+            (memory_view self.old) (memory_view self.new) }
         ensures passes { IsOk result ↔ IsTrue (passes_read (faults_of self.old)) }
         ensures faults { faults_of self.new ≡ after_read_call (faults_of self.old) }
         ensures room { KeepsRoom self.old self.new }
@@ -331,12 +311,9 @@ impl Disk for MemDisk {
             (λ n. n ≡ min (length into.old) (length (memory_moments self.old).state.now - at)) }
         ensures bytes { IfOk result (λ n. into.new
             ≡ take n (drop at (memory_moments self.old).state.now) ++ drop n into.old) }
-        ensures moments { memory_moments self.new ≡ memory_moments self.old }
         ensures kept { SameRecord self.old self.new }
-        ensures failures { CountsEach result (failure_count self.old) (failure_count self.new) }
-        ensures bytes_read { bytes_read_of self.new
-            ≡ raised_by (bytes_read_of self.old) (length into.old) }
-        ensures other_calls { other_calls_of self.new ≡ other_calls_of self.old }
+        ensures meters { OnlyReads (CountsEach result) (RisesBy (length into.old))
+            (memory_view self.old) (memory_view self.new) }
         ensures passes { IsOk result ↔ IsTrue (passes_read (faults_of self.old)) }
         ensures faults { faults_of self.new ≡ after_read_call (faults_of self.old) }
         ensures room { KeepsRoom self.old self.new }
@@ -358,9 +335,8 @@ impl Disk for MemDisk {
             (after_write (memory_moments self.old).state at bytes.now)) }
         ensures failed { OnErr result (Fails (memory_moments self.old)
             (after_write (memory_moments self.old).state at bytes.now) (memory_moments self.new)) }
-        ensures failures { CountsEach result (failure_count self.old) (failure_count self.new) }
-        ensures bytes_read { bytes_read_of self.new ≡ bytes_read_of self.old }
-        ensures other_calls { other_calls_of self.new ≡ raised_by (other_calls_of self.old) 1 }
+        ensures meters { Calls (CountsEach result) Stays (RisesBy 1)
+            (memory_view self.old) (memory_view self.new) }
         ensures passes { IsOk result → fate_of (faults_of self.old) ≡ Passes }
         ensures faults { faults_of self.new ≡ after_change_call (faults_of self.old) }
         ensures succeeds { HasRoomFor self.old (at + length bytes.now) 1 (length bytes.now)
@@ -391,9 +367,8 @@ impl Disk for MemDisk {
             (after_cut (memory_moments self.old).state len)) }
         ensures failed { OnErr result (Fails (memory_moments self.old)
             (after_cut (memory_moments self.old).state len) (memory_moments self.new)) }
-        ensures failures { CountsEach result (failure_count self.old) (failure_count self.new) }
-        ensures bytes_read { bytes_read_of self.new ≡ bytes_read_of self.old }
-        ensures other_calls { other_calls_of self.new ≡ raised_by (other_calls_of self.old) 1 }
+        ensures meters { Calls (CountsEach result) Stays (RisesBy 1)
+            (memory_view self.old) (memory_view self.new) }
         ensures passes { IsOk result → fate_of (faults_of self.old) ≡ Passes }
         ensures faults { faults_of self.new ≡ after_change_call (faults_of self.old) }
         ensures succeeds { HasRoomFor self.old 0 1 0
@@ -419,9 +394,8 @@ impl Disk for MemDisk {
         ensures made { OnOk result (memory_moments self.new
             ≡ followed_by (memory_moments self.old) (settled (memory_moments self.old).state.now)) }
         ensures failed { OnErr result (memory_moments self.new ≡ memory_moments self.old) }
-        ensures failures { CountsEach result (failure_count self.old) (failure_count self.new) }
-        ensures bytes_read { bytes_read_of self.new ≡ bytes_read_of self.old }
-        ensures other_calls { other_calls_of self.new ≡ raised_by (other_calls_of self.old) 1 }
+        ensures meters { Calls (CountsEach result) Stays (RisesBy 1)
+            (memory_view self.old) (memory_view self.new) }
         ensures passes { IsOk result → fate_of (faults_of self.old) ≡ Passes }
         ensures faults { faults_of self.new ≡ after_change_call (faults_of self.old) }
         ensures succeeds { HasRoomFor self.old 0 1 0

@@ -209,7 +209,7 @@ abbrev pub KeepsMoments : {T D : Type 0} → (D → DiskView) → Result T Refus
     → StoreValue D → Type 0
 KeepsMoments view (Ok x) old new = Unit {0}
 KeepsMoments view (Err e) old new = e ≢ refusals.DiskFault
-→ (view new.disk).moments ≡ (view old.disk).moments
+    → (view new.disk).moments ≡ (view old.disk).moments
 
 -- what an import answers, and the store after it
 abbrev pub IsImportOf : {D : Type 0} → Result Receipt Refusal → StoreValue D → StoreValue D

@@ -106,7 +106,7 @@ abbrev pub IsNotNext : Form → RowsFault → ℕ → List StampedRow → List �
 IsNotNext form faults.OutOfMemory imports rows bytes = Unit {0}
 IsNotNext form faults.DiskFault imports rows bytes = Unit {0}
 IsNotNext form faults.Damaged imports rows bytes = BeginsWith form rows bytes
-→ (others : List StampedRow)
+    → (others : List StampedRow)
     → IsSegmentIn form others bytes → AreNumbered imports others → length rows < length others → ⊥
 
 -- why the room of an entry isn't there, or why its segment isn't read
