@@ -157,8 +157,8 @@ pub record WouldBeTaken (h : History) (catalog : Catalog) (release : Release) : 
   pub catalog_is : IsCatalogAfter (new_rows h accepted.rows) catalog next
 
 -- Why a release isn't taken at a history and a catalog. `Lacks` says what its new rows lack,
--- `Contradicts` of which line the row contradicts another one, and `Damaged` where a known row is.
--- The device is asked for known rows once each file is a release file, and not before.
+-- `Contradicts` that the row of a line contradicts another one, and `Damaged` when a known row may
+-- be damaged. The device is asked for known rows once each file is a release file, and not before.
 abbrev pub WhyNotTaken : (Lacks : (List StampedRow → Catalog → Type 0) → Type 0)
     → (Contradicts : ℕ → ℕ → Type 0) → (Damaged : Type 0)
     → History → Catalog → Release → Refusal → Type 0
