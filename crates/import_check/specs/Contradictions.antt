@@ -59,7 +59,7 @@ pub record AreContradictionsOf (known : List RowValue) (release : Release) (limi
   pub listed : found.listed.items ≡ take limit all
   pub further : found.further ≡ length all - limit
 
--- why contradictions are not listed: for what a release is refused, but for none of them
+-- why contradictions are not listed: as a release is refused, but not for a contradiction
 abbrev pub IsNotListed : (honest : Type 0) → Release → ImportFault → Type 0
 IsNotListed honest release (importfault.Contradiction file line key) = ⊥
 IsNotListed honest release fault = IsRefusal honest [] release fault
