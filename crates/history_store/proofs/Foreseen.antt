@@ -58,7 +58,7 @@ module _ (h : History) (catalog : Catalog) (release : Release) (taken : WouldBeT
   taken_anyway refusals.LaterVersion why = taken.room.version why.1
   taken_anyway refusals.CountSpent why = not_both h.imports catalog.epoch taken.room.room why
   taken_anyway (refusals.Line file line fault) why = read_has_no_fault release file line fault (was_read release taken.accepted.rows taken.accepted.is_release) why.1
-  taken_anyway (refusals.Contradiction file line) why = consistent_has_none (full h) release taken.accepted.rows taken.accepted.is_release taken.accepted.consistent file line why.1.0 why.1.1
+  taken_anyway (refusals.Contradiction file line) why = consistent_has_none (full h) release taken.accepted file line why.1.0 why.1.1
   taken_anyway refusals.TooManySegments why = has_entry (new_rows h taken.accepted.rows) catalog taken.next taken.catalog_is (subst (λ rows. HasNoEntry rows catalog) (same_rows why.accepted.rows why.accepted.is_release) why.lacks)
   taken_anyway refusals.Full why = has_place (new_rows h taken.accepted.rows) catalog taken.next taken.catalog_is (subst (λ rows. HasNoPlace rows catalog) (same_rows why.accepted.rows why.accepted.is_release) why.lacks)
   taken_anyway _ why = why
@@ -115,8 +115,8 @@ module _ (h : History) (catalog : Catalog) (release : Release) where
   contradiction_alone file line (refusals.Contradiction n l) why also =
       let one = one_first_contradiction (full h) release n l also.1.0 file line why.1.0 also.1.1 why.1.1 in
       inl (λ i. refusals.Contradiction (one.0 i) (one.1 i))
-  contradiction_alone file line refusals.TooManySegments why also = absurd (consistent_has_none (full h) release also.accepted.rows also.accepted.is_release also.accepted.consistent file line why.1.0 why.1.1)
-  contradiction_alone file line refusals.Full why also = absurd (consistent_has_none (full h) release also.accepted.rows also.accepted.is_release also.accepted.consistent file line why.1.0 why.1.1)
+  contradiction_alone file line refusals.TooManySegments why also = absurd (consistent_has_none (full h) release also.accepted file line why.1.0 why.1.1)
+  contradiction_alone file line refusals.Full why also = absurd (consistent_has_none (full h) release also.accepted file line why.1.0 why.1.1)
   contradiction_alone file line _ why also = absurd also
 
   entry_alone : (f : Refusal) → IsNotTaken h catalog release refusals.TooManySegments → IsNotTaken h catalog release f → OneRefusal refusals.TooManySegments f
@@ -125,7 +125,7 @@ module _ (h : History) (catalog : Catalog) (release : Release) where
   entry_alone refusals.LaterVersion why also = absurd (why.room.version also.1)
   entry_alone refusals.CountSpent why also = absurd (not_both h.imports catalog.epoch why.room.room also)
   entry_alone (refusals.Line n l other) why also = absurd (read_has_no_fault release n l other (was_read release why.accepted.rows why.accepted.is_release) also.1)
-  entry_alone (refusals.Contradiction n l) why also = absurd (consistent_has_none (full h) release why.accepted.rows why.accepted.is_release why.accepted.consistent n l also.1.0 also.1.1)
+  entry_alone (refusals.Contradiction n l) why also = absurd (consistent_has_none (full h) release why.accepted n l also.1.0 also.1.1)
   entry_alone refusals.TooManySegments why also = inl refl
   entry_alone refusals.Full why also = absurd (omega (arith, why.lacks.all_taken, also.lacks.few))
   entry_alone _ why also = absurd also
@@ -136,7 +136,7 @@ module _ (h : History) (catalog : Catalog) (release : Release) where
   place_alone refusals.LaterVersion why also = absurd (why.room.version also.1)
   place_alone refusals.CountSpent why also = absurd (not_both h.imports catalog.epoch why.room.room also)
   place_alone (refusals.Line n l other) why also = absurd (read_has_no_fault release n l other (was_read release why.accepted.rows why.accepted.is_release) also.1)
-  place_alone (refusals.Contradiction n l) why also = absurd (consistent_has_none (full h) release why.accepted.rows why.accepted.is_release why.accepted.consistent n l also.1.0 also.1.1)
+  place_alone (refusals.Contradiction n l) why also = absurd (consistent_has_none (full h) release why.accepted n l also.1.0 also.1.1)
   place_alone refusals.TooManySegments why also = absurd (omega (arith, why.lacks.few, also.lacks.all_taken))
   place_alone refusals.Full why also = inl refl
   place_alone _ why also = absurd also

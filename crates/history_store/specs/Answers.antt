@@ -4,18 +4,17 @@ use Rattle.std.specs.Prelude.{length, None, Result, Ok, Err}
 use Rattle.fault_counts.specs.Counting.{HasRisen}
 use Rattle.disk_model.specs.Disk.{DiskState}
 use Rattle.blocks.specs.Slots.{slots_range}
-use Rattle.rf2_values.specs.Row.{RowValue}
 use Rattle.rf2_values.specs.declared.key.Key.{Key}
 use Rattle.history_model.specs.declared.stamped.StampedRow.{StampedRow}
 use Rattle.history_model.specs.declared.receipt.Receipt.{Receipt}
-use Rattle.history_model.specs.History.{History, IsHistory, Accepts, after_release, ReceiptOf}
+use Rattle.history_model.specs.History.{History, IsHistory, after_release, ReceiptOf}
 use Rattle.history_model.specs.History.{no_history, full, stamped}
 use Rattle.history_model.specs.Lists.{new_rows}
 use Rattle.directory.specs.declared.layout.Layout.{Layout}
 use Rattle.directory.specs.Listings.{empty_listing, next_layout}
 use Rattle.import_check.specs.declared.release.Release.{Release}
 use Rattle.import_check.specs.declared.found.NewRows.{NewRows}
-use Rattle.import_check.specs.Release.{IsReleaseOf, IsFaultOfRelease, HasContradiction}
+use Rattle.import_check.specs.Release.{IsAccepted, IsFaultOfRelease, HasContradiction}
 use Rattle.import_check.specs.NewRows.{BringsByKey, IsRead}
 use Rattle.store_image.specs.declared.fault.LoadFault.{LoadFault}
 use Rattle.store_image.specs.Answers.{synced, IsNotOpened as IsNotLoaded}
@@ -102,18 +101,12 @@ abbrev pub IsOpeningOf : {D : Type 0} → StoreOr D → List ℕ → Type 0
 IsOpeningOf (Ok store) bytes = IsOpened store bytes
 IsOpeningOf (Err e) bytes = IsNotOpened e.0 bytes
 
--- a release that a history accepts: each file is a release file, and the union is consistent
-pub record IsAccepted (h : History) (release : Release) : Type 0 where
-  pub rows : List RowValue
-  pub is_release : IsReleaseOf release rows
-  pub consistent : Accepts h rows
-
 -- a release that is taken: it is accepted, the history goes on with its rows, which the receipt
 -- counts, and a segment of the new ones is added, if there are any
 pub record IsTaken (h after : History) (catalog next : Catalog) (release : Release)
     (receipt : Receipt) : Type 0 where
   pub room : IsAdmitted h catalog release
-  pub accepted : IsAccepted h release
+  pub accepted : IsAccepted (full h) release
   pub history : after ≡ after_release h accepted.rows
   pub receipt_is : ReceiptOf h accepted.rows receipt.number receipt.new receipt.repeated
   pub catalog_is : IsCatalogAfter (new_rows h accepted.rows) catalog next
@@ -146,19 +139,19 @@ pub record LacksByKey (h : History) (catalog : Catalog) (release : Release)
 pub record WouldBeTakenBut (h : History) (catalog : Catalog) (release : Release)
     (Lacks : List StampedRow → Catalog → Type 0) : Type 0 where
   pub room : IsAdmitted h catalog release
-  pub accepted : IsAccepted h release
+  pub accepted : IsAccepted (full h) release
   pub lacks : Lacks (new_rows h accepted.rows) catalog
 
 -- a release that would be taken: its new rows have a place, or there are none
 pub record WouldBeTaken (h : History) (catalog : Catalog) (release : Release) : Type 0 where
   pub room : IsAdmitted h catalog release
-  pub accepted : IsAccepted h release
+  pub accepted : IsAccepted (full h) release
   pub next : Catalog
   pub catalog_is : IsCatalogAfter (new_rows h accepted.rows) catalog next
 
 -- Why a release isn't taken at a history and a catalog. `Lacks` says what its new rows lack,
--- `Contradicts` of which line the row contradicts another one, and `Damaged` where a known row is.
--- The device is asked for known rows once each file is a release file, and not before.
+-- `Contradicts` that the row of a line contradicts another one, and `Damaged` when a known row may
+-- be damaged. The device is asked for known rows once each file is a release file, and not before.
 abbrev pub WhyNotTaken : (Lacks : (List StampedRow → Catalog → Type 0) → Type 0)
     → (Contradicts : ℕ → ℕ → Type 0) → (Damaged : Type 0)
     → History → Catalog → Release → Refusal → Type 0
@@ -222,8 +215,8 @@ IsImportOf (Err e) old new release =
 
 -- the bytes represent the history with an accepted release, in this version
 abbrev pub RepresentsWith : Layout → History → Release → List ℕ → Type 0
-RepresentsWith layout h release c =
-    (accepted : IsAccepted h release) × RepresentsAs layout (after_release h accepted.rows) c
+RepresentsWith layout h release c = (accepted : IsAccepted (full h) release)
+    × RepresentsAs layout (after_release h accepted.rows) c
 
 -- what a stop inside an import may leave: the history
 -- from before in its version, or the one after it in the next

@@ -109,13 +109,13 @@ counted limit all found listed further = omega (arith, ap length listed, length-
 pub accepted_has_none : AcceptedHasNone
 accepted_has_none known release limit found consistent is = (
   λ accepted.
-      let same : rows_of (placed_lines is.lists) ≡ accepted.0 = one_list release (rows_of (placed_lines is.lists)) accepted.0 (record { lists = is.lists; spelled = is.spelled; rows_are = rows-files 1 is.lists }) accepted.1 in
-      let all_agree : IsConsistent (known ++ rows_of (placed_lines is.lists)) = subst (λ rows. IsConsistent (known ++ rows)) (sym same) accepted.2 in
+      let same : rows_of (placed_lines is.lists) ≡ accepted.rows = one_list release (rows_of (placed_lines is.lists)) accepted.rows (record { lists = is.lists; spelled = is.spelled; rows_are = rows-files 1 is.lists }) accepted.is_release in
+      let all_agree : IsConsistent (known ++ rows_of (placed_lines is.lists)) = subst (λ rows. IsConsistent (known ++ rows)) (sym same) accepted.consistent in
       counted limit is.all found is.listed is.further ∙ none is.all (λ c h. none_contradicts known (placed_lines is.lists) c all_agree ((is.each c).0 h)),
   λ zero.
       let no_one = nil_from_length is.all (sym (counted limit is.all found is.listed is.further) ∙ zero) in
       elim (consistent_or_not known [] (placed_lines is.lists) (subst IsConsistent (sym (append-nil known)) consistent)) [
-        | inl agree ↦ (rows_of (placed_lines is.lists), record { lists = is.lists; spelled = is.spelled; rows_are = rows-files 1 is.lists }, agree)
+        | inl agree ↦ record { rows = rows_of (placed_lines is.lists); is_release = record { lists = is.lists; spelled = is.spelled; rows_are = rows-files 1 is.lists }; consistent = agree }
         | inr (file, line, key, first) ↦
             let c = first_is_one known (placed_lines is.lists) file line key first in
             absurd (subst (λ l. Has l c.0) no_one ((is.each c.0).1 c.1))

@@ -202,10 +202,11 @@ one_first_contradiction known release n line key m other different a b =
     one_contradiction known (placed_lines a.lists) n line key m other different a.first (subst (λ ls. IsFirstContradiction known (placed_lines ls) m other different) same b.first)
 
 pub consistent_has_none : ConsistentHasNone
-consistent_has_none known release rows is consistent n line key has =
+consistent_has_none known release accepted n line key has =
+    let is = accepted.is_release in
     let same = one_reading release.files.items is.lists has.lists is.spelled has.spelled in
-    let rows_are : rows ≡ rows_of (placed_lines has.lists) = is.rows_are ∙ ap joined same ∙ sym (rows-files 1 has.lists) in
-    no_contradiction known (placed_lines has.lists) n line key (subst (λ rs. IsConsistent (known ++ rs)) rows_are consistent) has.first
+    let rows_are : accepted.rows ≡ rows_of (placed_lines has.lists) = is.rows_are ∙ ap joined same ∙ sym (rows-files 1 has.lists) in
+    no_contradiction known (placed_lines has.lists) n line key (subst (λ rs. IsConsistent (known ++ rs)) rows_are accepted.consistent) has.first
 
 pub each_release_is_answered : EachReleaseIsAnswered
 each_release_is_answered known release consistent = elim (read_or_not each_file release.files.items) [
@@ -225,7 +226,7 @@ each_release_is_answered known release consistent = elim (read_or_not each_file 
     },
   ))
   | inl read ↦ elim (consistent_or_not known [] (placed_lines read.0) (subst IsConsistent (sym (append-nil known)) consistent)) [
-    | inl all ↦ inl (joined read.0, record { lists = read.0; spelled = read.1; rows_are = refl }, subst (λ rs. IsConsistent (known ++ rs)) (rows-files 1 read.0) all)
+    | inl all ↦ inl (record { rows = joined read.0; is_release = record { lists = read.0; spelled = read.1; rows_are = refl }; consistent = subst (λ rs. IsConsistent (known ++ rs)) (rows-files 1 read.0) all })
     | inr c ↦ inr (inr (c.0, c.1, c.2, record { lists = read.0; spelled = read.1; first = c.3 }))
   ]
 ]

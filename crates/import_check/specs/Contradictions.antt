@@ -1,6 +1,6 @@
 -- The contradictions of a release: lines whose key has another row, one that is known or stands
 -- before them.
-use Rattle.std.specs.Prelude.{◌≡◌, ◌≢◌, ◌↔◌, ℕ, ◌-◌, List, ◌∷◌, ◌++◌, length, take, ⊤}
+use Rattle.std.specs.Prelude.{◌≡◌, ◌≢◌, ◌↔◌, ℕ, ◌-◌, List, [], ◌∷◌, ◌++◌, length, take}
 use Rattle.std.specs.Ordering.{nat_cmp, ordering_then}
 use Rattle.std.specs.declared.cmp.Ordering.{Ordering}
 use Rattle.rf2_values.specs.Row.{RowValue}
@@ -15,10 +15,9 @@ use Rattle.import_check.specs.declared.contradicting.ContradictingLine.{Contradi
 use Rattle.import_check.specs.declared.contradicting.Contradictions.{Contradictions}
 use Rattle.import_check.specs.declared.fault.ImportFault.{ImportFault}
 use Rattle.import_check.specs.declared.fault.ImportFault.TheVariants as importfault
-use Rattle.fault_counts.specs.declared.fault.ReadFault.TheVariants as readfault
 use Rattle.import_check.specs.Known.{IsUnknown}
-use Rattle.import_check.specs.Release.{SpellFiles, IsFaultOfRelease, placed_lines, rows_of}
-use Rattle.import_check.specs.NewRows.{IsRead}
+use Rattle.import_check.specs.Release.{SpellFiles, placed_lines, rows_of}
+use Rattle.import_check.specs.NewRows.{IsRefusal}
 
 -- the order of lines by their places: by file, then by line
 abbrev pub place_cmp : PlacedLine → PlacedLine → Ordering
@@ -60,12 +59,7 @@ pub record AreContradictionsOf (known : List RowValue) (release : Release) (limi
   pub listed : found.listed.items ≡ take limit all
   pub further : found.further ≡ length all - limit
 
--- why contradictions are not listed: a line has a fault, or a known row can't be had; that memory
--- ran out says nothing
+-- why contradictions are not listed: as a release is refused, but not for a contradiction
 abbrev pub IsNotListed : (honest : Type 0) → Release → ImportFault → Type 0
-IsNotListed honest release importfault.OutOfMemory = ⊤
-IsNotListed honest release (importfault.Known fault) =
-    IsRead release × (honest → fault ≢ readfault.Damaged)
-IsNotListed honest release (importfault.Row file line fault) =
-    IsFaultOfRelease release file line fault
 IsNotListed honest release (importfault.Contradiction file line key) = ⊥
+IsNotListed honest release fault = IsRefusal honest [] release fault

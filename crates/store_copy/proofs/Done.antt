@@ -3,7 +3,7 @@ use Rattle.std.proofs.Common.{◌≡◌, inl, inr, ℕ, zero, suc, ◌+◌, ◌*
 use Rattle.std.specs.Int.{div_ceil}
 use Rattle.std.specs.List.{AllByRecursion}
 use Rattle.std.proofs.lemmas.List.{append-nil, take_all, take_more, get_or_default}
-use Rattle.std.proofs.lemmas.List.Elements.{All-nil, All-cons, All-head, All-tail, length_all_zip}
+use Rattle.std.proofs.lemmas.List.Elements.{All-nil, All-cons, All-head, All-tail}
 use Rattle.disk_model.specs.Disk.{DiskState, IsOutside, Moments, LeavesOnly, EachImage}
 use Rattle.disk_model.proofs.MomentSteps.{joined, weaker, at_end}
 use Rattle.blocks.specs.Extents.{byte_range, start_of}
@@ -18,7 +18,8 @@ use Rattle.segment.specs.Records.{segment_in, segment_of}
 use Rattle.segment.proofs.SegmentLaws.{length-segment_in}
 use Rattle.store_image.specs.Pieces.{Holds, HoldsAll}
 use Rattle.store_image.specs.Ahead.{BeginsWith}
-use Rattle.store_image.specs.Kept.{IsSegmentOf, AreSegments, pieces_of, entry_at}
+use Rattle.store_image.specs.Kept.{AreSegments, pieces_of, entry_at}
+use Rattle.store_image.proofs.Damaged.{segments_count}
 use Rattle.store_image.specs.Reading.{IsAt}
 use Rattle.store_image.proofs.Unlisted.{begins_holds}
 use Rattle.store_image.proofs.Beside.{blocks_cover}
@@ -194,7 +195,7 @@ segment_at file (f ∷ entries) (l ∷ lists) (suc i) e rows are held lt is_e is
 pub segment_still : (old new : Moments) (entries : List Entry) (lists : List (List StampedRow)) (i : ℕ) (d : Entry) (rows : List StampedRow) → new ≡ old → AreSegments entries lists → HoldsAll (pieces_of entries lists) old.state.now → i < length lists → rows ≡ get_or lists i rows → IsAt new.state.now (get_or entries i d) rows
 segment_still old new entries lists i d rows same are held lt is =
     let e = get_or entries i d in
-    let listed : i < length entries = omega (arith, lt, length_all_zip IsSegmentOf entries lists are) in
+    let listed : i < length entries = omega (arith, lt, segments_count entries lists are) in
     let at = segment_at old.state.now entries lists i e rows are held lt (get_or_default entries i d e listed) is in
     subst (λ (m : Moments). IsAt m.state.now e rows) (sym same) at
 

@@ -1,7 +1,6 @@
 -- Which part of a store is damaged, and why nothing is opened.
 use Rattle.std.proofs.Common.{◌≡◌, ◌⊎◌, inl, inr, ℕ, zero, suc, ◌+◌, ◌<◌, ◌++◌, List, [], ◌∷◌, length, get_or, take, drop, refl, sym, ◌∙◌, ap, subst, arith, length-take, length-append}
 use Rattle.std.specs.Prelude.{Result, Err, All}
-use Rattle.std.proofs.lemmas.List.Elements.{length_all_zip}
 use Rattle.fault_counts.specs.Counting.{HasRisen}
 use Rattle.blocks.specs.declared.slots.Slot.{Slot}
 use Rattle.blocks.specs.declared.slots.Current.{Current}
@@ -25,7 +24,7 @@ use Rattle.store_image.specs.declared.fault.LoadFault.TheVariants as loading
 use Rattle.store_image.specs.declared.fault.RowsFault.{RowsFault}
 use Rattle.store_image.specs.declared.fault.RowsFault.TheVariants as faults
 use Rattle.store_image.specs.Pieces.{HoldsAll}
-use Rattle.store_image.specs.Kept.{IsSegmentOf, AreOfLayout, AreSegments, pieces_of}
+use Rattle.store_image.specs.Kept.{AreOfLayout, AreSegments, pieces_of}
 use Rattle.store_image.specs.Images.{IsStore, OtherIsWhole}
 use Rattle.store_image.specs.Reading.{IsAt}
 use Rattle.store_image.specs.Private.Reading.{AreRead, IsNotReadAt}
@@ -60,7 +59,10 @@ not_read_at faults.Damaged number imports file entries lists i d lt is there why
 
 -- as many lists as entries were gone over
 pub segments_count : (entries : List Entry) (lists : List (List StampedRow)) → AreSegments entries lists → length lists ≡ length entries
-segments_count entries lists are = sym (length_all_zip IsSegmentOf entries lists are)
+segments_count [] [] are = refl
+segments_count [] (rows ∷ lists) are = absurd are
+segments_count (entry ∷ entries) [] are = absurd are
+segments_count (entry ∷ entries) (rows ∷ lists) are = ap suc (segments_count entries lists are.1)
 
 -- ---- the first segment that is broken
 

@@ -4,7 +4,7 @@ use Rattle.std.specs.Prelude.{None}
 use Rattle.std.specs.List.{AllByRecursion}
 use Rattle.std.proofs.lemmas.List.Sums.{sum_by_push, sum_by-take-le}
 use Rattle.std.proofs.lemmas.List.{append-nil, take_more, nil_from_length}
-use Rattle.std.proofs.lemmas.List.Elements.{All-nil, All-push, All-head, All-tail, AllZip-push}
+use Rattle.std.proofs.lemmas.List.Elements.{All-nil, All-push, All-head, All-tail}
 use Rattle.list_lemmas.proofs.Each.{each_of_pushed}
 use Rattle.blocks.specs.Extents.{start_of}
 use Rattle.store_image.specs.Private.Reading.{bytes_of}
@@ -22,7 +22,7 @@ use Rattle.store_image.specs.Pieces.{Holds, HoldsAll}
 use Rattle.store_image.specs.Kept.{IsSegmentOf, AreSegments, bytes_listed, pieces_of}
 use Rattle.store_image.specs.Reading.{AreNumbered, IsAt}
 use Rattle.store_image.specs.Private.Reading.{AreReadTo, BeginsWith, IsNotNext, IsNotReadAt}
-use Rattle.store_image.proofs.Added.{pieces_of-push}
+use Rattle.store_image.proofs.Added.{AreSegments-push, pieces_of-push}
 use Rattle.store_image.proofs.Windowed.{record_least}
 
 -- ---- room for an entry
@@ -144,7 +144,7 @@ module _ (entries : List Entry) (i : ℕ) (d : Entry) (lists more : List (List S
   pub more_segments : AreSegments (take i entries) lists → IsSegmentOf (get_or entries i d) rows → AreSegments (take (i + 1) entries) more
   more_segments are is =
       subst (λ l. AreSegments (take (i + 1) entries) l) (sym more_is)
-      (subst (λ (l : List Entry). AreSegments l (lists ++ rows ∷ [])) (sym front) (AllZip-push IsSegmentOf (take i entries) lists (get_or entries i d) rows are is))
+      (subst (λ (l : List Entry). AreSegments l (lists ++ rows ∷ [])) (sym front) (AreSegments-push (take i entries) lists (get_or entries i d) rows are is))
 
   pub more_numbered : (imports : ℕ) → AllByRecursion (AreNumbered imports) lists → AreNumbered imports rows → AllByRecursion (AreNumbered imports) more
   more_numbered imports all low = subst (λ l. AllByRecursion (AreNumbered imports) l) (sym more_is) (each_of_pushed (AreNumbered imports) lists rows all low)

@@ -15,14 +15,14 @@ use Rattle.directory.specs.declared.layout.Layout.{Layout}
 use Rattle.directory.specs.declared.layout.Layout.TheVariants as layouts
 use Rattle.import_check.specs.declared.release.ReleaseFile.{ReleaseFile}
 use Rattle.import_check.specs.declared.release.Release.{Release}
-use Rattle.import_check.specs.Release.{SpellFiles, IsReleaseOf, IsFaultOfRelease, HasContradiction}
+use Rattle.import_check.specs.Release.{IsAccepted, SpellFiles, IsReleaseOf, IsFaultOfRelease, HasContradiction}
 use Rattle.import_check.specs.Release.{files_of}
 use Rattle.history_store.specs.declared.refusal.Refusal.{Refusal}
 use Rattle.history_store.specs.declared.refusal.Refusal.TheVariants as store
 use Rattle.history_store.specs.Catalog.{Catalog}
 use Rattle.history_store.specs.StoreValue.{StoreValue}
 use Rattle.history_store.specs.Prepared.{IsForLater, IsAdmitted}
-use Rattle.history_store.specs.Answers.{IsAccepted, IsTaken, WouldBeTakenBut, IsImportOf}
+use Rattle.history_store.specs.Answers.{IsTaken, WouldBeTakenBut, IsImportOf}
 use Rattle.history_store.specs.Checking.{HasFailed}
 
 abbrev FileBytes : Type 0
@@ -136,7 +136,7 @@ module _ (release other : Release) (same : files_of release ≡ files_of other) 
   admitted_alike : {h : History} {catalog : Catalog} → IsAdmitted h catalog release → IsAdmitted h catalog other
   admitted_alike {h} {catalog} a = record { room = a.room; version = λ is. a.version (earlier_alike catalog.layout is) }
 
-  abbrev accepted_alike : {h : History} → IsAccepted h release → IsAccepted h other
+  abbrev accepted_alike : {known : List RowValue} → IsAccepted known release → IsAccepted known other
   accepted_alike a = record { rows = a.rows; is_release = release_alike a.is_release; consistent = a.consistent }
 
   taken_alike : {h after : History} {catalog next : Catalog} {receipt : Receipt} → IsTaken h after catalog next release receipt → IsTaken h after catalog next other receipt

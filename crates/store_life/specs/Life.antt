@@ -4,12 +4,13 @@ use Rattle.std.specs.Prelude.{Option, Some, None, Ok}
 use Rattle.std.specs.List.{Contains}
 use Rattle.std.specs.Option.{option_or}
 use Rattle.disk_model.specs.Disk.{DiskState, IsImage, EachImage, Moments, LeavesOnly}
-use Rattle.history_model.specs.History.{History, after_release}
+use Rattle.history_model.specs.History.{History, after_release, full}
 use Rattle.import_check.specs.declared.release.Release.{Release}
+use Rattle.import_check.specs.Release.{IsAccepted}
 use Rattle.directory.specs.declared.layout.Layout.{Layout}
 use Rattle.store_image.specs.Images.{RepresentsHistory}
 use Rattle.history_store.specs.StoreValue.{StoreValue, IsAcknowledged}
-use Rattle.history_store.specs.Answers.{IsAccepted, IsOpeningOf, RepresentsWith}
+use Rattle.history_store.specs.Answers.{IsOpeningOf, RepresentsWith}
 use Rattle.disk_model.specs.View.{DiskView}
 
 -- ---- calls
@@ -37,7 +38,8 @@ failing Other = None
 abbrev pub TakesAll : History → List Release → History → Type 0
 TakesAll h [] after = after ≡ h
 TakesAll h (release ∷ releases) after =
-    (accepted : IsAccepted h release) × TakesAll (after_release h accepted.rows) releases after
+    (accepted : IsAccepted (full h) release)
+    × TakesAll (after_release h accepted.rows) releases after
 
 -- whether the store has to be opened again after the call:
 -- not after an import, and always once the device has failed in one

@@ -5,8 +5,8 @@ use Rattle.std.proofs.lemmas.Result.{err_from_is_err_and}
 use Rattle.directory.specs.declared.layout.Layout.{Layout}
 use Rattle.directory.specs.Listings.{most_entries}
 use Rattle.history_model.specs.declared.stamped.StampedRow.{StampedRow}
-use Rattle.std.proofs.lemmas.List.Elements.{length_all_zip}
-use Rattle.store_image.specs.Kept.{IsKept, IsSegmentOf}
+use Rattle.store_image.specs.Kept.{IsKept}
+use Rattle.store_image.proofs.Damaged.{segments_count}
 use Rattle.store_image.specs.OnDisk.{HasStore}
 use Rattle.store_copy.specs.Answers.{Shown}
 use Rattle.store_copy.specs.Copying.{chosen}
@@ -35,7 +35,7 @@ plan-requires-clause-few g c =
     let kept = subst (λ (r : List (List StampedRow)). IsKept l.directory r) (map-id l.segments.items) c.in_ok-slot.ensures.kept in
     let long = ap length c.as_slice.ensures.value in
     let count = kept.listing.count in
-    let few : length c.as_slice.result.now ≤ most_entries l.directory.layout = omega (arith, long, length_all_zip IsSegmentOf l.directory.entries l.segments.items kept.segments, count) in
+    let few : length c.as_slice.result.now ≤ most_entries l.directory.layout = omega (arith, long, segments_count l.directory.entries l.segments.items kept.segments, count) in
     subst (λ (layout : Layout). length c.as_slice.result.now ≤ most_entries layout) (sym c.layout.ensures) few
 
 pub returns-in_err-copy-clause-refused : goal.returns-in_err-copy-clause-refused

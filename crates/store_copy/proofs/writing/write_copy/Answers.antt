@@ -1,6 +1,5 @@
-use Rattle.std.proofs.Common.{arith}
-use Rattle.std.proofs.lemmas.List.Elements.{length_all_zip}
-use Rattle.store_image.specs.Kept.{IsSegmentOf}
+use Rattle.std.proofs.Common.{sym, arith}
+use Rattle.store_image.proofs.Damaged.{segments_count}
 use Rattle.disk_model.proofs.MomentSteps.{at_end}
 use Rattle.store_copy.specs.Copying.{lists_up_to}
 use Rattle.store_copy.specs.Private.Writing.{IsShut}
@@ -8,7 +7,7 @@ use Rattle.store_copy.proofs.Copied.{closing_run, writing_run, opening_run}
 use Rattle.store_copy.proofs.writing.write_copy.Goals as goal
 
 pub copy_segments-requires-clause-from : goal.copy_segments-requires-clause-from
-copy_segments-requires-clause-from g c = length_all_zip IsSegmentOf c.args.from.now c.args.segments.now c.requires.from
+copy_segments-requires-clause-from g c = sym (segments_count c.args.from.now c.args.segments.now c.requires.from)
 
 pub returns-in_err-copy_segments-clause-any_moment : goal.returns-in_err-copy_segments-clause-any_moment
 returns-in_err-copy_segments-clause-any_moment g c = λ s t held none.
