@@ -7,11 +7,11 @@ An edit is a wrong change of a crate that the prover has to refuse, a file in mu
 a line `file: PATH`, and behind it pairs of lines `old: TEXT` and `new: TEXT`. An old text has to
 stand just once in its file. CI tries the edits of must-fail/; those of edits/ are tried before a
 commit by try_edits.py, which writes the record edits/tried: the day, a checksum of the crate's
-src/, specs/ and proofs/, and a line for each edit that was refused there, with the checksum of its
-file. Here a crate that has edits in edits/ has to have this record, of its sources as they stand
-and with a line for each of them as it stands, and no line may name what is no edit. What isn't so
-is said in a line of its own on standard error, and the status is 1 then. Nothing is built. Standard
-library alone.
+src/, specs/ and proofs/ without their comments, and a line for each edit that was refused there,
+with the checksum of its file. Here a crate that has edits in edits/ has to have this record, of its
+sources as they stand and with a line for each of them as it stands, and no line may name what is no
+edit. What isn't so is said in a line of its own on standard error, and the status is 1 then.
+Nothing is built. Standard library alone.
 """
 
 from __future__ import annotations
@@ -33,6 +33,8 @@ ENDING = ".edit"
 # What edits change, and what refuses them.
 SOURCES = ("src", "specs", "proofs")
 RECORD = f"{EDITS}/tried"
+# How a line begins that is a comment, in the files of these endings.
+COMMENTS = {".rt": b"//", ".antt": b"--"}
 
 
 @dataclass(frozen=True)
@@ -126,6 +128,14 @@ def checksum_of_file(path: str) -> str:
         return hashlib.sha256(file.read()).hexdigest()
 
 
+def without_comments(path: str) -> bytes:
+    """A file without its empty lines and those that are comments, which the prover doesn't read."""
+    sign = COMMENTS[os.path.splitext(path)[1]]
+    with open(path, "rb") as file:
+        lines = [line for line in file.read().split(b"\n") if line.strip()]
+    return b"\n".join(line for line in lines if not line.lstrip().startswith(sign))
+
+
 def checksum_of_sources(crate: str) -> str:
     """A checksum of all files of a crate that say whether its edits are refused."""
     folder = folder_of(crate)
@@ -134,7 +144,8 @@ def checksum_of_sources(crate: str) -> str:
              for at, _, names in places for name in names]
     total = hashlib.sha256()
     for path in sorted(files):
-        total.update(f"{path} {checksum_of_file(os.path.join(folder, path))}\n".encode())
+        text = without_comments(os.path.join(folder, path))
+        total.update(f"{path} {hashlib.sha256(text).hexdigest()}\n".encode())
     return total.hexdigest()
 
 
