@@ -26,6 +26,15 @@ pub number_of_item : {X : Type 0} (xs : List X) (x : X) → Has xs x
 number_of_item [] x has = absurd has
 number_of_item (y ∷ xs) x has = elim has [ inl same ↦ (0, ap Some same) | inr there ↦ let w = number_of_item xs x there in (suc w.0, w.1) ]
 
+-- and at a place below its length
+pub place_of_item : {X : Type 0} (xs : List X) (x : X) → Has xs x
+    → (i : ℕ) × (i < length xs) × ((d : X) → get_or xs i d ≡ x)
+place_of_item [] x has = absurd has
+place_of_item (y ∷ xs) x has = elim has [
+  | inl same ↦ (0, omega arith, λ d. same)
+  | inr there ↦ let w = place_of_item xs x there in let within = w.1 in (suc w.0, omega (arith, within), w.2)
+]
+
 -- it has what is among the first so many
 pub Has-take : {X : Type 0} (n : ℕ) (xs : List X) (x : X) → Has (take n xs) x → Has xs x
 Has-take zero xs x has = absurd has
