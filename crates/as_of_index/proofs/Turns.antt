@@ -9,7 +9,7 @@ use Rattle.std.proofs.lemmas.Option.{slice_get_within}
 use Rattle.list_lemmas.proofs.Parts.{permuted_with_last}
 use Rattle.history_model.specs.InOrder.{Has}
 use Rattle.history_model.proofs.InOrder.{Has-append_cases}
-use Rattle.history_model.proofs.Items.{Has-get_or}
+use Rattle.history_model.proofs.Items.{Has-get_or, place_of_item}
 use Rattle.as_of_index.specs.declared.merging.TakenCount.{TakenCount}
 use Rattle.as_of_index.specs.Numbers.{TwoLists, number_in_both}
 use Rattle.as_of_index.specs.Merging.{PostingKind, moved, first_moved, second_moved, NoneAbove, IsMerged, count_left}
@@ -33,20 +33,12 @@ has_more [] (suc i) x h = h
 has_more (y ∷ xs) zero x h = inr h
 has_more (y ∷ xs) (suc i) x h = has_more xs i x h
 
--- the number of an item
-number_of : {X : Type 0} (xs : List X) (x : X) → Has xs x → (i : ℕ) × (i < length xs) × ((d : X) → get_or xs i d ≡ x)
-number_of [] x h = absurd h
-number_of (y ∷ xs) x h = elim h [
-  | inl e ↦ (0, omega arith, λ d. e)
-  | inr t ↦ (let w = number_of xs x t in let lt = w.1 in (suc w.0, omega (arith, lt), w.2))
-]
-
 -- ---- what is left of a list in order
 
 module _ {X : Type 0} (rank : X → ℕ) where
   first_below : (x : X) (xs : List X) → IsNonDecreasingBy rank (x ∷ xs) → (y : X) → Has xs y → rank x ≤ rank y
   first_below x xs up y h =
-      let w = number_of xs y h in
+      let w = place_of_item xs y h in
       let lt = w.1 in
       subst (λ z. rank x ≤ rank z) (w.2 x) (up 0 (suc w.0) x (omega arith) (omega (arith, lt)))
 

@@ -4,13 +4,14 @@ use Rattle.std.proofs.Common.{◌≡◌, ◌⊎◌, inl, inr, ℕ, ◌+◌, ◌*
 use Rattle.std.proofs.lemmas.Bool.Decides.{nat_tests}
 use Rattle.std.proofs.lemmas.List.{get_or-take}
 use Rattle.std.proofs.lemmas.List.Elements.{All-nil, All-cons, All-append}
+use Rattle.std.proofs.lemmas.Bool.{cond-true, cond-false, leb-false}
 use Rattle.lru.specs.LruCache.{LruCache}
 use Rattle.disk_model.specs.Disk.{IsOutside}
 use Rattle.blocks.specs.declared.extent.Extent.{Extent}
 use Rattle.blocks.specs.Extents.{block_count, byte_range}
 use Rattle.blocks.specs.Cache.{block_of, kept_of, is_in, Forgets, IsBeside, EmptyAgrees, StillAgrees, ForgetsBeside, ForgetsBoth, CutAgrees}
 use Rattle.blocks.proofs.Windows.{window_same, window_elsewhere}
-use Rattle.blocks.proofs.Kept.{by_answer, cond-true, cond-false}
+use Rattle.blocks.proofs.Kept.{by_answer}
 
 pub empty_agrees : EmptyAgrees
 empty_agrees cap file block bytes kept = cc
@@ -37,8 +38,8 @@ still_agrees ranges old new file next agrees same keeps block bytes kept =
 -- what is kept after a forgetting
 pub kept_still : (test : ℕ → Bool) (old new : LruCache ℕ (List ℕ)) (block : ℕ) (bytes : List ℕ) → Forgets test old new → kept_of new block ≡ Some bytes → (kept_of old block ≡ Some bytes) × (test block ≡ false)
 kept_still test old new block bytes forgets kept = by_answer (test block)
-    (λ y. let wrong : None ≡ Some bytes = sym (forgets.each block ∙ cond-true None (kept_of old block) y) ∙ kept in cc)
-    (λ n. (sym (forgets.each block ∙ cond-false None (kept_of old block) n) ∙ kept, n))
+    (λ y. let wrong : None ≡ Some bytes = sym (forgets.each block ∙ cond-true _ None (kept_of old block) y) ∙ kept in cc)
+    (λ n. (sym (forgets.each block ∙ cond-false _ None (kept_of old block) n) ∙ kept, n))
 
 not_in : (extent : Extent) (block : ℕ) → is_in extent block ≡ false → (block < extent.first) ⊎ (extent.first + block_count extent ≤ block)
 not_in extent block out = by_answer (nat_le extent.first block)
@@ -60,14 +61,11 @@ forgets_both ranges others old mid new first second block bytes kept =
     let before = first block bytes later.0 in
     (before.0, All-append (IsBeside block) ranges others before.1 later.1)
 
-below : (end block : ℕ) → nat_le end block ≡ false → block < end
-below end block n = grind (arith, nat_tests)
-
 pub cut_agrees : CutAgrees
 cut_agrees end old new file agrees forgets block bytes kept =
     let was = kept_still (nat_le end) old new block bytes forgets kept in
     let is = agrees block bytes was.0 in
-    let lower : block < end = below end block was.1 in
+    let lower : block < end = leb-false end block was.1 in
     let within : 4096 * block + 4096 ≤ length (take (4096 * end) file) = omega (arith, length-take (4096 * end) file, is.0, lower) in (
       within,
       is.1 ∙ block_window (take (4096 * end) file) file block (window_same (4096 * block) 4096 file (take (4096 * end) file) is.0 within (λ i ge lt. sym (get_or-take (4096 * end) file i 0 (omega (arith, lt, lower))))),

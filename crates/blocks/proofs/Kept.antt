@@ -2,7 +2,7 @@
 use Rattle.std.proofs.Common.{◌≡◌, ◌⊎◌, inl, inr, ℕ, zero, suc, ◌*◌, ◌+◌, ◌≤◌, ◌-◌, ◌++◌, Bool, true, false, cond, List, [], ◌∷◌, length, take, drop, min, Option, Some, None, nat_eq, subst, sym, ap, ◌∙◌, arith, refl, append-nil, OnErr, Result, Ok, Err}
 use Rattle.std.specs.Option.{option_map, option_map_or}
 use Rattle.std.specs.Map.{lookup, lookup_entry, remove_entry}
-use Rattle.std.proofs.lemmas.Bool.{eqb-true}
+use Rattle.std.proofs.lemmas.Bool.{eqb-true, cond-true, cond-false}
 use Rattle.std.proofs.Math.ListN.{drop_of_length-le}
 use Rattle.lru.specs.LruCache.{LruCache, lru_cache, promoted, put_entries}
 use Rattle.lru.proofs.CallerLemmas.{Contains-lookup_entry}
@@ -16,24 +16,18 @@ pub on_err : {T E P : Type 0} (r : Result T E) → P → OnErr r P
 on_err (Ok x) p = tt
 on_err (Err x) p = p
 
-pub cond-true : {A : Type 0} {b : Bool} (x y : A) → b ≡ true → cond b x y ≡ x
-cond-true x y e = ap (λ c. cond c x y) e
-
-pub cond-false : {A : Type 0} {b : Bool} (x y : A) → b ≡ false → cond b x y ≡ y
-cond-false x y e = ap (λ c. cond c x y) e
-
 module _ {X : Type 0} where
   pub lookup-removed : (b q : ℕ) (es : List (ℕ × X)) → nat_eq q b ≡ false → lookup (nat_eq q) (remove_entry (nat_eq b) es) ≡ lookup (nat_eq q) es
   lookup-removed b q [] apart = refl
   lookup-removed b q (e ∷ es) apart = by_answer (nat_eq b e.0)
-      (λ y. ap (lookup (nat_eq q)) (cond-true es (e ∷ remove_entry (nat_eq b) es) y) ∙ sym (cond-false (Some e.1) (lookup (nat_eq q) es) (subst (λ k. nat_eq q k ≡ false) (eqb-true b e.0 y) apart)))
-      (λ n. ap (lookup (nat_eq q)) (cond-false es (e ∷ remove_entry (nat_eq b) es) n) ∙ ap (cond (nat_eq q e.0) (Some e.1)) (lookup-removed b q es apart))
+      (λ y. ap (lookup (nat_eq q)) (cond-true _ es (e ∷ remove_entry (nat_eq b) es) y) ∙ sym (cond-false _ (Some e.1) (lookup (nat_eq q) es) (subst (λ k. nat_eq q k ≡ false) (eqb-true b e.0 y) apart)))
+      (λ n. ap (lookup (nat_eq q)) (cond-false _ es (e ∷ remove_entry (nat_eq b) es) n) ∙ ap (cond (nat_eq q e.0) (Some e.1)) (lookup-removed b q es apart))
 
   value_of_entry : (b : ℕ) (es : List (ℕ × X)) → lookup (nat_eq b) es ≡ option_map (λ e. e.1) (lookup_entry (nat_eq b) es)
   value_of_entry b [] = refl
   value_of_entry b (e ∷ es) = by_answer (nat_eq b e.0)
-      (λ y. cond-true (Some e.1) (lookup (nat_eq b) es) y ∙ sym (ap (option_map (λ p. p.1)) (cond-true (Some e) (lookup_entry (nat_eq b) es) y)))
-      (λ n. cond-false (Some e.1) (lookup (nat_eq b) es) n ∙ value_of_entry b es ∙ sym (ap (option_map (λ p. p.1)) (cond-false (Some e) (lookup_entry (nat_eq b) es) n)))
+      (λ y. cond-true _ (Some e.1) (lookup (nat_eq b) es) y ∙ sym (ap (option_map (λ p. p.1)) (cond-true _ (Some e) (lookup_entry (nat_eq b) es) y)))
+      (λ n. cond-false _ (Some e.1) (lookup (nat_eq b) es) n ∙ value_of_entry b es ∙ sym (ap (option_map (λ p. p.1)) (cond-false _ (Some e) (lookup_entry (nat_eq b) es) n)))
 
   -- what is kept doesn't change where a block is used
   pub lookup-promoted : (b q : ℕ) (es : List (ℕ × X)) → lookup (nat_eq q) (promoted (nat_eq b) es) ≡ lookup (nat_eq q) es
@@ -44,15 +38,15 @@ module _ {X : Type 0} where
       at (Some e) h =
           let key : b ≡ e.0 = eqb-true b e.0 (Contains-lookup_entry (nat_eq b) es e h).1 in
           by_answer (nat_eq q e.0)
-          (λ y. cond-true (Some e.1) (lookup (nat_eq q) (remove_entry (nat_eq b) es)) y ∙ sym (subst (λ k. lookup (nat_eq k) es ≡ Some e.1) (key ∙ sym (eqb-true q e.0 y)) (value_of_entry b es ∙ ap (option_map (λ p. p.1)) h)))
-          (λ n. cond-false (Some e.1) (lookup (nat_eq q) (remove_entry (nat_eq b) es)) n ∙ lookup-removed b q es (subst (λ k. nat_eq q k ≡ false) (sym key) n))
+          (λ y. cond-true _ (Some e.1) (lookup (nat_eq q) (remove_entry (nat_eq b) es)) y ∙ sym (subst (λ k. lookup (nat_eq k) es ≡ Some e.1) (key ∙ sym (eqb-true q e.0 y)) (value_of_entry b es ∙ ap (option_map (λ p. p.1)) h)))
+          (λ n. cond-false _ (Some e.1) (lookup (nat_eq q) (remove_entry (nat_eq b) es)) n ∙ lookup-removed b q es (subst (λ k. nat_eq q k ≡ false) (sym key) n))
 
   lookup-take : (n q : ℕ) (es : List (ℕ × X)) (w : X) → lookup (nat_eq q) (take n es) ≡ Some w → lookup (nat_eq q) es ≡ Some w
   lookup-take zero q es w h = cc
   lookup-take (suc n) q [] w h = h
   lookup-take (suc n) q (e ∷ es) w h = by_answer (nat_eq q e.0)
-      (λ y. cond-true (Some e.1) (lookup (nat_eq q) es) y ∙ sym (cond-true (Some e.1) (lookup (nat_eq q) (take n es)) y) ∙ h)
-      (λ f. cond-false (Some e.1) (lookup (nat_eq q) es) f ∙ lookup-take n q es w (sym (cond-false (Some e.1) (lookup (nat_eq q) (take n es)) f) ∙ h))
+      (λ y. cond-true _ (Some e.1) (lookup (nat_eq q) es) y ∙ sym (cond-true _ (Some e.1) (lookup (nat_eq q) (take n es)) y) ∙ h)
+      (λ f. cond-false _ (Some e.1) (lookup (nat_eq q) es) f ∙ lookup-take n q es w (sym (cond-false _ (Some e.1) (lookup (nat_eq q) (take n es)) f) ∙ h))
 
   -- what is found after a put was put, or was there
   pub found-put : (c : LruCache ℕ X) (b q : ℕ) (v w : X) → lookup (nat_eq q) (put_entries nat_eq c b v) ≡ Some w → ((q ≡ b) × (v ≡ w)) ⊎ (lookup (nat_eq q) c.entries ≡ Some w)
@@ -60,8 +54,8 @@ module _ {X : Type 0} where
     where
       front : (k : ℕ) (rest : List (ℕ × X)) → b ≡ k → (nat_eq q b ≡ false → lookup (nat_eq q) rest ≡ Some w → lookup (nat_eq q) c.entries ≡ Some w) → lookup (nat_eq q) ((k, v) ∷ rest) ≡ Some w → ((q ≡ b) × (v ≡ w)) ⊎ (lookup (nat_eq q) c.entries ≡ Some w)
       front k rest key so h = by_answer (nat_eq q k)
-          (λ y. let same : Some v ≡ Some w = sym (cond-true (Some v) (lookup (nat_eq q) rest) y) ∙ h in inl (eqb-true q k y ∙ sym key, cc))
-          (λ n. inr (so (subst (λ j. nat_eq q j ≡ false) (sym key) n) (sym (cond-false (Some v) (lookup (nat_eq q) rest) n) ∙ h)))
+          (λ y. let same : Some v ≡ Some w = sym (cond-true _ (Some v) (lookup (nat_eq q) rest) y) ∙ h in inl (eqb-true q k y ∙ sym key, cc))
+          (λ n. inr (so (subst (λ j. nat_eq q j ≡ false) (sym key) n) (sym (cond-false _ (Some v) (lookup (nat_eq q) rest) n) ∙ h)))
 
       at : (o : Option (ℕ × X)) → lookup_entry (nat_eq b) c.entries ≡ o → lookup (nat_eq q) (option_map_or (λ e. (e.0, v) ∷ remove_entry (nat_eq b) c.entries) o ((b, v) ∷ take (c.cap - 1) c.entries)) ≡ Some w
           → ((q ≡ b) × (v ≡ w)) ⊎ (lookup (nat_eq q) c.entries ≡ Some w)

@@ -1,9 +1,10 @@
 -- One byte written to each position of some ranges, range by range.
 use Rattle.std.specs.Prelude.{All}
-use Rattle.std.proofs.Common.{◌≡◌, ◌⊎◌, inl, inr, ℕ, ◌+◌, ◌<◌, ◌≤◌, List, [], ◌∷◌, ◌++◌, length, get_or, take, refl, sym, ◌∙◌, subst, arith, length-append}
+use Rattle.std.proofs.Common.{◌≡◌, ◌⊎◌, inl, inr, ℕ, ◌+◌, ◌<◌, ◌≤◌, List, [], ◌∷◌, ◌++◌, length, get_or, take, refl, sym, ◌∙◌, subst, arith}
 use Rattle.std.proofs.lemmas.Bool.{cases_lt}
-use Rattle.std.proofs.lemmas.List.{take_more, get_or_append_left}
+use Rattle.std.proofs.lemmas.List.{take_more}
 use Rattle.std.proofs.lemmas.List.Elements.{All-nil, All-push, All-contains, Contains-push}
+use Rattle.list_lemmas.proofs.Each.{all_of_front}
 use Rattle.disk_model.specs.Disk.{IsOutside}
 use Rattle.disk_model.specs.Private.Replay.{IsFilledIn}
 
@@ -13,9 +14,6 @@ outside_or_in i range = elim (cases_lt i range.0) [
   | inl below ↦ inl (inl below)
   | inr from ↦ elim (cases_lt i range.1) [ inl inside ↦ inr (from, inside) | inr past ↦ inl (inr past) ]
 ]
-
-pub All-front : {X : Type 0} (P : X → Type 0) (xs ys : List X) → All P (xs ++ ys) → All P xs
-All-front P xs ys all = λ k d lt. subst P (get_or_append_left xs ys d k lt) (all k d (omega (arith, length-append xs ys)))
 
 pub All-last : {X : Type 0} (P : X → Type 0) (xs : List X) (x : X) → All P (xs ++ x ∷ []) → P x
 All-last P xs x all = All-contains P (xs ++ x ∷ []) x all (Contains-push xs x)
@@ -32,7 +30,7 @@ filled_push ranges range byte old mid new same so_far here there = record {
         | inl out ↦ there i out ∙ so_far.inside i lt (λ all. some (All-push (IsOutside i) ranges range all out))
         | inr within ↦ here i within.0 within.1 (omega (arith, same))
       ];
-  outside = λ i all. there i (All-last (IsOutside i) ranges range all) ∙ so_far.outside i (All-front (IsOutside i) ranges (range ∷ []) all);
+  outside = λ i all. there i (All-last (IsOutside i) ranges range all) ∙ so_far.outside i (all_of_front (IsOutside i) ranges (range ∷ []) all);
 }
 
 pub filled_more : (ranges : List (ℕ × ℕ)) (k : ℕ) (d : ℕ × ℕ) (byte : ℕ) (old mid new : List ℕ) → k < length ranges → length mid ≡ length old → IsFilledIn (take k ranges) byte old mid

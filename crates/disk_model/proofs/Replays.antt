@@ -4,6 +4,7 @@ use Rattle.std.proofs.Common.{◌≡◌, ◌⊎◌, inl, inr, Bool, true, false,
 use Rattle.std.proofs.lemmas.List.{take_all, take_more, map-append, take-map}
 use Rattle.std.proofs.lemmas.Bool.Decides.{nat_tests}
 use Rattle.std.proofs.lemmas.List.Elements.{All-nil, All-cons, All-head, All-tail, All-push}
+use Rattle.list_lemmas.proofs.Each.{all_of_front}
 use Rattle.disk_model.specs.Disk.{DiskState, Moments, IsOutside, settled, after_write, after_cut, reading}
 use Rattle.disk_model.specs.Change.{Change, written, after_change, replayed}
 use Rattle.disk_model.specs.Entry.{change_of}
@@ -14,7 +15,7 @@ use Rattle.disk_model.specs.Choice.{IsFilled}
 use Rattle.disk_model.specs.Private.Replay.{Shows}
 use Rattle.disk_model.specs.declared.memory.replay.Replay.{Replay}
 use Rattle.disk_model.proofs.Calls.{replayed-more}
-use Rattle.disk_model.proofs.Filled.{All-front, All-last}
+use Rattle.disk_model.proofs.Filled.{All-last}
 
 pub shows_settled : (r : Replay) (bytes : List ℕ) → r.now.items ≡ bytes → r.durable.items ≡ bytes → r.least ≡ length bytes → r.unsynced.items ≡ [] → Shows r (settled bytes)
 unfolding settled
@@ -30,7 +31,7 @@ unsynced_more : (xs ys zs : List (ℕ × ℕ)) (range : ℕ × ℕ) → zs ≡ x
 unsynced_more xs ys zs range is same i = (
   λ all.
       let all_2 = subst (λ (l : List (ℕ × ℕ)). All (IsOutside i) l) is all in
-      All-cons (IsOutside i) range ys (All-last (IsOutside i) xs range all_2) ((same i).0 (All-front (IsOutside i) xs (range ∷ []) all_2)),
+      All-cons (IsOutside i) range ys (All-last (IsOutside i) xs range all_2) ((same i).0 (all_of_front (IsOutside i) xs (range ∷ []) all_2)),
   λ all.
       subst (λ (l : List (ℕ × ℕ)). All (IsOutside i) l) (sym is) (All-push (IsOutside i) xs range ((same i).1 (All-tail (IsOutside i) range ys all)) (All-head (IsOutside i) range ys all)),
 )

@@ -95,6 +95,7 @@ children_ascend rows concept date = IsAscending-in_order nat_cmp_total (map (λ 
 pub ids_total : IsTotalOrder by_id
 ids_total = on_total (λ (row : RowValue). row.id) nat_cmp_total
 
+-- replacements are ordered
 pub replacements_total : IsTotalOrder replacement_cmp
 replacements_total = then_total (on_total (λ row. refset_of row.body) nat_cmp_total)
     (then_total (on_total (λ row. target_of row.body) nat_cmp_total) (on_total (λ row. row.id) nat_cmp_total))

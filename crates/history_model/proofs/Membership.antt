@@ -164,6 +164,7 @@ values_are_the_active_members date rows row up = (
       record { current = f.0; kind_is = member_kind w.0 row.body r.of_refset; active = r.active },
 )
 
+-- the values of a reference set that are above a component ascend
 pub values_above_ascend : (refset date : ℕ) (after : Option ℕ) (rows : List RowValue) → IsAscending value_cmp (values_above refset date after rows)
 unfolding values_above
 values_above_ascend refset date after rows = IsAscending-in_order value_total (filter (is_value_above refset after) (snapshot rows date))

@@ -37,6 +37,7 @@ union_right y xs ys two below =
     (λ z k. elim (Has-append_cases xs (y ∷ ys) z k) [ inl p ↦ inr p | inr q ↦ inl q ]) (λ z k. elim k [ inl p ↦ Has-append_right xs (y ∷ ys) z p | inr q ↦ Has-append_left xs (y ∷ ys) z q ])
     (λ z k. elim (Has-append_cases xs ys z k) [ inl p ↦ inr p | inr q ↦ inl q ]) (λ z k. elim k [ inl p ↦ Has-append_right xs ys z p | inr q ↦ Has-append_left xs ys z q ])
 
+-- of no rows there are none
 pub union_none : union [] [] ≡ []
 unfolding union
 union_none = refl

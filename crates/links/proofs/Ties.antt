@@ -7,7 +7,7 @@ use Rattle.std.proofs.lemmas.Bool.Decides.{nat_tests}
 use Rattle.history_model.specs.InOrder.{Has}
 use Rattle.history_model.proofs.InOrder.{Has-all, all_from_has}
 use Rattle.history_model.proofs.Filtered.{Has-map, Has-map_from, Has-filter, filter_none, filter_same}
-use Rattle.history_model.proofs.Items.{Has-get_or}
+use Rattle.history_model.proofs.Items.{Has-get_or, place_of_item}
 use Rattle.std.proofs.lemmas.List.{take-map, drop-map, length-map, map-append, length-take-le, take-append-le}
 use Rattle.std.proofs.lemmas.Bool.{lt-ltb, ltb-true, le-ltb, leb-true, leb-false}
 use Rattle.std.proofs.lemmas.List.Elements.{filter-append}
@@ -81,22 +81,15 @@ abbrev pub Rising : List ℕ → Type 0
 Rising [] = Unit {0}
 Rising (d ∷ ds) = AllByRecursion (λ e. d ≤ e) ds × Rising ds
 
-place_of : {X : Type 0} (xs : List X) (x : X) → Has xs x → (i : ℕ) × (i < length xs) × (get_or xs i x ≡ x)
-place_of [] x h = absurd h
-place_of (y ∷ ys) x h = elim h [
-  | inl same ↦ (0, omega arith, same)
-  | inr t ↦ (let w = place_of ys x t in let lt = w.1 in (suc w.0, omega (arith, lt), w.2))
-]
-
 pub rising_by : {X : Type 0} (f : X → ℕ) (xs : List X) → IsNonDecreasingBy f xs → Rising (map f xs)
 rising_by f [] up = tt
 rising_by f (x ∷ xs) up = (
   all_from_has (λ e. f x ≤ e) (map f xs) (λ e h.
       let m = Has-map f xs e h in
-      let w = place_of xs m.0 m.1 in
+      let w = place_of_item xs m.0 m.1 in
       let lt = w.1 in
       let le = up 0 (suc w.0) m.0 (omega arith) (omega (arith, lt)) in
-      subst (λ n. f x ≤ n) (ap f w.2 ∙ m.2) le),
+      subst (λ n. f x ≤ n) (ap f (w.2 m.0) ∙ m.2) le),
   rising_by f xs (λ i j d le lt. up (suc i) (suc j) d (omega (arith, le)) (omega (arith, lt))),
 )
 

@@ -9,7 +9,8 @@ pub kept_at_most : {X : Type 0} (p : X → Bool) (xs : List X) → length (filte
 kept_at_most p xs = omega (arith, length-filter p xs, count_by-le-length p xs)
 
 -- as many are kept of what a function makes as there are of which it makes something that is kept
-pub length-filter-map : {X Y : Type 0} (f : X → Y) (p : Y → Bool) (xs : List X) → length (filter p (map f xs)) ≡ length (filter (λ x. p (f x)) xs)
+pub length-filter-map : {X Y : Type 0} (f : X → Y) (p : Y → Bool) (xs : List X)
+    → length (filter p (map f xs)) ≡ length (filter (λ x. p (f x)) xs)
 length-filter-map f p [] = refl
 length-filter-map f p (x ∷ xs) =
     elim (p (f x)) as (λ t. length (cond t (f x ∷ filter p (map f xs)) (filter p (map f xs))) ≡ length (cond t (x ∷ filter (λ y. p (f y)) xs) (filter (λ y. p (f y)) xs))) [
@@ -18,7 +19,8 @@ length-filter-map f p (x ∷ xs) =
     ]
 
 -- what is found passes
-pub found_passes : {X : Type 0} (p : X → Bool) (xs : List X) (x : X) → find p xs ≡ Some x → p x ≡ true
+pub found_passes : {X : Type 0} (p : X → Bool) (xs : List X) (x : X) → find p xs ≡ Some x
+    → p x ≡ true
 found_passes p [] x found = absurd cc
 found_passes p (y ∷ xs) x found =
     elim (p y) as (λ t. p y ≡ t → cond t (Some y) (find p xs) ≡ Some x → p x ≡ true) [
@@ -27,7 +29,8 @@ found_passes p (y ∷ xs) x found =
     ] refl found
 
 -- what passes two tests is what passes one of what passes the other
-pub filter_of_both : {X : Type 0} (p q both : X → Bool) (xs : List X) → ((x : X) → both x ≡ (p x && q x)) → filter both xs ≡ filter q (filter p xs)
+pub filter_of_both : {X : Type 0} (p q both : X → Bool) (xs : List X)
+    → ((x : X) → both x ≡ (p x && q x)) → filter both xs ≡ filter q (filter p xs)
 filter_of_both p q both [] each = refl
 filter_of_both p q both (x ∷ xs) each =
     let rest = filter_of_both p q both xs each in

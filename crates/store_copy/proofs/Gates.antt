@@ -4,7 +4,7 @@ use Rattle.std.proofs.Common.{◌≡◌, ◌⊎◌, inl, inr, ℕ, ◌+◌, ◌-
 use Rattle.std.proofs.lemmas.Bool.{cases_eq}
 use Rattle.disk_model.specs.Disk.{DiskState, IsImage, EachImage, Moments, LeavesOnly, SameBut, Fails, followed_by, settled, after_write, put}
 use Rattle.disk_model.specs.Private.Put.{length-put, get_or-put_below, get_or-put_inside, get_or-put_above}
-use Rattle.disk_model.proofs.Images.{write_frame, settled_only}
+use Rattle.disk_model.proofs.Images.{write_frame, settled_only, widen}
 use Rattle.disk_model.proofs.MomentSteps.{started, changed, joined, weaker, each_settled, synced}
 use Rattle.blocks.specs.declared.slots.Slot.{Slot}
 use Rattle.blocks.specs.declared.slots.Slot.TheVariants.{A, B}
@@ -61,14 +61,6 @@ but_put file at bytes = record {
   no_longer = omega (arith, length-put file at bytes);
   below = λ i in_d lt. get_or-put_below file at bytes i lt;
   above = λ i in_d ge. get_or-put_above file at bytes i ge;
-}
-
-wider : (from end from_2 end_2 : ℕ) (d c : List ℕ) → from_2 ≤ from → end ≤ end_2 → SameBut from end d c → SameBut from_2 end_2 d c
-wider from end from_2 end_2 d c lower higher same = record {
-  no_shorter = same.no_shorter;
-  no_longer = omega (arith, same.no_longer);
-  below = λ i in_d lt. same.below i in_d (omega arith);
-  above = λ i in_d ge. same.above i in_d (omega arith);
 }
 
 -- ---- both slots are closed
@@ -150,7 +142,7 @@ filled pieces content file size shut long held =
       shut = shut_but 4096 8192 file (put file 4096 content) same shut (omega arith) (inl (omega arith));
       long = omega (arith, length-put file 4096 content, long);
       content_is = window_put file 4096 4096 content size;
-      held = pieces_beside A pieces file (put file 4096 content) (wider 4096 8192 0 8192 file (put file 4096 content) (omega arith) (omega arith) same) held;
+      held = pieces_beside A pieces file (put file 4096 content) (widen 4096 8192 0 8192 file (put file 4096 content) (omega arith) (omega arith) same) held;
     }
 
 abbrev pub Whole : DirectoryValue → List (List StampedRow) → List ℕ → Type 0
@@ -176,7 +168,7 @@ module _ (d : DirectoryValue) (lists : List (List StampedRow)) (content : List �
             },
             content_is,
           );
-          pieces_are = pieces_beside A (pieces_of d.entries lists) f c (wider 0 1 0 8192 f c (omega arith) (omega arith) same) ready.held;
+          pieces_are = pieces_beside A (pieces_of d.entries lists) f c (widen 0 1 0 8192 f c (omega arith) (omega arith) same) ready.held;
         };
         other_is_whole = λ o. absurd (other o);
       }
