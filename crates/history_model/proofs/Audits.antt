@@ -44,7 +44,7 @@ any_has p (x ∷ xs) e = elim (p x) as (λ b. p x ≡ b → (y : _) × Has (x �
   | false ↦ λ f. let w = any_has p xs (rw f at e) in (w.0, inr w.1, w.2)
 ] refl
 
-find_has : {X : Type 0} (p : X → Bool) (xs : List X) (x : X) → find p xs ≡ Some x → Has xs x × (p x ≡ true)
+pub find_has : {X : Type 0} (p : X → Bool) (xs : List X) (x : X) → find p xs ≡ Some x → Has xs x × (p x ≡ true)
 find_has p [] x e = absurd (cc)
 find_has p (y ∷ xs) x e = elim (p y) as (λ b. p y ≡ b → cond b (Some y) (find p xs) ≡ Some x → Has (y ∷ xs) x × (p x ≡ true)) [
   | true ↦ λ f g. let s : y ≡ x = cc in (inl s, subst (λ z. p z ≡ true) s f)
