@@ -19,7 +19,7 @@ use Rattle.history_model.proofs.InOrder.{Has-put_all_cases, Has-put_all_new}
 use Rattle.history_model.proofs.Filtered.{Has-filter, Has-filter_from, IsAscending-filter}
 use Rattle.history_model.proofs.Snapshots.{current_from_snapshot, IsAscending-snapshot, Rises-current}
 use Rattle.history_model.proofs.Ascents.{ascends, one_row_of_a_component, about_is_all, about_ascends}
-use Rattle.history_model.proofs.Membership.{value_total, values_above_ascend}
+use Rattle.history_model.proofs.Membership.{values_above_ascend}
 use Rattle.links.specs.declared.member_search.Wanted.TheVariants as wanted
 use Rattle.links.specs.Private.Memberships.{is_up_to, is_between}
 use Rattle.links.proofs.MemberPosts.{wanted_row}

@@ -20,7 +20,7 @@ use Rattle.segment.proofs.Ascending.{ascends_push, ascends_front, last_below}
 use Rattle.segment.proofs.Decoded.{reads_on}
 use Rattle.segment.proofs.RecordLaws.{same_records, length-record_in}
 use Rattle.segment.proofs.SegmentLaws.{push_plain, no_rows_plain, goes_on, length-segment_in}
-use Rattle.segment.proofs.Posting.{segment_length_more, with_places_push, record_ends}
+use Rattle.segment.proofs.Posting.{with_places_push, record_ends}
 use Rattle.store_image.specs.declared.fault.RowsFault.{RowsFault}
 use Rattle.store_image.specs.declared.fault.RowsFault.TheVariants as faults
 use Rattle.store_image.specs.declared.reading.ReadTo.{ReadTo}
