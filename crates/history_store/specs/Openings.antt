@@ -18,8 +18,8 @@ use Rattle.history_store.specs.Answers.{HandsBack, SyncsOnce, CountsOpening, dev
 
 -- A store was made in this version on a device, or it is said why there is none and the device
 -- comes back.
-pub record IsMaking {D : Type 0} (layout : Layout) (result : StoreOr D) (view : D
-    → DiskView) (device : D) : Type 0 where
+pub record IsMaking {D : Type 0} (layout : Layout) (result : StoreOr D)
+    (view : D → DiskView) (device : D) : Type 0 where
   -- it is made exactly on a device of no bytes, unless memory runs out or the device fails
   pub exact : (view device).is_honest → IsMakingOf layout result (view device).moments.state.now
   -- on every device what is made is a new store, and it is refused with 1, 2 or 4 alone
@@ -48,8 +48,8 @@ pub record IsMaking {D : Type 0} (layout : Layout) (result : StoreOr D) (view : 
   pub failures : CountsOpening result (view device).failures (view (device_of result)).failures
 
 -- A store was opened from a device, or it is said why there is none and the device comes back.
-pub record IsOpening {D : Type 0} (result : StoreOr D) (view : D
-    → DiskView) (device : D) : Type 0 where
+pub record IsOpening {D : Type 0} (result : StoreOr D)
+    (view : D → DiskView) (device : D) : Type 0 where
   -- it is opened exactly where the bytes represent a history, unless memory runs out or the device
   -- fails
   pub exact : (view device).is_honest → IsOpeningOf result (view device).moments.state.now

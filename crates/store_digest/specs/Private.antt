@@ -22,8 +22,8 @@ next_row after pin store = rows_after after 1 (rows_at pin store.history.rows)
 
 -- The next row after a key was added to a hasher, and its key is answered, or there is none.
 pub record IsNextAdded {D : Type 0} (result : Result (Option Key) Refusal) (after : Option Key)
-    (pin : ℕ) (before after_it : Sha256) (view : D
-    → DiskView) (old new : StoreValue D) : Type 0 where
+    (pin : ℕ) (before after_it : Sha256)
+    (view : D → DiskView) (old new : StoreValue D) : Type 0 where
   pub holds : (view old.disk).is_honest → IfOk result (λ key. (m : List ℕ) → Holds256 before m
       → Holds256 after_it (m ++ text_of (next_row after pin old)))
   pub key : IfOk result (λ key. option_to_list key ≡ map key_of (next_row after pin old))
