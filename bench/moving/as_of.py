@@ -4,10 +4,21 @@
 as_of.py CRATE ..
 
 In src/ each function that takes both `time` and `pin` takes `as_of` in place of `time`; its clauses
-and its body then speak of `as_of`, `as_of.date` and `as_of.pin`. In specs/ and proofs/ each
-declaration, or module with parameters, that binds both `date` and `pin` binds `as_of`; proofs of
-functions speak of `as_of` in place of `time` and `pin`. Edits follow the sources. What is left is
-for people: run `rt fmt` and `rt check` afterwards. A second run changes nothing.
+and its body then speak of `as_of`, `as_of.date` and `as_of.pin`. Private functions of as_of_index
+and links are lent it. In specs/ and proofs/ each declaration, or module with parameters, that binds
+both `date` and `pin` binds `as_of`; proofs of functions speak of `as_of` in place of `time` and
+`pin`. A second run changes nothing. `rt fmt` and `rt check` come afterwards.
+
+Of history_store and line_server it makes the whole change, from main as from a branch that changes
+their clauses: where a merge has conflicts there, take the other side and run
+
+    python3 bench/moving/as_of.py history_store line_server
+    (cd bench/moving && python3 as_of_edits.py)
+
+Of as_of_index and links it leaves specs/, the file as_of.rt and some proofs to people, and of
+term_prefix as_of_search.py knows the rest. The field `date` of `line_commands::Question` has to be
+there. as_of_edits.py makes the edits of history_store and line_server; those of as_of_index and
+links it makes but for the lending.
 """
 
 import glob
