@@ -59,7 +59,7 @@ module _ (lists : List (List StampedRow)) (date : ℕ) (after : Option ℕ) (lim
       let up = IsAscending-put chosen_total k kept a.ascending in
       record {
         ascending = IsAscending-take chosen_cmp limit (put chosen_cmp k kept) up;
-        taken_at_most = taken_at_most limit (put chosen_cmp k kept);
+        few = taken_at_most limit (put chosen_cmp k kept);
         all = λ m h now. elim (Has-append_cases seen (k ∷ []) m h) [
           | inl l ↦ elim (a.all m l now) [
             | inl t ↦ taken_id limit (put chosen_cmp k kept) t.0 m.at.key.id up (Has-put_old chosen_cmp k kept t.0 t.1) t.2
@@ -90,7 +90,7 @@ module _ (lists : List (List StampedRow)) (date : ℕ) (after : Option ℕ) (lim
   pub kept_other : (seen kept : List Chosen) (k : Chosen) → AreKept lists date after limit pin seen kept → IsTaken limit kept k.at.key.id ⊎ (Counts lists date after pin k → ⊥) → AreKept lists date after limit pin (seen ++ k ∷ []) kept
   kept_other seen kept k a w = record {
     ascending = a.ascending;
-    taken_at_most = a.few;
+    few = a.few;
     all = λ m h now. elim (Has-append_cases seen (k ∷ []) m h) [
       | inl l ↦ a.all m l now
       | inr r ↦ elim r [
@@ -107,7 +107,7 @@ module _ (lists : List (List StampedRow)) (date : ℕ) (after : Option ℕ) (lim
   pub kept_same : (seen others kept : List Chosen) → ((k : Chosen) → Has seen k → Has others k) → ((k : Chosen) → Has others k → Has seen k) → AreKept lists date after limit pin seen kept → AreKept lists date after limit pin others kept
   kept_same seen others kept f g a = record {
     ascending = a.ascending;
-    taken_at_most = a.few;
+    few = a.few;
     all = λ k h now. a.all k (g k h) now;
     only = λ k h. let o = a.only k h in (f k o.0, o.1);
   }
