@@ -86,7 +86,9 @@ class How:
     def cited(self, text, told):
         out, at = [], 0
         for word in WORD.finditer(text):
-            if word.start() < at or word.group(0) != self.old:
+            # (A field or a local name may be called so too.)
+            is_named = text.startswith(" = ", word.end())
+            if word.start() < at or word.group(0) != self.old or is_named:
                 continue
             out.append(text[at : word.start()])
             at = word.end()

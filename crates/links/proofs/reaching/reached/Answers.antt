@@ -43,7 +43,7 @@ loop-i-preserved g c =
       work = λ cost costs.
           let before = s.work cost costs in
           let more = c.in_ok-ids.ensures.work cost (s.costs cost costs) in
-          let sum = ap (sum_by cost) (done_more c.loop-i.i c.deref-in-loop-i.result.now found new id within c.in_ok-add_new-2.ensures.added) ∙ sum_by_push f cost (take c.loop-i.i found) (get_or found c.loop-i.i id) in
+          let sum = ap (sum_by cost) (done_more c.loop-i.i c.deref-in-loop-i.result.now found new id within c.in_ok-add_new-2.ensures.added) ∙ sum_by_push cost (take c.loop-i.i found) (get_or found c.loop-i.i id) in
           let own : cost id ≡ cost (get_or found c.loop-i.i id) = ap cost c.index.ensures in
           omega arith;
       costs = λ cost costs. c.in_ok-ids.ensures.costs cost (s.costs cost costs);
