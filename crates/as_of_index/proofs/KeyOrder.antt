@@ -1,9 +1,9 @@
 -- Rows one after the other in the order of their keys, and the places where they stand.
-use Rattle.std.proofs.Common.{◌≡◌, ℕ, suc, ◌+◌, ◌-◌, ◌<◌, ◌≤◌, Bool, true, false, cond, List, [], ◌∷◌, ◌++◌, length, take, map, refl, sym, ap, subst, inl, inr, ◌∙◌, arith, append-nil, append_assoc}
+use Rattle.std.proofs.Common.{◌≡◌, ℕ, suc, ◌+◌, ◌-◌, ◌<◌, ◌≤◌, Bool, true, false, List, [], ◌∷◌, ◌++◌, length, take, map, refl, sym, ap, subst, inl, inr, ◌∙◌, arith, append-nil, append_assoc}
 use Rattle.std.specs.Prelude.{not, Option, Some, None}
 use Rattle.std.specs.List.{filter, sum_by}
 use Rattle.std.specs.Ordering.{is_lt}
-use Rattle.std.specs.Cmp.{IsTotalOrder, tied_itself}
+use Rattle.std.specs.Cmp.{tied_itself}
 use Rattle.std.specs.declared.cmp.Ordering.{Ordering}
 use Rattle.std.specs.declared.cmp.Ordering.TheVariants.{Less, Equal, Greater}
 use Rattle.std.proofs.lemmas.List.{length_push}
@@ -16,19 +16,18 @@ use Rattle.rf2_values.specs.Key.{key_of, key_cmp}
 use Rattle.rf2_values.specs.Private.{keys_total}
 use Rattle.history_model.specs.declared.stamped.StampedRow.{StampedRow}
 use Rattle.history_model.specs.InOrder.{Has, IsAscending, joined}
-use Rattle.history_model.specs.History.{row_cmp, stamped_cmp, rows_at}
+use Rattle.history_model.specs.History.{row_cmp, rows_at}
 use Rattle.history_model.specs.Lists.{listed, AreLists}
 use Rattle.history_model.specs.KeyOrder.{is_key_after, is_after, rows_after}
-use Rattle.history_model.proofs.InOrder.{above, not_both, not_below_itself, same_ascending, all_from_has}
+use Rattle.history_model.proofs.InOrder.{above, same_ascending, all_from_has}
 use Rattle.history_model.proofs.Filtered.{Has-filter, Has-filter_from, IsAscending-filter, filter_none, filter_same}
-use Rattle.history_model.proofs.Keys.{rows_total, stamped_total, same_key}
+use Rattle.history_model.proofs.Keys.{rows_total, same_key}
 use Rattle.history_model.proofs.Snapshots.{take-nil, IsAscending-rows_at, IsAscending-listed, Has-listed_cases, Has-listed_from, Has-rows_at_cases, Has-rows_at_from, listed_once}
 use Rattle.segment.specs.declared.place.RowPlace.{RowPlace}
 use Rattle.segment.specs.Standing.{places_of, StandsAt}
-use Rattle.as_of_index.specs.Places.{place_cmp}
 use Rattle.as_of_index.specs.declared.search.Start.{Start}
 use Rattle.as_of_index.specs.Private.Search.{all_places, is_before, IsNext}
-use Rattle.as_of_index.specs.Private.KeyOrder.{IsFirstAfter, IsNextAfter}
+use Rattle.as_of_index.specs.Private.KeyOrder.{IsNextAfter}
 use Rattle.as_of_index.proofs.Standing.{row_of_place, place_of_row, stands_at, says_at}
 use Rattle.as_of_index.proofs.Paging.{fewer}
 

@@ -23,6 +23,7 @@ pub mod OneNumber
 pub mod Unions
 pub mod Shown
 pub mod SameKeys
+pub mod Reading
 pub mod KeyOrder
 pub mod Changed
 pub mod Once

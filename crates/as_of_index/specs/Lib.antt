@@ -7,6 +7,7 @@ pub use Rattle.history_model.specs.Queries
 pub use Rattle.history_model.specs.KeyOrder
 pub use Rattle.segment.specs.Standing
 pub use Rattle.fault_counts.specs.Counting
+pub mod Reader
 pub mod Places
 pub mod Dates
 pub mod Search

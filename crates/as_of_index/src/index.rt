@@ -1,26 +1,20 @@
 //! Lists of places, and the answers from them.
 
 ghost use Rattle.std.specs.Prelude.{◌≡◌, ◌<◌, ◌++◌, ◌∷◌, [], List, IfOk, length, Some, None};
-ghost use Rattle.std.specs.Prelude.{remove, slice_set, slice_get, map};
-ghost use Rattle.history_model.specs.InOrder.{IsAscending};
-ghost use Rattle.std.specs.Prelude.{◌↔◌, ◌≢◌, ◌≤◌, ◌+◌, ℕ, IfErr, IsTrue};
-ghost use Rattle.std.specs.List.{sum_by};
+ghost use Rattle.std.specs.Prelude.{remove, slice_set, slice_get};
+ghost use Rattle.std.specs.Prelude.{◌↔◌, ◌≤◌, ◌+◌, IsTrue};
 ghost use Rattle.std.specs.Option.{option_map, option_to_list};
-ghost use Rattle.rf2_values.specs.Key.{key_of};
 ghost use Rattle.history_model.specs.declared.stamped.StampedRow.{StampedRow};
 ghost use Rattle.history_model.specs.History.{rows_at};
 ghost use Rattle.history_model.specs.Lists.{listed};
 ghost use Rattle.history_model.specs.Queries.{get, versions, page, delta, dates};
 ghost use Rattle.segment.specs.declared.place.RowPlace.{RowPlace};
+ghost use Rattle.as_of_index.specs.Reader.{IsRowsRead};
 ghost use Rattle.as_of_index.specs.Places.{max_lists, item_at, ArePlaces, Lists};
-ghost use Rattle.fault_counts.specs.Counting.{Counts, CountsDiskFault, CountsDamage};
 ghost use Rattle.as_of_index.specs.Current.{rows_seen, IsPlaceOfRow, IsCurrentAt};
 ghost use Rattle.as_of_index.specs.Private.Current.{is_same_place};
 ghost use Rattle.as_of_index.specs.Search.{IsPlaceOf};
-ghost use Rattle.as_of_index.specs.Private.Search.{all_places, IsPick, IsNext, IsNextId};
-ghost use Rattle.as_of_index.specs.Private.Search.{IsNextVersion};
 ghost use Rattle.as_of_index.specs.Private.Walk.{walked};
-ghost use Rattle.fault_counts.specs.declared.fault.ReadFault.TheVariants as readfault;
 
 use crate::as_of::AsOf;
 use crate::cursors::{cursors_at, latest_on, next_id};
@@ -267,29 +261,10 @@ impl Index {
         id: u128,
         as_of: AsOf,
     ) -> Result<Option<Row>, ReadFault>
-        ensures found { R.is_honest reader.old → Lists self.now (R.lists reader.old)
-            → IfOk result (λ found. found
-            ≡ get kind id as_of.date (rows_seen as_of (R.lists reader.old))) }
-        // Whatever was read, its key is that of the row to be found.
-        ensures keys { Lists self.now (R.lists reader.old)
-            → IfOk result (λ found. map key_of (option_to_list found) ≡ map key_of (option_to_list
-            (get kind id as_of.date (rows_seen as_of (R.lists reader.old))))) }
-        ensures undamaged { R.is_honest reader.old → Lists self.now (R.lists reader.old)
-            → IfErr result (λ e. e ≢ readfault.Damaged) }
-        // No more is read than the row that it answers takes, and nothing where it answers none.
-        ensures work { IfOk result (λ found.
-            R.work reader.new ≤ R.work reader.old + sum_by R.cost (option_to_list found)) }
-        // Whatever it answers and whatever was read, no more is read than the row takes that is
-        // there, and nothing where there is none.
-        ensures work_always { Lists self.now (R.lists reader.old)
-            → R.work reader.new ≤ R.work reader.old + sum_by R.cost (option_to_list
-            (get kind id as_of.date (rows_seen as_of (R.lists reader.old)))) }
-        ensures lists { R.lists reader.new ≡ R.lists reader.old }
-        ensures honesty { R.is_honest reader.old → R.is_honest reader.new }
+        ensures answer { IsRowsRead result option_to_list
+            (λ lists. option_to_list (get kind id as_of.date (rows_seen as_of lists)))
+            (Lists self.now) R.cost (R.view reader.old) (R.view reader.new) }
         ensures stays { R.stays reader.old reader.new }
-        ensures disk_faults { Counts CountsDiskFault result
-            (R.disk_faults reader.old) (R.disk_faults reader.new) }
-        ensures damages { Counts CountsDamage result (R.damages reader.old) (R.damages reader.new) }
     {
         match self.place_at(kind, id, as_of) {
             None => Ok(None),
@@ -309,29 +284,10 @@ impl Index {
         id: u128,
         pin: u32,
     ) -> Result<Vec<Row>, ReadFault>
-        ensures found { R.is_honest reader.old → Lists self.now (R.lists reader.old)
-            → IfOk result (λ rows. rows.items
-            ≡ versions kind id (rows_at pin (listed (R.lists reader.old)))) }
-        // Whatever was read, the keys are those of these versions.
-        ensures keys { Lists self.now (R.lists reader.old)
-            → IfOk result (λ rows. map key_of rows.items ≡ map key_of
-            (versions kind id (rows_at pin (listed (R.lists reader.old))))) }
-        ensures undamaged { R.is_honest reader.old → Lists self.now (R.lists reader.old)
-            → IfErr result (λ e. e ≢ readfault.Damaged) }
-        // No more is read than the rows that it answers take, each read once.
-        ensures work { IfOk result (λ rows.
-            R.work reader.new ≤ R.work reader.old + sum_by R.cost rows.items) }
-        // Whatever it answers and whatever was read, no more is read than these versions take, each
-        // counted once.
-        ensures work_always { Lists self.now (R.lists reader.old)
-            → R.work reader.new ≤ R.work reader.old + sum_by R.cost
-            (versions kind id (rows_at pin (listed (R.lists reader.old)))) }
-        ensures lists { R.lists reader.new ≡ R.lists reader.old }
-        ensures honesty { R.is_honest reader.old → R.is_honest reader.new }
+        ensures answer { IsRowsRead result (λ rows. rows.items)
+            (λ lists. versions kind id (rows_at pin (listed lists))) (Lists self.now) R.cost
+            (R.view reader.old) (R.view reader.new) }
         ensures stays { R.stays reader.old reader.new }
-        ensures disk_faults { Counts CountsDiskFault result
-            (R.disk_faults reader.old) (R.disk_faults reader.new) }
-        ensures damages { Counts CountsDamage result (R.damages reader.old) (R.damages reader.new) }
     {
         let mut rows = Vec::new(self.alloc);
         let mut after = None;
@@ -357,29 +313,10 @@ impl Index {
         after: Option<u128>,
         limit: u32,
     ) -> Result<Vec<Row>, ReadFault>
-        ensures found { R.is_honest reader.old → Lists self.now (R.lists reader.old)
-            → IfOk result (λ rows. rows.items
-            ≡ walked kind from as_of.now.date after limit (rows_seen as_of.now
-            (R.lists reader.old))) }
-        // Whatever was read, the keys are those of these rows.
-        ensures keys { Lists self.now (R.lists reader.old)
-            → IfOk result (λ rows. map key_of rows.items ≡ map key_of
-            (walked kind from as_of.now.date after limit (rows_seen as_of.now
-            (R.lists reader.old)))) }
-        ensures undamaged { R.is_honest reader.old → Lists self.now (R.lists reader.old)
-            → IfErr result (λ e. e ≢ readfault.Damaged) }
-        ensures work { IfOk result (λ rows.
-            R.work reader.new ≤ R.work reader.old + sum_by R.cost rows.items) }
-        ensures work_always { Lists self.now (R.lists reader.old)
-            → R.work reader.new ≤ R.work reader.old + sum_by R.cost
-            (walked kind from as_of.now.date after limit (rows_seen as_of.now
-            (R.lists reader.old))) }
-        ensures lists { R.lists reader.new ≡ R.lists reader.old }
-        ensures honesty { R.is_honest reader.old → R.is_honest reader.new }
+        ensures answer { IsRowsRead result (λ rows. rows.items)
+            (λ lists. walked kind from as_of.now.date after limit (rows_seen as_of.now lists))
+            (Lists self.now) R.cost (R.view reader.old) (R.view reader.new) }
         ensures stays { R.stays reader.old reader.new }
-        ensures disk_faults { Counts CountsDiskFault result
-            (R.disk_faults reader.old) (R.disk_faults reader.new) }
-        ensures damages { Counts CountsDamage result (R.damages reader.old) (R.damages reader.new) }
     {
         let lists = self.lists.as_slice();
         let mut rows = Vec::new(self.alloc);
@@ -412,29 +349,10 @@ impl Index {
         after: Option<u128>,
         limit: u32,
     ) -> Result<Vec<Row>, ReadFault>
-        ensures found { R.is_honest reader.old → Lists self.now (R.lists reader.old)
-            → IfOk result (λ rows. rows.items
-            ≡ page kind as_of.date after limit (rows_seen as_of (R.lists reader.old))) }
-        // Whatever was read, the keys are those of the rows of this page.
-        ensures keys { Lists self.now (R.lists reader.old)
-            → IfOk result (λ rows. map key_of rows.items ≡ map key_of
-            (page kind as_of.date after limit (rows_seen as_of (R.lists reader.old)))) }
-        ensures undamaged { R.is_honest reader.old → Lists self.now (R.lists reader.old)
-            → IfErr result (λ e. e ≢ readfault.Damaged) }
-        // No more is read than the rows that it answers take, each read once.
-        ensures work { IfOk result (λ rows.
-            R.work reader.new ≤ R.work reader.old + sum_by R.cost rows.items) }
-        // Whatever it answers and whatever was read, no more is read than the rows of this page
-        // take, each counted once.
-        ensures work_always { Lists self.now (R.lists reader.old)
-            → R.work reader.new ≤ R.work reader.old + sum_by R.cost
-            (page kind as_of.date after limit (rows_seen as_of (R.lists reader.old))) }
-        ensures lists { R.lists reader.new ≡ R.lists reader.old }
-        ensures honesty { R.is_honest reader.old → R.is_honest reader.new }
+        ensures answer { IsRowsRead result (λ rows. rows.items)
+            (λ lists. page kind as_of.date after limit (rows_seen as_of lists)) (Lists self.now)
+            R.cost (R.view reader.old) (R.view reader.new) }
         ensures stays { R.stays reader.old reader.new }
-        ensures disk_faults { Counts CountsDiskFault result
-            (R.disk_faults reader.old) (R.disk_faults reader.new) }
-        ensures damages { Counts CountsDamage result (R.damages reader.old) (R.damages reader.new) }
     {
         self.walk(reader, kind, None, &as_of, after, limit)
     }
@@ -451,29 +369,10 @@ impl Index {
         after: Option<u128>,
         limit: u32,
     ) -> Result<Vec<Row>, ReadFault>
-        ensures found { R.is_honest reader.old → Lists self.now (R.lists reader.old)
-            → IfOk result (λ rows. rows.items
-            ≡ delta kind from as_of.date after limit (rows_seen as_of (R.lists reader.old))) }
-        // Whatever was read, the keys are those of the rows of this Delta.
-        ensures keys { Lists self.now (R.lists reader.old)
-            → IfOk result (λ rows. map key_of rows.items ≡ map key_of
-            (delta kind from as_of.date after limit (rows_seen as_of (R.lists reader.old)))) }
-        ensures undamaged { R.is_honest reader.old → Lists self.now (R.lists reader.old)
-            → IfErr result (λ e. e ≢ readfault.Damaged) }
-        // No more is read than the rows that it answers take, each read once.
-        ensures work { IfOk result (λ rows.
-            R.work reader.new ≤ R.work reader.old + sum_by R.cost rows.items) }
-        // Whatever it answers and whatever was read, no more is read than the rows of this Delta
-        // take, each counted once.
-        ensures work_always { Lists self.now (R.lists reader.old)
-            → R.work reader.new ≤ R.work reader.old + sum_by R.cost
-            (delta kind from as_of.date after limit (rows_seen as_of (R.lists reader.old))) }
-        ensures lists { R.lists reader.new ≡ R.lists reader.old }
-        ensures honesty { R.is_honest reader.old → R.is_honest reader.new }
+        ensures answer { IsRowsRead result (λ rows. rows.items)
+            (λ lists. delta kind from as_of.date after limit (rows_seen as_of lists))
+            (Lists self.now) R.cost (R.view reader.old) (R.view reader.new) }
         ensures stays { R.stays reader.old reader.new }
-        ensures disk_faults { Counts CountsDiskFault result
-            (R.disk_faults reader.old) (R.disk_faults reader.new) }
-        ensures damages { Counts CountsDamage result (R.damages reader.old) (R.damages reader.new) }
     {
         self.walk(reader, kind, Some(from.value()), &as_of, after, limit)
     }

@@ -1,18 +1,14 @@
 //! All rows, one after the other, in the order of their keys.
 
-ghost use Rattle.std.specs.Prelude.{◌≡◌, ◌≢◌, ◌+◌, ◌≤◌, ◌↔◌, List, map, not, IfOk, IfErr, IsTrue};
-ghost use Rattle.std.specs.List.{sum_by};
-ghost use Rattle.rf2_values.specs.Key.{key_of};
-ghost use Rattle.history_model.specs.declared.stamped.StampedRow.{StampedRow};
+ghost use Rattle.std.specs.Prelude.{◌≡◌, ◌≤◌, ◌↔◌, not, IsTrue};
 ghost use Rattle.history_model.specs.History.{rows_at};
 ghost use Rattle.history_model.specs.KeyOrder.{is_key_after, rows_after};
 ghost use Rattle.history_model.specs.Lists.{listed};
 ghost use Rattle.segment.specs.declared.place.RowPlace.{RowPlace};
+ghost use Rattle.as_of_index.specs.Reader.{IsRowsRead};
 ghost use Rattle.as_of_index.specs.Places.{Lists};
 ghost use Rattle.as_of_index.specs.Private.Search.{all_places, is_before};
 ghost use Rattle.as_of_index.specs.Private.KeyOrder.{IsNextAfter};
-ghost use Rattle.fault_counts.specs.Counting.{Counts, CountsDiskFault, CountsDamage};
-ghost use Rattle.fault_counts.specs.declared.fault.ReadFault.TheVariants as readfault;
 
 use crate::index::Index;
 use crate::place_list::PlaceList;
@@ -69,29 +65,10 @@ impl Index {
         limit: u32,
         pin: u32,
     ) -> Result<Vec<Row>, ReadFault>
-        ensures found { R.is_honest reader.old → Lists self.now (R.lists reader.old)
-            → IfOk result (λ rows. rows.items
-            ≡ rows_after after limit (rows_at pin (listed (R.lists reader.old)))) }
-        // Whatever was read, the keys are those of these rows.
-        ensures keys { Lists self.now (R.lists reader.old)
-            → IfOk result (λ rows. map key_of rows.items ≡ map key_of
-            (rows_after after limit (rows_at pin (listed (R.lists reader.old))))) }
-        ensures undamaged { R.is_honest reader.old → Lists self.now (R.lists reader.old)
-            → IfErr result (λ e. e ≢ readfault.Damaged) }
-        // No more is read than the rows that it answers take, each read once.
-        ensures work { IfOk result (λ rows.
-            R.work reader.new ≤ R.work reader.old + sum_by R.cost rows.items) }
-        // Whatever it answers and whatever was read, no more is read than these rows take, each
-        // counted once.
-        ensures work_always { Lists self.now (R.lists reader.old)
-            → R.work reader.new ≤ R.work reader.old + sum_by R.cost
-            (rows_after after limit (rows_at pin (listed (R.lists reader.old)))) }
-        ensures lists { R.lists reader.new ≡ R.lists reader.old }
-        ensures honesty { R.is_honest reader.old → R.is_honest reader.new }
+        ensures answer { IsRowsRead result (λ rows. rows.items)
+            (λ lists. rows_after after limit (rows_at pin (listed lists))) (Lists self.now) R.cost
+            (R.view reader.old) (R.view reader.new) }
         ensures stays { R.stays reader.old reader.new }
-        ensures disk_faults { Counts CountsDiskFault result
-            (R.disk_faults reader.old) (R.disk_faults reader.new) }
-        ensures damages { Counts CountsDamage result (R.damages reader.old) (R.damages reader.new) }
     {
         let mut rows = Vec::new(self.alloc);
         let mut last = after;

@@ -6,12 +6,11 @@ ghost use Rattle.std.specs.List.{sum_by};
 ghost use Rattle.rf2_values.specs.Row.{RowValue};
 ghost use Rattle.rf2_values.specs.Key.{key_of};
 ghost use Rattle.history_model.specs.InOrder.{IsAscending};
-ghost use Rattle.fault_counts.specs.Counting.{Counts};
 ghost use Rattle.import_check.specs.NewRows.{IsRead};
 ghost use Rattle.import_check.specs.NewRows.{CountsAnyDiskFault, CountsAnyDamage};
 ghost use Rattle.import_check.specs.Contradictions.{place_cmp, rank_cmp, row_of};
 ghost use Rattle.import_check.specs.Contradictions.{AreContradictionsOf, IsNotListed};
-ghost use Rattle.import_check.specs.Known.{already_known};
+ghost use Rattle.import_check.specs.Known.{already_known, LeavesKnown};
 ghost use Rattle.import_check.specs.Release.{IsReleaseOf, rows_of};
 ghost use Rattle.import_check.specs.Private.Sweep.{IsCutShort, AsksOnce};
 ghost use Rattle.import_check.specs.Private.Contradictions.{IsFoundFor, IsNext, last_key};
@@ -93,18 +92,14 @@ fn kept(last: Option<Counting>, key: Key) -> Option<Counting>
 
 /// The row that counts for a line's key, where no line before it had the key.
 fn find<K: Known>(alloc: Global, line: &PlacedLine, known: &mut K) -> Result<OtherRow, ImportFault>
-    ensures found { K.is_honest known.old → IfOk result (IsFoundFor (K.rows known.old) line.now) }
-    ensures asks { K.is_sound known.old → AsksOnce K.cost (K.rows known.old) None
-        line.now (K.work known.old) (K.work known.new) }
-    ensures cut_short { IfErr result (IsCutShort (K.is_honest known.old)) }
-    ensures rows { K.rows known.new ≡ K.rows known.old }
-    ensures honesty { K.is_honest known.old → K.is_honest known.new }
-    ensures soundness { K.is_sound known.old → K.is_sound known.new }
+    ensures found { (K.view known.old).is_honest
+        → IfOk result (IsFoundFor (K.view known.old).rows line.now) }
+    ensures asks { (K.view known.old).is_sound → AsksOnce K.cost (K.view known.old).rows None
+        line.now (K.view known.old).work (K.view known.new).work }
+    ensures cut_short { IfErr result (IsCutShort (K.view known.old).is_honest) }
     ensures stays { K.stays known.old known.new }
-    ensures disk_faults { Counts CountsAnyDiskFault result
-        (K.disk_faults known.old) (K.disk_faults known.new) }
-    ensures damages { Counts CountsAnyDamage result
-        (K.damages known.old) (K.damages known.new) }
+    ensures known { LeavesKnown CountsAnyDiskFault CountsAnyDamage result
+        (K.view known.old) (K.view known.new) }
 {
     let key = line.row.key();
     match known.row(alloc, &key)? {
@@ -120,19 +115,16 @@ fn next<K: Known>(
     line: &PlacedLine,
     known: &mut K,
 ) -> Result<Counting, ImportFault>
-    ensures next { K.is_honest known.old → IfOk result (IsNext (K.rows known.old) line.now last) }
+    ensures next { (K.view known.old).is_honest
+        → IfOk result (IsNext (K.view known.old).rows line.now last) }
     ensures key { IfOk result (λ counting. counting.key ≡ key_of line.now.row) }
-    ensures asks_once { K.is_sound known.old → AsksOnce K.cost (K.rows known.old) (last_key last)
-        line.now (K.work known.old) (K.work known.new) }
-    ensures cut_short { IfErr result (IsCutShort (K.is_honest known.old)) }
-    ensures rows { K.rows known.new ≡ K.rows known.old }
-    ensures honesty { K.is_honest known.old → K.is_honest known.new }
-    ensures soundness { K.is_sound known.old → K.is_sound known.new }
+    ensures asks_once { (K.view known.old).is_sound
+        → AsksOnce K.cost (K.view known.old).rows (last_key last) line.now (K.view known.old).work
+        (K.view known.new).work }
+    ensures cut_short { IfErr result (IsCutShort (K.view known.old).is_honest) }
     ensures stays { K.stays known.old known.new }
-    ensures disk_faults { Counts CountsAnyDiskFault result
-        (K.disk_faults known.old) (K.disk_faults known.new) }
-    ensures damages { Counts CountsAnyDamage result
-        (K.damages known.old) (K.damages known.new) }
+    ensures known { LeavesKnown CountsAnyDiskFault CountsAnyDamage result
+        (K.view known.old) (K.view known.new) }
 {
     match kept(last, line.row.key()) {
         Some(last) => Ok(last),
@@ -176,20 +168,15 @@ fn compare_all<K: Known>(
     known: &mut K,
     limit: usize,
 ) -> Result<Contradictions, ImportFault>
-    ensures sifted { K.is_honest known.old → IsAscending rank_cmp lines.items
-        → IfOk result (AreSifted (K.rows known.old) limit lines.items) }
-    ensures work { K.is_sound known.old → IsAscending rank_cmp lines.items → K.work known.new
-        ≤ K.work known.old
-        + sum_by K.cost (already_known (K.rows known.old) (rows_of lines.items)) }
-    ensures cut_short { IfErr result (IsCutShort (K.is_honest known.old)) }
-    ensures rows { K.rows known.new ≡ K.rows known.old }
-    ensures honesty { K.is_honest known.old → K.is_honest known.new }
-    ensures soundness { K.is_sound known.old → K.is_sound known.new }
+    ensures sifted { (K.view known.old).is_honest → IsAscending rank_cmp lines.items
+        → IfOk result (AreSifted (K.view known.old).rows limit lines.items) }
+    ensures work { (K.view known.old).is_sound → IsAscending rank_cmp lines.items
+        → (K.view known.new).work ≤ (K.view known.old).work
+        + sum_by K.cost (already_known (K.view known.old).rows (rows_of lines.items)) }
+    ensures cut_short { IfErr result (IsCutShort (K.view known.old).is_honest) }
     ensures stays { K.stays known.old known.new }
-    ensures disk_faults { Counts CountsAnyDiskFault result
-        (K.disk_faults known.old) (K.disk_faults known.new) }
-    ensures damages { Counts CountsAnyDamage result
-        (K.damages known.old) (K.damages known.new) }
+    ensures known { LeavesKnown CountsAnyDiskFault CountsAnyDamage result
+        (K.view known.old) (K.view known.new) }
 {
     let mut found = Contradictions {
         listed: Vec::new(alloc),
@@ -215,24 +202,19 @@ pub fn find_contradictions<K: Known>(
     known: &mut K,
     limit: usize,
 ) -> Result<Contradictions, ImportFault>
-    ensures found { K.is_honest known.old
-        → IfOk result (AreContradictionsOf (K.rows known.old) release limit) }
+    ensures found { (K.view known.old).is_honest
+        → IfOk result (AreContradictionsOf (K.view known.old).rows release limit) }
     ensures read { IfOk result (λ found. IsRead release) }
-    ensures refused { IfErr result (IsNotListed (K.is_honest known.old) release) }
+    ensures refused { IfErr result (IsNotListed (K.view known.old).is_honest release) }
     // Whatever it answers, each known row whose key the release has is read once at most, and no
     // other. Where a file is no release file, nothing is asked.
-    ensures work { K.is_sound known.old → (rows : List RowValue) → IsReleaseOf release rows
-        → K.work known.new
-        ≤ K.work known.old + sum_by K.cost (already_known (K.rows known.old) rows) }
-    ensures work_unread { (IsRead release → ⊥) → K.work known.new ≤ K.work known.old }
-    ensures rows { K.rows known.new ≡ K.rows known.old }
-    ensures honesty { K.is_honest known.old → K.is_honest known.new }
-    ensures soundness { K.is_sound known.old → K.is_sound known.new }
+    ensures work { (K.view known.old).is_sound → (rows : List RowValue) → IsReleaseOf release rows
+        → (K.view known.new).work
+        ≤ (K.view known.old).work + sum_by K.cost (already_known (K.view known.old).rows rows) }
+    ensures work_unread { (IsRead release → ⊥) → (K.view known.new).work ≤ (K.view known.old).work }
     ensures stays { K.stays known.old known.new }
-    ensures disk_faults { Counts CountsAnyDiskFault result
-        (K.disk_faults known.old) (K.disk_faults known.new) }
-    ensures damages { Counts CountsAnyDamage result
-        (K.damages known.old) (K.damages known.new) }
+    ensures known { LeavesKnown CountsAnyDiskFault CountsAnyDamage result
+        (K.view known.old) (K.view known.new) }
 {
     let mut lines = parse(alloc, release)?;
     sort(alloc, &mut lines);

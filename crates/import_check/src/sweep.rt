@@ -4,13 +4,12 @@ ghost use Rattle.std.specs.Prelude.{◌≡◌, ◌+◌, ◌≤◌, ◌<◌, ◌�
 ghost use Rattle.std.specs.Prelude.{IsTrue, Some, IsSomeAnd, OnOk, IfOk, IfErr, MatchResult};
 ghost use Rattle.std.specs.Prelude.{option_copied, None};
 ghost use Rattle.std.specs.List.{sum_by};
-ghost use Rattle.import_check.specs.Known.{already_known};
+ghost use Rattle.import_check.specs.Known.{already_known, LeavesKnown};
 ghost use Rattle.import_check.specs.Private.Sweep.{IsInStep, AsksOnce};
 ghost use Rattle.history_model.specs.InOrder.{IsAscending};
 ghost use Rattle.rf2_values.specs.Row.{RowValue};
 ghost use Rattle.rf2_values.specs.Key.{key_of};
 ghost use Rattle.import_check.specs.declared.release.PlacedLine.{PlacedLine};
-ghost use Rattle.fault_counts.specs.Counting.{Counts};
 ghost use Rattle.import_check.specs.NewRows.{IsTaken, AreNewByKey};
 ghost use Rattle.import_check.specs.NewRows.{CountsAnyDiskFault, CountsAnyDamage};
 ghost use Rattle.import_check.specs.Release.{rows_of};
@@ -159,27 +158,23 @@ impl Sweep {
         line: PlacedLine,
         known: &mut K,
     ) -> Result<(), ImportFault>
-        ensures swept { K.is_honest known.old → IsInStep self.old
-            → OnOk result (TakesLine (K.rows known.old) line self.old self.new) }
-        ensures in_step { K.is_honest known.old → IsInStep self.old
+        ensures swept { (K.view known.old).is_honest → IsInStep self.old
+            → OnOk result (TakesLine (K.view known.old).rows line self.old self.new) }
+        ensures in_step { (K.view known.old).is_honest → IsInStep self.old
             → OnOk result (IsInStep self.new) }
         ensures key { OnOk result (self.new.key ≡ Some (key_of line.row)) }
-        ensures asks_once { K.is_sound known.old → AsksOnce K.cost (K.rows known.old) self.old.key
-            line (K.work known.old) (K.work known.new) }
-        ensures apart { K.is_sound known.old
-            → OnOk result (KeepsApart (K.rows known.old) line self.old self.new) }
-        ensures gathers { K.is_sound known.old
-            → OnOk result (Gathers (K.rows known.old) line self.old self.new) }
-        ensures soundness { K.is_sound known.old → K.is_sound known.new }
+        ensures asks_once { (K.view known.old).is_sound
+            → AsksOnce K.cost (K.view known.old).rows self.old.key line (K.view known.old).work
+            (K.view known.new).work }
+        ensures apart { (K.view known.old).is_sound
+            → OnOk result (KeepsApart (K.view known.old).rows line self.old self.new) }
+        ensures gathers { (K.view known.old).is_sound
+            → OnOk result (Gathers (K.view known.old).rows line self.old self.new) }
         ensures few { OnOk result (length self.new.fresh.items ≤ length self.old.fresh.items + 1) }
-        ensures cut_short { IfErr result (IsCutShort (K.is_honest known.old)) }
-        ensures rows { K.rows known.new ≡ K.rows known.old }
-        ensures honesty { K.is_honest known.old → K.is_honest known.new }
+        ensures cut_short { IfErr result (IsCutShort (K.view known.old).is_honest) }
         ensures stays { K.stays known.old known.new }
-        ensures disk_faults { Counts CountsAnyDiskFault result
-            (K.disk_faults known.old) (K.disk_faults known.new) }
-        ensures damages { Counts CountsAnyDamage result
-            (K.damages known.old) (K.damages known.new) }
+        ensures known { LeavesKnown CountsAnyDiskFault CountsAnyDamage result
+            (K.view known.old) (K.view known.new) }
     {
         let key = line.row.key();
         if self.is_at(key) {
@@ -230,25 +225,20 @@ fn take_all<K: Known>(
     lines: Vec<PlacedLine>,
     known: &mut K,
 ) -> Result<Sweep, ImportFault>
-    ensures swept { K.is_honest known.old → IsRising rank_cmp lines.items
-        → IfOk result (IsSwept (K.rows known.old) lines.items lines.items) }
-    ensures apart { K.is_sound known.old → IsRising rank_cmp lines.items
-        → IfOk result (λ sweep. IsApart (K.rows known.old) sweep.fresh.items) }
-    ensures gathered { K.is_sound known.old
-        → IfOk result (IsGathered (K.rows known.old) lines.items) }
+    ensures swept { (K.view known.old).is_honest → IsRising rank_cmp lines.items
+        → IfOk result (IsSwept (K.view known.old).rows lines.items lines.items) }
+    ensures apart { (K.view known.old).is_sound → IsRising rank_cmp lines.items
+        → IfOk result (λ sweep. IsApart (K.view known.old).rows sweep.fresh.items) }
+    ensures gathered { (K.view known.old).is_sound
+        → IfOk result (IsGathered (K.view known.old).rows lines.items) }
     ensures few { IfOk result (λ sweep. length sweep.fresh.items ≤ length lines.items) }
-    ensures work { K.is_sound known.old → IsRising rank_cmp lines.items → K.work known.new
-        ≤ K.work known.old
-        + sum_by K.cost (already_known (K.rows known.old) (rows_of lines.items)) }
-    ensures cut_short { IfErr result (IsCutShort (K.is_honest known.old)) }
-    ensures rows { K.rows known.new ≡ K.rows known.old }
-    ensures honesty { K.is_honest known.old → K.is_honest known.new }
-    ensures soundness { K.is_sound known.old → K.is_sound known.new }
+    ensures work { (K.view known.old).is_sound → IsRising rank_cmp lines.items
+        → (K.view known.new).work ≤ (K.view known.old).work
+        + sum_by K.cost (already_known (K.view known.old).rows (rows_of lines.items)) }
+    ensures cut_short { IfErr result (IsCutShort (K.view known.old).is_honest) }
     ensures stays { K.stays known.old known.new }
-    ensures disk_faults { Counts CountsAnyDiskFault result
-        (K.disk_faults known.old) (K.disk_faults known.new) }
-    ensures damages { Counts CountsAnyDamage result
-        (K.damages known.old) (K.damages known.new) }
+    ensures known { LeavesKnown CountsAnyDiskFault CountsAnyDamage result
+        (K.view known.old) (K.view known.new) }
 {
     let mut sweep = Sweep::new(alloc);
     for line in ShrinkingList::new(lines) {
@@ -265,23 +255,18 @@ pub(crate) fn unite<K: Known>(
     known: &mut K,
 ) -> Result<NewRows, ImportFault>
     requires { IsAscending place_cmp lines.items }
-    ensures taken { IfOk result (λ fresh.
-        K.is_honest known.old → IsTaken (K.rows known.old) (rows_of lines.items) fresh) }
-    ensures new_by_key { K.is_sound known.old
-        → IfOk result (AreNewByKey (K.rows known.old) (rows_of lines.items)) }
+    ensures taken { IfOk result (λ fresh. (K.view known.old).is_honest
+        → IsTaken (K.view known.old).rows (rows_of lines.items) fresh) }
+    ensures new_by_key { (K.view known.old).is_sound
+        → IfOk result (AreNewByKey (K.view known.old).rows (rows_of lines.items)) }
     ensures refused { IfErr result
-        (IsRefusalOf (K.is_honest known.old) (K.rows known.old) lines.items) }
-    ensures work { K.is_sound known.old → K.work known.new
-        ≤ K.work known.old
-        + sum_by K.cost (already_known (K.rows known.old) (rows_of lines.items)) }
-    ensures rows { K.rows known.new ≡ K.rows known.old }
-    ensures honesty { K.is_honest known.old → K.is_honest known.new }
-    ensures soundness { K.is_sound known.old → K.is_sound known.new }
+        (IsRefusalOf (K.view known.old).is_honest (K.view known.old).rows lines.items) }
+    ensures work { (K.view known.old).is_sound → (K.view known.new).work
+        ≤ (K.view known.old).work
+        + sum_by K.cost (already_known (K.view known.old).rows (rows_of lines.items)) }
     ensures stays { K.stays known.old known.new }
-    ensures disk_faults { Counts CountsAnyDiskFault result
-        (K.disk_faults known.old) (K.disk_faults known.new) }
-    ensures damages { Counts CountsAnyDamage result
-        (K.damages known.old) (K.damages known.new) }
+    ensures known { LeavesKnown CountsAnyDiskFault CountsAnyDamage result
+        (K.view known.old) (K.view known.new) }
 {
     let count = lines.len();
     sort(alloc, &mut lines);

@@ -3,8 +3,7 @@
 ghost use Rattle.std.specs.Prelude.{◌≡◌, ◌+◌, ◌≤◌, List, IfOk, IfErr};
 ghost use Rattle.std.specs.List.{sum_by};
 ghost use Rattle.rf2_values.specs.Row.{RowValue};
-ghost use Rattle.fault_counts.specs.Counting.{Counts};
-ghost use Rattle.import_check.specs.Known.{already_known};
+ghost use Rattle.import_check.specs.Known.{already_known, LeavesKnown};
 ghost use Rattle.import_check.specs.Release.{IsReleaseOf};
 ghost use Rattle.import_check.specs.NewRows.{BringsByKey, IsRead, IsAcceptedAs, IsRefusal};
 ghost use Rattle.import_check.specs.NewRows.{CountsAnyDiskFault, CountsAnyDamage};
@@ -33,31 +32,26 @@ pub fn new_rows<K: Known>(
 ) -> Result<NewRows, ImportFault>
     // What is accepted is a release that is consistent with what is known.
     ensures accepted { IfOk result (λ fresh. IsRead release
-        × (K.is_honest known.old → IsAcceptedAs (K.rows known.old) release fresh)) }
+        × ((K.view known.old).is_honest → IsAcceptedAs (K.view known.old).rows release fresh)) }
     // The new rows are those whose keys are unknown, whatever row is given for a known key.
-    ensures new_by_key { K.is_sound known.old
-        → IfOk result (BringsByKey (K.rows known.old) release) }
+    ensures new_by_key { (K.view known.old).is_sound
+        → IfOk result (BringsByKey (K.view known.old).rows release) }
     // All files are read before what is known is asked. The line that is named
     // is the first that is at fault, or else the first that contradicts.
     ensures refused { IfErr result
-        (IsRefusal (K.is_honest known.old) (K.rows known.old) release) }
+        (IsRefusal (K.view known.old).is_honest (K.view known.old).rows release) }
     // Whatever it answers, each known row whose key the release has is read once at most, and no
     // other. Where a file is no release file, nothing is asked.
-    ensures work { K.is_sound known.old → (rows : List RowValue) → IsReleaseOf release rows
-        → K.work known.new
-        ≤ K.work known.old + sum_by K.cost (already_known (K.rows known.old) rows) }
-    ensures work_unread { (IsRead release → ⊥) → K.work known.new ≤ K.work known.old }
+    ensures work { (K.view known.old).is_sound → (rows : List RowValue) → IsReleaseOf release rows
+        → (K.view known.new).work
+        ≤ (K.view known.old).work + sum_by K.cost (already_known (K.view known.old).rows rows) }
+    ensures work_unread { (IsRead release → ⊥) → (K.view known.new).work ≤ (K.view known.old).work }
 
     // What is known stays as it is.
-    ensures rows { K.rows known.new ≡ K.rows known.old }
-    ensures honesty { K.is_honest known.old → K.is_honest known.new }
-    ensures soundness { K.is_sound known.old → K.is_sound known.new }
     ensures stays { K.stays known.old known.new }
     // An answer of what is known is passed on only where that one's count of it has risen.
-    ensures disk_faults { Counts CountsAnyDiskFault result
-        (K.disk_faults known.old) (K.disk_faults known.new) }
-    ensures damages { Counts CountsAnyDamage result
-        (K.damages known.old) (K.damages known.new) }
+    ensures known { LeavesKnown CountsAnyDiskFault CountsAnyDamage result
+        (K.view known.old) (K.view known.new) }
 {
     let lines = parse(alloc, release)?;
     unite(alloc, lines, known)

@@ -75,17 +75,15 @@ impl RowReader for KeptRows<'_> {
     ghost use Rattle.std.specs.Prelude.{◌≡◌};
     ghost use Rattle.std.proofs.Common.{refl, ◌∙◌};
 
-    ghost lists = { λ r. map vec_items r.lists.now };
-
-    ghost disk_faults = { λ _. 0 };
-
-    ghost damages = { λ r. r.damages };
-
-    ghost work = { λ r. r.reads };
+    ghost view = { λ r. record {
+      lists = map vec_items r.lists.now;
+      is_honest = AreLists (map vec_items r.lists.now);
+      work = r.reads;
+      disk_faults = 0;
+      damages = r.damages;
+    } };
 
     ghost cost = { λ _. 1 };
-
-    ghost is_honest = { λ r. AreLists (map vec_items r.lists.now) };
 
     ghost stays = { λ a b. b.lists ≡ a.lists };
 

@@ -1,17 +1,15 @@
 //! What was ever about a component, as the posted subjects say.
 
-ghost use Rattle.std.specs.Prelude.{◌≡◌, ◌≢◌, ◌+◌, ◌≤◌, List, map, flat_map, IfOk, IfErr};
+ghost use Rattle.std.specs.Prelude.{◌≡◌, ◌≢◌, List, flat_map, IfOk, IfErr};
 ghost use Rattle.std.specs.Prelude.{OnOk};
-ghost use Rattle.std.specs.List.{sum_by};
 ghost use Rattle.std.specs.Ordering.{nat_cmp};
-ghost use Rattle.rf2_values.specs.Key.{key_of};
 ghost use Rattle.history_model.specs.declared.stamped.StampedRow.{StampedRow};
 ghost use Rattle.history_model.specs.History.{rows_at};
 ghost use Rattle.history_model.specs.Lists.{listed};
 ghost use Rattle.history_model.specs.Queries.{versions, timeline};
+ghost use Rattle.as_of_index.specs.Reader.{IsRowsRead};
 ghost use Rattle.as_of_index.specs.Places.{Lists};
 ghost use Rattle.as_of_index.specs.Private.Postings.{numbered};
-ghost use Rattle.fault_counts.specs.Counting.{Counts, CountsDiskFault, CountsDamage};
 ghost use Rattle.fault_counts.specs.declared.fault.ReadFault.TheVariants as readfault;
 ghost use Rattle.links.specs.Laws.{EachPosted};
 ghost use Rattle.as_of_index.specs.Private.Once.{AreOnce};
@@ -89,25 +87,10 @@ fn versions_of<R: RowReader>(
     ids: &[u128],
     pin: u32,
 ) -> Result<Vec<Row>, ReadFault>
-    ensures found { R.is_honest reader.old → Lists index.now (R.lists reader.old)
-        → IfOk result (λ rows. rows.items ≡ flat_map
-        (λ id. versions kind id (rows_at pin (listed (R.lists reader.old)))) ids.now) }
-    ensures keys { Lists index.now (R.lists reader.old)
-        → IfOk result (λ rows. map key_of rows.items ≡ map key_of (flat_map
-        (λ id. versions kind id (rows_at pin (listed (R.lists reader.old)))) ids.now)) }
-    ensures undamaged { R.is_honest reader.old → Lists index.now (R.lists reader.old)
-        → IfErr result (λ e. e ≢ readfault.Damaged) }
-    ensures work { IfOk result (λ rows.
-        R.work reader.new ≤ R.work reader.old + sum_by R.cost rows.items) }
-    ensures work_always { Lists index.now (R.lists reader.old)
-        → R.work reader.new ≤ R.work reader.old + sum_by R.cost (flat_map
-        (λ id. versions kind id (rows_at pin (listed (R.lists reader.old)))) ids.now) }
-    ensures lists { R.lists reader.new ≡ R.lists reader.old }
-    ensures honesty { R.is_honest reader.old → R.is_honest reader.new }
+    ensures answer { IsRowsRead result (λ rows. rows.items)
+        (λ lists. flat_map (λ id. versions kind id (rows_at pin (listed lists))) ids.now)
+        (Lists index.now) R.cost (R.view reader.old) (R.view reader.new) }
     ensures stays { R.stays reader.old reader.new }
-    ensures disk_faults { Counts CountsDiskFault result
-        (R.disk_faults reader.old) (R.disk_faults reader.new) }
-    ensures damages { Counts CountsDamage result (R.damages reader.old) (R.damages reader.new) }
 {
     let mut rows = Vec::new(alloc);
     for id in ids {
@@ -129,31 +112,13 @@ pub fn timeline<R: RowReader>(
     id: Sctid,
     pin: u32,
 ) -> Result<Vec<Row>, ReadFault>
-    ensures found { R.is_honest reader.old → Lists index.now (R.lists reader.old)
-        → EachPosted (R.lists reader.old) links.now
-        → IfOk result (λ rows.
-        rows.items ≡ timeline kind id (rows_at pin (listed (R.lists reader.old)))) }
-    // Whatever was read, the keys are those of these versions.
-    ensures keys { Lists index.now (R.lists reader.old) → EachPosted (R.lists reader.old) links.now
-        → IfOk result (λ rows. map key_of rows.items
-        ≡ map key_of (timeline kind id (rows_at pin (listed (R.lists reader.old))))) }
-    ensures undamaged { R.is_honest reader.old → Lists index.now (R.lists reader.old)
+    ensures answer { IsRowsRead result (λ rows. rows.items)
+        (λ lists. timeline kind id (rows_at pin (listed lists)))
+        (λ lists. Lists index.now lists × EachPosted lists links.now) R.cost (R.view reader.old)
+        (R.view reader.new) }
+    ensures undamaged { (R.view reader.old).is_honest → Lists index.now (R.view reader.old).lists
         → IfErr result (λ e. e ≢ readfault.Damaged) }
-    // No more is read than the rows that it answers take, each read once.
-    ensures work { IfOk result (λ rows.
-        R.work reader.new ≤ R.work reader.old + sum_by R.cost rows.items) }
-    // Whatever it answers and whatever was read, no more is read than these versions take, each
-    // counted once.
-    ensures work_always { Lists index.now (R.lists reader.old)
-        → EachPosted (R.lists reader.old) links.now
-        → R.work reader.new ≤ R.work reader.old + sum_by R.cost
-        (timeline kind id (rows_at pin (listed (R.lists reader.old)))) }
-    ensures lists { R.lists reader.new ≡ R.lists reader.old }
-    ensures honesty { R.is_honest reader.old → R.is_honest reader.new }
     ensures stays { R.stays reader.old reader.new }
-    ensures disk_faults { Counts CountsDiskFault result
-        (R.disk_faults reader.old) (R.disk_faults reader.new) }
-    ensures damages { Counts CountsDamage result (R.damages reader.old) (R.damages reader.new) }
 {
     // Its contract says that no key is listed twice.
     let _listed = index.lists();

@@ -1,16 +1,13 @@
 //! By what a concept is called in a language.
 
-ghost use Rattle.std.specs.Prelude.{◌≡◌, ◌≢◌, ◌+◌, ◌≤◌, ◌++◌, List, map, IfOk, IfErr};
+ghost use Rattle.std.specs.Prelude.{◌≡◌, ◌+◌, ◌++◌, List, IfOk};
 ghost use Rattle.std.specs.Prelude.{OnOk};
-ghost use Rattle.std.specs.List.{sum_by};
-ghost use Rattle.rf2_values.specs.Key.{key_of};
 ghost use Rattle.history_model.specs.declared.stamped.StampedRow.{StampedRow};
 ghost use Rattle.as_of_index.specs.Current.{rows_seen};
 ghost use Rattle.history_model.specs.Queries.{called};
+ghost use Rattle.as_of_index.specs.Reader.{IsRowsRead};
 ghost use Rattle.as_of_index.specs.Places.{Lists};
 ghost use Rattle.as_of_index.specs.Private.Postings.{numbered};
-ghost use Rattle.fault_counts.specs.Counting.{Counts, CountsDiskFault, CountsDamage};
-ghost use Rattle.fault_counts.specs.declared.fault.ReadFault.TheVariants as readfault;
 ghost use Rattle.links.specs.Laws.{EachPosted};
 ghost use Rattle.links.specs.Private.Memberships.{memberships_in, with_members, AreNamed};
 
@@ -76,32 +73,11 @@ pub fn called<R: RowReader>(
     as_of: AsOf,
     refset: Sctid,
 ) -> Result<Vec<Row>, ReadFault>
-    ensures found { R.is_honest reader.old → Lists index.now (R.lists reader.old)
-        → EachPosted (R.lists reader.old) links.now
-        → IfOk result (λ rows.
-        rows.items ≡ called concept as_of.date refset (rows_seen as_of (R.lists reader.old))) }
-    // Whatever was read, the keys are those of these descriptions and members.
-    ensures keys { Lists index.now (R.lists reader.old) → EachPosted (R.lists reader.old) links.now
-        → IfOk result (λ rows. map key_of rows.items ≡ map key_of
-        (called concept as_of.date refset (rows_seen as_of (R.lists reader.old)))) }
-    ensures undamaged { R.is_honest reader.old → Lists index.now (R.lists reader.old)
-        → EachPosted (R.lists reader.old) links.now
-        → IfErr result (λ e. e ≢ readfault.Damaged) }
-    // No more is read than the rows that it answers take, each read once.
-    ensures work { IfOk result (λ rows.
-        R.work reader.new ≤ R.work reader.old + sum_by R.cost rows.items) }
-    // Whatever it answers and whatever was read, no more is read than these descriptions and members take, each
-    // counted once.
-    ensures work_always { Lists index.now (R.lists reader.old)
-        → EachPosted (R.lists reader.old) links.now
-        → R.work reader.new ≤ R.work reader.old + sum_by R.cost
-        (called concept as_of.date refset (rows_seen as_of (R.lists reader.old))) }
-    ensures lists { R.lists reader.new ≡ R.lists reader.old }
-    ensures honesty { R.is_honest reader.old → R.is_honest reader.new }
+    ensures answer { IsRowsRead result (λ rows. rows.items)
+        (λ lists. called concept as_of.date refset (rows_seen as_of lists))
+        (λ lists. Lists index.now lists × EachPosted lists links.now) R.cost (R.view reader.old)
+        (R.view reader.new) }
     ensures stays { R.stays reader.old reader.new }
-    ensures disk_faults { Counts CountsDiskFault result
-        (R.disk_faults reader.old) (R.disk_faults reader.new) }
-    ensures damages { Counts CountsDamage result (R.damages reader.old) (R.damages reader.new) }
 {
     // Its contract says that no key is listed twice.
     let _listed = index.lists();

@@ -1,20 +1,17 @@
 //! What is about a component, as the posted subjects say.
 
-ghost use Rattle.std.specs.Prelude.{◌≡◌, ◌≢◌, ◌↔◌, ◌+◌, ◌≤◌, List, Some, nat_lt, nat_le, IfOk};
-ghost use Rattle.std.specs.Prelude.{IfErr, OnOk, map};
-ghost use Rattle.std.specs.List.{sum_by};
+ghost use Rattle.std.specs.Prelude.{◌≡◌, ◌↔◌, List, Some, nat_lt, nat_le, IfOk};
+ghost use Rattle.std.specs.Prelude.{OnOk};
 ghost use Rattle.std.specs.List.Sorted.{IsNonDecreasingBy};
 ghost use Rattle.std.specs.Ordering.{eq_by_cmp};
-ghost use Rattle.rf2_values.specs.Key.{key_of};
 ghost use Rattle.history_model.specs.declared.stamped.StampedRow.{StampedRow};
 ghost use Rattle.history_model.specs.InOrder.{Has};
 ghost use Rattle.as_of_index.specs.Current.{rows_seen};
 ghost use Rattle.history_model.specs.Queries.{about};
+ghost use Rattle.as_of_index.specs.Reader.{IsRowsRead};
 ghost use Rattle.as_of_index.specs.Places.{Lists};
 ghost use Rattle.as_of_index.specs.Private.Chosen.{chosen, chosen_cmp};
 ghost use Rattle.as_of_index.specs.Private.Postings.{numbered};
-ghost use Rattle.fault_counts.specs.Counting.{Counts, CountsDiskFault, CountsDamage};
-ghost use Rattle.fault_counts.specs.declared.fault.ReadFault.TheVariants as readfault;
 ghost use Rattle.links.specs.Edges.{subject_rank};
 ghost use Rattle.links.specs.Laws.{EachPosted};
 ghost use Rattle.as_of_index.specs.Private.Once.{AreOnce};
@@ -136,32 +133,11 @@ pub(crate) fn about_of<R: RowReader>(
     id: u64,
     as_of: &AsOf,
 ) -> Result<Vec<Row>, ReadFault>
-    ensures found { R.is_honest reader.old → Lists index.now (R.lists reader.old)
-        → EachPosted (R.lists reader.old) links.now
-        → IfOk result (λ rows.
-        rows.items ≡ about kind id as_of.now.date (rows_seen as_of.now (R.lists reader.old))) }
-    // Whatever was read, the keys are those of the rows about the component.
-    ensures keys { Lists index.now (R.lists reader.old) → EachPosted (R.lists reader.old) links.now
-        → IfOk result (λ rows. map key_of rows.items
-        ≡ map key_of (about kind id as_of.now.date (rows_seen as_of.now (R.lists reader.old)))) }
-    ensures undamaged { R.is_honest reader.old → Lists index.now (R.lists reader.old)
-        → EachPosted (R.lists reader.old) links.now
-        → IfErr result (λ e. e ≢ readfault.Damaged) }
-    // No more is read than the rows that it answers take, each read once.
-    ensures work { IfOk result (λ rows.
-        R.work reader.new ≤ R.work reader.old + sum_by R.cost rows.items) }
-    // Whatever it answers and whatever was read, no more is read than the rows about the component
-    // take, each counted once.
-    ensures work_always { Lists index.now (R.lists reader.old)
-        → EachPosted (R.lists reader.old) links.now
-        → R.work reader.new ≤ R.work reader.old + sum_by R.cost
-        (about kind id as_of.now.date (rows_seen as_of.now (R.lists reader.old))) }
-    ensures lists { R.lists reader.new ≡ R.lists reader.old }
-    ensures honesty { R.is_honest reader.old → R.is_honest reader.new }
+    ensures answer { IsRowsRead result (λ rows. rows.items)
+        (λ lists. about kind id as_of.now.date (rows_seen as_of.now lists))
+        (λ lists. Lists index.now lists × EachPosted lists links.now) R.cost (R.view reader.old)
+        (R.view reader.new) }
     ensures stays { R.stays reader.old reader.new }
-    ensures disk_faults { Counts CountsDiskFault result
-        (R.disk_faults reader.old) (R.disk_faults reader.new) }
-    ensures damages { Counts CountsDamage result (R.damages reader.old) (R.damages reader.new) }
 {
     // Its contract says that no key is listed twice.
     let _listed = index.lists();
@@ -181,32 +157,11 @@ pub fn about<R: RowReader>(
     id: Sctid,
     as_of: AsOf,
 ) -> Result<Vec<Row>, ReadFault>
-    ensures found { R.is_honest reader.old → Lists index.now (R.lists reader.old)
-        → EachPosted (R.lists reader.old) links.now
-        → IfOk result (λ rows.
-        rows.items ≡ about kind id as_of.date (rows_seen as_of (R.lists reader.old))) }
-    // Whatever was read, the keys are those of the rows about the component.
-    ensures keys { Lists index.now (R.lists reader.old) → EachPosted (R.lists reader.old) links.now
-        → IfOk result (λ rows. map key_of rows.items
-        ≡ map key_of (about kind id as_of.date (rows_seen as_of (R.lists reader.old)))) }
-    ensures undamaged { R.is_honest reader.old → Lists index.now (R.lists reader.old)
-        → EachPosted (R.lists reader.old) links.now
-        → IfErr result (λ e. e ≢ readfault.Damaged) }
-    // No more is read than the rows that it answers take, each read once.
-    ensures work { IfOk result (λ rows.
-        R.work reader.new ≤ R.work reader.old + sum_by R.cost rows.items) }
-    // Whatever it answers and whatever was read, no more is read than the rows about the component
-    // take, each counted once.
-    ensures work_always { Lists index.now (R.lists reader.old)
-        → EachPosted (R.lists reader.old) links.now
-        → R.work reader.new ≤ R.work reader.old + sum_by R.cost
-        (about kind id as_of.date (rows_seen as_of (R.lists reader.old))) }
-    ensures lists { R.lists reader.new ≡ R.lists reader.old }
-    ensures honesty { R.is_honest reader.old → R.is_honest reader.new }
+    ensures answer { IsRowsRead result (λ rows. rows.items)
+        (λ lists. about kind id as_of.date (rows_seen as_of lists))
+        (λ lists. Lists index.now lists × EachPosted lists links.now) R.cost (R.view reader.old)
+        (R.view reader.new) }
     ensures stays { R.stays reader.old reader.new }
-    ensures disk_faults { Counts CountsDiskFault result
-        (R.disk_faults reader.old) (R.disk_faults reader.new) }
-    ensures damages { Counts CountsDamage result (R.damages reader.old) (R.damages reader.new) }
 {
     about_of(alloc, links, index, reader, kind, id.value(), &as_of)
 }

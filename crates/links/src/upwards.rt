@@ -1,14 +1,14 @@
 //! Which concepts are above a concept.
 
-ghost use Rattle.std.specs.Prelude.{◌≡◌, ◌≢◌, ◌+◌, ◌≤◌, ◌∷◌, ℕ, List, map, true, false};
+ghost use Rattle.std.specs.Prelude.{◌≡◌, ◌≢◌, ◌+◌, ◌≤◌, ◌∷◌, ℕ, List, true, false};
 ghost use Rattle.std.specs.Prelude.{IfOk, IfErr, MatchOption};
-ghost use Rattle.std.specs.List.{filter, sum_by};
+ghost use Rattle.std.specs.List.{sum_by};
 ghost use Rattle.as_of_index.specs.Current.{rows_seen};
 ghost use Rattle.history_model.specs.Queries.{about, parents, destination_of};
 ghost use Rattle.history_model.specs.Hierarchy.{AreAncestors};
 ghost use Rattle.rf2_values.specs.declared.row.Kind.TheVariants as kinds;
+ghost use Rattle.as_of_index.specs.Reader.{LeavesReader};
 ghost use Rattle.as_of_index.specs.Places.{Lists};
-ghost use Rattle.fault_counts.specs.Counting.{Counts, CountsDiskFault, CountsDamage};
 ghost use Rattle.fault_counts.specs.declared.fault.ReadFault.TheVariants as readfault;
 ghost use Rattle.links.specs.Laws.{EachPosted};
 ghost use Rattle.links.specs.Private.{is_link, parents_told};
@@ -56,24 +56,21 @@ fn parents_of<R: RowReader>(
     concept: u64,
     as_of: &AsOf,
 ) -> Result<Vec<u64>, ReadFault>
-    ensures found { R.is_honest reader.old → Lists index.now (R.lists reader.old)
-        → EachPosted (R.lists reader.old) links.now
+    ensures found { (R.view reader.old).is_honest → Lists index.now (R.view reader.old).lists
+        → EachPosted (R.view reader.old).lists links.now
         → IfOk result (λ ids.
-        ids.items ≡ parents concept as_of.now.date (rows_seen as_of.now (R.lists reader.old))) }
-    ensures undamaged { R.is_honest reader.old → Lists index.now (R.lists reader.old)
-        → EachPosted (R.lists reader.old) links.now
+        ids.items ≡ parents concept as_of.now.date
+        (rows_seen as_of.now (R.view reader.old).lists)) }
+    ensures undamaged { (R.view reader.old).is_honest → Lists index.now (R.view reader.old).lists
+        → EachPosted (R.view reader.old).lists links.now
         → IfErr result (λ e. e ≢ readfault.Damaged) }
-    ensures work_always { Lists index.now (R.lists reader.old)
-        → EachPosted (R.lists reader.old) links.now
-        → R.work reader.new ≤ R.work reader.old + sum_by R.cost
-        (about kinds.Relationship concept as_of.now.date (rows_seen as_of.now
-        (R.lists reader.old))) }
-    ensures lists { R.lists reader.new ≡ R.lists reader.old }
-    ensures honesty { R.is_honest reader.old → R.is_honest reader.new }
+    ensures work_always { Lists index.now (R.view reader.old).lists
+        → EachPosted (R.view reader.old).lists links.now
+        → (R.view reader.new).work ≤ (R.view reader.old).work + sum_by R.cost
+        (about kinds.Relationship concept as_of.now.date
+        (rows_seen as_of.now (R.view reader.old).lists)) }
+    ensures reader { LeavesReader result (R.view reader.old) (R.view reader.new) }
     ensures stays { R.stays reader.old reader.new }
-    ensures disk_faults { Counts CountsDiskFault result
-        (R.disk_faults reader.old) (R.disk_faults reader.new) }
-    ensures damages { Counts CountsDamage result (R.damages reader.old) (R.damages reader.new) }
 {
     let rows = about_of(
         alloc,
@@ -110,29 +107,31 @@ impl<R: RowReader> Steps for Upwards<'_, R> {
     ghost use Rattle.links.specs.Laws.{EachPosted};
     ghost use Rattle.links.specs.Private.{memory_is_no_damage};
 
-    ghost leads = { λ u next. R.is_honest u.reader.now × Lists u.index.now (R.lists u.reader.now)
-        × EachPosted (R.lists u.reader.now) u.links.now
+    ghost leads = { λ u next. (R.view u.reader.now).is_honest
+        × Lists u.index.now (R.view u.reader.now).lists
+        × EachPosted (R.view u.reader.now).lists u.links.now
         × ((concept : ℕ) → next concept
-        ≡ parents concept u.as_of.date (rows_seen u.as_of (R.lists u.reader.now))) };
+        ≡ parents concept u.as_of.date (rows_seen u.as_of (R.view u.reader.now).lists)) };
 
     ghost stays = { λ a b. R.stays a.reader.now b.reader.now
-        × (R.lists b.reader.now ≡ R.lists a.reader.now)
-        × (R.is_honest a.reader.now → R.is_honest b.reader.now)
+        × ((R.view b.reader.now).lists ≡ (R.view a.reader.now).lists)
+        × ((R.view a.reader.now).is_honest → (R.view b.reader.now).is_honest)
         × (b.reader.ghost_name ≡ a.reader.ghost_name) };
 
-    ghost fails = { λ u e. R.is_honest u.reader.now → Lists u.index.now (R.lists u.reader.now)
-        → EachPosted (R.lists u.reader.now) u.links.now → e ≢ readfault.Damaged };
+    ghost fails = { λ u e. (R.view u.reader.now).is_honest
+        → Lists u.index.now (R.view u.reader.now).lists
+        → EachPosted (R.view u.reader.now).lists u.links.now → e ≢ readfault.Damaged };
 
-    ghost work = { λ u. R.work u.reader.now };
+    ghost work = { λ u. (R.view u.reader.now).work };
 
-    ghost costs = { λ u cost. Lists u.index.now (R.lists u.reader.now)
-        × EachPosted (R.lists u.reader.now) u.links.now
+    ghost costs = { λ u cost. Lists u.index.now (R.view u.reader.now).lists
+        × EachPosted (R.view u.reader.now).lists u.links.now
         × ((concept : ℕ) → cost concept ≡ sum_by R.cost (about kinds.Relationship concept
-        u.as_of.date (rows_seen u.as_of (R.lists u.reader.now)))) };
+        u.as_of.date (rows_seen u.as_of (R.view u.reader.now).lists))) };
 
-    ghost disk_faults = { λ u. R.disk_faults u.reader.now };
+    ghost disk_faults = { λ u. (R.view u.reader.now).disk_faults };
 
-    ghost damages = { λ u. R.damages u.reader.now };
+    ghost damages = { λ u. (R.view u.reader.now).damages };
 
     ghost stays_still = { λ u. (R.stays_still u.reader.now, refl, λ h. h, refl) };
 
@@ -168,34 +167,30 @@ pub fn ancestors<R: RowReader>(
     concept: Sctid,
     as_of: AsOf,
 ) -> Result<Vec<u64>, ReadFault>
-    ensures found { R.is_honest reader.old → Lists index.now (R.lists reader.old)
-        → EachPosted (R.lists reader.old) links.now
+    ensures found { (R.view reader.old).is_honest → Lists index.now (R.view reader.old).lists
+        → EachPosted (R.view reader.old).lists links.now
         → IfOk result (λ ids. AreAncestors concept as_of.date
-        (rows_seen as_of (R.lists reader.old)) ids.items) }
-    ensures undamaged { R.is_honest reader.old → Lists index.now (R.lists reader.old)
-        → EachPosted (R.lists reader.old) links.now
+        (rows_seen as_of (R.view reader.old).lists) ids.items) }
+    ensures undamaged { (R.view reader.old).is_honest → Lists index.now (R.view reader.old).lists
+        → EachPosted (R.view reader.old).lists links.now
         → IfErr result (λ e. e ≢ readfault.Damaged) }
     // No more is read than the relationships take of which the concept is the source, or one that
     // is answered.
-    ensures work { Lists index.now (R.lists reader.old)
-        → EachPosted (R.lists reader.old) links.now → IfOk result (λ ids.
-        R.work reader.new ≤ R.work reader.old + sum_by (λ c. sum_by R.cost
-        (about kinds.Relationship c as_of.date (rows_seen as_of (R.lists reader.old))))
+    ensures work { Lists index.now (R.view reader.old).lists
+        → EachPosted (R.view reader.old).lists links.now → IfOk result (λ ids.
+        (R.view reader.new).work ≤ (R.view reader.old).work + sum_by (λ c. sum_by R.cost
+        (about kinds.Relationship c as_of.date (rows_seen as_of (R.view reader.old).lists)))
         (concept ∷ ids.items)) }
     // Whatever it answers, an honest reader has read no more than the relationships take of which
     // the concept is the source, or one that is to be found.
-    ensures work_always { R.is_honest reader.old → Lists index.now (R.lists reader.old)
-        → EachPosted (R.lists reader.old) links.now → (ids : List ℕ)
-        → AreAncestors concept as_of.date (rows_seen as_of (R.lists reader.old)) ids
-        → R.work reader.new ≤ R.work reader.old + sum_by (λ c. sum_by R.cost
-        (about kinds.Relationship c as_of.date (rows_seen as_of (R.lists reader.old))))
+    ensures work_always { (R.view reader.old).is_honest → Lists index.now (R.view reader.old).lists
+        → EachPosted (R.view reader.old).lists links.now → (ids : List ℕ)
+        → AreAncestors concept as_of.date (rows_seen as_of (R.view reader.old).lists) ids
+        → (R.view reader.new).work ≤ (R.view reader.old).work + sum_by (λ c. sum_by R.cost
+        (about kinds.Relationship c as_of.date (rows_seen as_of (R.view reader.old).lists)))
         (concept ∷ ids) }
-    ensures lists { R.lists reader.new ≡ R.lists reader.old }
-    ensures honesty { R.is_honest reader.old → R.is_honest reader.new }
+    ensures reader { LeavesReader result (R.view reader.old) (R.view reader.new) }
     ensures stays { R.stays reader.old reader.new }
-    ensures disk_faults { Counts CountsDiskFault result
-        (R.disk_faults reader.old) (R.disk_faults reader.new) }
-    ensures damages { Counts CountsDamage result (R.damages reader.old) (R.damages reader.new) }
 {
     let mut steps = Upwards {
         links,

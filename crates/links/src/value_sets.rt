@@ -1,17 +1,14 @@
 //! A reference set as a value set: its active members, by the components that they refer to.
 
-ghost use Rattle.std.specs.Prelude.{◌≡◌, ◌≢◌, ◌+◌, ◌≤◌, ℕ, List, map, IfOk, IfErr};
-ghost use Rattle.std.specs.List.{sum_by};
+ghost use Rattle.std.specs.Prelude.{ℕ, List, map, IfOk};
 ghost use Rattle.std.specs.List.Sorted.{IsNonDecreasingBy};
-ghost use Rattle.rf2_values.specs.Key.{key_of};
 ghost use Rattle.history_model.specs.declared.stamped.StampedRow.{StampedRow};
 ghost use Rattle.as_of_index.specs.Current.{rows_seen};
 ghost use Rattle.history_model.specs.Queries.{values};
+ghost use Rattle.as_of_index.specs.Reader.{IsRowsRead};
 ghost use Rattle.as_of_index.specs.Places.{Lists};
 ghost use Rattle.as_of_index.specs.Private.Chosen.{ranked_cmp};
 ghost use Rattle.as_of_index.specs.Private.Postings.{numbered};
-ghost use Rattle.fault_counts.specs.Counting.{Counts, CountsDiskFault, CountsDamage};
-ghost use Rattle.fault_counts.specs.declared.fault.ReadFault.TheVariants as readfault;
 ghost use Rattle.links.specs.Laws.{EachPosted};
 ghost use Rattle.links.specs.declared.member_search.Wanted.TheVariants.{Values};
 ghost use Rattle.links.specs.Private.Memberships.{memberships_in, AreMembers, AreEnough};
@@ -130,32 +127,11 @@ pub fn values<R: RowReader>(
     after: Option<u64>,
     limit: u32,
 ) -> Result<Vec<Row>, ReadFault>
-    ensures found { R.is_honest reader.old → Lists index.now (R.lists reader.old)
-        → EachPosted (R.lists reader.old) links.now
-        → IfOk result (λ rows.
-        rows.items ≡ values refset as_of.date after limit (rows_seen as_of (R.lists reader.old))) }
-    // Whatever was read, the keys are those of these members.
-    ensures keys { Lists index.now (R.lists reader.old) → EachPosted (R.lists reader.old) links.now
-        → IfOk result (λ rows. map key_of rows.items ≡ map key_of
-        (values refset as_of.date after limit (rows_seen as_of (R.lists reader.old)))) }
-    ensures undamaged { R.is_honest reader.old → Lists index.now (R.lists reader.old)
-        → EachPosted (R.lists reader.old) links.now
-        → IfErr result (λ e. e ≢ readfault.Damaged) }
-    // No more is read than the rows that it answers take, each read once.
-    ensures work { IfOk result (λ rows.
-        R.work reader.new ≤ R.work reader.old + sum_by R.cost rows.items) }
-    // Whatever it answers and whatever was read, no more is read than these members take, each
-    // counted once.
-    ensures work_always { Lists index.now (R.lists reader.old)
-        → EachPosted (R.lists reader.old) links.now
-        → R.work reader.new ≤ R.work reader.old + sum_by R.cost
-        (values refset as_of.date after limit (rows_seen as_of (R.lists reader.old))) }
-    ensures lists { R.lists reader.new ≡ R.lists reader.old }
-    ensures honesty { R.is_honest reader.old → R.is_honest reader.new }
+    ensures answer { IsRowsRead result (λ rows. rows.items)
+        (λ lists. values refset as_of.date after limit (rows_seen as_of lists))
+        (λ lists. Lists index.now lists × EachPosted lists links.now) R.cost (R.view reader.old)
+        (R.view reader.new) }
     ensures stays { R.stays reader.old reader.new }
-    ensures disk_faults { Counts CountsDiskFault result
-        (R.disk_faults reader.old) (R.disk_faults reader.new) }
-    ensures damages { Counts CountsDamage result (R.damages reader.old) (R.damages reader.new) }
 {
     // Its contract says that no key is listed twice.
     let _listed = index.lists();

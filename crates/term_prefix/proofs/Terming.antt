@@ -1,6 +1,6 @@
 -- The rows of the places that are kept are the terms that are asked for.
 use Rattle.std.proofs.Common.{◌≡◌, ◌⊎◌, ℕ, zero, suc, ◌+◌, ◌<◌, ◌≤◌, true, List, [], ◌∷◌, ◌++◌, length, get_or, take, map, refl, sym, ap, subst, inl, inr, ◌∙◌, arith, append-nil, append_assoc}
-use Rattle.std.specs.Prelude.{nat_eq, Option, Some, chars, encode_utf8_all, flat_map}
+use Rattle.std.specs.Prelude.{nat_eq, Some, chars, encode_utf8_all, flat_map}
 use Rattle.caseless.specs.Caseless.{default_case_fold}
 use Rattle.std.specs.List.{filter, starts_with}
 use Rattle.std.specs.Ordering.{nat_cmp, ordering_then}

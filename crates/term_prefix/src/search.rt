@@ -1,20 +1,17 @@
 //! Searches of postings.
 
-ghost use Rattle.std.specs.Prelude.{◌≡◌, ◌≢◌, ◌≤◌, ◌+◌, ◌++◌, List, length, take, flat_map, IfOk};
-ghost use Rattle.std.specs.Prelude.{IfErr, OnOk, map};
-ghost use Rattle.std.specs.List.{sum_by};
+ghost use Rattle.std.specs.Prelude.{◌≡◌, ◌≤◌, ◌+◌, ◌++◌, List, length, take, flat_map, IfOk};
+ghost use Rattle.std.specs.Prelude.{IfErr, OnOk};
 ghost use Rattle.std.specs.List.Sorted.{IsPermutation, IsNonDecreasingBy};
-ghost use Rattle.rf2_values.specs.Key.{key_of};
 ghost use Rattle.history_model.specs.declared.stamped.StampedRow.{StampedRow};
 ghost use Rattle.history_model.specs.InOrder.{IsAscending, put};
 ghost use Rattle.history_model.specs.Private.{IsPlace};
 ghost use Rattle.history_model.specs.Queries.{is_above, search_terms};
 ghost use Rattle.as_of_index.specs.Current.{rows_seen};
+ghost use Rattle.as_of_index.specs.Reader.{IsRowsRead};
 ghost use Rattle.as_of_index.specs.Places.{Lists};
-ghost use Rattle.fault_counts.specs.Counting.{Counts, CountsDiskFault, CountsDamage};
 ghost use Rattle.as_of_index.specs.Private.Chosen.{chosen, chosen_cmp};
 ghost use Rattle.as_of_index.specs.Private.Postings.{numbered};
-ghost use Rattle.fault_counts.specs.declared.fault.ReadFault.TheVariants as readfault;
 ghost use Rattle.term_prefix.specs.Pushed.{ArePosted};
 ghost use Rattle.term_prefix.specs.Private.{begun, chosen_at, is_behind, SaysTaken, SaysCandidate};
 ghost use Rattle.term_prefix.specs.Private.{IsOfDescription, AreOfDescriptions, AreBounds, AreKept};
@@ -293,34 +290,11 @@ pub fn find<R: RowReader>(
     prefix: &str,
     search: &Search,
 ) -> Result<Vec<Row>, ReadFault>
-    ensures found { R.is_honest reader.old → Lists index.now (R.lists reader.old)
-        → ArePosted (R.lists reader.old) terms.now
-        → IfOk result (λ rows. rows.items ≡ search_terms prefix.now
-        search.now.as_of.date search.now.after search.now.limit
-        (rows_seen search.now.as_of (R.lists reader.old))) }
-    // Whatever was read, the keys are those of the rows that are to be found.
-    ensures keys { Lists index.now (R.lists reader.old) → ArePosted (R.lists reader.old) terms.now
-        → IfOk result (λ rows. map key_of rows.items ≡ map key_of (search_terms prefix.now
-        search.now.as_of.date search.now.after search.now.limit
-        (rows_seen search.now.as_of (R.lists reader.old)))) }
-    ensures undamaged { R.is_honest reader.old → Lists index.now (R.lists reader.old)
-        → ArePosted (R.lists reader.old) terms.now → IfErr result (λ e. e ≢ readfault.Damaged) }
-    // No more is read than the rows that it answers take, each read once.
-    ensures work { IfOk result (λ rows.
-        R.work reader.new ≤ R.work reader.old + sum_by R.cost rows.items) }
-    // Whatever it answers and whatever was read, no more is read than the rows that are to be found
-    // take, each counted once.
-    ensures work_always { Lists index.now (R.lists reader.old)
-        → ArePosted (R.lists reader.old) terms.now
-        → R.work reader.new ≤ R.work reader.old + sum_by R.cost
-        (search_terms prefix.now search.now.as_of.date search.now.after search.now.limit
-        (rows_seen search.now.as_of (R.lists reader.old))) }
-    ensures lists { R.lists reader.new ≡ R.lists reader.old }
-    ensures honesty { R.is_honest reader.old → R.is_honest reader.new }
+    ensures answer { IsRowsRead result (λ rows. rows.items) (λ lists. search_terms prefix.now
+        search.now.as_of.date search.now.after search.now.limit (rows_seen search.now.as_of lists))
+        (λ lists. Lists index.now lists × ArePosted lists terms.now) R.cost (R.view reader.old)
+        (R.view reader.new) }
     ensures stays { R.stays reader.old reader.new }
-    ensures disk_faults { Counts CountsDiskFault result
-        (R.disk_faults reader.old) (R.disk_faults reader.new) }
-    ensures damages { Counts CountsDamage result (R.damages reader.old) (R.damages reader.new) }
 {
     // Its contract says that no key is listed twice.
     let _listed = index.lists();

@@ -13,6 +13,7 @@ use Rattle.import_check.specs.Private.Sweep.{IsRising, IsAhead, AsksOnce}
 use Rattle.import_check.specs.Private.Contradictions.{IsNext, last_key}
 use Rattle.import_check.proofs.Asking.{ahead_more, asked_more, more_lines}
 use Rattle.import_check.proofs.Differing.{next_top, noted_more, rising_from_ascending}
+use Rattle.import_check.proofs.Knowing.{has_asked, asked_so, asked_in_vain}
 use Rattle.import_check.proofs.contradicting.compare_all.Goals as goal
 
 -- what a line takes when nothing is done after it
@@ -33,9 +34,9 @@ loop-line-preserved g c =
     record {
       sifted = λ honest strict.
           let so = before.sifted honest strict in
-          let rows = g.K.Known.rows c.args.known.now in
+          let rows = (g.K.Known.view c.args.known.now).rows in
           let lines_are = so.1 ∙ ap (λ left. so.0 ++ left) steps in
-          let is = subst (λ known. IsNext known c.in-Some.line c.loop-line.last c.in_ok-counting.counting) before.rows (next.next (before.honesty honest)) in
+          let is = subst (λ known. IsNext known c.in-Some.line c.loop-line.last c.in_ok-counting.counting) before.known.rows (next.next (before.known.honesty honest)) in
           let top = next_top rows c.args.lines.items so.0 c.in-Some.line c.next.new.self lines_are strict c.loop-line.last c.in_ok-counting.counting so.2 is in
           let more = noted_more rows c.args.lines.items so.0 c.in-Some.line c.next.new.self lines_are strict c.args.limit so.3 c.in_ok-counting.counting c.loop-line.found c.note.new.found top is.0 noted.noted so.4 so.5 in (
             so.0 ++ c.in-Some.line ∷ [],
@@ -47,29 +48,25 @@ loop-line-preserved g c =
           );
       asked = λ sound strict.
           let so = before.asked sound strict in
-          let rows = g.K.Known.rows c.args.known.now in
+          let rows = (g.K.Known.view c.args.known.now).rows in
           let lines_are = so.1 ∙ ap (λ left. so.0 ++ left) steps in
           let rising = subst (λ ls. IsRising rank_cmp ls) lines_are (rising_from_ascending rank_cmp c.args.lines.items strict) in
           let ahead = subst (λ ls. IsAhead so.0 (last_key c.loop-line.last) ls) steps so.2 in
-          let asks = subst (λ known. AsksOnce g.K.Known.cost known (last_key c.loop-line.last) c.in-Some.line (g.K.Known.work c.loop-line.known) (g.K.Known.work c.next-in-loop-line.new.known)) before.rows (next.asks_once (before.soundness sound)) in (
+          let asks = subst (λ known. AsksOnce g.K.Known.cost known (last_key c.loop-line.last) c.in-Some.line (g.K.Known.view c.loop-line.known).work (g.K.Known.view c.next-in-loop-line.new.known).work) before.known.rows (next.asks_once (before.known.soundness sound)) in (
             so.0 ++ c.in-Some.line ∷ [],
             lines_are ∙ sym (append_assoc so.0 (c.in-Some.line ∷ []) c.next.new.self),
             subst (λ key. IsAhead (so.0 ++ c.in-Some.line ∷ []) (Some key) c.next.new.self) (sym next.key) (ahead_more so.0 c.in-Some.line c.next.new.self rising),
-            asked_more so.0 c.in-Some.line c.next.new.self g.K.Known.cost rows (last_key c.loop-line.last) (g.K.Known.work c.args.known.now) (g.K.Known.work c.loop-line.known) (g.K.Known.work c.next-in-loop-line.new.known) ahead asks so.3,
+            asked_more so.0 c.in-Some.line c.next.new.self g.K.Known.cost rows (last_key c.loop-line.last) (g.K.Known.view c.args.known.now).work (g.K.Known.view c.loop-line.known).work (g.K.Known.view c.next-in-loop-line.new.known).work ahead asks so.3,
           );
       room = omega (arith, ap length steps, noted.further, before.room);
-      rows = next.rows ∙ before.rows;
-      honesty = λ h. next.honesty (before.honesty h);
-      soundness = λ h. next.soundness (before.soundness h);
+      known = has_asked before.known next.known;
       stays = g.met.K.Known.stays_on c.args.known.now _ _ before.stays next.stays;
-      disk_faults = next.disk_faults ∙ before.disk_faults;
-      damages = next.damages ∙ before.damages;
     }
 
 pub returns-clause-work : goal.returns-clause-work
 returns-clause-work g c = λ sound strict.
     let so = c.loop-line.invariant.asked sound strict in
-    let more = more_lines g.K.Known.cost (g.K.Known.rows c.args.known.now) so.0 c.args.lines.items (λ l h. subst (λ ls. Has ls l) (sym so.1) (Has-append_left so.0 _ l h)) in
+    let more = more_lines g.K.Known.cost (g.K.Known.view c.args.known.now).rows so.0 c.args.lines.items (λ l h. subst (λ ls. Has ls l) (sym so.1) (Has-append_left so.0 _ l h)) in
     omega (arith, so.3, more)
 
 pub returns-in_err-counting-clause-work : goal.returns-in_err-counting-clause-work
@@ -78,8 +75,8 @@ returns-in_err-counting-clause-work g c = λ sound strict.
     let steps = c.in-Some.ensures.steps in
     let so = before.asked sound strict in
     let ahead = subst (λ ls. IsAhead so.0 (last_key c.loop-line.last) ls) steps so.2 in
-    let asks = subst (λ known. AsksOnce g.K.Known.cost known (last_key c.loop-line.last) c.in-Some.line (g.K.Known.work c.loop-line.known) (g.K.Known.work c.next-in-loop-line.new.known)) before.rows (c.in_err-counting.ensures.asks_once (before.soundness sound)) in
-    taken g.K.Known.cost (g.K.Known.rows c.args.known.now) c.args.lines.items so.0 c.in-Some.line c.next.new.self (last_key c.loop-line.last) (g.K.Known.work c.args.known.now) (g.K.Known.work c.loop-line.known) (g.K.Known.work c.next-in-loop-line.new.known) (so.1 ∙ ap (λ left. so.0 ++ left) steps) ahead asks so.3
+    let asks = subst (λ known. AsksOnce g.K.Known.cost known (last_key c.loop-line.last) c.in-Some.line (g.K.Known.view c.loop-line.known).work (g.K.Known.view c.next-in-loop-line.new.known).work) before.known.rows (c.in_err-counting.ensures.asks_once (before.known.soundness sound)) in
+    taken g.K.Known.cost (g.K.Known.view c.args.known.now).rows c.args.lines.items so.0 c.in-Some.line c.next.new.self (last_key c.loop-line.last) (g.K.Known.view c.args.known.now).work (g.K.Known.view c.loop-line.known).work (g.K.Known.view c.next-in-loop-line.new.known).work (so.1 ∙ ap (λ left. so.0 ++ left) steps) ahead asks so.3
 
 pub returns-in_err-note-clause-work : goal.returns-in_err-note-clause-work
 returns-in_err-note-clause-work g c = λ sound strict.
@@ -87,5 +84,11 @@ returns-in_err-note-clause-work g c = λ sound strict.
     let steps = c.in-Some.ensures.steps in
     let so = before.asked sound strict in
     let ahead = subst (λ ls. IsAhead so.0 (last_key c.loop-line.last) ls) steps so.2 in
-    let asks = subst (λ known. AsksOnce g.K.Known.cost known (last_key c.loop-line.last) c.in-Some.line (g.K.Known.work c.loop-line.known) (g.K.Known.work c.next-in-loop-line.new.known)) before.rows (c.in_ok-counting.ensures.asks_once (before.soundness sound)) in
-    taken g.K.Known.cost (g.K.Known.rows c.args.known.now) c.args.lines.items so.0 c.in-Some.line c.next.new.self (last_key c.loop-line.last) (g.K.Known.work c.args.known.now) (g.K.Known.work c.loop-line.known) (g.K.Known.work c.next-in-loop-line.new.known) (so.1 ∙ ap (λ left. so.0 ++ left) steps) ahead asks so.3
+    let asks = subst (λ known. AsksOnce g.K.Known.cost known (last_key c.loop-line.last) c.in-Some.line (g.K.Known.view c.loop-line.known).work (g.K.Known.view c.next-in-loop-line.new.known).work) before.known.rows (c.in_ok-counting.ensures.asks_once (before.known.soundness sound)) in
+    taken g.K.Known.cost (g.K.Known.view c.args.known.now).rows c.args.lines.items so.0 c.in-Some.line c.next.new.self (last_key c.loop-line.last) (g.K.Known.view c.args.known.now).work (g.K.Known.view c.loop-line.known).work (g.K.Known.view c.next-in-loop-line.new.known).work (so.1 ∙ ap (λ left. so.0 ++ left) steps) ahead asks so.3
+
+pub returns-clause-known : goal.returns-clause-known
+returns-clause-known g c = asked_so c.loop-line.invariant.known
+
+pub returns-in_err-counting-clause-known : goal.returns-in_err-counting-clause-known
+returns-in_err-counting-clause-known g c = asked_in_vain _ _ c.from_residual.ensures.1 c.loop-line.invariant.known c.in_err-counting.ensures.known

@@ -10,7 +10,7 @@ use Rattle.import_check.proofs.contradicting.find_contradictions.Goals as goal
 
 pub returns-clause-found : goal.returns-clause-found
 returns-clause-found g c = λ honest.
-    let rows = g.K.Known.rows c.args.known.now in
+    let rows = (g.K.Known.view c.args.known.now).rows in
     let lines = c.in_ok-lines.lines.items in
     let sorted = c.sort.new.lines.items in
     let placed = ascending c.args.release lines c.in_ok-lines.ensures.ok in
@@ -19,14 +19,14 @@ returns-clause-found g c = λ honest.
 
 pub returns-clause-work : goal.returns-clause-work
 returns-clause-work g c = λ sound rows are.
-    let known = g.K.Known.rows c.args.known.now in
+    let known = (g.K.Known.view c.args.known.now).rows in
     let lines = c.in_ok-lines.lines.items in
     let sorted = c.sort.new.lines.items in
     let up = sorted_ascends lines sorted (ascending c.args.release lines c.in_ok-lines.ensures.ok) c.sort.ensures.permutation c.sort.ensures.rising in
     let asked = c.compare_all.ensures.work sound up in
     let more = more_sorted g.K.Known.cost known lines sorted c.sort.ensures.permutation in
-    let same = one_list c.args.release (rows_of lines) rows (of_release (g.K.Known.is_honest c.args.known.now) known c.args.release lines c.in_ok-lines.ensures.ok) are in
-    subst (λ rs. g.K.Known.work c.compare_all.new.known ≤ g.K.Known.work c.args.known.now + sum_by g.K.Known.cost (already_known known rs)) same (omega (arith, asked, more))
+    let same = one_list c.args.release (rows_of lines) rows (of_release (g.K.Known.view c.args.known.now).is_honest known c.args.release lines c.in_ok-lines.ensures.ok) are in
+    subst (λ rs. (g.K.Known.view c.compare_all.new.known).work ≤ (g.K.Known.view c.args.known.now).work + sum_by g.K.Known.cost (already_known known rs)) same (omega (arith, asked, more))
 
 pub returns-clause-work_unread : goal.returns-clause-work_unread
-returns-clause-work_unread g c = λ unread. absurd (unread (was_read (g.K.Known.is_honest c.args.known.now) (g.K.Known.rows c.args.known.now) c.args.release c.in_ok-lines.lines.items c.in_ok-lines.ensures.ok))
+returns-clause-work_unread g c = λ unread. absurd (unread (was_read (g.K.Known.view c.args.known.now).is_honest (g.K.Known.view c.args.known.now).rows c.args.release c.in_ok-lines.lines.items c.in_ok-lines.ensures.ok))

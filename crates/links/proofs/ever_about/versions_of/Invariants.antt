@@ -6,6 +6,7 @@ use Rattle.history_model.specs.History.{rows_at}
 use Rattle.history_model.specs.Lists.{listed}
 use Rattle.history_model.specs.Queries.{versions}
 use Rattle.as_of_index.specs.Places.{Lists}
+use Rattle.as_of_index.proofs.Reading.{HasRead}
 use Rattle.links.proofs.ever_about.versions_of.Given as goal
 
 -- the versions of the components before this one
@@ -13,13 +14,10 @@ abbrev pub invariant-loop-id : goal.invariant-loop-id
 invariant-loop-id g l =
     let r = g.R.RowReader in
     record {
-      honesty : r.is_honest l.fn.reader → r.is_honest l.reader;
-      lists : r.lists l.reader ≡ r.lists l.fn.reader;
-      work : r.work l.reader ≤ r.work l.fn.reader + sum_by r.cost l.rows.items;
-      work_always : Lists l.index (r.lists l.fn.reader) → r.work l.reader ≤ r.work l.fn.reader + sum_by r.cost (flat_map (λ id. versions l.kind id (rows_at l.pin (listed (r.lists l.fn.reader)))) (take l.id-index l.ids));
+      reader : HasRead (r.view l.fn.reader) (r.view l.reader);
+      work : (r.view l.reader).work ≤ (r.view l.fn.reader).work + sum_by r.cost l.rows.items;
+      work_always : Lists l.index (r.view l.fn.reader).lists → (r.view l.reader).work ≤ (r.view l.fn.reader).work + sum_by r.cost (flat_map (λ id. versions l.kind id (rows_at l.pin (listed (r.view l.fn.reader).lists))) (take l.id-index l.ids));
       stays : r.stays l.fn.reader l.reader;
-      disk_faults : r.disk_faults l.reader ≡ r.disk_faults l.fn.reader;
-      damages : r.damages l.reader ≡ r.damages l.fn.reader;
-      rows : r.is_honest l.fn.reader → Lists l.index (r.lists l.fn.reader) → l.rows.items ≡ flat_map (λ id. versions l.kind id (rows_at l.pin (listed (r.lists l.fn.reader)))) (take l.id-index l.ids);
-      keys : Lists l.index (r.lists l.fn.reader) → map key_of l.rows.items ≡ map key_of (flat_map (λ id. versions l.kind id (rows_at l.pin (listed (r.lists l.fn.reader)))) (take l.id-index l.ids));
+      rows : (r.view l.fn.reader).is_honest → Lists l.index (r.view l.fn.reader).lists → l.rows.items ≡ flat_map (λ id. versions l.kind id (rows_at l.pin (listed (r.view l.fn.reader).lists))) (take l.id-index l.ids);
+      keys : Lists l.index (r.view l.fn.reader).lists → map key_of l.rows.items ≡ map key_of (flat_map (λ id. versions l.kind id (rows_at l.pin (listed (r.view l.fn.reader).lists))) (take l.id-index l.ids));
     }

@@ -1,52 +1,27 @@
-use Rattle.std.specs.List.{sum_by}
-use Rattle.std.proofs.Common.{◌≡◌, ◌+◌, ◌≤◌, sym, subst, IfOk, map}
-use Rattle.rf2_values.specs.Key.{key_of}
+use Rattle.std.proofs.Common.{sym, subst}
 use Rattle.as_of_index.specs.Chosen.{StandAtAll}
+use Rattle.as_of_index.specs.Reader.{AnswersRows}
 use Rattle.links.proofs.AboutRows.{about_from_chosen}
 use Rattle.links.proofs.NamedRows.{called_from_chosen}
 use Rattle.rf2_values.specs.declared.row.Kind.TheVariants as kinds
 use Rattle.links.proofs.languages.called.Goals as goal
 
-pub returns-clause-found : goal.returns-clause-found
-returns-clause-found g c = λ honest listed_so posts.
-    let a = c.args in
-    let lists = g.R.RowReader.lists a.reader.now in
-    let are = rw listed_so at c.lists-listed.ensures.places in
-    let descriptions = rw (c.as_slice-links.ensures, c.value-concept.ensures.value) at (c.in_ok-descriptions.ensures lists listed_so) in
-    let about = about_from_chosen lists are a.links.now posts kinds.Description a.concept a.as_of c.in_ok-descriptions.descriptions.items descriptions in
-    let kept = rw (c.as_slice-links.ensures, c.as_slice.ensures.value, c.value.ensures.value) at (c.in_ok-kept.ensures lists listed_so) in
-    let w = called_from_chosen lists are a.links.now posts a.refset a.as_of a.concept c.in_ok-descriptions.descriptions.items about c.in_ok-kept.kept.items kept in
-    subst (λ xs. IfOk c.read_all.result (λ f. f.items ≡ xs)) w.2 (c.read_all.ensures.found honest w.0 (subst (λ ks. StandAtAll lists ks w.0) (sym c.as_slice-2.ensures.value) w.1))
-
-pub returns-clause-keys : goal.returns-clause-keys
-returns-clause-keys g c = λ listed_so posts.
-    let a = c.args in
-    let lists = g.R.RowReader.lists a.reader.now in
-    let are = rw listed_so at c.lists-listed.ensures.places in
-    let descriptions = rw (c.as_slice-links.ensures, c.value-concept.ensures.value) at (c.in_ok-descriptions.ensures lists listed_so) in
-    let about = about_from_chosen lists are a.links.now posts kinds.Description a.concept a.as_of c.in_ok-descriptions.descriptions.items descriptions in
-    let kept = rw (c.as_slice-links.ensures, c.as_slice.ensures.value, c.value.ensures.value) at (c.in_ok-kept.ensures lists listed_so) in
-    let w = called_from_chosen lists are a.links.now posts a.refset a.as_of a.concept c.in_ok-descriptions.descriptions.items about c.in_ok-kept.kept.items kept in
-    subst (λ xs. IfOk c.read_all.result (λ f. map key_of f.items ≡ map key_of xs)) w.2 (c.read_all.ensures.keys w.0 (subst (λ ks. StandAtAll lists ks w.0) (sym c.as_slice-2.ensures.value) w.1))
-
-pub returns-clause-undamaged : goal.returns-clause-undamaged
-returns-clause-undamaged g c = λ honest listed_so posts.
-    let a = c.args in
-    let lists = g.R.RowReader.lists a.reader.now in
-    let are = rw listed_so at c.lists-listed.ensures.places in
-    let descriptions = rw (c.as_slice-links.ensures, c.value-concept.ensures.value) at (c.in_ok-descriptions.ensures lists listed_so) in
-    let about = about_from_chosen lists are a.links.now posts kinds.Description a.concept a.as_of c.in_ok-descriptions.descriptions.items descriptions in
-    let kept = rw (c.as_slice-links.ensures, c.as_slice.ensures.value, c.value.ensures.value) at (c.in_ok-kept.ensures lists listed_so) in
-    let w = called_from_chosen lists are a.links.now posts a.refset a.as_of a.concept c.in_ok-descriptions.descriptions.items about c.in_ok-kept.kept.items kept in
-    c.read_all.ensures.undamaged honest w.0 (subst (λ ks. StandAtAll lists ks w.0) (sym c.as_slice-2.ensures.value) w.1)
-
-pub returns-clause-work_always : goal.returns-clause-work_always
-returns-clause-work_always g c = λ listed_so posts.
-    let a = c.args in
-    let lists = g.R.RowReader.lists a.reader.now in
-    let are = rw listed_so at c.lists-listed.ensures.places in
-    let descriptions = rw (c.as_slice-links.ensures, c.value-concept.ensures.value) at (c.in_ok-descriptions.ensures lists listed_so) in
-    let about = about_from_chosen lists are a.links.now posts kinds.Description a.concept a.as_of c.in_ok-descriptions.descriptions.items descriptions in
-    let kept = rw (c.as_slice-links.ensures, c.as_slice.ensures.value, c.value.ensures.value) at (c.in_ok-kept.ensures lists listed_so) in
-    let w = called_from_chosen lists are a.links.now posts a.refset a.as_of a.concept c.in_ok-descriptions.descriptions.items about c.in_ok-kept.kept.items kept in
-    subst (λ xs. g.R.RowReader.work c.read_all.new.reader ≤ g.R.RowReader.work a.reader.now + sum_by g.R.RowReader.cost xs) w.2 (c.read_all.ensures.work_always w.0 (subst (λ ks. StandAtAll lists ks w.0) (sym c.as_slice-2.ensures.value) w.1))
+pub returns-clause-answer : goal.returns-clause-answer
+returns-clause-answer g c =
+    let r = g.R.RowReader in
+    let read = c.read_all.ensures in record {
+      rows = λ so.
+          let a = c.args in
+          let listed_so = so.0 in
+          let posts = so.1 in
+          let lists = (r.view a.reader.now).lists in
+          let are = rw listed_so at c.lists-listed.ensures.places in
+          let descriptions = rw (c.as_slice-links.ensures, c.value-concept.ensures.value) at (c.in_ok-descriptions.ensures lists listed_so) in
+          let about = about_from_chosen lists are a.links.now posts kinds.Description a.concept a.as_of c.in_ok-descriptions.descriptions.items descriptions in
+          let kept = rw (c.as_slice-links.ensures, c.as_slice.ensures.value, c.value.ensures.value) at (c.in_ok-kept.ensures lists listed_so) in
+          let w = called_from_chosen lists are a.links.now posts a.refset a.as_of a.concept c.in_ok-descriptions.descriptions.items about c.in_ok-kept.kept.items kept in
+          subst (λ xs. AnswersRows c.read_all.result (λ rows. rows.items) xs r.cost (r.view a.reader.now) (r.view c.read_all.new.reader)) w.2
+          (read.answer w.0 (subst (λ ks. StandAtAll lists ks w.0) (sym c.as_slice-2.ensures.value) w.1));
+      work = read.work;
+      reader = read.reader;
+    }

@@ -1,24 +1,43 @@
-use Rattle.std.proofs.Common.{sym, ap, ◌∙◌, Some, rules}
+use Rattle.std.specs.Option.{option_to_list}
+use Rattle.std.specs.List.{sum_by}
+use Rattle.std.proofs.Common.{sym, ap, ◌∙◌, Some, rules, arith}
 use Rattle.history_model.specs.declared.stamped.StampedRow.{StampedRow}
-use Rattle.as_of_index.proofs.SameKeys.{key_there, one_key, no_key}
+use Rattle.as_of_index.proofs.Reading.{not_read, fails_on}
+use Rattle.as_of_index.proofs.SameKeys.{key_there, one_key}
 use Rattle.as_of_index.proofs.index.Index.get.Goals as goal
 
-pub returns-in_ok-stamped-in-Some-clause-found : goal.returns-in_ok-stamped-in-Some-clause-found
-returns-in_ok-stamped-in-Some-clause-found g c = λ honest listed_so.
-    let w = c.in-Some.ensures.found (g.R.RowReader.lists c.args.reader.now) listed_so in
-    ap (λ (s : StampedRow). Some s.row) (c.in_ok-stamped-in-Some.ensures.found honest w.0 w.1) ∙ sym w.2
+pub returns-in_ok-stamped-in-Some-clause-answer : goal.returns-in_ok-stamped-in-Some-clause-answer
+returns-in_ok-stamped-in-Some-clause-answer g c =
+    let lists = (g.R.RowReader.view c.args.reader.now).lists in
+    let read = c.in_ok-stamped-in-Some in record {
+      rows = λ listed_so.
+          let w = c.in-Some.ensures.found lists listed_so in
+          let more = read.ensures.work_always w.0 w.1 in
+          let cost = ap (λ o. sum_by g.R.RowReader.cost (option_to_list o)) w.2 in
+          record {
+            found = λ honest. ap (λ (s : StampedRow). option_to_list (Some s.row)) (read.ensures.found honest w.0 w.1) ∙ ap option_to_list (sym w.2);
+            keys = one_key read.stamped.row w.0.row _ (key_there lists c.in-Some.segment c.in-Some.at w.0 read.stamped.row w.1 read.ensures.keyed) w.2;
+            undamaged = λ honest. tt;
+            work_always = omega arith;
+          };
+      work = (let more = read.ensures.work in omega arith);
+      reader = search rules;
+    }
 
-pub returns-in_err-stamped-in-Some-clause-undamaged : goal.returns-in_err-stamped-in-Some-clause-undamaged
-returns-in_err-stamped-in-Some-clause-undamaged g c = λ honest listed_so.
-    let w = c.in-Some.ensures.found (g.R.RowReader.lists c.args.reader.now) listed_so in
-    let k = c.in_err-stamped-in-Some.ensures.undamaged honest w.0 w.1 in
-    search rules
-
-pub returns-in_ok-stamped-in-Some-clause-keys : goal.returns-in_ok-stamped-in-Some-clause-keys
-returns-in_ok-stamped-in-Some-clause-keys g c = λ listed_so.
-    let w = c.in-Some.ensures.found (g.R.RowReader.lists c.args.reader.now) listed_so in
-    let stamped = c.in_ok-stamped-in-Some in
-    one_key stamped.stamped.row w.0.row _ (key_there (g.R.RowReader.lists c.args.reader.now) c.in-Some.segment c.in-Some.at w.0 stamped.stamped.row w.1 stamped.ensures.keyed) w.2
-
-pub returns-in-None-clause-keys : goal.returns-in-None-clause-keys
-returns-in-None-clause-keys g c = λ listed_so. no_key _ (c.in-None.ensures.found (g.R.RowReader.lists c.args.reader.now) listed_so)
+pub returns-in_err-stamped-in-Some-clause-answer : goal.returns-in_err-stamped-in-Some-clause-answer
+returns-in_err-stamped-in-Some-clause-answer g c =
+    let lists = (g.R.RowReader.view c.args.reader.now).lists in
+    let read = c.in_err-stamped-in-Some in record {
+      rows = λ listed_so.
+          let w = c.in-Some.ensures.found lists listed_so in
+          let more = read.ensures.work_always w.0 w.1 in
+          let cost = ap (λ o. sum_by g.R.RowReader.cost (option_to_list o)) w.2 in
+          record {
+            found = λ honest. search rules;
+            keys = search rules;
+            undamaged = λ honest. (let other = read.ensures.undamaged honest w.0 w.1 in search rules);
+            work_always = omega arith;
+          };
+      work = search rules;
+      reader = fails_on _ _ _ _ _ c.from_residual.ensures.1 (not_read _) read.ensures.reader;
+    }

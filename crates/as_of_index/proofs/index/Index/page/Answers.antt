@@ -1,21 +1,18 @@
-use Rattle.std.proofs.Common.{◌≡◌, ◌+◌, ◌≤◌, map, subst, IfOk}
-use Rattle.std.specs.List.{sum_by}
-use Rattle.rf2_values.specs.Key.{key_of}
+use Rattle.std.proofs.Common.{subst}
+use Rattle.as_of_index.specs.Current.{rows_seen}
+use Rattle.as_of_index.specs.Reader.{AnswersRows}
 use Rattle.as_of_index.proofs.Paging.{walked_page}
 use Rattle.as_of_index.proofs.index.Index.page.Goals as goal
-use Rattle.as_of_index.specs.Current.{rows_seen}
 
-pub returns-clause-found : goal.returns-clause-found
-returns-clause-found g c = λ honest listed_so.
+pub returns-clause-answer : goal.returns-clause-answer
+returns-clause-answer g c =
     let a = c.args in
-    subst (λ xs. IfOk c.walk.result (λ rows. rows.items ≡ xs)) (walked_page a.kind a.as_of.date a.after a.limit (rows_seen a.as_of (g.R.RowReader.lists a.reader.now))) (c.walk.ensures.found honest listed_so)
-
-pub returns-clause-work_always : goal.returns-clause-work_always
-returns-clause-work_always g c = λ listed_so.
-    let a = c.args in
-    subst (λ xs. g.R.RowReader.work c.walk.new.reader ≤ g.R.RowReader.work a.reader.now + sum_by g.R.RowReader.cost xs) (walked_page a.kind a.as_of.date a.after a.limit (rows_seen a.as_of (g.R.RowReader.lists a.reader.now))) (c.walk.ensures.work_always listed_so)
-
-pub returns-clause-keys : goal.returns-clause-keys
-returns-clause-keys g c = λ listed_so.
-    let a = c.args in
-    subst (λ xs. IfOk c.walk.result (λ rows. map key_of rows.items ≡ map key_of xs)) (walked_page a.kind a.as_of.date a.after a.limit (rows_seen a.as_of (g.R.RowReader.lists a.reader.now))) (c.walk.ensures.keys listed_so)
+    let r = g.R.RowReader in
+    let old = r.view a.reader.now in
+    let e = c.walk.ensures.answer in
+    record {
+      rows = λ listed_so. subst (λ xs. AnswersRows c.walk.result (λ rows. rows.items) xs r.cost old (r.view c.walk.new.reader))
+          (walked_page a.kind a.as_of.date a.after a.limit (rows_seen a.as_of old.lists)) (e.rows listed_so);
+      work = e.work;
+      reader = e.reader;
+    }

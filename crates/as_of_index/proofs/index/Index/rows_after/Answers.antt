@@ -1,9 +1,8 @@
-use Rattle.std.proofs.Common.{◌≡◌, ◌+◌, ◌-◌, ◌≤◌, [], ◌∷◌, ◌++◌, List, length, map, refl, sym, ap, subst, ◌∙◌, arith, rules}
+use Rattle.std.proofs.Common.{Ok, ◌≡◌, ◌-◌, [], ◌∷◌, ◌++◌, length, map, sym, ap, subst, ◌∙◌, arith, rules}
 use Rattle.std.specs.List.{sum_by}
 use Rattle.std.proofs.lemmas.List.{length_push}
 use Rattle.std.proofs.lemmas.List.Sums.{sum_by_push}
 use Rattle.rf2_values.specs.Key.{key_of}
-use Rattle.history_model.specs.declared.stamped.StampedRow.{StampedRow}
 use Rattle.history_model.specs.History.{rows_at}
 use Rattle.history_model.specs.KeyOrder.{rows_after}
 use Rattle.history_model.specs.Lists.{listed}
@@ -11,13 +10,14 @@ use Rattle.segment.specs.Standing.{StandsAt}
 use Rattle.as_of_index.proofs.Standing.{are_lists}
 use Rattle.as_of_index.proofs.SameKeys.{key_there, keys_push, same_count}
 use Rattle.as_of_index.proofs.KeyOrder.{row_next, fewer_after, after_more, after_cost, after_hidden, after_done, after_full}
+use Rattle.as_of_index.proofs.Reading.{not_read, reads_on, has_read, read_so, fails_on}
 use Rattle.as_of_index.proofs.index.Index.rows_after.Goals as goal
 use Rattle.as_of_index.proofs.index.Index.rows_after.Goals.{then-is_shown+in_ok-found-in-Some+in_ok-push-in-Some, else-is_shown}
 
 pub loop-self-init : goal.loop-self-init
 loop-self-init g c =
     let a = c.args in
-    let shown = rows_at a.pin (listed (g.R.RowReader.lists a.reader.now)) in
+    let shown = rows_at a.pin (listed (g.R.RowReader.view a.reader.now).lists) in
     let none : length c.new-rows.result.items ≡ 0 = ap length c.new-rows.ensures.items in
     let whole : a.limit - 0 ≡ a.limit = omega arith in
     let first = ap (λ n. rows_after a.after n shown) whole in
@@ -26,51 +26,16 @@ loop-self-init g c =
     let sum = ap (sum_by g.R.RowReader.cost) same in
     record {
       within = omega arith;
-      honesty = λ h. h;
+      reader = not_read _;
       work = omega arith;
       work_always = λ listed_so. omega (arith, sum);
       stays = g.met.R.RowReader.stays_still a.reader.now;
-      lists = refl;
-      disk_faults = refl;
-      damages = refl;
       rows = λ honest listed_so. rw c.new-rows.ensures.items first;
       keys = λ listed_so. ([], ap (map key_of) c.new-rows.ensures.items, first);
     }
 
-pub returns-in_err-found-in-Some-clause-undamaged : goal.returns-in_err-found-in-Some-clause-undamaged
-returns-in_err-found-in-Some-clause-undamaged g c = λ honest listed_so.
-    let a = c.args in
-    let lists = g.R.RowReader.lists a.reader.now in
-    let w = row_next a.pin lists (are_lists lists (rw (c.self.view_is, listed_so) at c.self.invariant.places)) c.loop-self.last (c.in-Some.segment, c.in-Some.at) (rw (c.as_slice.ensures.value, c.self.view_is, listed_so) at c.in-Some.ensures) in
-    let stands = subst (λ ls. StandsAt ls c.in-Some.segment c.in-Some.at w.0) (sym (c.loop-self.invariant.lists)) w.1 in
-    let k = c.in_err-found-in-Some.ensures.undamaged (c.loop-self.invariant.honesty honest) w.0 stands in
-    search rules
 
-pub returns-in_err-found-in-Some-clause-work_always : goal.returns-in_err-found-in-Some-clause-work_always
-returns-in_err-found-in-Some-clause-work_always g c = λ listed_so.
-    let a = c.args in
-    let lists = g.R.RowReader.lists a.reader.now in
-    let are = are_lists lists (rw (c.self.view_is, listed_so) at c.self.invariant.places) in
-    let next = rw (c.as_slice.ensures.value, c.self.view_is, listed_so) at c.in-Some.ensures in
-    let w = row_next a.pin lists are c.loop-self.last (c.in-Some.segment, c.in-Some.at) next in
-    let stands = subst (λ ls. StandsAt ls c.in-Some.segment c.in-Some.at w.0) (sym (c.loop-self.invariant.lists)) w.1 in
-    let least = c.loop-self.invariant.work_always listed_so in
-    let more = c.in_err-found-in-Some.ensures.work_always w.0 stands in
-    let sum = after_cost a.pin lists are g.R.RowReader.cost c.loop-self.last (c.in-Some.segment, c.in-Some.at) w.0 a.limit c.loop-self.rows.items w.0.row (omega arith) next w.2 w.3 w.4 (c.is_shown.ensures.0 c.if-is_shown.true) in
-    omega arith
 
-pub returns-in_err-push-in-Some-clause-work_always : goal.returns-in_err-push-in-Some-clause-work_always
-returns-in_err-push-in-Some-clause-work_always g c = λ listed_so.
-    let a = c.args in
-    let lists = g.R.RowReader.lists a.reader.now in
-    let are = are_lists lists (rw (c.self.view_is, listed_so) at c.self.invariant.places) in
-    let next = rw (c.as_slice.ensures.value, c.self.view_is, listed_so) at c.in-Some.ensures in
-    let w = row_next a.pin lists are c.loop-self.last (c.in-Some.segment, c.in-Some.at) next in
-    let stands = subst (λ ls. StandsAt ls c.in-Some.segment c.in-Some.at w.0) (sym (c.loop-self.invariant.lists)) w.1 in
-    let least = c.loop-self.invariant.work_always listed_so in
-    let more = c.in_ok-found-in-Some.ensures.work_always w.0 stands in
-    let sum = after_cost a.pin lists are g.R.RowReader.cost c.loop-self.last (c.in-Some.segment, c.in-Some.at) w.0 a.limit c.loop-self.rows.items w.0.row (omega arith) next w.2 w.3 w.4 (c.is_shown.ensures.0 c.if-is_shown.true) in
-    omega arith
 
 pub loop-self-smaller : goal.loop-self-smaller
 loop-self-smaller g c =
@@ -80,31 +45,28 @@ pub loop-self-preserved : goal.loop-self-preserved
 loop-self-preserved g c =
     let a = c.args in
     let so_far = c.loop-self.invariant in
-    let lists = g.R.RowReader.lists a.reader.now in
+    let lists = (g.R.RowReader.view a.reader.now).lists in
     elim c.if-is_shown.branch [
       | then-is_shown+in_ok-found-in-Some+in_ok-push-in-Some w ↦ rw (w.reader-is, w.rows-is, c.key_at-key.ensures) (record {
         within = (let e = length_push c.loop-self.rows.items w.in_ok-found-in-Some.found.row in rw w.in_ok-push-in-Some.ensures.items (omega arith));
-        honesty = λ h. w.in_ok-found-in-Some.ensures.honesty (so_far.honesty h);
+        reader = reads_on (Ok 0) _ _ _ so_far.reader (has_read _ _ _ w.in_ok-found-in-Some.ensures.reader);
         work = (let least = so_far.work in let more = w.in_ok-found-in-Some.ensures.work in rw (w.in_ok-push-in-Some.ensures.items, sum_by_push g.R.RowReader.cost c.loop-self.rows.items w.in_ok-found-in-Some.found.row) (omega arith));
         work_always = λ listed_so.
             let are = are_lists lists (rw (c.self.view_is, listed_so) at c.self.invariant.places) in
             let next = rw (c.as_slice.ensures.value, c.self.view_is, listed_so) at c.in-Some.ensures in
             let r = row_next a.pin lists are c.loop-self.last (c.in-Some.segment, c.in-Some.at) next in
-            let stands = subst (λ ls. StandsAt ls c.in-Some.segment c.in-Some.at r.0) (sym (so_far.lists)) r.1 in
+            let stands = subst (λ ls. StandsAt ls c.in-Some.segment c.in-Some.at r.0) (sym (so_far.reader.lists)) r.1 in
             let least = so_far.work_always listed_so in
             let more = w.in_ok-found-in-Some.ensures.work_always r.0 stands in
             let sum = after_cost a.pin lists are g.R.RowReader.cost c.loop-self.last (c.in-Some.segment, c.in-Some.at) r.0 a.limit c.loop-self.rows.items w.in_ok-found-in-Some.found.row (omega arith) next r.2 r.3 r.4 (c.is_shown.ensures.0 w.if-is_shown.true) in
             rw w.in_ok-push-in-Some.ensures.items (omega arith);
         stays = g.met.R.RowReader.stays_on a.reader.now _ _ so_far.stays w.in_ok-found-in-Some.ensures.stays;
-        lists = w.in_ok-found-in-Some.ensures.lists ∙ so_far.lists;
-        disk_faults = w.in_ok-found-in-Some.ensures.disk_faults ∙ so_far.disk_faults;
-        damages = w.in_ok-found-in-Some.ensures.damages ∙ so_far.damages;
         rows = λ honest listed_so.
             let are = are_lists lists (rw (c.self.view_is, listed_so) at c.self.invariant.places) in
             let next = rw (c.as_slice.ensures.value, c.self.view_is, listed_so) at c.in-Some.ensures in
             let r = row_next a.pin lists are c.loop-self.last (c.in-Some.segment, c.in-Some.at) next in
-            let stands = subst (λ ls. StandsAt ls c.in-Some.segment c.in-Some.at r.0) (sym (so_far.lists)) r.1 in
-            let same = w.in_ok-found-in-Some.ensures.found (so_far.honesty honest) r.0 stands in
+            let stands = subst (λ ls. StandsAt ls c.in-Some.segment c.in-Some.at r.0) (sym (so_far.reader.lists)) r.1 in
+            let same = w.in_ok-found-in-Some.ensures.found (so_far.reader.honesty honest) r.0 stands in
             rw (w.in_ok-push-in-Some.ensures.items, same)
             (after_more a.pin lists are c.loop-self.last (c.in-Some.segment, c.in-Some.at) r.0 a.limit c.loop-self.rows.items _ (omega arith) next r.2 r.3 r.4 (c.is_shown.ensures.0 w.if-is_shown.true) (so_far.rows honest listed_so));
         keys = λ listed_so.
@@ -121,7 +83,7 @@ loop-self-preserved g c =
       })
       | else-is_shown w ↦ rw (w.reader-is, w.rows-is, c.key_at-key.ensures) (record {
         within = so_far.within;
-        honesty = so_far.honesty;
+        reader = so_far.reader;
         work = so_far.work;
         work_always = λ listed_so.
             let are = are_lists lists (rw (c.self.view_is, listed_so) at c.self.invariant.places) in
@@ -132,9 +94,6 @@ loop-self-preserved g c =
             let least = so_far.work_always listed_so in
             omega arith;
         stays = so_far.stays;
-        lists = so_far.lists;
-        disk_faults = so_far.disk_faults;
-        damages = so_far.damages;
         rows = λ honest listed_so.
             let are = are_lists lists (rw (c.self.view_is, listed_so) at c.self.invariant.places) in
             let next = rw (c.as_slice.ensures.value, c.self.view_is, listed_so) at c.in-Some.ensures in
@@ -150,35 +109,92 @@ loop-self-preserved g c =
       })
     ]
 
-pub returns-in-None-clause-found : goal.returns-in-None-clause-found
-returns-in-None-clause-found g c = λ honest listed_so.
+pub returns-in_err-found-in-Some-clause-answer : goal.returns-in_err-found-in-Some-clause-answer
+returns-in_err-found-in-Some-clause-answer g c =
     let a = c.args in
-    let lists = g.R.RowReader.lists a.reader.now in
-    after_done a.pin lists (are_lists lists (rw (c.self.view_is, listed_so) at c.self.invariant.places)) c.loop-self.last _ c.loop-self.rows.items _ (rw (c.as_slice.ensures.value, c.self.view_is, listed_so) at c.in-None.ensures) (c.loop-self.invariant.rows honest listed_so)
+    let so_far = c.loop-self.invariant in
+    let lists = (g.R.RowReader.view a.reader.now).lists in
+    record {
+      rows = λ listed_so.
+          let are = are_lists lists (rw (c.self.view_is, listed_so) at c.self.invariant.places) in
+          let next = rw (c.as_slice.ensures.value, c.self.view_is, listed_so) at c.in-Some.ensures in
+          let w = row_next a.pin lists are c.loop-self.last (c.in-Some.segment, c.in-Some.at) next in
+          let stands = subst (λ ls. StandsAt ls c.in-Some.segment c.in-Some.at w.0) (sym so_far.reader.lists) w.1 in
+          let least = so_far.work_always listed_so in
+          let more = c.in_err-found-in-Some.ensures.work_always w.0 stands in
+          let sum = after_cost a.pin lists are g.R.RowReader.cost c.loop-self.last (c.in-Some.segment, c.in-Some.at) w.0 a.limit c.loop-self.rows.items w.0.row (omega arith) next w.2 w.3 w.4 (c.is_shown.ensures.0 c.if-is_shown.true) in
+          record {
+            found = λ honest. search rules;
+            keys = search rules;
+            undamaged = λ honest. (let other = c.in_err-found-in-Some.ensures.undamaged (so_far.reader.honesty honest) w.0 stands in search rules);
+            work_always = omega arith;
+          };
+      work = search rules;
+      reader = fails_on _ _ _ _ _ c.from_residual.ensures.1 so_far.reader c.in_err-found-in-Some.ensures.reader;
+    }
 
-pub returns-in-None-clause-keys : goal.returns-in-None-clause-keys
-returns-in-None-clause-keys g c = λ listed_so.
+pub returns-in_err-push-in-Some-clause-answer : goal.returns-in_err-push-in-Some-clause-answer
+returns-in_err-push-in-Some-clause-answer g c =
     let a = c.args in
-    let lists = g.R.RowReader.lists a.reader.now in
-    let k = c.loop-self.invariant.keys listed_so in
-    k.1 ∙ ap (map key_of) (after_done a.pin lists (are_lists lists (rw (c.self.view_is, listed_so) at c.self.invariant.places)) c.loop-self.last _ k.0 _ (rw (c.as_slice.ensures.value, c.self.view_is, listed_so) at c.in-None.ensures) k.2)
+    let so_far = c.loop-self.invariant in
+    let lists = (g.R.RowReader.view a.reader.now).lists in
+    record {
+      rows = λ listed_so.
+          let are = are_lists lists (rw (c.self.view_is, listed_so) at c.self.invariant.places) in
+          let next = rw (c.as_slice.ensures.value, c.self.view_is, listed_so) at c.in-Some.ensures in
+          let w = row_next a.pin lists are c.loop-self.last (c.in-Some.segment, c.in-Some.at) next in
+          let stands = subst (λ ls. StandsAt ls c.in-Some.segment c.in-Some.at w.0) (sym so_far.reader.lists) w.1 in
+          let least = so_far.work_always listed_so in
+          let more = c.in_ok-found-in-Some.ensures.work_always w.0 stands in
+          let sum = after_cost a.pin lists are g.R.RowReader.cost c.loop-self.last (c.in-Some.segment, c.in-Some.at) w.0 a.limit c.loop-self.rows.items w.0.row (omega arith) next w.2 w.3 w.4 (c.is_shown.ensures.0 c.if-is_shown.true) in
+          record {
+            found = λ honest. search rules;
+            keys = search rules;
+            undamaged = λ honest. search rules;
+            work_always = omega arith;
+          };
+      work = search rules;
+      reader = search rules;
+    }
 
-pub returns-in-None-clause-work_always : goal.returns-in-None-clause-work_always
-returns-in-None-clause-work_always g c = λ listed_so. (let least = c.loop-self.invariant.work_always listed_so in omega arith)
-
-pub returns-clause-found : goal.returns-clause-found
-returns-clause-found g c = λ honest listed_so.
+pub returns-in-None-clause-answer : goal.returns-in-None-clause-answer
+returns-in-None-clause-answer g c =
     let a = c.args in
-    let lists = g.R.RowReader.lists a.reader.now in
-    after_full a.pin lists (are_lists lists (rw (c.self.view_is, listed_so) at c.self.invariant.places)) c.loop-self.last a.limit c.loop-self.rows.items _ (omega arith) (c.loop-self.invariant.rows honest listed_so)
+    let so_far = c.loop-self.invariant in
+    let lists = (g.R.RowReader.view a.reader.now).lists in
+    record {
+      rows = λ listed_so.
+          let are = are_lists lists (rw (c.self.view_is, listed_so) at c.self.invariant.places) in
+          let k = so_far.keys listed_so in
+          let least = so_far.work_always listed_so in
+          let none = rw (c.as_slice.ensures.value, c.self.view_is, listed_so) at c.in-None.ensures in
+          record {
+            found = λ honest. after_done a.pin lists are c.loop-self.last _ c.loop-self.rows.items _ none (so_far.rows honest listed_so);
+            keys = k.1 ∙ ap (map key_of) (after_done a.pin lists are c.loop-self.last _ k.0 _ none k.2);
+            undamaged = λ honest. tt;
+            work_always = omega arith;
+          };
+      work = so_far.work;
+      reader = read_so _ _ _ so_far.reader;
+    }
 
-pub returns-clause-keys : goal.returns-clause-keys
-returns-clause-keys g c = λ listed_so.
+pub returns-clause-answer : goal.returns-clause-answer
+returns-clause-answer g c =
     let a = c.args in
-    let lists = g.R.RowReader.lists a.reader.now in
-    let k = c.loop-self.invariant.keys listed_so in
-    let count = same_count c.loop-self.rows.items k.0 k.1 in
-    k.1 ∙ ap (map key_of) (after_full a.pin lists (are_lists lists (rw (c.self.view_is, listed_so) at c.self.invariant.places)) c.loop-self.last a.limit k.0 _ (omega arith) k.2)
-
-pub returns-clause-work_always : goal.returns-clause-work_always
-returns-clause-work_always g c = λ listed_so. (let least = c.loop-self.invariant.work_always listed_so in omega arith)
+    let so_far = c.loop-self.invariant in
+    let lists = (g.R.RowReader.view a.reader.now).lists in
+    record {
+      rows = λ listed_so.
+          let are = are_lists lists (rw (c.self.view_is, listed_so) at c.self.invariant.places) in
+          let k = so_far.keys listed_so in
+          let least = so_far.work_always listed_so in
+          let count = same_count c.loop-self.rows.items k.0 k.1 in
+          record {
+            found = λ honest. after_full a.pin lists are c.loop-self.last a.limit c.loop-self.rows.items _ (omega arith) (so_far.rows honest listed_so);
+            keys = k.1 ∙ ap (map key_of) (after_full a.pin lists are c.loop-self.last a.limit k.0 _ (omega arith) k.2);
+            undamaged = λ honest. tt;
+            work_always = omega arith;
+          };
+      work = so_far.work;
+      reader = read_so _ _ _ so_far.reader;
+    }

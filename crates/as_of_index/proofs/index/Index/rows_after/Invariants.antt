@@ -7,6 +7,7 @@ use Rattle.history_model.specs.KeyOrder.{is_key_after, rows_after}
 use Rattle.history_model.specs.Lists.{listed}
 use Rattle.as_of_index.specs.Places.{Lists}
 use Rattle.as_of_index.specs.Private.Search.{all_places}
+use Rattle.as_of_index.proofs.Reading.{HasRead}
 use Rattle.as_of_index.proofs.index.Index.rows_after.Given as goal
 
 abbrev pub invariant-loop-self : goal.invariant-loop-self
@@ -14,15 +15,12 @@ invariant-loop-self g l =
     let r = g.R.RowReader in
     record {
       within : length l.rows.items ≤ l.limit;
-      honesty : r.is_honest l.fn.reader → r.is_honest l.reader;
-      work : r.work l.reader ≤ r.work l.fn.reader + sum_by r.cost l.rows.items;
-      work_always : Lists l.self (r.lists l.fn.reader) → r.work l.reader + sum_by r.cost (rows_after l.last (l.limit - length l.rows.items) (rows_at l.pin (listed (r.lists l.fn.reader)))) ≤ r.work l.fn.reader + sum_by r.cost (rows_after l.fn.after l.limit (rows_at l.pin (listed (r.lists l.fn.reader))));
+      reader : HasRead (r.view l.fn.reader) (r.view l.reader);
+      work : (r.view l.reader).work ≤ (r.view l.fn.reader).work + sum_by r.cost l.rows.items;
+      work_always : Lists l.self (r.view l.fn.reader).lists → (r.view l.reader).work + sum_by r.cost (rows_after l.last (l.limit - length l.rows.items) (rows_at l.pin (listed (r.view l.fn.reader).lists))) ≤ (r.view l.fn.reader).work + sum_by r.cost (rows_after l.fn.after l.limit (rows_at l.pin (listed (r.view l.fn.reader).lists)));
       stays : r.stays l.fn.reader l.reader;
-      lists : r.lists l.reader ≡ r.lists l.fn.reader;
-      disk_faults : r.disk_faults l.reader ≡ r.disk_faults l.fn.reader;
-      damages : r.damages l.reader ≡ r.damages l.fn.reader;
-      rows : r.is_honest l.fn.reader → Lists l.self (r.lists l.fn.reader) → l.rows.items ++ rows_after l.last (l.limit - length l.rows.items) (rows_at l.pin (listed (r.lists l.fn.reader))) ≡ rows_after l.fn.after l.limit (rows_at l.pin (listed (r.lists l.fn.reader)));
-      keys : Lists l.self (r.lists l.fn.reader) → (right : List RowValue) × (map key_of l.rows.items ≡ map key_of right) × (right ++ rows_after l.last (l.limit - length right) (rows_at l.pin (listed (r.lists l.fn.reader))) ≡ rows_after l.fn.after l.limit (rows_at l.pin (listed (r.lists l.fn.reader))));
+      rows : (r.view l.fn.reader).is_honest → Lists l.self (r.view l.fn.reader).lists → l.rows.items ++ rows_after l.last (l.limit - length l.rows.items) (rows_at l.pin (listed (r.view l.fn.reader).lists)) ≡ rows_after l.fn.after l.limit (rows_at l.pin (listed (r.view l.fn.reader).lists));
+      keys : Lists l.self (r.view l.fn.reader).lists → (right : List RowValue) × (map key_of l.rows.items ≡ map key_of right) × (right ++ rows_after l.last (l.limit - length right) (rows_at l.pin (listed (r.view l.fn.reader).lists)) ≡ rows_after l.fn.after l.limit (rows_at l.pin (listed (r.view l.fn.reader).lists)));
     }
 
 abbrev pub decreases-loop-self : goal.decreases-loop-self

@@ -1,4 +1,4 @@
-use Rattle.std.proofs.Common.{◌≡◌, true, ◌-◌, [], ◌∷◌, ◌++◌, map, refl, Some, None, length, sym, ap, subst, ◌∙◌, arith, rules}
+use Rattle.std.proofs.Common.{Ok, ◌≡◌, true, ◌-◌, [], ◌∷◌, ◌++◌, map, refl, Some, None, length, sym, ap, subst, ◌∙◌, arith, rules}
 use Rattle.std.proofs.lemmas.List.{length_push}
 use Rattle.std.specs.List.{sum_by}
 use Rattle.std.proofs.lemmas.List.Sums.{sum_by_push}
@@ -13,6 +13,7 @@ use Rattle.as_of_index.proofs.Walking.{id_above, versions_ahead, others_ahead}
 use Rattle.as_of_index.proofs.Paging.{walk_more, walk_cost, walk_same, walk_done, walk_full, fewer_left}
 use Rattle.rf2_values.specs.Key.{key_of}
 use Rattle.as_of_index.proofs.SameKeys.{key_there, keys_push, same_count}
+use Rattle.as_of_index.proofs.Reading.{not_read, reads_on, has_read, read_so, fails_on}
 use Rattle.as_of_index.proofs.index.Index.walk.Goals as goal
 use Rattle.as_of_index.specs.Current.{rows_seen}
 
@@ -23,12 +24,6 @@ latest_on-requires g c =
     let ahead = versions_ahead a.kind c.in-Some.id (changed_parts a.from a.as_of.now c.as_slice-lists.result.now) c.next_id.new.cursors.items c.loop-lists.last above c.in-Some.ensures.passed in
     rw c.deref.ensures.value ahead
 
-pub returns-in_err-found-in-Some-clause-undamaged : goal.returns-in_err-found-in-Some-clause-undamaged
-returns-in_err-found-in-Some-clause-undamaged g c = λ honest listed_so.
-    let w = change_from_pick c.args.kind c.in-Some.id c.args.from c.args.as_of.now (g.R.RowReader.lists c.args.reader.now) (are_lists (g.R.RowReader.lists c.args.reader.now) (rw (c.self.view_is, listed_so) at c.self.invariant.places)) (Some (c.in-Some-latest_on.segment, c.in-Some-latest_on.at)) (rw (c.as_slice-lists.ensures.value, c.self.view_is, listed_so) at c.in-Some-latest_on.ensures) in
-    let stands = subst (λ ls. StandsAt ls c.in-Some-latest_on.segment c.in-Some-latest_on.at w.0) (sym (c.loop-lists.invariant.lists)) w.1 in
-    let k = c.in_err-found-in-Some.ensures.undamaged (c.loop-lists.invariant.honesty honest) w.0 stands in
-    search rules
 
 pub loop-lists-smaller-in_ok-push-in-Some : goal.loop-lists-smaller-in_ok-push-in-Some
 loop-lists-smaller-in_ok-push-in-Some g c = fewer_left c.args.kind c.loop-lists.last c.args.from c.args.as_of.now c.in-Some.id _ (rw (c.as_slice-lists.ensures.value, c.self.view_is) at c.in-Some.ensures.next)
@@ -47,29 +42,26 @@ loop-lists-preserved-in_ok-push-in-Some g c =
     record {
       passed = ahead;
       within = (let e = length_push c.loop-lists.rows.items found.found.row in rw c.in_ok-push-in-Some.ensures.items (omega arith));
-      honesty = λ h. found.ensures.honesty (so_far.honesty h);
+      reader = reads_on (Ok 0) _ _ _ so_far.reader (has_read _ _ _ found.ensures.reader);
       work = (let least = so_far.work in let more = found.ensures.work in rw (c.in_ok-push-in-Some.ensures.items, sum_by_push g.R.RowReader.cost c.loop-lists.rows.items found.found.row) (omega arith));
       work_always = λ listed_so.
           let f = g.R.RowReader.cost in
-          let w = change_from_pick c.args.kind c.in-Some.id c.args.from c.args.as_of.now (g.R.RowReader.lists c.args.reader.now) (are_lists (g.R.RowReader.lists c.args.reader.now) (rw (c.self.view_is, listed_so) at c.self.invariant.places)) (Some (c.in-Some-latest_on.segment, c.in-Some-latest_on.at)) (rw (c.as_slice-lists.ensures.value, c.self.view_is, listed_so) at c.in-Some-latest_on.ensures) in
-          let stands = subst (λ ls. StandsAt ls c.in-Some-latest_on.segment c.in-Some-latest_on.at w.0) (sym (so_far.lists)) w.1 in
+          let w = change_from_pick c.args.kind c.in-Some.id c.args.from c.args.as_of.now (g.R.RowReader.view c.args.reader.now).lists (are_lists (g.R.RowReader.view c.args.reader.now).lists (rw (c.self.view_is, listed_so) at c.self.invariant.places)) (Some (c.in-Some-latest_on.segment, c.in-Some-latest_on.at)) (rw (c.as_slice-lists.ensures.value, c.self.view_is, listed_so) at c.in-Some-latest_on.ensures) in
+          let stands = subst (λ ls. StandsAt ls c.in-Some-latest_on.segment c.in-Some-latest_on.at w.0) (sym (so_far.reader.lists)) w.1 in
           let least = so_far.work_always listed_so in
           let more = found.ensures.work_always w.0 stands in
-          let sum = walk_cost a.kind a.from a.as_of.now (g.R.RowReader.lists a.reader.now) f c.loop-lists.last c.in-Some.id a.limit c.loop-lists.rows.items w.0.row found.found.row (omega arith) (rw (c.as_slice-lists.ensures.value, c.self.view_is, listed_so) at c.in-Some.ensures.next) w.2 w.3 in
+          let sum = walk_cost a.kind a.from a.as_of.now (g.R.RowReader.view a.reader.now).lists f c.loop-lists.last c.in-Some.id a.limit c.loop-lists.rows.items w.0.row found.found.row (omega arith) (rw (c.as_slice-lists.ensures.value, c.self.view_is, listed_so) at c.in-Some.ensures.next) w.2 w.3 in
           rw c.in_ok-push-in-Some.ensures.items (omega arith);
       stays = g.met.R.RowReader.stays_on c.args.reader.now _ _ so_far.stays found.ensures.stays;
-      lists = found.ensures.lists ∙ so_far.lists;
-      disk_faults = found.ensures.disk_faults ∙ so_far.disk_faults;
-      damages = found.ensures.damages ∙ so_far.damages;
       rows = λ honest listed_so.
-          let w = change_from_pick c.args.kind c.in-Some.id c.args.from c.args.as_of.now (g.R.RowReader.lists c.args.reader.now) (are_lists (g.R.RowReader.lists c.args.reader.now) (rw (c.self.view_is, listed_so) at c.self.invariant.places)) (Some (c.in-Some-latest_on.segment, c.in-Some-latest_on.at)) (rw (c.as_slice-lists.ensures.value, c.self.view_is, listed_so) at c.in-Some-latest_on.ensures) in
-          let stands = subst (λ ls. StandsAt ls c.in-Some-latest_on.segment c.in-Some-latest_on.at w.0) (sym (so_far.lists)) w.1 in
-          let same = found.ensures.found (so_far.honesty honest) w.0 stands in
+          let w = change_from_pick c.args.kind c.in-Some.id c.args.from c.args.as_of.now (g.R.RowReader.view c.args.reader.now).lists (are_lists (g.R.RowReader.view c.args.reader.now).lists (rw (c.self.view_is, listed_so) at c.self.invariant.places)) (Some (c.in-Some-latest_on.segment, c.in-Some-latest_on.at)) (rw (c.as_slice-lists.ensures.value, c.self.view_is, listed_so) at c.in-Some-latest_on.ensures) in
+          let stands = subst (λ ls. StandsAt ls c.in-Some-latest_on.segment c.in-Some-latest_on.at w.0) (sym (so_far.reader.lists)) w.1 in
+          let same = found.ensures.found (so_far.reader.honesty honest) w.0 stands in
           rw c.in_ok-push-in-Some.ensures.items
-          (walk_more a.kind a.from a.as_of.now (g.R.RowReader.lists a.reader.now) c.loop-lists.last c.in-Some.id a.limit c.loop-lists.rows.items _ found.found.row (omega arith)
+          (walk_more a.kind a.from a.as_of.now (g.R.RowReader.view a.reader.now).lists c.loop-lists.last c.in-Some.id a.limit c.loop-lists.rows.items _ found.found.row (omega arith)
           (rw (c.as_slice-lists.ensures.value, c.self.view_is, listed_so) at c.in-Some.ensures.next) (w.2 ∙ ap (λ (s : StampedRow). Some s.row) (sym same)) (subst (λ (s : StampedRow). is_above a.from s.row.time ≡ true) (sym same) w.3) (so_far.rows honest listed_so));
       keys = λ listed_so.
-          let lists = g.R.RowReader.lists a.reader.now in
+          let lists = (g.R.RowReader.view a.reader.now).lists in
           let w = change_from_pick a.kind c.in-Some.id a.from a.as_of.now lists (are_lists lists (rw (c.self.view_is, listed_so) at c.self.invariant.places)) (Some (c.in-Some-latest_on.segment, c.in-Some-latest_on.at)) (rw (c.as_slice-lists.ensures.value, c.self.view_is, listed_so) at c.in-Some-latest_on.ensures) in
           let row = found.found.row in
           let k = so_far.keys listed_so in
@@ -91,86 +83,35 @@ loop-lists-preserved g c =
     record {
       passed = ahead;
       within = so_far.within;
-      honesty = so_far.honesty;
+      reader = so_far.reader;
       work = so_far.work;
       work_always = λ listed_so.
-          let same = walk_same a.kind a.from a.as_of.now (g.R.RowReader.lists a.reader.now) c.loop-lists.last c.in-Some.id (a.limit - length c.loop-lists.rows.items) [] _
-          (rw (c.as_slice-lists.ensures.value, c.self.view_is, listed_so) at c.in-Some.ensures.next) (change_from_pick c.args.kind c.in-Some.id c.args.from c.args.as_of.now (g.R.RowReader.lists c.args.reader.now) (are_lists (g.R.RowReader.lists c.args.reader.now) (rw (c.self.view_is, listed_so) at c.self.invariant.places)) None (rw (c.as_slice-lists.ensures.value, c.self.view_is, listed_so) at (rw c.in_default.is at c.latest_on.ensures))) refl in
+          let same = walk_same a.kind a.from a.as_of.now (g.R.RowReader.view a.reader.now).lists c.loop-lists.last c.in-Some.id (a.limit - length c.loop-lists.rows.items) [] _
+          (rw (c.as_slice-lists.ensures.value, c.self.view_is, listed_so) at c.in-Some.ensures.next) (change_from_pick c.args.kind c.in-Some.id c.args.from c.args.as_of.now (g.R.RowReader.view c.args.reader.now).lists (are_lists (g.R.RowReader.view c.args.reader.now).lists (rw (c.self.view_is, listed_so) at c.self.invariant.places)) None (rw (c.as_slice-lists.ensures.value, c.self.view_is, listed_so) at (rw c.in_default.is at c.latest_on.ensures))) refl in
           let sum = ap (sum_by g.R.RowReader.cost) same in
           let least = so_far.work_always listed_so in
           omega arith;
       stays = so_far.stays;
-      lists = so_far.lists;
-      disk_faults = so_far.disk_faults;
-      damages = so_far.damages;
       rows = λ honest listed_so.
-          walk_same a.kind a.from a.as_of.now (g.R.RowReader.lists a.reader.now) c.loop-lists.last c.in-Some.id (a.limit - length c.loop-lists.rows.items) c.loop-lists.rows.items _
-          (rw (c.as_slice-lists.ensures.value, c.self.view_is, listed_so) at c.in-Some.ensures.next) (change_from_pick c.args.kind c.in-Some.id c.args.from c.args.as_of.now (g.R.RowReader.lists c.args.reader.now) (are_lists (g.R.RowReader.lists c.args.reader.now) (rw (c.self.view_is, listed_so) at c.self.invariant.places)) None (rw (c.as_slice-lists.ensures.value, c.self.view_is, listed_so) at (rw c.in_default.is at c.latest_on.ensures))) (so_far.rows honest listed_so);
+          walk_same a.kind a.from a.as_of.now (g.R.RowReader.view a.reader.now).lists c.loop-lists.last c.in-Some.id (a.limit - length c.loop-lists.rows.items) c.loop-lists.rows.items _
+          (rw (c.as_slice-lists.ensures.value, c.self.view_is, listed_so) at c.in-Some.ensures.next) (change_from_pick c.args.kind c.in-Some.id c.args.from c.args.as_of.now (g.R.RowReader.view c.args.reader.now).lists (are_lists (g.R.RowReader.view c.args.reader.now).lists (rw (c.self.view_is, listed_so) at c.self.invariant.places)) None (rw (c.as_slice-lists.ensures.value, c.self.view_is, listed_so) at (rw c.in_default.is at c.latest_on.ensures))) (so_far.rows honest listed_so);
       keys = λ listed_so.
           let k = so_far.keys listed_so in (
             k.0,
             k.1,
-            walk_same a.kind a.from a.as_of.now (g.R.RowReader.lists a.reader.now) c.loop-lists.last c.in-Some.id (a.limit - length k.0) k.0 _
-                (rw (c.as_slice-lists.ensures.value, c.self.view_is, listed_so) at c.in-Some.ensures.next) (change_from_pick c.args.kind c.in-Some.id c.args.from c.args.as_of.now (g.R.RowReader.lists c.args.reader.now) (are_lists (g.R.RowReader.lists c.args.reader.now) (rw (c.self.view_is, listed_so) at c.self.invariant.places)) None (rw (c.as_slice-lists.ensures.value, c.self.view_is, listed_so) at (rw c.in_default.is at c.latest_on.ensures))) k.2,
+            walk_same a.kind a.from a.as_of.now (g.R.RowReader.view a.reader.now).lists c.loop-lists.last c.in-Some.id (a.limit - length k.0) k.0 _
+                (rw (c.as_slice-lists.ensures.value, c.self.view_is, listed_so) at c.in-Some.ensures.next) (change_from_pick c.args.kind c.in-Some.id c.args.from c.args.as_of.now (g.R.RowReader.view c.args.reader.now).lists (are_lists (g.R.RowReader.view c.args.reader.now).lists (rw (c.self.view_is, listed_so) at c.self.invariant.places)) None (rw (c.as_slice-lists.ensures.value, c.self.view_is, listed_so) at (rw c.in_default.is at c.latest_on.ensures))) k.2,
           );
     }
 
-pub returns-in-None-clause-found : goal.returns-in-None-clause-found
-returns-in-None-clause-found g c = λ honest listed_so.
-    let a = c.args in
-    walk_done a.kind a.from a.as_of.now (g.R.RowReader.lists a.reader.now) c.loop-lists.last _ c.loop-lists.rows.items _ (rw (c.as_slice-lists.ensures.value, c.self.view_is, listed_so) at c.in-None.ensures.next) (c.loop-lists.invariant.rows honest listed_so)
 
-pub returns-clause-found : goal.returns-clause-found
-returns-clause-found g c = λ honest listed_so.
-    let a = c.args in
-    walk_full a.kind a.from a.as_of.now (g.R.RowReader.lists a.reader.now) c.loop-lists.last a.limit c.loop-lists.rows.items _ (omega arith) (c.loop-lists.invariant.rows honest listed_so)
 
-pub returns-in_err-found-in-Some-clause-work_always : goal.returns-in_err-found-in-Some-clause-work_always
-returns-in_err-found-in-Some-clause-work_always g c = λ listed_so.
-    let a = c.args in
-    let f = g.R.RowReader.cost in
-    let w = change_from_pick c.args.kind c.in-Some.id c.args.from c.args.as_of.now (g.R.RowReader.lists c.args.reader.now) (are_lists (g.R.RowReader.lists c.args.reader.now) (rw (c.self.view_is, listed_so) at c.self.invariant.places)) (Some (c.in-Some-latest_on.segment, c.in-Some-latest_on.at)) (rw (c.as_slice-lists.ensures.value, c.self.view_is, listed_so) at c.in-Some-latest_on.ensures) in
-    let stands = subst (λ ls. StandsAt ls c.in-Some-latest_on.segment c.in-Some-latest_on.at w.0) (sym (c.loop-lists.invariant.lists)) w.1 in
-    let least = c.loop-lists.invariant.work_always listed_so in
-    let more = c.in_err-found-in-Some.ensures.work_always w.0 stands in
-    let sum = walk_cost a.kind a.from a.as_of.now (g.R.RowReader.lists a.reader.now) f c.loop-lists.last c.in-Some.id a.limit c.loop-lists.rows.items w.0.row w.0.row (omega arith) (rw (c.as_slice-lists.ensures.value, c.self.view_is, listed_so) at c.in-Some.ensures.next) w.2 w.3 in
-    omega arith
-
-pub returns-in_err-push-in-Some-clause-work_always : goal.returns-in_err-push-in-Some-clause-work_always
-returns-in_err-push-in-Some-clause-work_always g c = λ listed_so.
-    let a = c.args in
-    let f = g.R.RowReader.cost in
-    let w = change_from_pick c.args.kind c.in-Some.id c.args.from c.args.as_of.now (g.R.RowReader.lists c.args.reader.now) (are_lists (g.R.RowReader.lists c.args.reader.now) (rw (c.self.view_is, listed_so) at c.self.invariant.places)) (Some (c.in-Some-latest_on.segment, c.in-Some-latest_on.at)) (rw (c.as_slice-lists.ensures.value, c.self.view_is, listed_so) at c.in-Some-latest_on.ensures) in
-    let stands = subst (λ ls. StandsAt ls c.in-Some-latest_on.segment c.in-Some-latest_on.at w.0) (sym (c.loop-lists.invariant.lists)) w.1 in
-    let least = c.loop-lists.invariant.work_always listed_so in
-    let more = c.in_ok-found-in-Some.ensures.work_always w.0 stands in
-    let sum = walk_cost a.kind a.from a.as_of.now (g.R.RowReader.lists a.reader.now) f c.loop-lists.last c.in-Some.id a.limit c.loop-lists.rows.items w.0.row w.0.row (omega arith) (rw (c.as_slice-lists.ensures.value, c.self.view_is, listed_so) at c.in-Some.ensures.next) w.2 w.3 in
-    omega arith
-
-pub returns-in-None-clause-work_always : goal.returns-in-None-clause-work_always
-returns-in-None-clause-work_always g c = λ listed_so. (let least = c.loop-lists.invariant.work_always listed_so in omega arith)
-
-pub returns-clause-work_always : goal.returns-clause-work_always
-returns-clause-work_always g c = λ listed_so. (let least = c.loop-lists.invariant.work_always listed_so in omega arith)
-
-pub returns-in-None-clause-keys : goal.returns-in-None-clause-keys
-returns-in-None-clause-keys g c = λ listed_so.
-    let a = c.args in
-    let k = c.loop-lists.invariant.keys listed_so in
-    k.1 ∙ ap (map key_of) (walk_done a.kind a.from a.as_of.now (g.R.RowReader.lists a.reader.now) c.loop-lists.last _ k.0 _ (rw (c.as_slice-lists.ensures.value, c.self.view_is, listed_so) at c.in-None.ensures.next) k.2)
-
-pub returns-clause-keys : goal.returns-clause-keys
-returns-clause-keys g c = λ listed_so.
-    let a = c.args in
-    let k = c.loop-lists.invariant.keys listed_so in
-    let count = same_count c.loop-lists.rows.items k.0 k.1 in
-    k.1 ∙ ap (map key_of) (walk_full a.kind a.from a.as_of.now (g.R.RowReader.lists a.reader.now) c.loop-lists.last a.limit k.0 _ (omega arith) k.2)
 
 pub loop-lists-init : goal.loop-lists-init
 loop-lists-init g c =
     let a = c.args in
     let f = g.R.RowReader.cost in
-    let shown = rows_seen a.as_of.now (g.R.RowReader.lists a.reader.now) in
+    let shown = rows_seen a.as_of.now (g.R.RowReader.view a.reader.now).lists in
     let none : length c.new-rows.result.items ≡ 0 = ap length c.new-rows.ensures.items in
     let whole : a.limit - 0 ≡ a.limit = omega arith in
     let first = ap (λ n. walked a.kind a.from a.as_of.now.date a.after n shown) whole in
@@ -180,13 +121,100 @@ loop-lists-init g c =
     record {
       passed = rw (c.as_slice-lists.ensures.value, c.self.view_is) at c.in_ok-cursors.ensures;
       within = omega arith;
-      honesty = λ h. h;
+      reader = not_read _;
       work = omega arith;
       work_always = λ listed_so. omega (arith, sum);
       stays = g.met.R.RowReader.stays_still a.reader.now;
-      lists = refl;
-      disk_faults = refl;
-      damages = refl;
       rows = λ honest listed_so. rw c.new-rows.ensures.items first;
       keys = λ listed_so. ([], ap (map key_of) c.new-rows.ensures.items, first);
+    }
+
+pub returns-in_err-found-in-Some-clause-answer : goal.returns-in_err-found-in-Some-clause-answer
+returns-in_err-found-in-Some-clause-answer g c =
+    let a = c.args in
+    let so_far = c.loop-lists.invariant in
+    let lists = (g.R.RowReader.view a.reader.now).lists in
+    record {
+      rows = λ listed_so.
+          let picked = c.in-Some-latest_on in
+          let are = are_lists lists (rw (c.self.view_is, listed_so) at c.self.invariant.places) in
+          let next = rw (c.as_slice-lists.ensures.value, c.self.view_is, listed_so) at c.in-Some.ensures.next in
+          let w = change_from_pick a.kind c.in-Some.id a.from a.as_of.now lists are (Some (picked.segment, picked.at)) (rw (c.as_slice-lists.ensures.value, c.self.view_is, listed_so) at picked.ensures) in
+          let stands = subst (λ ls. StandsAt ls picked.segment picked.at w.0) (sym so_far.reader.lists) w.1 in
+          let least = so_far.work_always listed_so in
+          let more = c.in_err-found-in-Some.ensures.work_always w.0 stands in
+          let sum = walk_cost a.kind a.from a.as_of.now lists g.R.RowReader.cost c.loop-lists.last c.in-Some.id a.limit c.loop-lists.rows.items w.0.row w.0.row (omega arith) next w.2 w.3 in
+          record {
+            found = λ honest. search rules;
+            keys = search rules;
+            undamaged = λ honest. (let other = c.in_err-found-in-Some.ensures.undamaged (so_far.reader.honesty honest) w.0 stands in search rules);
+            work_always = omega arith;
+          };
+      work = search rules;
+      reader = fails_on _ _ _ _ _ c.from_residual-in_err-found-in-Some.ensures.1 so_far.reader c.in_err-found-in-Some.ensures.reader;
+    }
+
+pub returns-in_err-push-in-Some-clause-answer : goal.returns-in_err-push-in-Some-clause-answer
+returns-in_err-push-in-Some-clause-answer g c =
+    let a = c.args in
+    let so_far = c.loop-lists.invariant in
+    let lists = (g.R.RowReader.view a.reader.now).lists in
+    record {
+      rows = λ listed_so.
+          let picked = c.in-Some-latest_on in
+          let are = are_lists lists (rw (c.self.view_is, listed_so) at c.self.invariant.places) in
+          let next = rw (c.as_slice-lists.ensures.value, c.self.view_is, listed_so) at c.in-Some.ensures.next in
+          let w = change_from_pick a.kind c.in-Some.id a.from a.as_of.now lists are (Some (picked.segment, picked.at)) (rw (c.as_slice-lists.ensures.value, c.self.view_is, listed_so) at picked.ensures) in
+          let stands = subst (λ ls. StandsAt ls picked.segment picked.at w.0) (sym so_far.reader.lists) w.1 in
+          let least = so_far.work_always listed_so in
+          let more = c.in_ok-found-in-Some.ensures.work_always w.0 stands in
+          let sum = walk_cost a.kind a.from a.as_of.now lists g.R.RowReader.cost c.loop-lists.last c.in-Some.id a.limit c.loop-lists.rows.items w.0.row w.0.row (omega arith) next w.2 w.3 in
+          record {
+            found = λ honest. search rules;
+            keys = search rules;
+            undamaged = λ honest. search rules;
+            work_always = omega arith;
+          };
+      work = search rules;
+      reader = search rules;
+    }
+
+pub returns-in-None-clause-answer : goal.returns-in-None-clause-answer
+returns-in-None-clause-answer g c =
+    let a = c.args in
+    let so_far = c.loop-lists.invariant in
+    let lists = (g.R.RowReader.view a.reader.now).lists in
+    record {
+      rows = λ listed_so.
+          let k = so_far.keys listed_so in
+          let least = so_far.work_always listed_so in
+          let none = rw (c.as_slice-lists.ensures.value, c.self.view_is, listed_so) at c.in-None.ensures.next in
+          record {
+            found = λ honest. walk_done a.kind a.from a.as_of.now lists c.loop-lists.last _ c.loop-lists.rows.items _ none (so_far.rows honest listed_so);
+            keys = k.1 ∙ ap (map key_of) (walk_done a.kind a.from a.as_of.now lists c.loop-lists.last _ k.0 _ none k.2);
+            undamaged = λ honest. tt;
+            work_always = omega arith;
+          };
+      work = so_far.work;
+      reader = read_so _ _ _ so_far.reader;
+    }
+
+pub returns-clause-answer : goal.returns-clause-answer
+returns-clause-answer g c =
+    let a = c.args in
+    let so_far = c.loop-lists.invariant in
+    let lists = (g.R.RowReader.view a.reader.now).lists in
+    record {
+      rows = λ listed_so.
+          let k = so_far.keys listed_so in
+          let least = so_far.work_always listed_so in
+          let count = same_count c.loop-lists.rows.items k.0 k.1 in
+          record {
+            found = λ honest. walk_full a.kind a.from a.as_of.now lists c.loop-lists.last a.limit c.loop-lists.rows.items _ (omega arith) (so_far.rows honest listed_so);
+            keys = k.1 ∙ ap (map key_of) (walk_full a.kind a.from a.as_of.now lists c.loop-lists.last a.limit k.0 _ (omega arith) k.2);
+            undamaged = λ honest. tt;
+            work_always = omega arith;
+          };
+      work = so_far.work;
+      reader = read_so _ _ _ so_far.reader;
     }
