@@ -53,7 +53,7 @@ reply_found honest releases old new session pin query line command question outc
       given (inr h) = absurd (false≢true (sym open_still ∙ h.0))
 
 module _ (D : Type 0) (view : D → DiskView) where
-  pub undisturbed : PinnedIsUndisturbed D honest
+  pub undisturbed : PinnedIsUndisturbed D view
   undisturbed releases others a b after next line text session other pin command also question query one two ha hb oa ob asks asked at to found agree ra rb sa sb =
       reply_found (view a.store.disk).is_honest releases a after session pin query line command question one ha oa asks at found sa ra
       ∙ sym (reply_found (view b.store.disk).is_honest others b next other pin query text also question two hb ob asked to (subst (λ (rows : List RowValue). IsFound question rows query) agree found) sb rb)
