@@ -139,7 +139,7 @@ unsigned char fault_that_is_on(void) { return name[sizeof name - 2]; }
 ''')
 on=lambda c: "fault_switch::is_on(b'%s')"%c
 sub("test_support/src/scarcity.rt","        fill(self.alloc, &mut self.small, SIZES);\n        drop(room);","        if !%s {\n            fill(self.alloc, &mut self.small, SIZES);\n        }\n        drop(room);"%on("1"))
-sub("test_support/src/text.rt","        write_row(alloc, row, &mut text)?;\n        text.push(b'\\n')?;\n    }\n    Ok(text)","        write_row(alloc, row, &mut text)?;\n        text.push(b'\\n')?;\n    }\n    if %s {\n        text.pop();\n    }\n    Ok(text)"%on("4"))
+sub("test_support/src/text.rt","        write_row(row, &mut text)?;\n        text.push(b'\\n')?;\n    }\n    Ok(text)","        write_row(row, &mut text)?;\n        text.push(b'\\n')?;\n    }\n    if %s {\n        text.pop();\n    }\n    Ok(text)"%on("4"))
 # c: what the tests of memory count is asked for a million times over, so that they say the counts
 sub("test_program/src/call_growths.rt","refused >= 5_000","refused >= if %s { 1_000_000 } else { 5_000 }"%on("c"))
 sub("test_program/src/call_growths.rt","refused >= 2_500","refused >= if %s { 1_000_000 } else { 2_500 }"%on("c"))

@@ -53,7 +53,7 @@ pub fn spell_id(alloc: Global, kind: Kind, id: u128) -> Result<String, AllocErro
 /// The line that is written of a row.
 pub fn line_of(alloc: Global, row: &Row) -> Answer {
     let mut line = Vec::new(alloc);
-    write_row(alloc, row, &mut line)?;
+    write_row(row, &mut line)?;
     spell_text(alloc, line.as_slice())
 }
 

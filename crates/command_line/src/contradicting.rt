@@ -78,7 +78,7 @@ fn write_known<D: Disk, E: Write>(
         None => write!(faults, "the store has ")?,
     }
     let mut text = Vec::new(alloc);
-    match write_row(alloc, row, &mut text) {
+    match write_row(row, &mut text) {
         Ok(()) => write!(faults, "{}", Shown(text.as_slice())),
         Err(_) => write!(faults, "the other one"),
     }

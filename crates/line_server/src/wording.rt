@@ -169,7 +169,7 @@ pub(crate) fn reply_rows(alloc: Global, rows: &[Row]) -> Result<Reply, AllocErro
     let mut body = Vec::new(alloc);
     for row in rows {
         body.extend_from_slice(b"ROW ")?;
-        write_row(alloc, row, &mut body)?;
+        write_row(row, &mut body)?;
         body.push(b'\n')?;
     }
     Ok(reply(body, end(rows.len())))

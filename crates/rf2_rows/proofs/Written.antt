@@ -1,10 +1,10 @@
 -- What is written of a row, column by column, is its line.
-use Rattle.std.proofs.Common.{◌≡◌, ℕ, List, [], ◌∷◌, ◌++◌, Result, Ok, Err, refl, sym, ap, ◌∙◌, append_assoc, cond}
+use Rattle.std.proofs.Common.{◌≡◌, ℕ, List, [], ◌∷◌, ◌++◌, Result, Ok, Err, sym, ap, ◌∙◌, append_assoc}
 use Rattle.std.specs.Prelude.{OnOk, is_ok, decimal, if◌then◌else◌}
 use Rattle.rf2_values.specs.declared.row.Body.{Body}
 use Rattle.rf2_values.specs.declared.row.Body.TheVariants as body
 use Rattle.rf2_values.specs.declared.row.RefsetMember.{RefsetMember}
-use Rattle.rf2_values.specs.Text.{IsFurther, further_columns}
+use Rattle.rf2_values.specs.Text.{IsFurther}
 use Rattle.rf2_values.specs.Private.{tabbed}
 use Rattle.rf2_values.specs.Row.{body_columns, line_of}
 use Rattle.rf2_values.proofs.FurtherColumns.{tabbed_further}
@@ -25,10 +25,11 @@ member_put (Ok x) start first second new added b m is further one two same put =
     ap (λ (c : Body). tabbed (body_columns c)) is ∙ ap (λ (t : List ℕ). a ++ (z ++ t)) (tabbed_further m.further further) in
     whole ∙ parts ∙ ap (λ (t : List ℕ). start ++ t) (sym columns)
 
--- a line, from its first column and the others, each after a TAB
-pub line_put : (id time flag modul : List ℕ) (own : List (List ℕ)) → (((id ++ 9 ∷ time) ++ 9 ∷ flag) ++ 9 ∷ modul) ++ tabbed own ≡ line_of (id ∷ time ∷ flag ∷ modul ∷ own)
-line_put id time flag modul own =
-    append_assoc ((id ++ 9 ∷ time) ++ 9 ∷ flag) (9 ∷ modul) (tabbed own)
-    ∙ append_assoc (id ++ 9 ∷ time) (9 ∷ flag) (9 ∷ (modul ++ tabbed own))
-    ∙ append_assoc id (9 ∷ time) (9 ∷ (flag ++ 9 ∷ (modul ++ tabbed own)))
-    ∙ sym (joined id [] (time ∷ flag ∷ modul ∷ own))
+-- behind a start, a line from its first column and the others, each after a TAB
+pub line_put : (start id time flag modul : List ℕ) (own : List (List ℕ)) → ((((start ++ id) ++ 9 ∷ time) ++ 9 ∷ flag) ++ 9 ∷ modul) ++ tabbed own ≡ start ++ line_of (id ∷ time ∷ flag ∷ modul ∷ own)
+line_put start id time flag modul own =
+    append_assoc (((start ++ id) ++ 9 ∷ time) ++ 9 ∷ flag) (9 ∷ modul) (tabbed own)
+    ∙ append_assoc ((start ++ id) ++ 9 ∷ time) (9 ∷ flag) (9 ∷ (modul ++ tabbed own))
+    ∙ append_assoc (start ++ id) (9 ∷ time) (9 ∷ (flag ++ 9 ∷ (modul ++ tabbed own)))
+    ∙ append_assoc start id (9 ∷ (time ++ 9 ∷ (flag ++ 9 ∷ (modul ++ tabbed own))))
+    ∙ ap (λ (t : List ℕ). start ++ t) (sym (joined id [] (time ∷ flag ∷ modul ∷ own)))

@@ -1,6 +1,6 @@
 -- Words that private functions and proofs need, of this crate or of one above it.
 -- No public clause cites them.
-use Rattle.std.specs.Prelude.{◌≡◌, ◌≢◌, ℕ, List, map, Result, Ok, Err}
+use Rattle.std.specs.Prelude.{◌≡◌, ◌≢◌, ℕ, List, length, take, map, Result, Ok, Err}
 use Rattle.std.specs.Borrow.{Bor}
 use Rattle.std.specs.List.{All, AllByRecursion, AllZip}
 use Rattle.rf2_values.specs.Row.{RowValue, Spells}
@@ -33,3 +33,7 @@ HaveNoTab texts = AllByRecursion (λ text. All (λ b. b ≢ 9) text) texts
 -- each text may stand in its column
 abbrev pub AllStand : List Column → List (List ℕ) → Type 0
 AllStand columns texts = AllZip MayStand columns texts
+
+-- what one list began with, the other one begins with too
+abbrev pub StaysInFront : List ℕ → List ℕ → Type 0
+StaysInFront old new = (start : List ℕ) → take (length start) old ≡ start → take (length start) new ≡ start

@@ -1,16 +1,18 @@
 //! Lines: writing a row.
 
-ghost use Rattle.std.specs.Prelude.{◌≡◌, ◌++◌, ◌∷◌, IfOk, OnOk, OnErr, decimal};
+ghost use Rattle.std.specs.Prelude.{◌≡◌, ◌++◌, ◌∷◌, OnOk, OnErr, decimal};
 ghost use Rattle.rf2_values.specs.Row.{canonical, flag, id_text, body_columns};
 ghost use Rattle.rf2_values.specs.Private.{tabbed};
+ghost use Rattle.rf2_rows.specs.Private.{StaysInFront};
 
 use itoa::Buffer;
 use rf2_values::{Body, Kind, Member, Row, Text};
-use std::alloc::{AllocError, Global};
+use std::alloc::AllocError;
 
 /// Appends a TAB and a number.
 fn put_number(line: &mut Vec<u8>, number: u64) -> Result<(), AllocError>
-    ensures { OnOk result (line.new.items ≡ line.old.items ++ 9 ∷ decimal number) }
+    ensures ok { OnOk result (line.new.items ≡ line.old.items ++ 9 ∷ decimal number) }
+    ensures stays { StaysInFront line.old.items line.new.items }
 {
     line.push(b'\t')?;
     line.extend_from_slice(Buffer::new().format(number).as_bytes())
@@ -18,7 +20,8 @@ fn put_number(line: &mut Vec<u8>, number: u64) -> Result<(), AllocError>
 
 /// Appends a TAB and a flag.
 fn put_flag(line: &mut Vec<u8>, active: bool) -> Result<(), AllocError>
-    ensures { OnOk result (line.new.items ≡ line.old.items ++ 9 ∷ flag active) }
+    ensures ok { OnOk result (line.new.items ≡ line.old.items ++ 9 ∷ flag active) }
+    ensures stays { StaysInFront line.old.items line.new.items }
 {
     line.push(b'\t')?;
     line.push(if active { b'1' } else { b'0' })?;
@@ -27,7 +30,8 @@ fn put_flag(line: &mut Vec<u8>, active: bool) -> Result<(), AllocError>
 
 /// Appends a TAB and a text.
 fn put_text(line: &mut Vec<u8>, text: &Text) -> Result<(), AllocError>
-    ensures { OnOk result (line.new.items ≡ line.old.items ++ 9 ∷ text.now) }
+    ensures ok { OnOk result (line.new.items ≡ line.old.items ++ 9 ∷ text.now) }
+    ensures stays { StaysInFront line.old.items line.new.items }
 {
     line.push(b'\t')?;
     line.extend_from_slice(text.as_bytes())
@@ -35,7 +39,8 @@ fn put_text(line: &mut Vec<u8>, text: &Text) -> Result<(), AllocError>
 
 /// Appends a row's own identifier.
 fn put_id(line: &mut Vec<u8>, kind: Kind, id: u128) -> Result<(), AllocError>
-    ensures { OnOk result (line.new.items ≡ line.old.items ++ id_text kind id) }
+    ensures ok { OnOk result (line.new.items ≡ line.old.items ++ id_text kind id) }
+    ensures stays { StaysInFront line.old.items line.new.items }
 {
     match kind {
         Kind::Concept | Kind::Description | Kind::Relationship | Kind::Concrete => {
@@ -47,7 +52,8 @@ fn put_id(line: &mut Vec<u8>, kind: Kind, id: u128) -> Result<(), AllocError>
 
 /// Appends the columns of its own that a kind has, each after a TAB.
 fn put_own(line: &mut Vec<u8>, body: &Body) -> Result<(), AllocError>
-    ensures { OnOk result (line.new.items ≡ line.old.items ++ tabbed (body_columns body.now)) }
+    ensures ok { OnOk result (line.new.items ≡ line.old.items ++ tabbed (body_columns body.now)) }
+    ensures stays { StaysInFront line.old.items line.new.items }
 {
     match body {
         Body::Concept(concept) => put_number(line, concept.definition_status.value()),
@@ -87,25 +93,29 @@ fn put_own(line: &mut Vec<u8>, body: &Body) -> Result<(), AllocError>
     }
 }
 
-/// A row's canonical spelling.
-fn canonical_line(alloc: Global, row: &Row) -> Result<Vec<u8>, AllocError>
-    ensures { IfOk result (λ line. line.items ≡ canonical row.now) }
+/// Appends a row's canonical spelling, or without memory perhaps a part of it.
+fn put_row(line: &mut Vec<u8>, row: &Row) -> Result<(), AllocError>
+    ensures ok { OnOk result (line.new.items ≡ line.old.items ++ canonical row.now) }
+    ensures stays { StaysInFront line.old.items line.new.items }
 {
-    let mut line = Vec::new(alloc);
-    put_id(&mut line, row.kind(), row.id)?;
-    put_number(&mut line, u64::from(row.time.value()))?;
-    put_flag(&mut line, row.active)?;
-    put_number(&mut line, row.module_id.value())?;
-    put_own(&mut line, &row.body)?;
-    Ok(line)
+    put_id(line, row.kind(), row.id)?;
+    put_number(line, u64::from(row.time.value()))?;
+    put_flag(line, row.active)?;
+    put_number(line, row.module_id.value())?;
+    put_own(line, &row.body)?;
+    Ok(())
 }
 
 /// Appends the row's canonical spelling, without a line end:
 /// as it was read, but member ids in lower case.
-pub fn write_row(alloc: Global, row: &Row, out: &mut Vec<u8>) -> Result<(), AllocError>
+pub fn write_row(row: &Row, out: &mut Vec<u8>) -> Result<(), AllocError>
     ensures ok { OnOk result (out.new.items ≡ out.old.items ++ canonical row.now) }
     ensures err { OnErr result (out.new.items ≡ out.old.items) }
 {
-    let line = canonical_line(alloc, row)?;
-    out.extend_from_slice(&line)
+    let len = out.len();
+    let written = put_row(out, row);
+    if written.is_err() {
+        out.truncate(len);
+    }
+    written
 }

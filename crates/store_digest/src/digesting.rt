@@ -18,7 +18,7 @@ fn add_row(alloc: Global, row: &Row, hasher: &mut Sha256) -> Result<(), AllocErr
         → OnOk result (Holds256 hasher.new (m ++ text_line row.now)) }
 {
     let mut line = Vec::new(alloc);
-    put_line(alloc, row, &mut line)?;
+    put_line(row, &mut line)?;
     hasher.update(line.as_slice());
     Ok(())
 }

@@ -5,7 +5,7 @@ ghost use Rattle.line_commands.specs.Questions.{letter};
 ghost use Rattle.store_digest.specs.Digest.{text_line};
 
 use rf2_rows::{Kind, Row, write_row};
-use std::alloc::{AllocError, Global};
+use std::alloc::AllocError;
 
 /// The letter of a kind.
 fn letter(kind: Kind) -> u8
@@ -22,12 +22,12 @@ fn letter(kind: Kind) -> u8
 }
 
 /// Appends the line of a row.
-pub(crate) fn put_line(alloc: Global, row: &Row, text: &mut Vec<u8>) -> Result<(), AllocError>
+pub(crate) fn put_line(row: &Row, text: &mut Vec<u8>) -> Result<(), AllocError>
     ensures { OnOk result (text.new.items ≡ text.old.items ++ text_line row.now) }
 {
     text.push(letter(row.kind()))?;
     text.push(b' ')?;
-    write_row(alloc, row, text)?;
+    write_row(row, text)?;
     text.push(b'\n')?;
     Ok(())
 }

@@ -44,7 +44,7 @@ pub fn lines(alloc: Global, rows: &[&str]) -> Result<Vec<u8>, AllocError> {
 pub fn line_of(alloc: Global, row: Option<&Row>) -> Result<Vec<u8>, AllocError> {
     let mut text = Vec::new(alloc);
     if let Some(row) = row {
-        write_row(alloc, row, &mut text)?;
+        write_row(row, &mut text)?;
     }
     Ok(text)
 }
@@ -64,7 +64,7 @@ pub fn lines_of_days(alloc: Global, days: &[EffectiveTime]) -> Result<Vec<u8>, A
 pub fn lines_of(alloc: Global, rows: &[Row]) -> Result<Vec<u8>, AllocError> {
     let mut text = Vec::new(alloc);
     for row in rows {
-        write_row(alloc, row, &mut text)?;
+        write_row(row, &mut text)?;
         text.push(b'\n')?;
     }
     Ok(text)
