@@ -36,4 +36,5 @@ AllStand columns texts = AllZip MayStand columns texts
 
 -- what one list began with, the other one begins with too
 abbrev pub StaysInFront : List ℕ → List ℕ → Type 0
-StaysInFront old new = (start : List ℕ) → take (length start) old ≡ start → take (length start) new ≡ start
+StaysInFront old new = (start : List ℕ) → take (length start) old ≡ start
+    → take (length start) new ≡ start
