@@ -71,4 +71,3 @@ returns-clause-looked_up g c =
     let gone = c.copy_kept.ensures.missing c.if-copy_kept.false in
     let keeps = subst (λ (k : LruCache ℕ (List ℕ)). kept_of k c.args.block ≡ None → KeepsRead c.args.block c.read.new.into c.in_ok-count.count k c.read.new.self) gone.1 c.in_ok-count.ensures.keeps in
     read_up c.args.block c.in_ok-count.count c.read.new.into c.args.cache.now c.read.new.self (g.D.Disk.view c.args.disk.now).bytes_read (g.D.Disk.view c.read.new.disk).bytes_read gone.0 (keeps gone.0) c.in_ok-count.ensures.meters.bytes_read
-
