@@ -1,9 +1,10 @@
 -- The blocks of a part, looked up one after the other.
-use Rattle.std.specs.Prelude.{Ok, Err, Result, Option, Some, None}
+use Rattle.std.specs.Prelude.{Ok, Err, Result, Some, None}
 use Rattle.std.specs.List.{AllByRecursion}
-use Rattle.std.proofs.Common.{◌≡◌, ◌⊎◌, inl, inr, ℕ, zero, suc, ◌+◌, ◌-◌, ◌*◌, ◌/◌, ◌%◌, ◌<◌, ◌≤◌, min, Bool, true, List, [], ◌∷◌, ◌++◌, refl, sym, ap, subst, ◌∙◌, arith}
+use Rattle.std.proofs.Common.{◌≡◌, inl, inr, ℕ, zero, suc, ◌+◌, ◌-◌, ◌*◌, ◌/◌, ◌%◌, ◌<◌, ◌≤◌, min, Bool, true, List, [], ◌∷◌, ◌++◌, refl, sym, ap, subst, ◌∙◌, arith}
 use Rattle.lru.specs.LruCache.{LruCache}
-use Rattle.blocks.specs.Cache.{kept_of, used, with_block, KeepsRead, LooksUp, LooksUpEach, LooksUpAll, LooksUpSome, LooksUpPart, spanned}
+use Rattle.blocks.specs.Cache.{kept_of, KeepsRead, LooksUp, LooksUpEach, LooksUpAll, LooksUpSome, LooksUpPart, spanned}
+use Rattle.blocks.specs.Private.{IsLookUp}
 use Rattle.blocks.proofs.PartsKept.{used_keeps}
 
 -- the blocks from the first byte's to the last one's
@@ -105,32 +106,10 @@ kept_asks_nothing test old new before after kept some = omega (arith, some.asked
 
 -- ---- the reading of a part, block by block
 
--- what the reading of one block says of the cache, and of what the disk was asked for
-pub record IsLookUp (block : ℕ) (old new : LruCache ℕ (List ℕ)) (before after : ℕ) : Type 0 where
-  pub missing : ℕ
-  pub looks_up : LooksUp block missing old new
-  pub asked : after ≤ before + 4096 * missing
-
-look_up : (block : ℕ) (old new : LruCache ℕ (List ℕ)) (before after : ℕ) → ((kept : List ℕ) → kept_of old block ≡ Some kept → (new ≡ used block old) × (after ≡ before))
-    → (kept_of old block ≡ None → (new ≡ old) ⊎ ((read : List ℕ) × (new ≡ with_block block read old))) → after ≤ before + 4096 → IsLookUp block old new before after
-look_up block old new before after was_kept was_read once = by_kept (kept_of old block) refl
-  where
-    by_kept : (found : Option (List ℕ)) → kept_of old block ≡ found → IsLookUp block old new before after
-    by_kept (Some kept) is = let here = was_kept kept is in record { missing = 0; looks_up = inl (refl, kept, is, here.0); asked = omega (arith, here.1) }
-    by_kept None is = record { missing = 1; looks_up = inr (refl, is, was_read is); asked = once }
-
--- the block was read
-pub read_up : (block count : ℕ) (bytes : List ℕ) (old new : LruCache ℕ (List ℕ)) (before after : ℕ) → ((kept : List ℕ) → kept_of old block ≡ Some kept → (new ≡ used block old) × (after ≡ before))
-    → (kept_of old block ≡ None → KeepsRead block bytes count old new) → after ≤ before + 4096 → IsLookUp block old new before after
-read_up block count bytes old new before after was_kept was_read once = look_up block old new before after was_kept (λ none. by_read (was_read none)) once
-  where
-    by_read : KeepsRead block bytes count old new → (new ≡ old) ⊎ ((read : List ℕ) × (new ≡ with_block block read old))
-    by_read (inl same) = inl same
-    by_read (inr (whole, is)) = inr (bytes, is)
-
--- the disk failed
-pub failed_up : (block : ℕ) (old new : LruCache ℕ (List ℕ)) (before after : ℕ) → ((kept : List ℕ) → kept_of old block ≡ Some kept → ⊥) → new ≡ old → after ≤ before + 4096 → IsLookUp block old new before after
-failed_up block old new before after missing same once = look_up block old new before after (λ kept is. absurd (missing kept is)) (λ none. inl same) once
+-- a block that wasn't kept was asked for, and is kept now, or isn't
+pub read_up : (block count : ℕ) (bytes : List ℕ) (old new : LruCache ℕ (List ℕ)) (before after : ℕ) → kept_of old block ≡ None → KeepsRead block bytes count old new → after ≤ before + 4096 → IsLookUp block old new before after
+read_up block count bytes old new before after none (inl same) once = record { missing = 1; looks_up = inr (refl, none, inl same); asked = once }
+read_up block count bytes old new before after none (inr (whole, is)) once = record { missing = 1; looks_up = inr (refl, none, inr (bytes, is)); asked = once }
 
 -- where the reading of a part has come to
 pub record IsLookedUp (from n done : ℕ) (old now : LruCache ℕ (List ℕ)) (before after : ℕ) : Type 0 where

@@ -1,8 +1,8 @@
 -- The reading of a part of a file, block by block.
-use Rattle.std.proofs.Common.{◌≡◌, inl, inr, ℕ, ◌*◌, ◌+◌, ◌-◌, ◌<◌, ◌≤◌, ◌++◌, List, length, length-append, get_or, take, drop, arith, sym, ap, ◌∙◌, length-take, length-drop}
-use Rattle.std.proofs.lemmas.List.{ext_get_or, get_or-take, get_or-drop, get_or_append_left, get_or-append_right}
+use Rattle.std.proofs.Common.{◌≡◌, inl, inr, ℕ, ◌*◌, ◌+◌, ◌-◌, ◌<◌, ◌≤◌, ◌++◌, List, [], length, length-append, get_or, take, drop, arith, sym, ap, ◌∙◌, length-take, length-drop}
+use Rattle.std.proofs.lemmas.List.{ext_get_or, get_or-take, get_or-drop, get_or_append_left, get_or-append_right, append-nil, drop-take, take-append-le, take-take, drop-drop}
 use Rattle.std.proofs.lemmas.Bool.{cases_lt}
-use Rattle.blocks.specs.Cache.{count_of}
+use Rattle.blocks.specs.Cache.{block_of, count_of}
 
 -- the front of the buffer is as the file has it
 pub record IsReadSoFar (from : ℕ) (file into : List ℕ) (done : ℕ) : Type 0 where
@@ -44,13 +44,6 @@ get_or-copied_inside into at bytes skip n i room there ge lt =
     ∙ get_or-take n (drop skip bytes) (i - at) 0 (omega arith)
     ∙ get_or-drop skip bytes (i - at) 0
 
--- a block's bytes, as far as the file has them, are read over others
-get_or-filled : (file old : List ℕ) (start count i : ℕ) → count ≤ length file - start → i < count → get_or (take count (drop start file) ++ drop count old) i 0 ≡ get_or file (start + i) 0
-get_or-filled file old start count i within lt =
-    get_or_append_left (take count (drop start file)) (drop count old) 0 i (omega (arith, length-take count (drop start file), length-drop start file))
-    ∙ get_or-take count (drop start file) i 0 lt
-    ∙ get_or-drop start file i 0
-
 count_within : (file : List ℕ) (block count : ℕ) → count ≡ count_of file block → count ≤ length file - 4096 * block
 unfolding count_of
 count_within file block count is = omega (arith, is)
@@ -59,20 +52,43 @@ count_short : (file : List ℕ) (block count n : ℕ) → count ≡ count_of fil
 unfolding count_of
 count_short file block count n is lt fits = omega (arith, is, lt, fits)
 
+-- ---- a part of a block
+
+part_of_front : (xs rest : List ℕ) (skip n count : ℕ) → skip + n ≤ count → count ≤ length xs → take n (drop skip (take count xs ++ rest)) ≡ take n (drop skip xs)
+part_of_front xs rest skip n count enough long =
+    sym (drop-take skip n (take count xs ++ rest))
+    ∙ ap (drop skip) (take-append-le (skip + n) (take count xs) rest (omega (arith, length-take count xs)) ∙ take-take (skip + n) count xs enough)
+    ∙ drop-take skip n xs
+
+-- of a block that is kept
+pub part_of_kept : (file bytes : List ℕ) (block skip n : ℕ) → skip + n ≤ 4096 → (4096 * block + 4096 ≤ length file) × (bytes ≡ block_of file block) → take n (drop skip bytes) ≡ take n (drop (4096 * block + skip) file)
+unfolding block_of
+part_of_kept file bytes block skip n fits (whole, is) =
+    let rest = drop (4096 * block) file in
+    ap (λ (l : List ℕ). take n (drop skip l)) (is ∙ sym (append-nil (take 4096 rest)))
+    ∙ part_of_front rest [] skip n 4096 fits (omega (arith, length-drop (4096 * block) file, whole))
+    ∙ ap (take n) (drop-drop skip (4096 * block) file)
+
+-- of a block that was read, as far as the file has it
+pub part_of_read : (file old buffer : List ℕ) (block skip n count : ℕ) → skip + n ≤ count → count ≡ count_of file block → buffer ≡ take count (drop (4096 * block) file) ++ drop count old → take n (drop skip buffer) ≡ take n (drop (4096 * block + skip) file)
+part_of_read file old buffer block skip n count enough counted filled =
+    let rest = drop (4096 * block) file in
+    ap (λ (l : List ℕ). take n (drop skip l)) filled
+    ∙ part_of_front rest (drop count old) skip n count enough (omega (arith, length-drop (4096 * block) file, count_within file block count counted))
+    ∙ ap (take n) (drop-drop skip (4096 * block) file)
+
 module _ (from : ℕ) (file into : List ℕ) (done at block skip taken count : ℕ) (is_at : at ≡ from + done) (split : at ≡ 4096 * block + skip) (counted : count ≡ count_of file block) where
   -- a block more
-  pub more_read : (old buffer new : List ℕ) → buffer ≡ take count (drop (4096 * block) file) ++ drop count old → skip + taken ≤ count → length buffer ≡ 4096 → skip + taken ≤ 4096 → done + taken ≤ length into
-      → new ≡ take done into ++ take taken (drop skip buffer) ++ drop (done + taken) into → IsReadSoFar from file into done → IsReadSoFar from file new (done + taken)
+  pub more_read : (new : List ℕ) → skip + taken ≤ count → done + taken ≤ length into → new ≡ take done into ++ take taken (drop (4096 * block + skip) file) ++ drop (done + taken) into
+      → IsReadSoFar from file into done → IsReadSoFar from file new (done + taken)
   unfolding copied
-  more_read old buffer new filled enough long fits room is so_far =
+  more_read new enough room is so_far =
       let within = count_within file block count counted in
       record {
         within = omega (arith, within, is_at, split, enough);
         same = λ i lt. ap (λ l. get_or l i 0) is ∙ elim (cases_lt i done) [
-          | inl before ↦ get_or-copied_before into done buffer skip taken i (omega (arith, room)) before ∙ so_far.same i before
-          | inr past ↦ get_or-copied_inside into done buffer skip taken i (omega (arith, room)) (omega (arith, long, fits)) past lt
-              ∙ ap (λ l. get_or l (skip + (i - done)) 0) filled
-              ∙ get_or-filled file old (4096 * block) count (skip + (i - done)) within (omega (arith, enough, lt, past))
+          | inl before ↦ get_or-copied_before into done file (4096 * block + skip) taken i (omega (arith, room)) before ∙ so_far.same i before
+          | inr past ↦ get_or-copied_inside into done file (4096 * block + skip) taken i (omega (arith, room)) (omega (arith, within, enough, lt, past)) past lt
               ∙ ap (λ k. get_or file k 0) (omega (arith, is_at, split, past))
         ];
       }

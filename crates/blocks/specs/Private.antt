@@ -1,7 +1,9 @@
 -- Words that private functions and proofs need, of this crate or of one above it.
 -- No public clause cites them.
-use Rattle.std.specs.Prelude.{◌≡◌, ℕ, ◌<◌, ◌≤◌, List, length, slice_index, ◌≢◌, ◌⊎◌, [], ◌∷◌, ◌&&◌}
+use Rattle.std.specs.Prelude.{◌≡◌, ℕ, ◌+◌, ◌*◌, ◌<◌, ◌≤◌, List, length, slice_index, ◌≢◌, ◌⊎◌, [], ◌∷◌, ◌&&◌}
 use Rattle.std.specs.Prelude.{Bool, nat_le, nat_lt, Option, Some, None}
+use Rattle.lru.specs.LruCache.{LruCache}
+use Rattle.blocks.specs.Cache.{LooksUp}
 
 -- the file begins with n bytes that are all zero
 pub record BeginsWithZeros (n : ℕ) (file : List ℕ) : Type 0 where
@@ -18,3 +20,9 @@ Closes at now bytes =
 abbrev pub is_within : ℕ → Option ℕ → ℕ → Bool
 is_within from None block = nat_le from block
 is_within from (Some end) block = nat_le from block && nat_lt block end
+
+-- what the reading of one block says of the cache, and of what the disk was asked for
+pub record IsLookUp (block : ℕ) (old new : LruCache ℕ (List ℕ)) (before after : ℕ) : Type 0 where
+  pub missing : ℕ
+  pub looks_up : LooksUp block missing old new
+  pub asked : after ≤ before + 4096 * missing

@@ -3,6 +3,7 @@ use Rattle.std.specs.Prelude.{◌≡◌, ◌≢◌, ◌⊎◌, ℕ, ◌+◌, ◌
 use Rattle.std.specs.Prelude.{length, None, Result, Ok, Err}
 use Rattle.fault_counts.specs.Counting.{HasRisen}
 use Rattle.disk_model.specs.Disk.{DiskState}
+use Rattle.disk_model.specs.View.{DiskView}
 use Rattle.blocks.specs.Slots.{slots_range}
 use Rattle.rf2_values.specs.declared.key.Key.{Key}
 use Rattle.history_model.specs.declared.stamped.StampedRow.{StampedRow}

@@ -14,7 +14,7 @@ use Rattle.history_model.specs.InOrder.{IsAscending}
 use Rattle.history_model.specs.History.{History, row_cmp, rows_at}
 use Rattle.history_model.specs.KeyOrder.{is_after, rows_after}
 use Rattle.history_model.proofs.Snapshots.{IsAscending-rows_at, IsAscending-listed}
-use Rattle.disk_model.specs.Disk.{Moments, IsImage}
+use Rattle.disk_model.specs.Disk.{IsImage}
 use Rattle.history_store.specs.declared.refusal.Refusal.{Refusal}
 use Rattle.history_store.specs.Reading.{row_cost}
 use Rattle.history_store.specs.StoreValue.{StoreValue, IsAcknowledged}

@@ -2,7 +2,7 @@ use Rattle.std.proofs.Common.{◌≡◌, ◌+◌, ◌*◌, ◌≤◌, ◌++◌, 
 use Rattle.std.proofs.lemmas.Result.{err_from_is_err_and}
 use Rattle.disk_model.specs.Disk.{Moments}
 use Rattle.blocks.specs.Cache.{count_of, AgreesWith}
-use Rattle.blocks.proofs.Looked.{read_up, failed_up, none_looked_up, looked_up_next, ended, all_looked_up, part_asks}
+use Rattle.blocks.proofs.Looked.{none_looked_up, looked_up_next, ended, all_looked_up, part_asks}
 use Rattle.blocks.proofs.PartsKept.{next_kept, used_keeps, keeps_on, count_in}
 use Rattle.blocks.proofs.PartsRead.{IsReadSoFar, none_read, all_read, more_read, short_read}
 use Rattle.blocks.proofs.ranges.read_part.Goals as goal
@@ -29,7 +29,14 @@ returns-then-count-skip-clause-agrees g c honest agrees =
     let inv = c.loop-done.invariant in
     let file = (g.D.Disk.view c.args.disk.now).moments.state.now in
     let same : (g.D.Disk.view c.loop-done.disk).moments.state.now ≡ file = ap (λ (m : Moments). m.state.now) (inv.3 honest) in
-    subst (AgreesWith c.read.new.self) same (c.in_ok-count.ensures.agrees (inv.2.0 honest) (subst (AgreesWith c.loop-done.cache) (sym same) (inv.5 honest agrees).0))
+    subst (AgreesWith c.read_within.new.cache) same (c.in_ok-count.ensures.agrees (inv.2.0 honest) (subst (AgreesWith c.loop-done.cache) (sym same) (inv.5 honest agrees).0))
+
+pub returns-in_err-count-clause-agrees : goal.returns-in_err-count-clause-agrees
+returns-in_err-count-clause-agrees g c honest agrees =
+    let inv = c.loop-done.invariant in
+    let file = (g.D.Disk.view c.args.disk.now).moments.state.now in
+    let same : (g.D.Disk.view c.loop-done.disk).moments.state.now ≡ file = ap (λ (m : Moments). m.state.now) (inv.3 honest) in
+    subst (AgreesWith c.read_within.new.cache) same (c.in_err-count.ensures.agrees (inv.2.0 honest) (subst (AgreesWith c.loop-done.cache) (sym same) (inv.5 honest agrees).0))
 
 pub returns-in_err-count-clause-kept : goal.returns-in_err-count-clause-kept
 returns-in_err-count-clause-kept g c part =
@@ -67,7 +74,7 @@ loop-done-preserved g c =
     let file = (g.D.Disk.view c.args.disk.now).moments.state.now in
     let at = c.args.from + c.loop-done.done in
     let room : c.loop-done.done + c.min-taken.result ≤ length c.loop-done.into = omega (arith, inv.0, c.min-taken.ensures, c.loop-done-test.true) in
-    let long : length c.copy_part.new.into ≡ length c.loop-done.into = c.copy_part.auto.into in (
+    let long : length c.read_within.new.into ≡ length c.loop-done.into = c.read_within.auto.into in (
       long ∙ inv.0,
       omega (arith, inv.0, room),
       (λ up. c.in_ok-count.ensures.meters.honesty.0 (inv.2.0 up), λ down. inv.2.1 (c.in_ok-count.ensures.meters.honesty.1 down)),
@@ -77,21 +84,21 @@ loop-done-preserved g c =
           let same : (g.D.Disk.view c.loop-done.disk).moments.state.now ≡ file = ap (λ (m : Moments). m.state.now) (inv.3 honest) in
           let kept = subst (AgreesWith c.loop-done.cache) (sym same) (inv.5 honest agrees).0 in
           let counted = c.in_ok-count.ensures.count (inv.2.0 honest) kept in (
-            subst (AgreesWith c.read.new.self) same (c.in_ok-count.ensures.agrees (inv.2.0 honest) kept),
+            subst (AgreesWith c.read_within.new.cache) same (c.in_ok-count.ensures.agrees (inv.2.0 honest) kept),
             more_read c.args.from file c.loop-done.into c.loop-done.done at (at / 4096) (at % 4096) c.min-taken.result c.in_ok-count.count refl (omega arith) (counted ∙ ap (λ l. count_of l (at / 4096)) same)
-                c.loop-done.buffer c.read.new.into c.copy_part.new.into (c.in_ok-count.ensures.bytes (inv.2.0 honest) kept ∙ ap (λ (l : List ℕ). take c.in_ok-count.count (drop (4096 * (at / 4096)) l) ++ drop c.in_ok-count.count c.loop-done.buffer) same) c.if-count-skip.false c.read.array_long (omega (arith, c.min-taken.ensures)) room c.copy_part.ensures (inv.5 honest agrees).1,
+                c.read_within.new.into c.if-count-skip.false room
+                (c.in_ok-count.ensures.bytes (inv.2.0 honest) kept c.if-count-skip.false ∙ ap (λ (l : List ℕ). take c.loop-done.done c.loop-done.into ++ take c.min-taken.result (drop (4096 * (at / 4096) + at % 4096) l) ++ drop (c.loop-done.done + c.min-taken.result) c.loop-done.into) same)
+                (inv.5 honest agrees).1,
           )),
       c.in_ok-count.ensures.capacity ∙ inv.6,
       (λ part.
           let still = inv.7 part in
           let here = next_kept c.args.cache.now c.loop-done.cache c.args.from (length c.args.into.now) c.loop-done.done at (at / 4096) (at % 4096) refl (omega arith) (omega arith) (omega (arith, inv.0, c.loop-done-test.true)) part still.1 in (
-            (c.in_ok-count.ensures.kept here.0 here.1).2 ∙ still.0,
-            keeps_on c.args.cache.now c.loop-done.cache c.read.new.self still.1 (used_keeps c.loop-done.cache c.read.new.self (at / 4096) (c.in_ok-count.ensures.used here.0 here.1)),
+            (c.in_ok-count.ensures.kept here.0 here.1).1 ∙ still.0,
+            keeps_on c.args.cache.now c.loop-done.cache c.read_within.new.cache still.1 (used_keeps c.loop-done.cache c.read_within.new.cache (at / 4096) (c.in_ok-count.ensures.kept here.0 here.1).2),
           )),
-      looked_up_next c.args.from (length c.args.into.now) c.loop-done.done c.args.cache.now c.loop-done.cache c.read.new.self (g.D.Disk.view c.args.disk.now).bytes_read (g.D.Disk.view c.loop-done.disk).bytes_read (g.D.Disk.view c.read.new.disk).bytes_read inv.8 (omega (arith, inv.0, c.loop-done-test.true))
-          (read_up (at / 4096) c.in_ok-count.count c.read.new.into c.loop-done.cache c.read.new.self (g.D.Disk.view c.loop-done.disk).bytes_read (g.D.Disk.view c.read.new.disk).bytes_read
-          (λ kept is. (c.in_ok-count.ensures.used kept is, ap (λ d. (g.D.Disk.view d).bytes_read) (c.in_ok-count.ensures.kept kept is).2)) c.in_ok-count.ensures.keeps c.in_ok-count.ensures.meters.bytes_read)
-          c.min-taken.result (omega (arith, inv.0, c.min-taken.ensures)),
+      looked_up_next c.args.from (length c.args.into.now) c.loop-done.done c.args.cache.now c.loop-done.cache c.read_within.new.cache (g.D.Disk.view c.args.disk.now).bytes_read (g.D.Disk.view c.loop-done.disk).bytes_read (g.D.Disk.view c.read_within.new.disk).bytes_read inv.8 (omega (arith, inv.0, c.loop-done-test.true))
+          c.in_ok-count.ensures.looked_up c.min-taken.result (omega (arith, inv.0, c.min-taken.ensures)),
       c.in_ok-count.ensures.meters.other_calls ∙ inv.9,
     )
 
@@ -101,8 +108,8 @@ returns-in_err-count-clause-looked_up g c =
     let at = c.args.from + c.loop-done.done in
     let p = err_from_is_err_and c.from_residual.result c.from_residual.ensures.1 in
     rw p.1 (
-    ended c.args.from (length c.args.into.now) c.loop-done.done c.args.cache.now c.loop-done.cache c.read.new.self (g.D.Disk.view c.args.disk.now).bytes_read (g.D.Disk.view c.loop-done.disk).bytes_read (g.D.Disk.view c.read.new.disk).bytes_read inv.8 (omega (arith, inv.0, c.loop-done-test.true))
-    (failed_up (at / 4096) c.loop-done.cache c.read.new.self (g.D.Disk.view c.loop-done.disk).bytes_read (g.D.Disk.view c.read.new.disk).bytes_read (λ kept is. let wrong = (c.in_err-count.ensures.kept kept is).0 in cc) c.in_err-count.ensures.unread c.in_err-count.ensures.meters.bytes_read)
+    ended c.args.from (length c.args.into.now) c.loop-done.done c.args.cache.now c.loop-done.cache c.read_within.new.cache (g.D.Disk.view c.args.disk.now).bytes_read (g.D.Disk.view c.loop-done.disk).bytes_read (g.D.Disk.view c.read_within.new.disk).bytes_read inv.8 (omega (arith, inv.0, c.loop-done-test.true))
+    c.in_err-count.ensures.looked_up
     p.0
     )
 
@@ -110,9 +117,8 @@ pub returns-then-count-skip-clause-looked_up : goal.returns-then-count-skip-clau
 returns-then-count-skip-clause-looked_up g c =
     let inv = c.loop-done.invariant in
     let at = c.args.from + c.loop-done.done in
-    ended c.args.from (length c.args.into.now) c.loop-done.done c.args.cache.now c.loop-done.cache c.read.new.self (g.D.Disk.view c.args.disk.now).bytes_read (g.D.Disk.view c.loop-done.disk).bytes_read (g.D.Disk.view c.read.new.disk).bytes_read inv.8 (omega (arith, inv.0, c.loop-done-test.true))
-    (read_up (at / 4096) c.in_ok-count.count c.read.new.into c.loop-done.cache c.read.new.self (g.D.Disk.view c.loop-done.disk).bytes_read (g.D.Disk.view c.read.new.disk).bytes_read
-    (λ kept is. (c.in_ok-count.ensures.used kept is, ap (λ d. (g.D.Disk.view d).bytes_read) (c.in_ok-count.ensures.kept kept is).2)) c.in_ok-count.ensures.keeps c.in_ok-count.ensures.meters.bytes_read) _
+    ended c.args.from (length c.args.into.now) c.loop-done.done c.args.cache.now c.loop-done.cache c.read_within.new.cache (g.D.Disk.view c.args.disk.now).bytes_read (g.D.Disk.view c.loop-done.disk).bytes_read (g.D.Disk.view c.read_within.new.disk).bytes_read inv.8 (omega (arith, inv.0, c.loop-done-test.true))
+    c.in_ok-count.ensures.looked_up _
 
 pub returns-clause-looked_up : goal.returns-clause-looked_up
 returns-clause-looked_up g c =
