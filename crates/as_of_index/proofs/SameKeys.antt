@@ -1,6 +1,6 @@
 -- Rows with the keys of others, in the same order.
 use Rattle.std.proofs.Common.{◌≡◌, List, [], ◌∷◌, ◌++◌, length, map, sym, ap, ◌∙◌}
-use Rattle.std.specs.Prelude.{ℕ, Option, Some, None}
+use Rattle.std.specs.Prelude.{ℕ, Option, Some}
 use Rattle.std.specs.Option.{option_to_list}
 use Rattle.std.proofs.lemmas.List.{length-map, map_push}
 use Rattle.rf2_values.specs.Row.{RowValue}
@@ -22,6 +22,3 @@ same_count rows right e = sym (length-map right key_of) ∙ ap length (sym e) �
 
 pub one_key : (x y : RowValue) (answer : Option RowValue) → key_of x ≡ key_of y → answer ≡ Some y → map key_of (option_to_list (Some x)) ≡ map key_of (option_to_list answer)
 one_key x y answer e f = ap (λ k. k ∷ []) e ∙ ap (λ o. map key_of (option_to_list o)) (sym f)
-
-pub no_key : (answer : Option RowValue) → answer ≡ None → [] ≡ map key_of (option_to_list answer)
-no_key answer e = ap (λ o. map key_of (option_to_list o)) (sym e)

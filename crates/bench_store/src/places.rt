@@ -66,17 +66,15 @@ fn has_key(row: &Row, key: Key) -> bool
 impl RowReader for OneRow {
     ghost use Rattle.std.specs.Prelude.{◌≡◌, []};
 
-    ghost lists = { λ _. [] };
-
-    ghost disk_faults = { λ _. 0 };
-
-    ghost damages = { λ r. r.damages };
-
-    ghost work = { λ r. r.reads };
+    ghost view = { λ r. record {
+      lists = [];
+      is_honest = ⊥;
+      work = r.reads;
+      disk_faults = 0;
+      damages = r.damages;
+    } };
 
     ghost cost = { λ _. 1 };
-
-    ghost is_honest = { λ _. ⊥ };
 
     ghost stays = { λ _ _. Unit {0} };
 

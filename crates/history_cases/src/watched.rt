@@ -50,17 +50,15 @@ impl RowReader for Watched<'_> {
     ghost use Rattle.std.specs.Prelude.{◌≡◌, map, vec_items};
     ghost use Rattle.std.proofs.Common.{refl, ◌∙◌};
 
-    ghost lists = { λ r. map vec_items r.lists.now };
-
-    ghost disk_faults = { λ r. r.disk_faults };
-
-    ghost damages = { λ r. r.damages };
-
-    ghost work = { λ r. r.reads };
+    ghost view = { λ r. record {
+      lists = map vec_items r.lists.now;
+      is_honest = ⊥;
+      work = r.reads;
+      disk_faults = r.disk_faults;
+      damages = r.damages;
+    } };
 
     ghost cost = { λ _. 1 };
-
-    ghost is_honest = { λ _. ⊥ };
 
     ghost stays = { λ a b. b.lists ≡ a.lists };
 

@@ -9,6 +9,7 @@ use Rattle.history_model.specs.declared.stamped.StampedRow.{StampedRow}
 use Rattle.history_model.specs.History.{rows_at}
 use Rattle.history_model.specs.Lists.{listed}
 use Rattle.disk_model.specs.View.{DiskView}
+use Rattle.as_of_index.specs.Reader.{ReaderView, IsRowsRead}
 use Rattle.lru.specs.LruCache.{LruCache}
 use Rattle.blocks.specs.Cache.{AgreesWith, LooksUpSome}
 use Rattle.blocks.proofs.Looked.{none_looks_up}
@@ -100,41 +101,34 @@ row_items rows = rows.items
 
 -- rows were read by a reader to which the disk, the cache and the segments were lent, and what was read is answered
 module _ {T D : Type 0} (view : D → DiskView) (rows_of : T → List RowValue) (wanted : List RowValue → List RowValue) (pin : ℕ) where
+  -- what a reader shows to which a device is lent
+  abbrev pub shown_of : D → List (List StampedRow) → Type 0 → ℕ → ReaderView
+  shown_of disk lists is_honest damages = record { lists = lists; is_honest = is_honest; work = (view disk).bytes_read; disk_faults = (view disk).failures; damages = damages }
+
   module _ (Indexed : List (List StampedRow) → Type 0) (old new : StoreValue D) (lists shown : List (List StampedRow)) (entries : List Entry) (lent disk : D) (lent_cache cache : LruCache ℕ (List ℕ)) (read : Result T ReadFault) (result : Result T Refusal) where
     abbrev pub IsHonestReader : Type 0
     IsHonestReader = (view lent).is_honest × AgreesWith lent_cache (view lent).moments.state.now × AreThere entries shown (view lent).moments.state.now
 
-    abbrev pub FoundOf : List (List StampedRow) → Type 0
-    FoundOf ls = IfOk read (λ x. rows_of x ≡ wanted (rows_at pin (listed ls)))
-
-    abbrev pub KeysOf : List (List StampedRow) → Type 0
-    KeysOf ls = IfOk read (λ x. map key_of (rows_of x) ≡ map key_of (wanted (rows_at pin (listed ls))))
-
     abbrev pub BoundOf : List (List StampedRow) → D → D → Type 0
     BoundOf ls before after = (view after).bytes_read ≤ (view before).bytes_read + sum_by row_cost (wanted (rows_at pin (listed ls)))
 
-    pub rows_answered : old.history.rows ≡ listed lists → old.needs_reopen ≡ false
+    pub rows_answered : {left : List (List StampedRow)} {is_honest : Type 0} {m n : ℕ} → old.history.rows ≡ listed lists → old.needs_reopen ≡ false
         → lent ≡ old.disk → lent_cache ≡ old.cache → entries ≡ old.catalog.entries → shown ≡ lists
         → Indexed lists → ((view old.disk).is_honest → IsHonestReader)
-        → (IsHonestReader → Indexed shown → FoundOf shown)
-        → (Indexed shown → KeysOf shown)
-        → (IsHonestReader → Indexed shown → IfErr read (λ e. e ≢ readfault.Damaged))
-        → IfOk read (λ x. (view disk).bytes_read ≤ (view lent).bytes_read + sum_by row_cost (rows_of x))
-        → (Indexed shown → BoundOf shown lent disk)
-        → CountsBy CountsDiskFault read (view lent).failures (view disk).failures
+        → IsRowsRead read rows_of (λ ls. wanted (rows_at pin (listed ls))) Indexed row_cost (shown_of lent shown IsHonestReader m) (shown_of disk left is_honest n)
         → MomentsStay (view lent).is_honest (view disk).is_honest (view lent).moments (view disk).moments
         → LooksUpSome (is_listed entries) lent_cache cache (view lent).bytes_read (view disk).bytes_read
         → (view disk).other_calls ≡ (view lent).other_calls
         → IsAnswerOf read result → IsReadingOf result (record old { disk = disk; cache = cache }) new → new.disk ≡ disk → new.cache ≡ cache
         → ((view disk).is_honest → new.needs_reopen ≡ false → IsAcknowledged view new)
         → IsRowsQuery result rows_of wanted pin view old new
-    rows_answered rows_are still lent_is lent_cache_is entries_are shown_is indexed lends found keys undamaged work work_always counted stays looked_up calls answers left same kept acknowledged =
-        let indexed_so = subst Indexed (sym shown_is) indexed in
+    rows_answered rows_are still lent_is lent_cache_is entries_are shown_is indexed lends read_so stays looked_up calls answers left same kept acknowledged =
+        let rows = read_so.rows (subst Indexed (sym shown_is) indexed) in
         let all_are = ap (λ rows. wanted (rows_at pin rows)) (sym rows_are) in
         record {
-          found = λ up. answered_so (λ x. rows_of x ≡ wanted (rows_at pin (listed shown))) (λ x. rows_of x ≡ wanted (rows_at pin old.history.rows)) read result answers (λ x is. is ∙ ap (λ ls. wanted (rows_at pin (listed ls))) shown_is ∙ all_are) (found (lends up) indexed_so);
-          keys = answered_so (λ x. map key_of (rows_of x) ≡ map key_of (wanted (rows_at pin (listed shown)))) (λ x. map key_of (rows_of x) ≡ map key_of (wanted (rows_at pin old.history.rows))) read result answers (λ x is. is ∙ ap (map key_of) (ap (λ ls. wanted (rows_at pin (listed ls))) shown_is ∙ all_are)) (keys indexed_so);
-          query = answered_query view old new lent disk cache read result still lent_is stays counted (λ up. undamaged (lends up) indexed_so) answers left same acknowledged;
+          found = λ up. answered_so (λ x. rows_of x ≡ wanted (rows_at pin (listed shown))) (λ x. rows_of x ≡ wanted (rows_at pin old.history.rows)) read result answers (λ x is. is ∙ ap (λ ls. wanted (rows_at pin (listed ls))) shown_is ∙ all_are) (rows.found (lends up));
+          keys = answered_so (λ x. map key_of (rows_of x) ≡ map key_of (wanted (rows_at pin (listed shown)))) (λ x. map key_of (rows_of x) ≡ map key_of (wanted (rows_at pin old.history.rows))) read result answers (λ x is. is ∙ ap (map key_of) (ap (λ ls. wanted (rows_at pin (listed ls))) shown_is ∙ all_are)) rows.keys;
+          query = answered_query view old new lent disk cache read result still lent_is stays read_so.reader.disk_faults (λ up. rows.undamaged (lends up)) answers left same acknowledged;
           other_calls = ap (λ d. (view d).other_calls) same ∙ calls ∙ ap (λ d. (view d).other_calls) lent_is;
           looked_up =
               subst (λ d. LooksUpSome (is_listed old.catalog.entries) old.cache new.cache (view old.disk).bytes_read (view d).bytes_read) (sym same)
@@ -143,12 +137,12 @@ module _ {T D : Type 0} (view : D → DiskView) (rows_of : T → List RowValue) 
               (subst (λ c. LooksUpSome (is_listed old.catalog.entries) c cache (view lent).bytes_read (view disk).bytes_read) lent_cache_is
               (subst (λ (e : List Entry). LooksUpSome (is_listed e) lent_cache cache (view lent).bytes_read (view disk).bytes_read) entries_are looked_up))));
           bytes_read = answered_so (λ x. (view disk).bytes_read ≤ (view lent).bytes_read + sum_by row_cost (rows_of x)) (λ x. (view new.disk).bytes_read ≤ (view old.disk).bytes_read + sum_by row_cost (rows_of x)) read result answers
-              (λ x le. subst (λ d. (view d).bytes_read ≤ (view old.disk).bytes_read + sum_by row_cost (rows_of x)) (sym same) (subst (λ d. (view disk).bytes_read ≤ (view d).bytes_read + sum_by row_cost (rows_of x)) lent_is le)) work;
+              (λ x le. subst (λ d. (view d).bytes_read ≤ (view old.disk).bytes_read + sum_by row_cost (rows_of x)) (sym same) (subst (λ d. (view disk).bytes_read ≤ (view d).bytes_read + sum_by row_cost (rows_of x)) lent_is le)) read_so.work;
           bytes_read_always =
               subst (λ rows. (view new.disk).bytes_read ≤ (view old.disk).bytes_read + sum_by row_cost (wanted (rows_at pin rows))) (sym rows_are)
               (subst (λ d. BoundOf lists old.disk d) (sym same)
               (subst (λ d. BoundOf lists d disk) lent_is
-              (subst (λ ls. BoundOf ls lent disk) shown_is (work_always indexed_so))));
+              (subst (λ ls. BoundOf ls lent disk) shown_is rows.work_always)));
         }
 
   -- a store that has to be opened again answers nothing, and isn't touched

@@ -50,19 +50,16 @@ impl Known for KnownRows<'_> {
     ghost use Rattle.std.specs.Prelude.{◌≡◌};
     ghost use Rattle.std.proofs.Common.{refl, ◌∙◌};
 
-    ghost rows = { λ known. map (λ s. s.row) known.rows.now };
-
-    ghost disk_faults = { λ _. 0 };
-
-    ghost damages = { λ _. 0 };
-
-    ghost work = { λ _. 0 };
+    ghost view = { λ known. record {
+      rows = map (λ s. s.row) known.rows.now;
+      is_honest = IsConsistent (map (λ s. s.row) known.rows.now);
+      is_sound = Unit {0};
+      work = 0;
+      disk_faults = 0;
+      damages = 0;
+    } };
 
     ghost cost = { λ _. 0 };
-
-    ghost is_honest = { λ known. IsConsistent (map (λ s. s.row) known.rows.now) };
-
-    ghost is_sound = { λ _. Unit {0} };
 
     ghost stays = { λ a b. b.rows ≡ a.rows };
 

@@ -40,19 +40,16 @@ impl Lost {
 }
 
 impl Known for Lost {
-    ghost rows = { λ _. [] };
-
-    ghost disk_faults = { λ lost. lost.disk_faults };
-
-    ghost damages = { λ lost. lost.damages };
-
-    ghost work = { λ _. 0 };
+    ghost view = { λ lost. record {
+      rows = [];
+      is_honest = ⊥;
+      is_sound = ⊥;
+      work = 0;
+      disk_faults = lost.disk_faults;
+      damages = lost.damages;
+    } };
 
     ghost cost = { λ _. 0 };
-
-    ghost is_honest = { λ _. ⊥ };
-
-    ghost is_sound = { λ _. ⊥ };
 
     ghost stays = { λ _ _. Unit {0} };
 

@@ -27,19 +27,16 @@ impl Unknown {
 }
 
 impl Known for Unknown {
-    ghost rows = { λ _. [] };
-
-    ghost disk_faults = { λ _. 0 };
-
-    ghost damages = { λ _. 0 };
-
-    ghost work = { λ _. 0 };
+    ghost view = { λ _. record {
+      rows = [];
+      is_honest = ⊥;
+      is_sound = ⊥;
+      work = 0;
+      disk_faults = 0;
+      damages = 0;
+    } };
 
     ghost cost = { λ _. 0 };
-
-    ghost is_honest = { λ _. ⊥ };
-
-    ghost is_sound = { λ _. ⊥ };
 
     ghost stays = { λ _ _. Unit {0} };
 

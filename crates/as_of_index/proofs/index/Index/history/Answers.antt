@@ -28,7 +28,6 @@ loop-segment-init g c = record {
   keys = λ listed_so. ([], ap (map key_of) c.new-rows.ensures.items, sym (versions-above_none c.args.kind c.args.id (rows_at c.args.pin (listed (g.R.RowReader.view c.args.reader.now).lists))));
 }
 
-
 pub loop-segment-smaller : goal.loop-segment-smaller
 loop-segment-smaller g c =
     rw c.time_of-time.ensures (fewer_versions c.args.kind c.args.id c.loop-segment.after _ (c.in-Some.segment, c.in-Some.at) (rw (c.as_slice.ensures.value, c.self.view_is) at c.in-Some.ensures))

@@ -34,9 +34,6 @@ loop-self-init g c =
       keys = λ listed_so. ([], ap (map key_of) c.new-rows.ensures.items, first);
     }
 
-
-
-
 pub loop-self-smaller : goal.loop-self-smaller
 loop-self-smaller g c =
     rw c.key_at-key.ensures (fewer_after c.loop-self.last _ (c.in-Some.segment, c.in-Some.at) (rw (c.as_slice.ensures.value, c.self.view_is) at c.in-Some.ensures))

@@ -24,7 +24,6 @@ latest_on-requires g c =
     let ahead = versions_ahead a.kind c.in-Some.id (changed_parts a.from a.as_of.now c.as_slice-lists.result.now) c.next_id.new.cursors.items c.loop-lists.last above c.in-Some.ensures.passed in
     rw c.deref.ensures.value ahead
 
-
 pub loop-lists-smaller-in_ok-push-in-Some : goal.loop-lists-smaller-in_ok-push-in-Some
 loop-lists-smaller-in_ok-push-in-Some g c = fewer_left c.args.kind c.loop-lists.last c.args.from c.args.as_of.now c.in-Some.id _ (rw (c.as_slice-lists.ensures.value, c.self.view_is) at c.in-Some.ensures.next)
 
@@ -103,9 +102,6 @@ loop-lists-preserved g c =
                 (rw (c.as_slice-lists.ensures.value, c.self.view_is, listed_so) at c.in-Some.ensures.next) (change_from_pick c.args.kind c.in-Some.id c.args.from c.args.as_of.now (g.R.RowReader.view c.args.reader.now).lists (are_lists (g.R.RowReader.view c.args.reader.now).lists (rw (c.self.view_is, listed_so) at c.self.invariant.places)) None (rw (c.as_slice-lists.ensures.value, c.self.view_is, listed_so) at (rw c.in_default.is at c.latest_on.ensures))) k.2,
           );
     }
-
-
-
 
 pub loop-lists-init : goal.loop-lists-init
 loop-lists-init g c =

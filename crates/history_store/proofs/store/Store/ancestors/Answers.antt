@@ -10,7 +10,7 @@ invariant_of-self g c =
     let r = c.new-reader.ensures in
     let now = c.ancestors-read.new.reader in
     held_after g.D.Disk.view _ _ _ _ _ _ _ _ _ _ c.self.invariant.0 r.disk r.cache r.entries r.shown c.self.inside.merge now.disk.now now.cache.now now.entries.now now.shown.now c.self.invariant.1 c.ancestors-read.ensures.stays.0
-    (g.met.D.Disk.now_is_image c.self.inside.disk) c.ancestors-read.ensures.honesty
+    (g.met.D.Disk.now_is_image c.self.inside.disk) c.ancestors-read.ensures.reader.honesty
 
 pub returns : goal.returns
 returns g c = record {
@@ -24,7 +24,7 @@ returns g c = record {
       refl c.if-self.false r.disk r.cache r.entries r.shown
       (c.places.ensures, c.links.ensures) (λ up. reader_honest g.D.Disk.view _ _ _ _ _ _ _ _ _ _ c.self.invariant.0 r.disk r.cache r.entries r.shown up c.if-self.false (g.met.D.Disk.now_is_image c.self.inside.disk up))
       (λ lent i. e.found lent i.0 i.1) (λ lent i. e.undamaged lent i.0 i.1) (λ i. e.work i.0 i.1) (λ lent i. e.work_always lent i.0 i.1)
-      e.disk_faults e.stays.0 e.stays.5 e.stays.6 a.same a.left a.disk a.cache a.acknowledged);
+      e.reader.disk_faults e.stays.0 e.stays.5 e.stays.6 a.same a.left a.disk a.cache a.acknowledged);
 }
 
 pub returns-then-self : goal.returns-then-self

@@ -10,7 +10,7 @@ invariant_of-self g c =
     let r = c.new-reader.ensures in
     let now = c.delta-read.new.reader in
     held_after g.D.Disk.view _ _ _ _ _ _ _ _ _ _ c.self.invariant.0 r.disk r.cache r.entries r.shown c.self.inside.merge now.disk.now now.cache.now now.entries.now now.shown.now c.self.invariant.1 c.delta-read.ensures.stays.0
-    (g.met.D.Disk.now_is_image c.self.inside.disk) c.delta-read.ensures.honesty
+    (g.met.D.Disk.now_is_image c.self.inside.disk) c.delta-read.ensures.answer.reader.honesty
 
 pub returns : goal.returns
 returns g c = record {
@@ -23,8 +23,7 @@ returns g c = record {
       c.new-reader.result.disk.now c.delta-read.new.reader.disk.now c.new-reader.result.cache.now c.delta-read.new.reader.cache.now c.delta-read.result c.answered.result
       refl c.if-self.false r.disk r.cache r.entries r.shown
       c.places.ensures (λ up. reader_honest g.D.Disk.view _ _ _ _ _ _ _ _ _ _ c.self.invariant.0 r.disk r.cache r.entries r.shown up c.if-self.false (g.met.D.Disk.now_is_image c.self.inside.disk up))
-      e.found e.keys e.undamaged e.work e.work_always
-      e.disk_faults e.stays.0 e.stays.5 e.stays.6 a.same a.left a.disk a.cache a.acknowledged);
+      e.answer e.stays.0 e.stays.5 e.stays.6 a.same a.left a.disk a.cache a.acknowledged);
 }
 
 pub returns-then-self : goal.returns-then-self
