@@ -54,18 +54,18 @@ returns-in_err-taken-clause-meters g c = record {
   honesty = search rules;
   failures = search rules;
   bytes_read =
-    let d = c.args.directory.now in
-    let kept = c.requires.held.kept in
-    let o = only d c.args.entry c.requires.anew c.args.index.now kept in
-    let cost = its_cost d c.args.entry c.requires.anew c.args.index.now kept c.places.result.now c.list-places.result.now c.places.ensures c.list-places.ensures o.rows o.lists_are in
-    omega (arith, c.loop-part.invariant.bytes_read, cost_front (c.loop-part.part * 1000) c.list-places.result.now, cost);
+      let d = c.args.directory.now in
+      let kept = c.requires.held.kept in
+      let o = only d c.args.entry c.requires.anew c.args.index.now kept in
+      let cost = its_cost d c.args.entry c.requires.anew c.args.index.now kept c.places.result.now c.list-places.result.now c.places.ensures c.list-places.ensures o.rows o.lists_are in
+      omega (arith, c.loop-part.invariant.bytes_read, cost_front (c.loop-part.part * 1000) c.list-places.result.now, cost);
   other_calls =
-    let d = c.args.directory.now in
-    let kept = c.requires.held.kept in
-    let o = only d c.args.entry c.requires.anew c.args.index.now kept in
-    let count = its_count d c.args.entry c.requires.anew c.args.index.now kept c.places.result.now c.list-places.result.now c.places.ensures c.list-places.ensures o.rows o.lists_are in
-    let end : c.div_ceil-part-end.result ≡ div_ceil c.args.entry.rows 1000 = c.div_ceil-part-end.ensures ∙ ap (λ n. div_ceil n 1000) count in
-    omega (arith, c.loop-part.invariant.other_calls, c.loop-part-test.true, end);
+      let d = c.args.directory.now in
+      let kept = c.requires.held.kept in
+      let o = only d c.args.entry c.requires.anew c.args.index.now kept in
+      let count = its_count d c.args.entry c.requires.anew c.args.index.now kept c.places.result.now c.list-places.result.now c.places.ensures c.list-places.ensures o.rows o.lists_are in
+      let end : c.div_ceil-part-end.result ≡ div_ceil c.args.entry.rows 1000 = c.div_ceil-part-end.ensures ∙ ap (λ n. div_ceil n 1000) count in
+      omega (arith, c.loop-part.invariant.other_calls, c.loop-part-test.true, end);
 }
 
 pub write_taken-requires-clause-ascending : goal.write_taken-requires-clause-ascending
@@ -134,21 +134,21 @@ returns-in_err-write_taken-clause-meters g c = record {
   honesty = search rules;
   failures = search rules;
   bytes_read =
-    let d = c.args.directory.now in
-    let kept = c.requires.held.kept in
-    let o = only d c.args.entry c.requires.anew c.args.index.now kept in
-    let places = c.list-places.result.now in
-    let k = c.loop-part.part * 1000 in
-    let cost = its_cost d c.args.entry c.requires.anew c.args.index.now kept c.places.result.now places c.places.ensures c.list-places.ensures o.rows o.lists_are in
-    let part = ap cost_at (c.deref.ensures.value ∙ c.in_ok-taken.ensures ∙ ap (λ l. as_taken (take 1000 l)) (take_rest places k)) in
-    omega (arith, c.write_taken.ensures.meters.bytes_read, c.loop-part.invariant.bytes_read, part, cost_on k 1000 places, cost_front (k + 1000) places, cost);
+      let d = c.args.directory.now in
+      let kept = c.requires.held.kept in
+      let o = only d c.args.entry c.requires.anew c.args.index.now kept in
+      let places = c.list-places.result.now in
+      let k = c.loop-part.part * 1000 in
+      let cost = its_cost d c.args.entry c.requires.anew c.args.index.now kept c.places.result.now places c.places.ensures c.list-places.ensures o.rows o.lists_are in
+      let part = ap cost_at (c.deref.ensures.value ∙ c.in_ok-taken.ensures ∙ ap (λ l. as_taken (take 1000 l)) (take_rest places k)) in
+      omega (arith, c.write_taken.ensures.meters.bytes_read, c.loop-part.invariant.bytes_read, part, cost_on k 1000 places, cost_front (k + 1000) places, cost);
   other_calls =
-    let d = c.args.directory.now in
-    let kept = c.requires.held.kept in
-    let o = only d c.args.entry c.requires.anew c.args.index.now kept in
-    let count = its_count d c.args.entry c.requires.anew c.args.index.now kept c.places.result.now c.list-places.result.now c.places.ensures c.list-places.ensures o.rows o.lists_are in
-    let end : c.div_ceil-part-end.result ≡ div_ceil c.args.entry.rows 1000 = c.div_ceil-part-end.ensures ∙ ap (λ n. div_ceil n 1000) count in
-    omega (arith, c.write_taken.ensures.meters.other_calls, c.loop-part.invariant.other_calls, c.loop-part-test.true, end);
+      let d = c.args.directory.now in
+      let kept = c.requires.held.kept in
+      let o = only d c.args.entry c.requires.anew c.args.index.now kept in
+      let count = its_count d c.args.entry c.requires.anew c.args.index.now kept c.places.result.now c.list-places.result.now c.places.ensures c.list-places.ensures o.rows o.lists_are in
+      let end : c.div_ceil-part-end.result ≡ div_ceil c.args.entry.rows 1000 = c.div_ceil-part-end.ensures ∙ ap (λ n. div_ceil n 1000) count in
+      omega (arith, c.write_taken.ensures.meters.other_calls, c.loop-part.invariant.other_calls, c.loop-part-test.true, end);
 }
 
 pub loop-part-preserved : goal.loop-part-preserved
@@ -212,16 +212,16 @@ returns-clause-meters g c = record {
   honesty = search rules;
   failures = search rules;
   bytes_read =
-    let d = c.args.directory.now in
-    let kept = c.requires.held.kept in
-    let o = only d c.args.entry c.requires.anew c.args.index.now kept in
-    let cost = its_cost d c.args.entry c.requires.anew c.args.index.now kept c.places.result.now c.list-places.result.now c.places.ensures c.list-places.ensures o.rows o.lists_are in
-    omega (arith, c.loop-part.invariant.bytes_read, cost_front (c.loop-part.part * 1000) c.list-places.result.now, cost);
+      let d = c.args.directory.now in
+      let kept = c.requires.held.kept in
+      let o = only d c.args.entry c.requires.anew c.args.index.now kept in
+      let cost = its_cost d c.args.entry c.requires.anew c.args.index.now kept c.places.result.now c.list-places.result.now c.places.ensures c.list-places.ensures o.rows o.lists_are in
+      omega (arith, c.loop-part.invariant.bytes_read, cost_front (c.loop-part.part * 1000) c.list-places.result.now, cost);
   other_calls =
-    let d = c.args.directory.now in
-    let kept = c.requires.held.kept in
-    let o = only d c.args.entry c.requires.anew c.args.index.now kept in
-    let count = its_count d c.args.entry c.requires.anew c.args.index.now kept c.places.result.now c.list-places.result.now c.places.ensures c.list-places.ensures o.rows o.lists_are in
-    let end : c.div_ceil-part-end.result ≡ div_ceil c.args.entry.rows 1000 = c.div_ceil-part-end.ensures ∙ ap (λ n. div_ceil n 1000) count in
-    omega (arith, c.loop-part.invariant.other_calls, c.loop-part.auto.part-end, end);
+      let d = c.args.directory.now in
+      let kept = c.requires.held.kept in
+      let o = only d c.args.entry c.requires.anew c.args.index.now kept in
+      let count = its_count d c.args.entry c.requires.anew c.args.index.now kept c.places.result.now c.list-places.result.now c.places.ensures c.list-places.ensures o.rows o.lists_are in
+      let end : c.div_ceil-part-end.result ≡ div_ceil c.args.entry.rows 1000 = c.div_ceil-part-end.ensures ∙ ap (λ n. div_ceil n 1000) count in
+      omega (arith, c.loop-part.invariant.other_calls, c.loop-part.auto.part-end, end);
 }

@@ -91,11 +91,11 @@ returns-in_err-row-clause-meters g c = record {
   honesty = search rules;
   failures = search rules;
   bytes_read =
-    let l = c.loop-t in
-    let taken = c.args.taken.now in
-    let t = c.t-item.result in
-    let more = take_more taken l.t-index t c.loop-t-test.true ∙ ap (λ (x : Taken). take l.t-index taken ++ x ∷ []) (sym c.t-item.is) in
-    omega (arith, l.invariant.bytes_read, c.in_err-row.ensures.meters.bytes_read, ap cost_at more ∙ cost_push (take l.t-index taken) t, cost_take (l.t-index + 1) taken);
+      let l = c.loop-t in
+      let taken = c.args.taken.now in
+      let t = c.t-item.result in
+      let more = take_more taken l.t-index t c.loop-t-test.true ∙ ap (λ (x : Taken). take l.t-index taken ++ x ∷ []) (sym c.t-item.is) in
+      omega (arith, l.invariant.bytes_read, c.in_err-row.ensures.meters.bytes_read, ap cost_at more ∙ cost_push (take l.t-index taken) t, cost_take (l.t-index + 1) taken);
   other_calls = search rules;
 }
 
@@ -105,11 +105,11 @@ returns-in_err-push-clause-meters g c = record {
   honesty = search rules;
   failures = search rules;
   bytes_read =
-    let l = c.loop-t in
-    let taken = c.args.taken.now in
-    let t = c.t-item.result in
-    let more = take_more taken l.t-index t c.loop-t-test.true ∙ ap (λ (x : Taken). take l.t-index taken ++ x ∷ []) (sym c.t-item.is) in
-    omega (arith, l.invariant.bytes_read, c.in_ok-row.ensures.meters.bytes_read, ap cost_at more ∙ cost_push (take l.t-index taken) t, cost_take (l.t-index + 1) taken);
+      let l = c.loop-t in
+      let taken = c.args.taken.now in
+      let t = c.t-item.result in
+      let more = take_more taken l.t-index t c.loop-t-test.true ∙ ap (λ (x : Taken). take l.t-index taken ++ x ∷ []) (sym c.t-item.is) in
+      omega (arith, l.invariant.bytes_read, c.in_ok-row.ensures.meters.bytes_read, ap cost_at more ∙ cost_push (take l.t-index taken) t, cost_take (l.t-index + 1) taken);
   other_calls = search rules;
 }
 

@@ -95,9 +95,9 @@ returns-in_err-to-clause-meters g c = record {
   honesty = search rules;
   failures = search rules;
   bytes_read =
-    let inv = c.rows.invariant in
-    let extent = ap (λ (x : Extent). x.bytes) (c.in_err-to.ensures.extent ∙ inv.extent) in
-    omega (arith, inv.bytes_read, c.in_err-to.ensures.meters.bytes_read, c.read_row.new.window.within, extent);
+      let inv = c.rows.invariant in
+      let extent = ap (λ (x : Extent). x.bytes) (c.in_err-to.ensures.extent ∙ inv.extent) in
+      omega (arith, inv.bytes_read, c.in_err-to.ensures.meters.bytes_read, c.read_row.new.window.within, extent);
   other_calls = search rules;
 }
 
@@ -107,9 +107,9 @@ returns-then-to-entry-clause-meters g c = record {
   honesty = search rules;
   failures = search rules;
   bytes_read =
-    let inv = c.rows.invariant in
-    let extent = ap (λ (x : Extent). x.bytes) inv.extent in
-    omega (arith, inv.bytes_read, c.rows.window.within, extent);
+      let inv = c.rows.invariant in
+      let extent = ap (λ (x : Extent). x.bytes) inv.extent in
+      omega (arith, inv.bytes_read, c.rows.window.within, extent);
   other_calls = search rules;
 }
 
@@ -119,9 +119,9 @@ returns-clause-meters g c = record {
   honesty = search rules;
   failures = search rules;
   bytes_read =
-    let inv = c.rows.invariant in
-    let extent = ap (λ (x : Extent). x.bytes) inv.extent in
-    omega (arith, inv.bytes_read, c.rows.window.within, extent);
+      let inv = c.rows.invariant in
+      let extent = ap (λ (x : Extent). x.bytes) inv.extent in
+      omega (arith, inv.bytes_read, c.rows.window.within, extent);
   other_calls = search rules;
 }
 

@@ -126,9 +126,9 @@ returns-in-Err-clause-meters g c = record {
   honesty = search rules;
   failures = search rules;
   bytes_read =
-    let entries = c.args.entries.now in
-    let i = c.loop-entry.entry-index in
-    omega (arith, c.loop-entry.invariant.bytes_read, c.in-Err.ensures.meters.bytes_read, bytes_up_to entries i none c.loop-entry-test.true);
+      let entries = c.args.entries.now in
+      let i = c.loop-entry.entry-index in
+      omega (arith, c.loop-entry.invariant.bytes_read, c.in-Err.ensures.meters.bytes_read, bytes_up_to entries i none c.loop-entry-test.true);
   other_calls = search rules;
 }
 
@@ -138,9 +138,9 @@ returns-in_err-push-clause-meters g c = record {
   honesty = search rules;
   failures = search rules;
   bytes_read =
-    let entries = c.args.entries.now in
-    let i = c.loop-entry.entry-index in
-    omega (arith, c.loop-entry.invariant.bytes_read, c.in-Ok.ensures.meters.bytes_read, bytes_up_to entries i none c.loop-entry-test.true);
+      let entries = c.args.entries.now in
+      let i = c.loop-entry.entry-index in
+      omega (arith, c.loop-entry.invariant.bytes_read, c.in-Ok.ensures.meters.bytes_read, bytes_up_to entries i none c.loop-entry-test.true);
   other_calls = search rules;
 }
 
@@ -149,7 +149,7 @@ returns-in_err-are_apart-clause-meters g c = record {
   honesty = search rules;
   failures = search rules;
   bytes_read =
-    omega (arith, c.loop-entry.invariant.bytes_read, bytes_within c.args.entries.now c.loop-entry.entry-index);
+      omega (arith, c.loop-entry.invariant.bytes_read, bytes_within c.args.entries.now c.loop-entry.entry-index);
   other_calls = search rules;
 }
 
@@ -158,7 +158,7 @@ returns-then-not-branch-clause-meters g c = record {
   honesty = search rules;
   failures = search rules;
   bytes_read =
-    omega (arith, c.loop-entry.invariant.bytes_read, bytes_within c.args.entries.now c.loop-entry.entry-index);
+      omega (arith, c.loop-entry.invariant.bytes_read, bytes_within c.args.entries.now c.loop-entry.entry-index);
   other_calls = search rules;
 }
 
@@ -167,7 +167,7 @@ returns-clause-meters g c = record {
   honesty = search rules;
   failures = search rules;
   bytes_read =
-    omega (arith, c.loop-entry.invariant.bytes_read, bytes_within c.args.entries.now c.loop-entry.entry-index);
+      omega (arith, c.loop-entry.invariant.bytes_read, bytes_within c.args.entries.now c.loop-entry.entry-index);
   other_calls = search rules;
 }
 

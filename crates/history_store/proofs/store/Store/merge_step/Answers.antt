@@ -153,9 +153,9 @@ returns-in-Ok-clause-meters g c = record {
   honesty = search rules;
   failures = search rules;
   bytes_read =
-    let s = c.self.inside in
-    let new = c.step-stepped.new in
-    rw (← c.self.view_is) (subst (λ (o : Option MergeInProgress). (g.D.Disk.view new.disk).bytes_read ≤ (g.D.Disk.view s.disk).bytes_read + step_cost c.args.n (merge_of o)) c.in-Some.ensures.value c.step-stepped.ensures.meters.bytes_read);
+      let s = c.self.inside in
+      let new = c.step-stepped.new in
+      rw (← c.self.view_is) (subst (λ (o : Option MergeInProgress). (g.D.Disk.view new.disk).bytes_read ≤ (g.D.Disk.view s.disk).bytes_read + step_cost c.args.n (merge_of o)) c.in-Some.ensures.value c.step-stepped.ensures.meters.bytes_read);
   other_calls = search rules;
 }
 
@@ -164,9 +164,9 @@ returns-then-matches-clause-meters g c = record {
   honesty = search rules;
   failures = search rules;
   bytes_read =
-    let s = c.self.inside in
-    let new = c.step-stepped.new in
-    rw (← c.self.view_is) (subst (λ (o : Option MergeInProgress). (g.D.Disk.view new.disk).bytes_read ≤ (g.D.Disk.view s.disk).bytes_read + step_cost c.args.n (merge_of o)) c.in-Some.ensures.value c.step-stepped.ensures.meters.bytes_read);
+      let s = c.self.inside in
+      let new = c.step-stepped.new in
+      rw (← c.self.view_is) (subst (λ (o : Option MergeInProgress). (g.D.Disk.view new.disk).bytes_read ≤ (g.D.Disk.view s.disk).bytes_read + step_cost c.args.n (merge_of o)) c.in-Some.ensures.value c.step-stepped.ensures.meters.bytes_read);
   other_calls = search rules;
 }
 
@@ -175,8 +175,8 @@ returns-else-matches-clause-meters g c = record {
   honesty = search rules;
   failures = search rules;
   bytes_read =
-    let s = c.self.inside in
-    let new = c.step-stepped.new in
-    rw (← c.self.view_is) (subst (λ (o : Option MergeInProgress). (g.D.Disk.view new.disk).bytes_read ≤ (g.D.Disk.view s.disk).bytes_read + step_cost c.args.n (merge_of o)) c.in-Some.ensures.value c.step-stepped.ensures.meters.bytes_read);
+      let s = c.self.inside in
+      let new = c.step-stepped.new in
+      rw (← c.self.view_is) (subst (λ (o : Option MergeInProgress). (g.D.Disk.view new.disk).bytes_read ≤ (g.D.Disk.view s.disk).bytes_read + step_cost c.args.n (merge_of o)) c.in-Some.ensures.value c.step-stepped.ensures.meters.bytes_read);
   other_calls = search rules;
 }
