@@ -14,7 +14,7 @@ use Rattle.as_of_index.specs.Places.{item_at}
 abbrev pub rows_seen : AsOf → List (List StampedRow) → List RowValue
 rows_seen as_of lists = rows_at as_of.pin (listed lists)
 
--- the place is that of row i of list n
+-- the place is that of row `i` of list `n`
 abbrev pub IsPlaceOfRow : List (List StampedRow) → ℕ → ℕ → RowPlace → Type 0
 IsPlaceOfRow lists n i at = item_at (map places_of lists) n i ≡ Some at
 

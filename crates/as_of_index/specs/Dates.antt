@@ -1,4 +1,4 @@
--- Which dates and imports the places of a list have, as a list of places keeps them.
+-- The dates and imports of a list's places, as the list keeps them.
 use Rattle.std.specs.Prelude.{◌≡◌, ◌≤◌, ℕ, List, Some, slice_get}
 use Rattle.history_model.specs.InOrder.{Has}
 use Rattle.segment.specs.declared.place.RowPlace.{RowPlace}
@@ -9,8 +9,8 @@ pub record IsEntryOf (p : RowPlace) (e : DateEntry) : Type 0 where
   pub time_is : p.key.time ≡ e.time
   pub import_is : p.import ≡ e.import
 
--- each entry is of the place with its number, and each place has one whose number isn't above its
--- own
+-- the place with an entry's number has its date and import, and each place has an entry with these,
+-- whose number is at most its own
 pub record AreEntries (places : List RowPlace) (entries : List DateEntry) : Type 0 where
   pub stand : (e : DateEntry) → Has entries e
       → (p : RowPlace) × (slice_get places e.first ≡ Some p) × IsEntryOf p e

@@ -1,5 +1,5 @@
--- Words that private functions and proofs need, of this crate or of one above it.
--- No public clause cites them.
+-- Definitions for private functions and proofs, of this crate or of one above it. No public clause
+-- cites them.
 pub mod Search
 pub mod Current
 pub mod Chosen

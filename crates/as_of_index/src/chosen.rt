@@ -1,4 +1,4 @@
-//! Rows that are to be read, and the reading of them.
+//! Rows that a query will read, and reading them.
 
 ghost use Rattle.std.specs.Prelude.{◌+◌, ◌≤◌, List, map, IfOk};
 ghost use Rattle.std.specs.List.{sum_by};
@@ -12,20 +12,20 @@ use rf2_values::Row;
 use segment::RowPlace;
 use std::alloc::Global;
 
-/// A row that is to be read: the number of its list, from 0 on, and where it stands.
+/// A row that a query will read: the number of its list, from 0 on, and its place.
 #[derive(Clone, Copy, Debug)]
 pub struct Chosen {
     /// The number of its list, from 0 on.
     pub segment: usize,
-    /// Where it stands in the list.
+    /// Its place.
     pub at: RowPlace,
-    /// The reference set of an association, by its SCTID; else 0.
+    /// The reference set of an association, as an SCTID; otherwise 0.
     pub refset: u64,
-    /// The target of an association, by its SCTID; else 0.
+    /// The target of an association, as an SCTID; otherwise 0.
     pub target: u64,
 }
 
-/// The rows at the places, in this order.
+/// Reads the rows at the places, in this order.
 pub fn read_all<R: RowReader>(
     alloc: Global,
     reader: &mut R,

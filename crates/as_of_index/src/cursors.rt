@@ -1,6 +1,6 @@
-//! One cursor a list: all that stands before it is passed over. A list that shows nothing at a date
-//! and a pin is walked as an empty one, and so is one of which nothing is later than `from`, if
-//! that is given.
+//! Walks several lists with one cursor for each: the places before a cursor are skipped. A list is
+//! walked as if it were empty if it shows nothing at the date and the pin, or if `from` is given
+//! and nothing in the list is later than it.
 
 ghost use Rattle.std.specs.Prelude.{◌≡◌, IfOk, None};
 ghost use Rattle.as_of_index.specs.Private.Search.{all_places, changed_parts, ArePassed};
@@ -14,7 +14,7 @@ use rf2_values::Kind;
 use segment::RowPlace;
 use std::alloc::{AllocError, Global};
 
-/// A cursor for each list, at the first place of it that isn't passed over.
+/// A cursor for each list, at its first place that `start` doesn't skip.
 pub(crate) fn cursors_at(
     alloc: Global,
     lists: &[PlaceList],
@@ -32,7 +32,8 @@ pub(crate) fn cursors_at(
     Ok(cursors)
 }
 
-/// The least id of a kind above `after`, if that is given, in the lists that may show something.
+/// The smallest id of a kind that is greater than `after`, if that is given, in the lists that may
+/// show something.
 pub(crate) fn next_id(
     lists: &[PlaceList],
     cursors: &mut Vec<usize>,
@@ -58,7 +59,7 @@ pub(crate) fn next_id(
     best
 }
 
-/// The place, if it is later than `from`.
+/// The place, if it is later than `from`, or if `from` isn't given.
 fn later_than(from: Option<u32>, found: Option<RowPlace>) -> Option<RowPlace>
     ensures { result ≡ later_than from found }
 {

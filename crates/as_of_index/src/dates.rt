@@ -1,5 +1,5 @@
-//! Which effective times the places of a list have, and in which imports, so that the dates of a
-//! store are known without a look at each place.
+//! The effective times and imports of a list's places, so that the dates of a store are known
+//! without looking at each place.
 
 ghost use Rattle.std.specs.Prelude.{◌≡◌, ◌++◌, ◌∷◌, [], List, IfOk, OnOk, OnErr, IsTrue};
 ghost use Rattle.std.specs.Prelude.{length, take};
@@ -13,17 +13,17 @@ use rf2_values::EffectiveTime;
 use segment::RowPlace;
 use std::alloc::{AllocError, Global};
 
-/// An effective time and an import that some place has. There are few of them: a list has one for
-/// each date that an import brought.
+/// An effective time and an import that some place has. There are few of them: for each import in a
+/// list, one for each date that it brought.
 #[derive(Clone, Copy)]
 pub(crate) struct DateEntry {
     pub(crate) time: EffectiveTime,
     pub(crate) import: u32,
-    /// The number of the first such place.
+    /// The number of the first place that has both.
     pub(crate) first: usize,
 }
 
-/// Whether the entry with a number is of the place.
+/// Whether the entry with this number has the place's time and import.
 fn is_noted(entries: &[DateEntry], number: usize, place: &RowPlace) -> bool
     ensures { IsTrue result → HasEntry entries.now place.now }
 {
@@ -33,8 +33,8 @@ fn is_noted(entries: &[DateEntry], number: usize, place: &RowPlace) -> bool
     }
 }
 
-/// Notes the place with a number, which stands behind those that were noted. An `Err` changes
-/// nothing.
+/// Adds an entry for the place with this number, unless there is one. It is the place after those
+/// that have been noted. An `Err` changes nothing.
 pub(crate) fn note(
     entries: &mut Vec<DateEntry>,
     place: &RowPlace,
@@ -61,7 +61,7 @@ pub(crate) fn note(
     Ok(())
 }
 
-/// Leaves the entries of the first so many places.
+/// Keeps the entries of the first `len` places.
 pub(crate) fn cut(entries: &mut Vec<DateEntry>, len: usize)
     ensures { (places : List RowPlace) → AreEntries places entries.old.items
         → AreEntries (take len places) entries.new.items }
@@ -80,7 +80,7 @@ pub(crate) fn entries_of(alloc: Global, places: &[RowPlace]) -> Result<Vec<DateE
     Ok(entries)
 }
 
-/// Adds the times of those entries that the pin shows.
+/// Adds the times of the entries that the pin shows.
 pub(crate) fn add_shown(
     times: &mut Vec<EffectiveTime>,
     entries: &[DateEntry],
@@ -97,7 +97,7 @@ pub(crate) fn add_shown(
     Ok(())
 }
 
-/// Sorts the times, and keeps each once. It takes no memory.
+/// Sorts the times, and removes duplicates. Allocates nothing.
 pub(crate) fn sort_once(times: &mut Vec<EffectiveTime>)
     ensures { AreOnce nat_cmp times.old.items times.new.items }
 {

@@ -1,5 +1,4 @@
-//! Searches in several lists of places, each of which begins near the place where the one before it
-//! ended.
+//! Searches several lists of places, and begins each search in a list where the last one ended.
 
 ghost use Rattle.std.specs.Prelude.{◌≡◌, ◌≤◌, length, Some, IfOk, IfSome, IsTrue, true, false};
 ghost use Rattle.std.specs.Prelude.{take, drop, replicate};
@@ -16,12 +15,12 @@ use segment::RowPlace;
 use std::alloc::{AllocError, Global};
 use std::marker::Model;
 
-/// For each list of an index, the place at which a search in it may begin. A hint changes how long
-/// a search takes, and never what it finds.
+/// For each list of an index, the number of the place at which the next search may begin. A hint
+/// changes how long a search takes, and never what it finds.
 #[derive(Drop)]
 pub struct Hints {
     near: Vec<usize>,
-    /// What `tag_of` says of the versions at these places.
+    /// The tags (`tag_of`) of the versions at these places.
     tags: Vec<u64>,
 }
 
@@ -33,14 +32,15 @@ impl Model for Hints {
     ghost view = { λ a. a.near.items };
 }
 
-/// A number for a version. Few other versions have it.
+/// A hash of a version, by which it can be found among the tags; different versions rarely share
+/// one.
 fn tag_of(id: u128, time: EffectiveTime) -> u64 {
     let spread = u64::from(time.value()).wrapping_mul(0x9E37_79B9_7F4A_7C15);
     ((id % (1 << 64)) as u64).wrapping_add(spread)
 }
 
 impl Hints {
-    /// The first place of each of so many lists.
+    /// Hints at the first place of each of `lists` lists.
     pub fn new(alloc: Global, lists: usize) -> Result<Hints, AllocError>
         ensures { IfOk result (λ hints. hints ≡ replicate lists 0) }
     {
@@ -49,18 +49,18 @@ impl Hints {
         Ok(Hints { near, tags })
     }
 
-    /// Where a search in this list may begin: at its first place, if there is no hint.
+    /// Where a search in this list may begin; at its first place if there is no hint.
     fn of(&self, list: usize) -> usize {
         self.near.get(list).copied().unwrap_or(0)
     }
 
-    /// The list in which the version may stand where a search begins.
+    /// The list whose hint may be at the version.
     fn list_of(&self, id: u128, time: EffectiveTime) -> Option<usize> {
         let sought = tag_of(id, time);
         self.tags.iter().position(|tag| *tag == sought)
     }
 
-    /// Has the next search in this list begin at a place of it.
+    /// Lets the next search in this list begin at this place.
     fn set(&mut self, list: usize, places: &[RowPlace], place: usize) {
         if let Some(near) = self.near.get_mut(list) {
             *near = place;
@@ -71,7 +71,7 @@ impl Hints {
     }
 }
 
-/// Whether all that stands before the place is passed over.
+/// Whether a search from `start` skips everything before the place.
 fn is_behind(list: &[RowPlace], place: usize, start: &Start) -> bool
     ensures within { IsTrue result → place ≤ length list.now }
     ensures before { IsAscending place_cmp list.now → IsTrue result
@@ -86,7 +86,7 @@ fn is_behind(list: &[RowPlace], place: usize, start: &Start) -> bool
     }
 }
 
-/// Whether nothing from the place on is passed over.
+/// Whether a search from `start` skips nothing from the place on.
 fn is_ahead(list: &[RowPlace], place: usize, start: &Start) -> bool
     ensures { IsAscending place_cmp list.now → IsTrue result
         → AllByRecursion (λ p. is_before start.now p ≡ false) (drop place list.now) }
@@ -97,7 +97,7 @@ fn is_ahead(list: &[RowPlace], place: usize, start: &Start) -> bool
     }
 }
 
-/// Where a search begins: at the place `near`, if the answer isn't before it.
+/// Where a search begins: at the place `near`, if the result isn't before it, and otherwise at 0.
 fn first_place(list: &[RowPlace], near: usize, start: &Start) -> usize
     ensures within { result ≤ length list.now }
     ensures before { IsAscending place_cmp list.now
@@ -110,7 +110,7 @@ fn first_place(list: &[RowPlace], near: usize, start: &Start) -> usize
     }
 }
 
-/// Where a search ends: no further behind its beginning than twice the way to the answer.
+/// Where a search ends: at most twice as far from its beginning as the result.
 fn end_place(list: &[RowPlace], begin: usize, start: &Start) -> usize
     requires { begin ≤ length list.now }
     ensures within { (begin ≤ result) × (result ≤ length list.now) }
@@ -128,7 +128,8 @@ fn end_place(list: &[RowPlace], begin: usize, start: &Start) -> usize
     list.len()
 }
 
-/// The first place that isn't passed over. It takes the time of a bisection of the way from `near`.
+/// The first place that a search from `start` doesn't skip. Takes the time of a binary search over
+/// the distance from `near`.
 fn place_from(list: &[RowPlace], near: usize, start: &Start) -> usize
     ensures within { result ≤ length list.now }
     ensures split { IsAscending place_cmp list.now
@@ -139,8 +140,8 @@ fn place_from(list: &[RowPlace], near: usize, start: &Start) -> usize
     begin + place(&list[begin..end], *start)
 }
 
-/// The place with this number, if a version of the component from the date itself stands there that
-/// the pin shows.
+/// The place with this number, if it is a version of the component with exactly this date, and the
+/// pin shows it.
 fn exactly_at(
     list: &[RowPlace],
     number: usize,
@@ -159,7 +160,7 @@ fn exactly_at(
     }
 }
 
-/// The version of the component from the date itself, if it stands at a hint.
+/// The version of the component with exactly this date, if a hint is at it.
 fn at_a_hint(
     lists: &[PlaceList],
     hints: &mut Hints,
@@ -182,7 +183,8 @@ fn at_a_hint(
 }
 
 /// The latest version of the component up to the date that the pin shows, and the number of its
-/// list. Each list is searched from its hint, and none behind one with a version of that very date.
+/// list. Searches each list from its hint, and no list after one that has a version of exactly this
+/// date.
 fn search_from_hints(
     lists: &[PlaceList],
     hints: &mut Hints,

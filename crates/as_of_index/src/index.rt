@@ -1,4 +1,4 @@
-//! Lists of places, and the answers from them.
+//! The index of several lists of places, and the queries that it answers.
 
 ghost use Rattle.std.specs.Prelude.{◌≡◌, ◌<◌, ◌++◌, ◌∷◌, [], List, IfOk, length, Some, None};
 ghost use Rattle.std.specs.Prelude.{remove, slice_set, slice_get};
@@ -30,10 +30,10 @@ use segment::RowPlace;
 use std::alloc::{AllocError, Global};
 use std::marker::Model;
 
-/// How many lists an index has room for.
+/// The greatest number of lists in an index.
 pub const MAX_LISTS: usize = 250;
 
-/// The places of several segments' rows, no key of which is listed twice.
+/// The places of several segments' rows; no key is in it twice.
 #[derive(Drop)]
 pub struct Index {
     pub(crate) lists: Vec<PlaceList>,
@@ -77,7 +77,7 @@ fn is_shown(p: &RowPlace, pin: u32) -> bool
     p.import <= pin
 }
 
-/// Whether the version holds from the date on or before it, and the pin shows it.
+/// Whether the place's date isn't after the given one, and the pin shows it.
 fn is_early(p: &RowPlace, as_of: &AsOf) -> bool
     ensures { IsTrue result ↔ ((p.now.key.time ≤ as_of.now.date) × (p.now.import ≤ as_of.now.pin)) }
 {
@@ -85,7 +85,7 @@ fn is_early(p: &RowPlace, as_of: &AsOf) -> bool
 }
 
 impl Index {
-    /// No lists, with room for all that there may be.
+    /// An index of no lists, with capacity for as many as there may be.
     pub fn new(alloc: Global) -> Result<Index, AllocError>
         ensures { IfOk result (λ index. index ≡ []) }
     {
@@ -93,7 +93,7 @@ impl Index {
         Ok(Index { lists, alloc })
     }
 
-    /// Adds a list as the last. It takes no memory.
+    /// Adds a list at the end. Allocates nothing.
     pub fn add(&mut self, list: PlaceList)
         requires room { length self.old < max_lists }
         requires places { ArePlaces (self.old ++ list ∷ []) }
@@ -104,7 +104,7 @@ impl Index {
         };
     }
 
-    /// Puts a list in the place of two, at the first's. It takes no memory.
+    /// Replaces lists `i` and `j` by one, at position `i`. Allocates nothing.
     pub fn replace_two(&mut self, i: usize, j: usize, list: PlaceList)
         requires places { i < j }
         requires within { j < length self.old }
@@ -131,9 +131,9 @@ impl Index {
         self.lists[i].places()
     }
 
-    /// Where the component's row at the date stands, of the rows that the pin shows, and the number
-    /// of its list. Where a list is given, and the number in it of a version of the component up to
-    /// the date, that list costs no bisection.
+    /// The place of the component's row at the date, among those that the pin shows, and the number
+    /// of its list. `near` may give a list and the number in it of a version of the component up to
+    /// the date; then no binary search is made in that list.
     fn place_near(
         &self,
         near: Option<(usize, usize)>,
@@ -148,8 +148,8 @@ impl Index {
         latest(self.lists.as_slice(), near, kind, id, as_of)
     }
 
-    /// Where the component's row at the date stands, of the rows that the pin shows,
-    /// and the number of its list. It makes one bisection a list, and reads no row.
+    /// The place of the component's row at the date, among those that the pin shows, and the number
+    /// of its list. Makes one binary search in each list, and reads no row.
     pub fn place_at(&self, kind: Kind, id: u128, as_of: AsOf) -> Option<(usize, RowPlace)>
         ensures places { ArePlaces self.now }
         ensures found { (lists : List (List StampedRow)) → Lists self.now lists
@@ -158,8 +158,9 @@ impl Index {
         self.place_near(None, kind, id, &as_of)
     }
 
-    /// The same place as `place_at` gives. Where components are asked for in key order, a search in
-    /// a list begins where the one before it ended, and the way from there is bisected.
+    /// The same result as `place_at`. If components are looked up in key order, each search in a
+    /// list begins where the last one ended, and takes the time of a binary search over the
+    /// distance from there.
     pub fn place_from_hints(
         &self,
         hints: &mut Hints,
@@ -167,7 +168,7 @@ impl Index {
         id: u128,
         as_of: AsOf,
     ) -> Option<(usize, RowPlace)>
-        // Whatever the hints are.
+        // This holds whatever the hints are.
         ensures places { ArePlaces self.now }
         ensures found { (lists : List (List StampedRow)) → Lists self.now lists
             → IsPlaceOf lists (get kind id as_of.date (rows_seen as_of lists)) result }
@@ -175,7 +176,7 @@ impl Index {
         latest_from_hints(self.lists.as_slice(), hints, kind, id, &as_of)
     }
 
-    /// The place with a number in the list with a number, if there are both.
+    /// The place with this number in the list with this number, if both exist.
     fn place_of_row(&self, segment: usize, number: usize) -> Option<RowPlace>
         ensures { result ≡ item_at self.now segment number }
     {
@@ -187,7 +188,7 @@ impl Index {
         }
     }
 
-    /// The id of the row with this number in a list, if there is one. It makes no bisection.
+    /// The id of the row with this number in a list, if there is one. Makes no search.
     pub fn id_at(&self, segment: usize, number: u32) -> Option<u128>
         ensures { result ≡ option_map (λ at. at.key.id) (item_at self.now segment number) }
     {
@@ -198,7 +199,7 @@ impl Index {
     }
 
     /// The place of the row with this number in a list, if there is one and the pin shows it,
-    /// whatever the date. It makes no bisection, and reads no row.
+    /// whatever its date. Makes no search, and reads no row.
     pub fn shown_at(&self, segment: usize, number: u32, pin: u32) -> Option<RowPlace>
         ensures { (at : RowPlace) → (result ≡ Some at)
             ↔ ((item_at self.now segment number ≡ Some at) × (at.import ≤ pin)) }
@@ -209,9 +210,9 @@ impl Index {
         }
     }
 
-    /// Whether the version that stands at the place is the one at the date, of those that the pin
-    /// shows. Where the list and the number of the place in it are given, that list costs no
-    /// bisection.
+    /// Whether the version at the place is the one at the date, among those that the pin shows.
+    /// `near` may give the list and the number of the place in it; then no binary search is made in
+    /// that list.
     fn is_current_near(
         &self,
         near: Option<(usize, usize)>,
@@ -233,8 +234,9 @@ impl Index {
         }
     }
 
-    /// The place of the row with this number in a list, if its version is the one at the date, of
-    /// those that the pin shows. It makes one bisection in each other list, and reads no row.
+    /// The place of the row with this number in a list, if its version is the one at the date,
+    /// among those that the pin shows. Makes one binary search in each other list, and reads no
+    /// row.
     pub fn current_at(&self, segment: usize, number: u32, as_of: AsOf) -> Option<RowPlace>
         ensures { (lists : List (List StampedRow)) → Lists self.now lists → (at : RowPlace)
             → (result ≡ Some at)
@@ -253,7 +255,7 @@ impl Index {
         }
     }
 
-    /// The component's row at the date, of the rows that the pin shows. One row is read at most.
+    /// The component's row at the date, among those that the pin shows. Reads one row at most.
     pub fn get<R: RowReader>(
         &self,
         reader: &mut R,
@@ -275,8 +277,8 @@ impl Index {
         }
     }
 
-    /// All versions of the component that the pin shows, ascending by time.
-    /// It makes a bisection a list for each version.
+    /// All versions of the component that the pin shows, ascending by time. Makes a binary search
+    /// in each list for each version.
     pub fn history<R: RowReader>(
         &self,
         reader: &mut R,
@@ -302,8 +304,8 @@ impl Index {
         Ok(rows)
     }
 
-    /// The first rows of a kind at the date with an id above `after` and later than `from`, if
-    /// these are given, ascending by id, of the rows that the pin shows.
+    /// The first `limit` rows of a kind at the date, ascending by id, with ids greater than `after`
+    /// and dates later than `from`, if these are given, among those that the pin shows.
     fn walk<R: RowReader>(
         &self,
         reader: &mut R,
@@ -338,9 +340,9 @@ impl Index {
         Ok(rows)
     }
 
-    /// The first rows of a kind at the date with an id above `after`, ascending by id, of the rows
-    /// that the pin shows. It makes one bisection a list, and then goes on by a cursor a list. It
-    /// passes over lists all of whose rows are of later dates, or all of later imports.
+    /// The first `limit` rows of a kind at the date with ids greater than `after`, ascending by id,
+    /// among those that the pin shows. Makes one binary search in each list, and then advances a
+    /// cursor in each. Skips lists whose rows are all of later dates, or all of later imports.
     pub fn page<R: RowReader>(
         &self,
         reader: &mut R,
@@ -357,9 +359,9 @@ impl Index {
         self.walk(reader, kind, None, &as_of, after, limit)
     }
 
-    /// What changed from one date to another: the first rows of a kind at the date that are later
-    /// than `from`, with an id above `after`, ascending by id, of the rows that the pin shows. It
-    /// goes as `page` does, and passes over lists none of whose rows are later than `from` too.
+    /// What changed from one date to another: the first `limit` rows of a kind at the date that are
+    /// later than `from`, with ids greater than `after`, ascending by id, among those that the pin
+    /// shows. It works like `page`, and also skips lists that have no row later than `from`.
     pub fn delta<R: RowReader>(
         &self,
         reader: &mut R,
@@ -377,13 +379,13 @@ impl Index {
         self.walk(reader, kind, Some(from.value()), &as_of, after, limit)
     }
 
-    /// The distinct effective times of the rows that the pin shows, ascending. It looks at no
-    /// place, and reads no row.
+    /// The distinct effective times of the rows that the pin shows, ascending. Looks at no place,
+    /// and reads no row.
     pub fn dates(&self, pin: u32) -> Result<Vec<EffectiveTime>, AllocError>
         ensures found { IfOk result (λ times. (lists : List (List StampedRow))
             → Lists self.now lists → times.items ≡ dates (rows_at pin (listed lists))) }
     {
-        // Its contract says that no key is listed twice.
+        // The contract of `lists` says that no key is listed twice.
         let _listed = self.lists();
         let mut times = Vec::new(self.alloc);
         for list in &self.lists {

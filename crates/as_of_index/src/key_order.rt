@@ -1,4 +1,4 @@
-//! All rows, one after the other, in the order of their keys.
+//! All rows in the order of their keys.
 
 ghost use Rattle.std.specs.Prelude.{◌≡◌, ◌≤◌, ◌↔◌, not, IsTrue};
 ghost use Rattle.history_model.specs.History.{rows_at};
@@ -19,7 +19,7 @@ use fault_counts::ReadFault;
 use rf2_values::{Key, Kind, Row};
 use segment::RowPlace;
 
-/// Where a search begins that passes over all up to a key, if one is given, and over nothing else.
+/// The start of a search that skips everything up to a key, if one is given, and nothing else.
 fn start_after(after: Option<Key>) -> Start
     ensures { (p : RowPlace) → is_before result p ≡ not (is_key_after after p.key) }
 {
@@ -36,7 +36,8 @@ fn start_after(after: Option<Key>) -> Start
     }
 }
 
-/// The first place of all lists after a key, if one is given, and the number of its list.
+/// The first place in all lists whose key is greater than `after`, if that is given, and the number
+/// of its list.
 fn next_after(lists: &[PlaceList], after: Option<Key>) -> Option<(usize, RowPlace)>
     ensures { IsNextAfter after (all_places 0 lists.now) result }
 {
@@ -56,8 +57,8 @@ fn is_shown(p: &RowPlace, pin: u32) -> bool
 }
 
 impl Index {
-    /// The first rows after a key, if one is given, in the order of their keys, of the rows that
-    /// the pin shows. It makes a bisection a list for each row.
+    /// The first `limit` rows whose keys are greater than `after`, if that is given, in key order,
+    /// among those that the pin shows. Makes a binary search in each list for each row.
     pub fn rows_after<R: RowReader>(
         &self,
         reader: &mut R,

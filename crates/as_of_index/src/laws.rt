@@ -2,18 +2,19 @@
 
 ghost use Rattle.as_of_index.specs.Places.{PlacesOfLists, ListsMore, ListsMerged};
 
-/// If each of some lists of rows ascends and no two share a key, this holds of their places too.
+/// If each list of rows is in ascending order and no two share a key, this also holds of their
+/// places.
 pub fn places_of_lists()
     ensures { PlacesOfLists }
 {}
 
-/// Where a list of rows and the list of its places are added, the index lists the places still.
+/// An index that lists the places of some lists of rows still does so after a list of rows and the
+/// list of its places are added.
 pub fn lists_more()
     ensures { ListsMore }
 {}
 
-/// Where a list of rows is put in the place of two, and the list of its places in the place of
-/// theirs, the index lists the places still.
+/// It still does so after a list of rows replaces two, and the list of its places replaces theirs.
 pub fn lists_merged()
     ensures { ListsMerged }
 {}

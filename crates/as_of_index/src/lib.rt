@@ -1,5 +1,5 @@
-//! The answers at a date and a pin, from lists of places;
-//! rows are read through a reader that is lent.
+//! Answers queries at a date and a pin from lists of places; rows are read through a reader that
+//! the caller lends.
 #![tactic(auto)]
 
 mod as_of;

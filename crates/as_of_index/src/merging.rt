@@ -1,4 +1,4 @@
-//! Two lists of postings, each in order, are merged in turns into one that is in order.
+//! Merges two sorted lists of postings into one, in steps.
 
 ghost use Rattle.std.specs.Prelude.{◌≡◌, ◌↔◌, ◌<◌, ◌≤◌, ◌+◌, ◌-◌, ◌++◌, ◌∷◌, [], ℕ, length};
 ghost use Rattle.std.specs.Prelude.{true, false, IsTrue, OnOk, vec_capacity, slice_get, Some};
@@ -10,7 +10,7 @@ ghost use Rattle.as_of_index.specs.Private.Merging.{IsNext};
 use crate::numbers::Numbers;
 use std::alloc::AllocError;
 
-/// What is posted of a row. A posting holds its row's number.
+/// A posting of a row. It has the row's number.
 pub trait Posting: Copy {
     ghost kind: { PostingKind Self };
 
@@ -18,7 +18,7 @@ pub trait Posting: Copy {
     fn row(&self) -> u32
         ensures { result ≡ kind.number self.now };
 
-    /// The posting with this number of its row.
+    /// The same posting, with another number for its row.
     fn with_row(self, row: u32) -> Self
         ensures { result ≡ kind.renumbered row self };
 
@@ -26,25 +26,26 @@ pub trait Posting: Copy {
     fn is_below(&self, other: &Self) -> bool
         ensures { IsTrue result ↔ (kind.rank self.now < kind.rank other.now) };
 
-    /// Its row's number has no part in its rank.
+    /// The row's number doesn't influence the rank.
     ghost same_rank: { (n : ℕ) (x : Self) → kind.rank (kind.renumbered n x) ≡ kind.rank x };
 }
 
-/// How many postings of each of two lists are merged.
+/// How many postings of each of two lists have been merged.
 #[derive(Clone, Copy)]
 pub struct TakenCount {
     pub first: usize,
     pub second: usize,
 }
 
-/// Postings of two lists that are merged so far.
+/// A merge of two lists of postings in progress.
 #[derive(Drop)]
 pub struct MergedList<T> {
     pub taken: TakenCount,
     pub out: Vec<T>,
 }
 
-/// Whether a posting of the first list comes next: there is one, and none of the second is below.
+/// Whether the next posting to merge is one of the first list: there is one, and the second list's
+/// next one isn't below it.
 fn is_first_next<T: Posting>(first: &[T], second: &[T], taken: TakenCount) -> bool
     ensures first { result ≡ true → IsNext T.kind first.now taken.first second.now taken.second }
     ensures second { result ≡ false → 0 < count_left first.now second.now taken
@@ -57,7 +58,7 @@ fn is_first_next<T: Posting>(first: &[T], second: &[T], taken: TakenCount) -> bo
     }
 }
 
-/// Adds a posting with another number of its row. It takes no memory.
+/// Adds a posting with a new number for its row. Allocates nothing.
 fn push<T: Posting>(out: &mut Vec<T>, posting: T, row: u32)
     requires { length out.old.items < vec_capacity out.old }
     ensures pushed { out.new.items ≡ out.old.items ++ T.kind.renumbered row posting ∷ [] }
@@ -115,7 +116,7 @@ fn is_left<T: Posting>(first: &[T], second: &[T], taken: TakenCount) -> bool
     taken.first < first.len() || taken.second < second.len()
 }
 
-/// Merges one posting more.
+/// Merges one more posting.
 fn step<T: Posting>(
     first: &[T],
     second: &[T],
@@ -142,7 +143,8 @@ fn step<T: Posting>(
     }
 }
 
-/// Takes memory for all that is left, the first time for all. An `Err` changes nothing.
+/// Allocates memory for all postings that are left; the first call allocates for all of them. An
+/// `Err` changes nothing.
 pub fn reserve_left<T: Posting>(
     first: &[T],
     second: &[T],
@@ -163,8 +165,9 @@ pub fn reserve_left<T: Posting>(
     }
 }
 
-/// Merges up to so many postings more, in the room that `reserve_left` made: it takes no memory. It
-/// takes as long as so many bisections of the places, however long the lists are.
+/// Merges up to `n` more postings, in the memory that `reserve_left` allocated, and allocates
+/// nothing. Takes the time of at most `n` binary searches over the places, however long the lists
+/// are.
 pub fn merge_on<T: Posting>(
     first: &[T],
     second: &[T],
@@ -182,7 +185,7 @@ pub fn merge_on<T: Posting>(
         merged.new.taken merged.new.out.items }
     ensures left { count_left first.now second.now merged.new.taken
         ≡ count_left first.now second.now merged.old.taken - n }
-    // The room for what is left stays.
+    // There is still capacity for all that are left.
     ensures room { length merged.new.out.items
         + count_left first.now second.now merged.new.taken ≤ vec_capacity merged.new.out }
 {

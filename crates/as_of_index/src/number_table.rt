@@ -1,4 +1,4 @@
-//! A table of the numbers that rows of two lists have in the one list of all these rows.
+//! A table of the numbers that the rows of two lists have in the list of all these rows.
 
 ghost use Rattle.std.specs.Prelude.{◌≡◌, ◌<◌, ◌≤◌, ◌↔◌, ◌+◌, ◌-◌, ◌^◌, length, IsTrue, IfOk, OnOk};
 ghost use Rattle.history_model.specs.InOrder.{IsAscending, ShareNone};
@@ -27,7 +27,8 @@ impl Model for NumberTable {
     ghost view = { λ a. record { first = a.first.items; second = a.second.items } };
 }
 
-/// Whether the place with a number is there, and below the other list's, if that is there.
+/// Whether place `i` of a list exists, and is less than place `j` of the other list, if that
+/// exists.
 fn comes_before(own: &[RowPlace], i: usize, other: &[RowPlace], j: usize) -> bool
     ensures { IsTrue result ↔ ComesBefore own.now i other.now j }
 {
@@ -41,8 +42,8 @@ fn comes_before(own: &[RowPlace], i: usize, other: &[RowPlace], j: usize) -> boo
     }
 }
 
-/// Adds the number of the next row in key order. It adds none where all are known, or where both
-/// lists have the next key.
+/// Adds the number of the next row in key order. Adds none if all are known, or if both lists have
+/// the next key.
 fn push_next(
     first: &[RowPlace],
     second: &[RowPlace],
@@ -79,7 +80,7 @@ fn push_next(
     Ok(())
 }
 
-/// The number of row i, where j rows of the other list stand before it.
+/// The number of row `i`, if `j` rows of the other list come before it.
 fn number_at(i: usize, j: usize) -> Result<u32, AllocError>
     ensures { IfOk result (λ n. n ≡ i + j) }
 {
@@ -90,7 +91,7 @@ fn number_at(i: usize, j: usize) -> Result<u32, AllocError>
 }
 
 impl NumberTable {
-    /// No numbers. It takes no memory; later calls take theirs from `alloc`.
+    /// A table of no numbers. Allocates nothing; later calls allocate from `alloc`.
     pub fn new(alloc: Global) -> NumberTable
         ensures none { result ≡ no_numbers }
         ensures known { (lists : TwoLists) → AreKnown lists result }
@@ -101,22 +102,22 @@ impl NumberTable {
         }
     }
 
-    /// Those of the first list's rows.
+    /// The numbers of the first list's rows.
     pub fn first(&self) -> &[u32]
         ensures { result.now ≡ self.now.first }
     {
         self.first.as_slice()
     }
 
-    /// Those of the second list's rows.
+    /// The numbers of the second list's rows.
     pub fn second(&self) -> &[u32]
         ensures { result.now ≡ self.now.second }
     {
         self.second.as_slice()
     }
 
-    /// Adds the numbers of so many rows more, in key order, as long as no key is in both lists. The
-    /// first call takes the memory for all. After an `Err` the table has what was added before it.
+    /// Adds the numbers of `n` more rows, in key order, until a key is in both lists. The first
+    /// call allocates memory for all. After an `Err` the table keeps the numbers that were added.
     pub fn extend(
         &mut self,
         first: &[RowPlace],

@@ -1,4 +1,4 @@
-//! The numbers that rows of two lists have in the one list of all these rows.
+//! The numbers that the rows of two lists have in the list of all these rows.
 
 ghost use Rattle.std.specs.Prelude.{◌≡◌, ◌<◌, ◌+◌, ◌^◌, length, slice_get};
 ghost use Rattle.std.specs.List.{count_by};
@@ -13,7 +13,7 @@ use rf2_values::Key;
 use segment::RowPlace;
 use std::marker::Model;
 
-/// The places of two lists of rows, which tell the numbers that the rows have in a list of both.
+/// The places of two lists of rows, from which it finds the numbers of the rows in a list of both.
 #[derive(Drop)]
 pub struct Numbers<'a> {
     first: &'a [RowPlace],
@@ -39,7 +39,7 @@ impl<'a> Model for Numbers<'a> {
         × AreNumbersOf a.second.now a.first.now a.second_known.now };
 }
 
-/// How many places have a lesser key.
+/// How many places have a smaller key.
 fn count_under(list: &[RowPlace], key: &Key) -> usize
     requires { IsAscending place_cmp list.now }
     ensures { result ≡ count_by (is_under (λ p. p.key) key.now) list.now }
@@ -65,7 +65,7 @@ fn number_in_both(own: &[RowPlace], other: &[RowPlace], row: u32) -> u32
 }
 
 impl<'a> Numbers<'a> {
-    /// Takes the places of two lists of rows.
+    /// Finds numbers from the places of two lists of rows.
     pub fn new(first: &'a [RowPlace], second: &'a [RowPlace]) -> Numbers<'a>
         requires first { IsAscending place_cmp first.now }
         requires second { IsAscending place_cmp second.now }
@@ -80,7 +80,8 @@ impl<'a> Numbers<'a> {
         }
     }
 
-    /// Takes the places of two lists of rows, and a table of numbers that are known already.
+    /// Finds numbers from the places of two lists of rows, and from a table of those that are
+    /// already known.
     pub fn with_table(
         first: &'a [RowPlace],
         second: &'a [RowPlace],
@@ -100,8 +101,8 @@ impl<'a> Numbers<'a> {
         }
     }
 
-    /// The number of a row of the first list among the rows of both, by a bisection where it isn't
-    /// known.
+    /// The number of a row of the first list among the rows of both; by a binary search if it isn't
+    /// in the table.
     pub fn of_first(&self, row: u32) -> u32
         ensures { result ≡ number_in_both self.now.first self.now.second row }
     {
@@ -111,8 +112,8 @@ impl<'a> Numbers<'a> {
         }
     }
 
-    /// The number of a row of the second list among the rows of both, by a bisection where it isn't
-    /// known.
+    /// The number of a row of the second list among the rows of both; by a binary search if it
+    /// isn't in the table.
     pub fn of_second(&self, row: u32) -> u32
         ensures { result ≡ number_in_both self.now.second self.now.first row }
     {

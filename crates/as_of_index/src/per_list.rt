@@ -1,4 +1,4 @@
-//! What is kept of each list of rows beside its places.
+//! Items that are kept for each list of rows, besides its places.
 
 ghost use Rattle.std.specs.Prelude.{◌≡◌, ◌<◌, ◌++◌, ◌∷◌, [], length, IfOk, remove, slice_set};
 ghost use Rattle.as_of_index.specs.Places.{max_lists};
@@ -7,7 +7,7 @@ use crate::index::MAX_LISTS;
 use std::alloc::{AllocError, Global};
 use std::marker::Model;
 
-/// One item for each list of an index, in the order of these lists.
+/// One item for each list of an index, in the same order.
 #[derive(Drop)]
 pub struct PerList<T> {
     lists: Vec<T>,
@@ -25,7 +25,7 @@ impl<T> Model for PerList<T> {
 }
 
 impl<T: Drop> PerList<T> {
-    /// No lists, with room for all that there may be.
+    /// No items, with capacity for one for each of the lists that there may be.
     pub fn new(alloc: Global) -> Result<PerList<T>, AllocError>
         ensures { IfOk result (λ lists. lists ≡ []) }
     {
@@ -33,14 +33,14 @@ impl<T: Drop> PerList<T> {
         Ok(PerList { lists })
     }
 
-    /// How many lists there are.
+    /// How many items there are.
     pub fn lists(&self) -> usize
         ensures { result ≡ length self.now }
     {
         self.lists.len()
     }
 
-    /// Adds a list as the last. It takes no memory.
+    /// Adds an item at the end. Allocates nothing.
     pub fn add(&mut self, list: T)
         requires { length self.old < max_lists }
         ensures { self.new ≡ self.old ++ list ∷ [] }
@@ -50,7 +50,7 @@ impl<T: Drop> PerList<T> {
         };
     }
 
-    /// Puts a list in the place of two, at the first's. It takes no memory.
+    /// Replaces items `i` and `j` by one, at position `i`. Allocates nothing.
     pub fn replace_two(&mut self, i: usize, j: usize, list: T)
         requires places { i < j }
         requires within { j < length self.old }
@@ -60,7 +60,7 @@ impl<T: Drop> PerList<T> {
         let _removed = self.lists.remove(j);
     }
 
-    /// All of them.
+    /// All items.
     pub fn as_slice(&self) -> &[T]
         ensures { result.now ≡ self.now }
     {

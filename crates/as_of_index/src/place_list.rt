@@ -18,13 +18,13 @@ use std::marker::Model;
 #[derive(Drop)]
 pub struct PlaceList {
     pub(crate) places: Vec<RowPlace>,
-    /// The least effective time of a place, and the greatest number where there is none.
+    /// The smallest effective time of a place; the greatest `u32` if there is no place.
     pub(crate) first_time: u32,
-    /// The greatest effective time of a place, and 0 where there is none.
+    /// The greatest effective time of a place; 0 if there is no place.
     pub(crate) last_time: u32,
-    /// The least number of an import, and the greatest number where there is no place.
+    /// The smallest import number of a place; the greatest `u32` if there is no place.
     pub(crate) first_import: u32,
-    /// Which effective times and imports the places have.
+    /// The effective times and imports of the places.
     pub(crate) dates: Vec<DateEntry>,
 }
 
@@ -123,14 +123,16 @@ impl PlaceList {
         self.places.as_slice()
     }
 
-    /// Whether neither the date is before all places nor the pin below all imports.
+    /// Whether the list may have a place that the date and the pin show: not all are later than the
+    /// date, and not all are of later imports than the pin.
     fn may_show(&self, as_of: &AsOf) -> bool
         ensures { result ≡ may_show as_of.now self.now }
     {
         self.first_time <= as_of.date.value() && self.first_import <= as_of.pin
     }
 
-    /// The places, in key order, or none where the date is before all or the pin below all imports.
+    /// The places in key order; none if all are later than the date, or of later imports than the
+    /// pin.
     pub(crate) fn shown_part(&self, as_of: &AsOf) -> &[RowPlace]
         ensures part { result.now ≡ shown_part as_of.now self.now }
         ensures ascending { IsAscending place_cmp result.now }
@@ -143,15 +145,15 @@ impl PlaceList {
         }
     }
 
-    /// Whether not all places are up to `from` either, if that is given.
+    /// Whether the list may have such a place that is also later than `from`, if that is given.
     fn may_change(&self, from: Option<u32>, as_of: &AsOf) -> bool
         ensures { result ≡ may_change from as_of.now self.now }
     {
         self.may_show(as_of) && is_later(from, self.last_time)
     }
 
-    /// The places, in key order, or none where `shown_part` has none, or where all are up to
-    /// `from`, if that is given.
+    /// The places in key order; none if `shown_part` has none, or if none is later than `from`, if
+    /// that is given.
     pub(crate) fn changed_part(&self, from: Option<u32>, as_of: &AsOf) -> &[RowPlace]
         ensures part { result.now ≡ changed_part from as_of.now self.now }
         ensures ascending { IsAscending place_cmp result.now }
@@ -163,7 +165,7 @@ impl PlaceList {
             &places[..0]
         }
     }
-    /// Adds the effective times of the places that the pin shows. It looks at none of them.
+    /// Adds the effective times of the places that the pin shows, without looking at a place.
     pub(crate) fn add_dates(
         &self,
         times: &mut Vec<EffectiveTime>,

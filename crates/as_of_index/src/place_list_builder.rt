@@ -1,4 +1,4 @@
-//! The places of one segment's rows, as they come.
+//! Builds the list of places of one segment.
 
 ghost use Rattle.std.specs.Prelude.{◌≡◌, ◌++◌, ◌∷◌, [], length, take, OnOk, OnErr};
 ghost use Rattle.history_model.specs.InOrder.{IsAscending};
@@ -10,18 +10,18 @@ use segment::RowPlace;
 use std::alloc::{AllocError, Global};
 use std::marker::Model;
 
-/// Places of rows, with their least and greatest time, their least import and their dates, so that
-/// a list of them looks at none again.
+/// Places of rows, with their smallest and greatest time, their smallest import and their dates, so
+/// that the list can be made without looking at them again.
 #[derive(Drop)]
 pub struct PlaceListBuilder {
     places: Vec<RowPlace>,
-    /// The least effective time of a place, and the greatest number where there is none.
+    /// The smallest effective time of a place; the greatest `u32` if there is no place.
     first_time: u32,
-    /// The greatest effective time of a place, and 0 where there is none.
+    /// The greatest effective time of a place; 0 if there is no place.
     last_time: u32,
-    /// The least number of an import, and the greatest number where there is no place.
+    /// The smallest import number of a place; the greatest `u32` if there is no place.
     first_import: u32,
-    /// Which effective times and imports the places have.
+    /// The effective times and imports of the places.
     dates: Vec<DateEntry>,
 }
 
@@ -44,7 +44,7 @@ impl Model for PlaceListBuilder {
 }
 
 impl PlaceListBuilder {
-    /// No places. It takes no memory; later calls take theirs from `alloc`.
+    /// A builder without places. Allocates nothing; later calls allocate from `alloc`.
     pub fn new(alloc: Global) -> PlaceListBuilder
         ensures { result ≡ [] }
     {
@@ -57,7 +57,7 @@ impl PlaceListBuilder {
         }
     }
 
-    /// Makes room for so many places more.
+    /// Allocates memory for `more` further places.
     pub fn reserve(&mut self, more: usize) -> Result<(), AllocError>
         ensures { self.new ≡ self.old }
     {
@@ -88,7 +88,8 @@ impl PlaceListBuilder {
         self.places.len()
     }
 
-    /// Takes away all places from one on: what `len` answered once is left. It looks at these.
+    /// Keeps the first `len` places, which are those from when `len` returned that number. Looks at
+    /// the places that are kept.
     pub fn cut_to(&mut self, len: usize)
         ensures { self.new ≡ take len self.old }
     {
@@ -99,7 +100,7 @@ impl PlaceListBuilder {
         self.first_import = first_import(self.places.as_slice());
     }
 
-    /// The list of the places. It takes no memory, and looks at none of them.
+    /// The list of the places. Allocates nothing, and looks at no place.
     pub fn seal(self) -> PlaceList
         requires { IsAscending place_cmp self }
         ensures { result ≡ self }

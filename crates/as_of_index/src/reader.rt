@@ -1,4 +1,4 @@
-//! Rows that are read at their places.
+//! Reads rows at their places.
 
 ghost use Rattle.std.specs.Prelude.{◌≡◌, ◌≢◌, ◌+◌, ◌≤◌, ℕ, IfOk, IfErr};
 ghost use Rattle.rf2_values.specs.Row.{RowValue};
@@ -13,7 +13,7 @@ use history_model::StampedRow;
 use segment::RowPlace;
 use std::alloc::Global;
 
-/// Lists of rows, lent to be read at their places. A call leaves them as they are.
+/// Reads rows of several lists at their places. No call changes the lists.
 pub trait RowReader {
     /// What it shows at one time.
     ghost view: { Self → ReaderView };
@@ -21,22 +21,23 @@ pub trait RowReader {
     /// The most that reading a row takes, in the measure of its work.
     ghost cost: { RowValue → ℕ };
 
-    /// What its calls leave as it is.
+    /// A relation between the reader before and after a call, for what calls leave unchanged.
     ghost stays: { Self → Self → Type 0 };
 
-    /// The row at a place of a list.
+    /// Reads the row at a place of a list.
     fn row(&mut self, alloc: Global, segment: usize, at: RowPlace) -> Result<StampedRow, ReadFault>
         ensures found { (view self.old).is_honest → (s : StampedRow)
             → StandsAt (view self.old).lists segment at s → IfOk result (λ row. row ≡ s) }
-        // Whatever it gives, a row has the key of its place.
+        // Whatever it returns, a row has the key of its place.
         ensures keyed { IfOk result (λ row. key_of row.row ≡ at.key) }
-        // Where a row stands, its reader answers a fault of the device or of memory alone.
+        // If there is a row at the place, an honest reader fails only because of the device or
+        // memory.
         ensures undamaged { (view self.old).is_honest → (s : StampedRow)
             → StandsAt (view self.old).lists segment at s
             → IfErr result (λ e. e ≢ readfault.Damaged) }
         ensures work { IfOk result
             (λ row. (view self.new).work ≤ (view self.old).work + cost row.row) }
-        // Whatever it answers: where a row stands, no more is read than this row takes.
+        // Whatever the result: if there is a row at the place, no more is read than this row costs.
         ensures work_always { (s : StampedRow) → StandsAt (view self.old).lists segment at s
             → (view self.new).work ≤ (view self.old).work + cost s.row }
         ensures reader { LeavesReader result (view self.old) (view self.new) }

@@ -1,4 +1,4 @@
-//! Searches in one list of places, by bisection.
+//! Searches one list of places, by binary search.
 
 ghost use Rattle.std.specs.Prelude.{◌≡◌, ◌≤◌, ℕ, length, IsTrue, find, reverse};
 ghost use Rattle.std.specs.Prelude.{take, drop, true, slice_get, Some, None};
@@ -18,22 +18,23 @@ use rf2_values::{EffectiveTime, Key, Kind};
 use segment::RowPlace;
 use std::cmp::Ordering;
 
-/// Where a search begins: what it passes over.
+/// Where a search starts: it skips all places up to there.
 #[derive(Clone, Copy)]
 pub enum Start {
-    /// All versions of a component up to a time, and what is below.
+    /// Skips the versions of a component up to a time, and all smaller keys.
     AfterVersion {
         kind: Kind,
         id: u128,
         time: EffectiveTime,
     },
-    /// The versions of a component up to a time, if one is given, and what is below.
+    /// Skips the versions of a component up to a time, or none if no time is given, and all smaller
+    /// keys.
     Later {
         kind: Kind,
         id: u128,
         after: Option<EffectiveTime>,
     },
-    /// The components of a kind up to an id, and what is below.
+    /// Skips the components of a kind up to an id, or none if no id is given, and all smaller keys.
     Components {
         kind: Kind,
         after: Option<u128>,
@@ -86,7 +87,7 @@ pub(crate) fn is_before(start: Start, p: &RowPlace) -> bool
     }
 }
 
-/// The first place that isn't passed over.
+/// The number of the first place that a search from `start` doesn't skip.
 pub(crate) fn place(list: &[RowPlace], start: Start) -> usize
     ensures within { result ≤ length list.now }
     ensures split { IsAscending place_cmp list.now → SplitsAt (is_before start) list.now result }
@@ -94,14 +95,15 @@ pub(crate) fn place(list: &[RowPlace], start: Start) -> usize
     list.partition_point(|p| is_before(start, p))
 }
 
-/// The place there, not copied.
+/// A reference to the place with this number, if there is one.
 pub(crate) fn lent_at(list: &[RowPlace], i: usize) -> Option<&RowPlace>
     ensures { option_copied result ≡ slice_get list.now i }
 {
     list.get(i)
 }
 
-/// The first place from `from` on that isn't passed over.
+/// The number of the first place that `start` doesn't skip, found by stepping on from `from`. It is
+/// right if everything before `from` is skipped.
 pub(crate) fn go_on(list: &[RowPlace], from: usize, start: &Start) -> usize
     requires { from ≤ length list.now }
     ensures within { result ≤ length list.now }
@@ -119,7 +121,7 @@ pub(crate) fn go_on(list: &[RowPlace], from: usize, start: &Start) -> usize
     place
 }
 
-/// Whether there is a place with this number, and it is passed over.
+/// Whether there is a place with this number, and `start` skips it.
 fn is_passed(list: &[RowPlace], number: usize, start: &Start) -> bool
     ensures within { IsTrue result → number ≤ length list.now }
     ensures before { IsAscending place_cmp list.now → IsTrue result
@@ -131,8 +133,9 @@ fn is_passed(list: &[RowPlace], number: usize, start: &Start) -> bool
     }
 }
 
-/// The first place that isn't passed over. It makes no bisection where the place with the number
-/// `near` is passed over, and goes on from there: that is for a place shortly before the answer.
+/// The number of the first place that `start` doesn't skip. If the place with the number `near` is
+/// skipped, it steps on from there and makes no binary search, which is good if `near` is shortly
+/// before the result.
 fn place_near(list: &[RowPlace], near: Option<usize>, start: &Start) -> usize
     ensures within { result ≤ length list.now }
     ensures split { IsAscending place_cmp list.now
@@ -156,7 +159,7 @@ fn last_stop(list: &[RowPlace], kind: Kind, id: u128, pin: u32) -> Option<&RowPl
     list.iter().rev().find(|p| stops(kind, id, pin, p))
 }
 
-/// The last version of the component before a place that the pin shows.
+/// The last version of the component, before place `end`, that the pin shows.
 pub(crate) fn latest_before(
     list: &[RowPlace],
     end: usize,
@@ -175,8 +178,8 @@ pub(crate) fn latest_before(
     }
 }
 
-/// The latest version of the component in the list, up to the date, that the pin shows.
-/// All that stands before the cursor is below the component: a search that stops there finds none.
+/// The latest version of the component in the list, up to the date, that the pin shows. All places
+/// before the cursor are less than the component's, and so a search finds nothing there.
 pub(crate) fn latest_from(
     list: &[RowPlace],
     cursor: usize,
@@ -195,8 +198,8 @@ pub(crate) fn latest_from(
     latest_before(list, end, kind, id, as_of)
 }
 
-/// The latest version of the component in the list, up to the date, that the pin shows. Where the
-/// number of a version of it up to the date is given, no bisection is made.
+/// The latest version of the component in the list, up to the date, that the pin shows. `near` may
+/// give the number of a version of it up to the date; then no binary search is made.
 pub(crate) fn latest_in(
     list: &[RowPlace],
     near: Option<usize>,
@@ -237,7 +240,7 @@ pub(crate) fn nth_place(list: &[RowPlace], i: usize) -> Option<RowPlace>
     list.get(i).copied()
 }
 
-/// The first place of the list that isn't passed over.
+/// The first place of the list that `start` doesn't skip.
 pub(crate) fn next_in(list: &[RowPlace], start: Start) -> Option<RowPlace>
     ensures { IsAscending place_cmp list.now → IsNext start (λ p. p) list.now result }
 {
@@ -245,7 +248,7 @@ pub(crate) fn next_in(list: &[RowPlace], start: Start) -> Option<RowPlace>
     nth_place(list, first)
 }
 
-/// The id of the place there, if it is one of the kind.
+/// The id of the place with this number, if there is one and it is of the kind.
 pub(crate) fn id_at(list: &[RowPlace], i: usize, kind: Kind) -> Option<u128>
     ensures { result ≡ id_of_kind kind (slice_get list.now i) }
 {
@@ -261,7 +264,7 @@ pub(crate) fn id_at(list: &[RowPlace], i: usize, kind: Kind) -> Option<u128>
     }
 }
 
-/// The lesser of two ids, of those that are given.
+/// The smaller of two ids, either of which may be missing.
 pub(crate) fn lesser(best: Option<u128>, found: Option<u128>) -> Option<u128>
     ensures { result ≡ lesser_of best found }
 {

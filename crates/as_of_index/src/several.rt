@@ -1,4 +1,4 @@
-//! Searches in several lists of places, by a bisection in each.
+//! Searches several lists of places, by a binary search in each.
 
 ghost use Rattle.std.specs.Prelude.{◌≡◌};
 ghost use Rattle.as_of_index.specs.Private.Search.{all_places, number_in, IsPick};
@@ -10,7 +10,7 @@ use crate::search::{Start, is_of, later, latest_in, next_in, sooner};
 use rf2_values::{EffectiveTime, Kind};
 use segment::RowPlace;
 
-/// The number that is known in this list.
+/// The number that `near` gives for this list, if it is for this one.
 fn number_in(near: Option<(usize, usize)>, segment: usize) -> Option<usize>
     ensures { result ≡ number_in near segment }
 {
@@ -21,8 +21,8 @@ fn number_in(near: Option<(usize, usize)>, segment: usize) -> Option<usize>
 }
 
 /// The latest version of the component up to the date that the pin shows, and the number of its
-/// list. Where a list is given, and the number in it of a version of the component up to the date,
-/// that list costs no bisection.
+/// list. `near` may give a list and the number in it of a version of the component up to the date;
+/// then no binary search is made in that list.
 pub(crate) fn latest(
     lists: &[PlaceList],
     near: Option<(usize, usize)>,
@@ -41,7 +41,7 @@ pub(crate) fn latest(
     best
 }
 
-/// The first place of all lists that isn't passed over, and the number of its list.
+/// The first place in all lists that `start` doesn't skip, and the number of its list.
 pub(crate) fn next(lists: &[PlaceList], start: &Start) -> Option<(usize, RowPlace)>
     ensures { IsNext start.now (λ x. x.1) (all_places 0 lists.now) result }
 {
@@ -53,7 +53,8 @@ pub(crate) fn next(lists: &[PlaceList], start: &Start) -> Option<(usize, RowPlac
     best
 }
 
-/// The first version of a component after a time, if that is given.
+/// The first version of a component later than `after`, if that is given, and the number of its
+/// list.
 pub(crate) fn next_version(
     lists: &[PlaceList],
     kind: Kind,

@@ -1,4 +1,4 @@
-//! What is asked of a store that is open.
+//! Questions to an open store.
 
 use crate::open_store;
 use bstr::ByteSlice;
@@ -8,20 +8,20 @@ use rf2_rows::{EffectiveTime, Kind, Sctid};
 use std::fs;
 use std::rt::HostRuntime;
 
-/// The date that is asked for.
+/// The date of all questions.
 const DATE: u32 = 20_251_231;
 
-/// What is asked of a concept.
+/// A question about a concept.
 #[derive(Clone, Copy)]
 pub(crate) enum Question {
     /// Its row.
     Lookup,
-    /// A page of a hundred concepts behind it.
+    /// A page of a hundred concepts after it.
     Page,
     Children,
 }
 
-/// The name of a question, in what is printed.
+/// The name of a question in the output.
 pub(crate) fn name_of(question: Question) -> &'static str {
     match question {
         Question::Lookup => "lookups",
@@ -30,7 +30,7 @@ pub(crate) fn name_of(question: Question) -> &'static str {
     }
 }
 
-/// The concepts of a file, one a line.
+/// The concepts in a file, one on each line.
 pub(crate) fn concepts_in(rt: &HostRuntime, path: &str) -> Option<Vec<Sctid>> {
     let text = fs::read(rt, path).ok()?;
     let mut ids = Vec::new(rt.alloc());
@@ -42,7 +42,7 @@ pub(crate) fn concepts_in(rt: &HostRuntime, path: &str) -> Option<Vec<Sctid>> {
     Some(ids)
 }
 
-/// Asks of a concept. How many rows or ids are found.
+/// Asks a question about a concept. Returns how many rows or ids are found.
 fn ask(
     store: &mut Store<FileDisk>,
     question: Question,
@@ -65,7 +65,7 @@ fn ask(
     }
 }
 
-/// Asks of each of some concepts. How many rows or ids are found.
+/// Asks a question about each of these concepts. Returns how many rows or ids are found.
 pub(crate) fn ask_each(
     store: &mut Store<FileDisk>,
     question: Question,
@@ -79,7 +79,7 @@ pub(crate) fn ask_each(
     Some(found)
 }
 
-/// Searches for ten descriptions by a prefix. How many there are.
+/// Searches for ten descriptions by a prefix. Returns how many are found.
 fn search(store: &mut Store<FileDisk>, prefix: &[u8], date: EffectiveTime) -> Option<usize> {
     let Ok(prefix) = str::from_utf8(prefix) else {
         return Some(0);
@@ -88,7 +88,7 @@ fn search(store: &mut Store<FileDisk>, prefix: &[u8], date: EffectiveTime) -> Op
     Some(store.terms(prefix, AsOf { date, pin }, 10).ok()?.len())
 }
 
-/// Searches for ten descriptions by each prefix of a file. How many rows that are.
+/// Searches for ten descriptions by each prefix in a file. Returns how many rows are found.
 pub(crate) fn search_terms(rt: &HostRuntime, path: &str, prefixes: &str) -> Option<u64> {
     let mut store = open_store(rt, path)?;
     let prefixes = fs::read(rt, prefixes).ok()?;
@@ -100,7 +100,7 @@ pub(crate) fn search_terms(rt: &HostRuntime, path: &str, prefixes: &str) -> Opti
     Some(found)
 }
 
-/// The descriptions behind one, so many. The last of them; none, where there is none behind it.
+/// Reads a page of descriptions after one. Returns the last of them, or none if the page is empty.
 pub(crate) fn turn_page(
     store: &mut Store<FileDisk>,
     after: Option<u128>,

@@ -1,4 +1,4 @@
-//! What a store's file costs to open, and its segments alone to decode.
+//! The cost of opening a store's file, and of decoding its segments alone.
 
 use crate::open_store;
 use crate::watch::start_watch;
@@ -10,7 +10,7 @@ use std::alloc::Global;
 use std::fs;
 use std::rt::HostRuntime;
 
-/// The bytes of a segment, of those of the file.
+/// The bytes of a segment within those of the file.
 fn segment_in<'a>(bytes: &'a [u8], entry: &Entry) -> Option<&'a [u8]> {
     let from = usize::try_from(BLOCK * u64::from(entry.first)).ok()?;
     let (_, behind) = bytes.split_at_checked(from)?;
@@ -26,7 +26,7 @@ fn read_directory(rt: &HostRuntime, path: &str) -> Option<Directory> {
     Directory::decode(rt.alloc(), &content).ok()
 }
 
-/// Decodes a segment and drops its rows again. How many there were.
+/// Decodes a segment and drops its rows again. Returns how many there were.
 fn decode_one(alloc: Global, bytes: &[u8], entry: &Entry) -> Option<usize> {
     Some(
         decode(alloc, entry.form, segment_in(bytes, entry)?)
@@ -35,7 +35,7 @@ fn decode_one(alloc: Global, bytes: &[u8], entry: &Entry) -> Option<usize> {
     )
 }
 
-/// Decodes the segments that a directory lists. How many rows they have.
+/// Decodes the segments that a directory lists. Returns how many rows they have.
 fn decode_all(alloc: Global, bytes: &[u8], directory: &Directory) -> Option<u64> {
     let mut rows: u64 = 0;
     for entry in directory.entries() {
@@ -44,14 +44,15 @@ fn decode_all(alloc: Global, bytes: &[u8], directory: &Directory) -> Option<u64>
     Some(rows)
 }
 
-/// Opens the store, closes it again, and says what the opening took.
+/// Opens the store, closes it again, and prints the cost of opening it.
 fn open_and_tell(rt: &HostRuntime, path: &str) -> Option<()> {
     let opening = start_watch(rt)?;
     let _store = open_store(rt, path)?;
     opening.tell(rt, "open")
 }
 
-/// Opens the store and decodes its segments, and says what each took. How many rows were decoded.
+/// Opens the store and decodes its segments, and prints the cost of each. Returns how many rows
+/// were decoded.
 pub(crate) fn open_and_decode(rt: &HostRuntime, path: &str) -> Option<u64> {
     let reading = start_watch(rt)?;
     let bytes = fs::read(rt, path).ok()?;

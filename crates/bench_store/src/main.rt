@@ -1,7 +1,7 @@
-//! Does one piece of work on a store in a file, for the drivers that measure it
-//! (measure.py, measure_merge.py and measure_segments.py in bench/measurements), reads a file of
-//! descriptions, or asks an index of made places. Without words it asks a small one and prints
-//! nothing.
+//! Does one piece of work on a store in a file, for the drivers that measure it (measure.py,
+//! measure_merge.py and measure_segments.py in bench/measurements), reads a file of descriptions,
+//! or asks questions of an index of generated places. Without arguments it uses a small index and
+//! prints nothing.
 #![tactic(auto)]
 
 mod asking;
@@ -27,8 +27,8 @@ use std::process::ExitCode;
 use std::rt::HostRuntime;
 use std::{env, io};
 
-/// The store in a file. It is boxed, so that a function which
-/// lets it go is proved without what a store is made of.
+/// Opens the store in a file. It is boxed, so that a function which drops it can be proved without
+/// the fields of a store.
 fn open_store(rt: &HostRuntime, path: &str) -> Option<Box<Store<FileDisk>>> {
     let disk = FileDisk::open(rt, path).ok()?;
     match Store::open(rt.alloc(), disk) {
@@ -46,7 +46,7 @@ fn make(rt: &HostRuntime, path: &str) -> Option<u64> {
     }
 }
 
-/// Imports a release of a folder. How many rows are new.
+/// Imports a release from a folder. Returns how many rows are new.
 fn import(rt: &HostRuntime, path: &str, folder: &str, name: &str) -> Option<u64> {
     let mut store = open_store(rt, path)?;
     let release = read_folder(rt, rt.alloc(), folder, name, Scope::Basic).ok()?;
@@ -56,19 +56,19 @@ fn import(rt: &HostRuntime, path: &str, folder: &str, name: &str) -> Option<u64>
     }
 }
 
-/// Opens a store. How many rows it has.
+/// Opens a store. Returns how many rows it has.
 fn open(rt: &HostRuntime, path: &str) -> Option<u64> {
     Some(open_store(rt, path)?.row_count())
 }
 
-/// Asks a question of each concept of a file. How many rows or ids are found.
+/// Asks a question about each concept in a file. Returns how many rows or ids are found.
 fn open_and_ask_each(rt: &HostRuntime, question: Question, path: &str, ids: &str) -> Option<u64> {
     let mut store = open_store(rt, path)?;
     let ids = concepts_in(rt, ids)?;
     ask_each(&mut *store, question, &ids)
 }
 
-/// The word at a place; one of no bytes where there are fewer.
+/// The word at this index, or an empty one if there are fewer.
 fn word(words: &[String], place: usize) -> &str {
     match words.get(place) {
         Some(word) => word.as_str(),
@@ -76,8 +76,8 @@ fn word(words: &[String], place: usize) -> &str {
     }
 }
 
-/// Does a piece of work on a store. How many rows it brought, found or holds.
-/// None where it can't be done.
+/// Does a piece of work on a store. Returns how many rows it added, found or holds, or none if it
+/// fails.
 fn work(rt: &HostRuntime, words: &[String]) -> Option<u64> {
     let (path, third, fourth) = (word(words, 2), word(words, 3), word(words, 4));
     match word(words, 1) {
@@ -97,8 +97,8 @@ fn work(rt: &HostRuntime, words: &[String]) -> Option<u64> {
     }
 }
 
-/// Does what the words say: `nothing`, `rows FILE`, `places NUMBER`,
-/// or work on a store, of which a number is printed.
+/// Carries out the command: `nothing`, `rows FILE`, `places NUMBER`, or work on a store, which
+/// prints a number.
 fn run(rt: &HostRuntime, words: &[String]) -> Option<()> {
     match word(words, 1) {
         "" => ask_each_index(rt, SMALL, true),
@@ -112,7 +112,7 @@ fn run(rt: &HostRuntime, words: &[String]) -> Option<()> {
     }
 }
 
-/// The words of the command line, of which the first is the program's name.
+/// The words of the command line; the first is the program's name.
 fn words_of(rt: &HostRuntime) -> io::Result<Vec<String>> {
     Ok(env::args(rt)?.collect(rt.alloc())?)
 }

@@ -1,4 +1,4 @@
-//! Made rows, and an index of lists of their places and postings.
+//! Generated rows, and an index of lists of their places, with postings.
 
 use as_of_index::{Index, MAX_LISTS, PlaceList, RowPlace};
 use history_model::StampedRow;
@@ -12,18 +12,18 @@ use term_prefix::Terms;
 /// The concept that all descriptions and relationships are about.
 pub(crate) const ROOT: u64 = 138_875_005;
 
-/// The association that is read in the place of each.
+/// The association that the reader returns for every place of one.
 const ASSOCIATION: &str = "00000000-0000-0000-0000-000000000001\t20200131\t1\t\
      900000000000207008\t900000000000527005\t1000004\t2000001";
 
-/// The bytes of an association's record.
+/// The length of an association's record in bytes.
 const BYTES: u32 = 62;
 
-/// In which order the terms stand, against that of their ids.
+/// How the order of the terms relates to the order of their ids.
 #[derive(Clone, Copy)]
 pub(crate) enum Order {
     Mixed,
-    /// The greatest id first: a search looks at the most places.
+    /// The terms descend while the ids ascend, so that a search looks at the most places.
     Falling,
 }
 
@@ -35,17 +35,17 @@ pub(crate) struct Made {
     pub(crate) links: Links,
 }
 
-/// The postings of one list, and the places.
+/// The places and postings of one list.
 #[derive(Drop)]
 struct Pushed {
     places: Vec<RowPlace>,
     terms: term_prefix::Postings,
     links: links::Postings,
-    /// The byte at which the next record begins.
+    /// Where the next record begins, in bytes.
     end: u32,
 }
 
-/// Every `step`th of so many rows, from `first`.
+/// Every `step`th of this many rows, from `first` on.
 #[derive(Clone, Copy)]
 struct Share {
     first: u64,
@@ -53,7 +53,7 @@ struct Share {
     count: u64,
 }
 
-/// Some number below `size`.
+/// A scrambled number below `size`.
 pub(crate) fn scramble(n: u64, size: u64) -> u64 {
     let x = n
         .wrapping_mul(6_364_136_223_846_793_005)
@@ -61,7 +61,7 @@ pub(crate) fn scramble(n: u64, size: u64) -> u64 {
     if size == 0 { 0 } else { (x >> 33) % size }
 }
 
-/// The SCTID of an item, in a partition.
+/// The SCTID of an item in a partition.
 fn numbered(item: u64, partition: u64) -> Option<u64> {
     let front = item
         .wrapping_add(1000)
@@ -76,7 +76,7 @@ fn numbered(item: u64, partition: u64) -> Option<u64> {
     None
 }
 
-/// The row of a line, at the first import.
+/// Reads the row of a line, as one of the first import.
 fn row(alloc: Global, kind: Kind, line: &str) -> Option<StampedRow> {
     let row = parse_line(alloc, Shape::of(kind), line.as_bytes()).ok()?;
     Some(StampedRow { row, import: 1 })
@@ -86,7 +86,7 @@ pub(crate) fn association(alloc: Global) -> Option<StampedRow> {
     row(alloc, Kind::Association, ASSOCIATION)
 }
 
-/// A description of the root by its number, with a term by another.
+/// A description of the root, with its own number and the number in its term.
 pub(crate) fn description(alloc: Global, item: u64, number: u64) -> Option<StampedRow> {
     let id = numbered(item, 1)?;
     let line = format!(in alloc;
@@ -96,7 +96,7 @@ pub(crate) fn description(alloc: Global, item: u64, number: u64) -> Option<Stamp
     row(alloc, Kind::Description, &line.ok()?)
 }
 
-/// A relationship that says that a concept is a child of the root.
+/// A relationship that makes a concept a child of the root.
 fn relationship(alloc: Global, item: u64) -> Option<StampedRow> {
     let id = numbered(item, 2)?;
     let source = numbered(item, 0)?;
@@ -107,7 +107,7 @@ fn relationship(alloc: Global, item: u64) -> Option<StampedRow> {
     row(alloc, Kind::Relationship, &line.ok()?)
 }
 
-/// The number in an item's term, of six digits where there are fewer than 900,000.
+/// The number in an item's term, which has six digits if `count` is less than 900,000.
 fn number_of(item: u64, count: u64, order: Order) -> u64 {
     match order {
         Order::Mixed => scramble(item, 900_000).wrapping_add(100_000),
@@ -116,7 +116,7 @@ fn number_of(item: u64, count: u64, order: Order) -> u64 {
 }
 
 impl Share {
-    /// Whether a row is one of them.
+    /// Whether the share includes this item.
     fn has(self, item: u64) -> bool {
         item.checked_rem(self.step) == Some(self.first)
     }
@@ -132,7 +132,7 @@ impl Pushed {
         }
     }
 
-    /// Adds a row, as the last of the list.
+    /// Appends a row to the list.
     fn push(&mut self, row: &StampedRow) -> Option<()> {
         let place = RowPlace::new(row, self.end);
         let number = u32::try_from(self.places.len()).ok()?;
@@ -161,7 +161,8 @@ impl Pushed {
         Some(())
     }
 
-    /// Adds places of so many associations, one version each: every `step`th from `first`.
+    /// Appends the places of this many associations, with one version each: every `step`th from
+    /// `first` on.
     fn push_associations(&mut self, share: Share, time: EffectiveTime) -> Option<()> {
         let mut id = share.first;
         for _ in 0..share.count {
@@ -196,7 +197,8 @@ impl Made {
         })
     }
 
-    /// Lists some places; false where they may not be listed, or there is no memory.
+    /// Adds a list of places to the index; false if the places aren't allowed, or there isn't
+    /// enough memory.
     fn list(&mut self, alloc: Global, places: Vec<RowPlace>) -> bool {
         if !may_list(&places) {
             return false;
@@ -211,7 +213,7 @@ impl Made {
         true
     }
 
-    /// Adds a list; false where it may not be added, or there is no memory.
+    /// Adds a list with its postings; false if that isn't allowed, or there isn't enough memory.
     fn add(&mut self, alloc: Global, pushed: Pushed) -> bool {
         if self.terms.lists() >= MAX_LISTS || self.links.lists() >= MAX_LISTS {
             return false;
@@ -228,8 +230,9 @@ impl Made {
     }
 }
 
-/// The rows of one of so many lists. The last list has half of the associations, and the others a
-/// second version of each of them; of descriptions and relationships each list has as many.
+/// Appends the rows of one of `lists` lists. The last list has half of the associations, and the
+/// others share second versions of all of them; each list has equally many descriptions and
+/// relationships.
 fn push_list(
     pushed: &mut Pushed,
     alloc: Global,
@@ -256,7 +259,7 @@ fn push_list(
     pushed.push_associations(share, EffectiveTime::of(date)?)
 }
 
-/// An index of so many lists.
+/// An index of this many lists.
 pub(crate) fn make_lists(alloc: Global, size: u64, lists: u64, order: Order) -> Option<Box<Made>> {
     let mut made = Box::new(alloc, Made::new(alloc)?).ok()?;
     for number in 0..lists {

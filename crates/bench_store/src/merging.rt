@@ -1,4 +1,4 @@
-//! Merges of the two smallest segments, and what they are to be held against.
+//! Merges of the two smallest segments, and the work that they are compared with.
 
 use crate::asking::{Question, ask_each, concepts_in, turn_page};
 use crate::open_store;
@@ -9,7 +9,7 @@ use std::fs;
 use std::rt::HostRuntime;
 use std::time::CpuClock;
 
-/// How many rows a step takes.
+/// How many rows a step merges.
 const ROWS_A_STEP: u32 = 1_000;
 
 /// How many concepts are looked up between two steps.
@@ -18,7 +18,7 @@ const LOOKUPS_A_GROUP: usize = 50;
 /// The two slots at the head of a store's file, in bytes.
 const SLOTS: usize = 16_384;
 
-/// Takes all rows of a merge. How many steps that were.
+/// Merges all rows. Returns how many steps this took.
 fn take_all(store: &mut Store<FileDisk>) -> Option<u64> {
     let rows = store.merge_begin().ok()?;
     let mut steps: u64 = 0;
@@ -31,7 +31,7 @@ fn take_all(store: &mut Store<FileDisk>) -> Option<u64> {
     Some(steps)
 }
 
-/// Merges two segments and publishes the output. How many steps that were.
+/// Merges two segments and publishes the output. Returns how many steps this took.
 pub(crate) fn merge(rt: &HostRuntime, path: &str) -> Option<u64> {
     let mut store = open_store(rt, path)?;
     let steps = take_all(&mut *store)?;
@@ -39,16 +39,16 @@ pub(crate) fn merge(rt: &HostRuntime, path: &str) -> Option<u64> {
     Some(steps)
 }
 
-/// What goes before each group of lookups.
+/// What is done before each group of lookups.
 #[derive(Clone, Copy)]
 enum Between {
     Nothing,
     Step,
-    /// A page of as many rows as a step takes.
+    /// A page of as many rows as a step merges.
     Page,
 }
 
-/// Begins a merge, where the way of the lookups asks for one.
+/// Begins a merge, if the kind of measurement needs one.
 fn prepare(store: &mut Store<FileDisk>, way: &str) -> Option<Between> {
     match way {
         "none" => Some(Between::Nothing),
@@ -66,7 +66,7 @@ fn prepare(store: &mut Store<FileDisk>, way: &str) -> Option<Between> {
     }
 }
 
-/// Does what goes before a group. Behind which description the next page begins.
+/// Does what is done before a group. Returns the description after which the next page begins.
 fn go_between(
     store: &mut Store<FileDisk>,
     between: Between,
@@ -82,23 +82,23 @@ fn go_between(
     }
 }
 
-/// What lookups in groups took of the processor, in nanoseconds.
+/// The processor time of lookups in groups, in nanoseconds.
 #[derive(Clone, Copy)]
 struct Took {
-    /// What went before the groups.
+    /// The time of the work before the groups.
     before: u128,
-    /// The lookups.
+    /// The time of the lookups.
     asked: u128,
     /// How many concepts were found.
     found: u64,
 }
 
-/// What the process has used of the processor, in nanoseconds.
+/// The processor time that the process has used, in nanoseconds.
 fn nanos(rt: &HostRuntime) -> Option<u128> {
     Some(rt.process_cpu_time().ok()?.as_nanos())
 }
 
-/// Looks up concepts in groups of fifty, each behind what goes before it.
+/// Looks up concepts in groups of fifty, each after the work that precedes it.
 fn ask_groups(
     rt: &HostRuntime,
     store: &mut Store<FileDisk>,
@@ -124,10 +124,10 @@ fn ask_groups(
     Some(took)
 }
 
-/// Looks up the concepts of a file in groups of fifty: without a merge (`none`), with half of the
-/// rows of one taken (`half`), with a step before each group (`steps`), or without a merge and with
-/// a page before each group (`pages`). Says what the lookups, and what goes before the groups, took
-/// of the processor. How many are found.
+/// Looks up the concepts in a file in groups of fifty: without a merge (`none`), with half of a
+/// merge's rows merged (`half`), with a step before each group (`steps`), or without a merge and
+/// with a page before each group (`pages`). Prints the processor time of the lookups and of the
+/// work before the groups. Returns how many concepts are found.
 pub(crate) fn look_up_in_groups(rt: &HostRuntime, path: &str, ids: &str, way: &str) -> Option<u64> {
     let mut store = open_store(rt, path)?;
     let ids = concepts_in(rt, ids)?;
@@ -138,7 +138,7 @@ pub(crate) fn look_up_in_groups(rt: &HostRuntime, path: &str, ids: &str, way: &s
     Some(took.found)
 }
 
-/// Writes a part at a place. Behind which byte it ends.
+/// Writes bytes at an offset. Returns the offset of their end.
 fn write_part(disk: &mut FileDisk, at: u64, part: &[u8]) -> Option<u64> {
     if part.len() as u64 > MAX_END.checked_sub(at)? {
         return None;
@@ -147,7 +147,7 @@ fn write_part(disk: &mut FileDisk, at: u64, part: &[u8]) -> Option<u64> {
     Some(at + part.len() as u64)
 }
 
-/// Writes some bytes, in so many a write, and syncs. How many writes that were.
+/// Writes these bytes, `size` in each write, and syncs. Returns how many writes this took.
 fn write_all(disk: &mut FileDisk, bytes: &[u8], size: usize) -> Option<u64> {
     if size == 0 {
         return None;
@@ -162,8 +162,8 @@ fn write_all(disk: &mut FileDisk, bytes: &[u8], size: usize) -> Option<u64> {
     Some(writes)
 }
 
-/// Writes what stands behind the slots of one file into another,
-/// in so many bytes a write, and syncs. How many writes that were.
+/// Writes the contents of one file after its slots into another, `bytes` in each write, and syncs.
+/// Returns how many writes this took.
 pub(crate) fn write_alike(rt: &HostRuntime, from: &str, to: &str, bytes: &str) -> Option<u64> {
     let size = bytes.parse::<usize>().ok()?;
     let content = fs::read(rt, from).ok()?;

@@ -1,4 +1,4 @@
-//! What is asked of an index over made places, in 2, 8, 128 and 250 lists.
+//! Questions to an index over generated places, in 2, 8, 128 and 250 lists.
 
 ghost use Rattle.std.specs.Prelude.{◌≡◌, ◌↔◌, IsTrue, IfOk, IfSome};
 ghost use Rattle.rf2_values.specs.Key.{key_of};
@@ -15,21 +15,21 @@ use std::alloc::{AllocError, Global};
 use std::rt::HostRuntime;
 use term_prefix::{Search, find};
 
-/// How many places there are if nothing else is said.
+/// How many places there are by default.
 pub(crate) const SMALL: u64 = 2_000;
 
-/// The date that is asked for.
+/// The date of all questions.
 const DATE: u32 = 20_210_131;
 
-/// A reader that gives one row of a kind, with the key of the place:
-/// what is timed is the search and a copy of a row.
+/// A reader that returns one row for each kind, with the key of the place, so that the search and
+/// the copy of a row are timed.
 #[derive(Drop)]
 struct OneRow {
     association: StampedRow,
     description: StampedRow,
     /// How often a row was read.
     reads: u64,
-    /// How often there was none.
+    /// How often there was no row.
     damages: u64,
 }
 
@@ -99,14 +99,14 @@ impl RowReader for OneRow {
     }
 }
 
-/// What is asked, and for how many rows.
+/// A question, and for how many rows it asks.
 #[derive(Clone, Copy)]
 enum Question {
     /// A twentieth of the associations, one by one.
     Gets(u64),
     /// A hundred pages of associations.
     Pages(u64, u32),
-    /// The first descriptions of a prefix that all have, ten times.
+    /// The first descriptions with a prefix that all have, ten times.
     Searches(u32),
     /// The children of the root.
     Children,
@@ -114,7 +114,7 @@ enum Question {
     About,
 }
 
-/// The name of a question, in what is printed.
+/// The name of a question in the output.
 fn name_of(question: Question) -> &'static str {
     match question {
         Question::Gets(_) => "gets",
@@ -193,7 +193,7 @@ fn count_about(alloc: Global, made: &Made, reader: &mut OneRow, as_of: &AsOf) ->
     Some(rows.ok()?.len() as u64)
 }
 
-/// How many rows or ids are found.
+/// Asks a question. Returns how many rows or ids are found.
 fn ask(alloc: Global, made: &Made, reader: &mut OneRow, question: Question) -> Option<u64> {
     let date = EffectiveTime::of(DATE)?;
     let as_of = AsOf { date, pin: 1 };
@@ -206,7 +206,7 @@ fn ask(alloc: Global, made: &Made, reader: &mut OneRow, question: Question) -> O
     }
 }
 
-/// Asks, and says what it took, unless nothing is to be printed.
+/// Asks a question and prints its cost, unless nothing shall be printed.
 fn time(
     rt: &HostRuntime,
     made: &Made,
@@ -223,7 +223,7 @@ fn time(
     }
 }
 
-/// Asks an index of so many lists.
+/// Asks these questions of an index with this many lists.
 fn ask_index(
     rt: &HostRuntime,
     (size, lists): (u64, u64),
@@ -244,9 +244,9 @@ fn ask_index(
     Some(())
 }
 
-/// Asks indexes of 2, 8, 128 and 250 lists. There are so many places of associations, and a
-/// twentieth as many descriptions, and as many children of one concept. What is asked for terms,
-/// children and descriptions is asked again where the terms stand in the worst order.
+/// Asks questions of indexes with 2, 8, 128 and 250 lists. There are `size` places of associations,
+/// a twentieth as many descriptions, and as many children of one concept as descriptions. The
+/// questions about terms, children and descriptions are repeated with the terms in the worst order.
 pub(crate) fn ask_each_index(rt: &HostRuntime, size: u64, is_quiet: bool) -> Option<()> {
     let questions = [
         Question::Searches(10),

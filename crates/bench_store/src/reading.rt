@@ -1,4 +1,4 @@
-//! What the reading of a release file takes.
+//! The cost of reading a release file.
 
 use rf2_rows::{Kind, read_file};
 use std::alloc::Global;
@@ -6,7 +6,7 @@ use std::fs;
 use std::rt::HostRuntime;
 use std::time::Instant;
 
-/// How many descriptions a file has, or 0 where it isn't one of descriptions.
+/// How many descriptions a file has, or 0 if it isn't a file of descriptions.
 fn count_rows(alloc: Global, bytes: &[u8]) -> usize {
     match read_file(alloc, Kind::Description, bytes) {
         Ok(rows) => rows.len(),
@@ -14,7 +14,7 @@ fn count_rows(alloc: Global, bytes: &[u8]) -> usize {
     }
 }
 
-/// Reads a file of descriptions, which is in memory, and says how long it took.
+/// Parses a file of descriptions that is in memory, and prints how long it took.
 fn read_once(rt: &HostRuntime, bytes: &[u8]) -> Option<()> {
     let start = Instant::now(rt).ok()?;
     let rows = count_rows(rt.alloc(), bytes);
@@ -22,7 +22,7 @@ fn read_once(rt: &HostRuntime, bytes: &[u8]) -> Option<()> {
     println!(rt; "{rows} rows in {millis} ms").ok()
 }
 
-/// Reads a file of descriptions three times, and says how long each reading took.
+/// Reads a file of descriptions, parses it three times, and prints how long each parse took.
 pub(crate) fn read_three_times(rt: &HostRuntime, path: &str) -> Option<()> {
     let bytes = fs::read(rt, path).ok()?;
     let size = bytes.len();

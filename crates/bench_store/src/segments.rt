@@ -1,4 +1,4 @@
-//! What a store costs whose rows lie in many segments.
+//! The cost of a store whose rows are in many segments.
 
 use crate::asking::{Question, ask_each, concepts_in, name_of};
 use crate::open_store;
@@ -8,10 +8,10 @@ use history_store::Store;
 use rf2_rows::Sctid;
 use std::rt::HostRuntime;
 
-/// Behind how many concepts a page is read.
+/// How many concepts a page is read after.
 const PAGES: usize = 1_000;
 
-/// Opens the store, and says what that took. How many segments it has.
+/// Opens the store and prints the cost. Returns how many segments it has.
 fn open_once(rt: &HostRuntime, path: &str) -> Option<u32> {
     let opening = start_watch(rt)?;
     let store = open_store(rt, path)?;
@@ -19,7 +19,7 @@ fn open_once(rt: &HostRuntime, path: &str) -> Option<u32> {
     Some(store.segments())
 }
 
-/// Opens the store so often. How many segments it has.
+/// Opens the store this often. Returns how many segments it has.
 fn open_often(rt: &HostRuntime, path: &str, times: u32) -> Option<u32> {
     let mut segments = 0;
     for _ in 0..times {
@@ -28,7 +28,7 @@ fn open_often(rt: &HostRuntime, path: &str, times: u32) -> Option<u32> {
     Some(segments)
 }
 
-/// Asks of each concept, and says what that took and how many rows were found.
+/// Asks a question about each concept, and prints the cost and how many rows were found.
 fn ask_and_tell(
     rt: &HostRuntime,
     store: &mut Store<FileDisk>,
@@ -40,9 +40,9 @@ fn ask_and_tell(
     asking.tell_found(rt, name_of(question), found)
 }
 
-/// Opens the store so often. Then looks up the concepts of a file, and reads a page of a hundred
-/// concepts behind each of the first thousand. Says what each opening and the questions of each
-/// sort took, and how many rows they found. How many segments the store has.
+/// Opens the store `times` times. Then looks up the concepts in a file, and reads a page of a
+/// hundred concepts after each of the first thousand. Prints the cost of each opening and of each
+/// sort of question, and how many rows were found. Returns how many segments the store has.
 pub(crate) fn open_and_ask(rt: &HostRuntime, path: &str, ids: &str, times: &str) -> Option<u64> {
     let segments = open_often(rt, path, times.parse::<u32>().ok()?)?;
     let ids = concepts_in(rt, ids)?;

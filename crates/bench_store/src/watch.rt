@@ -1,17 +1,17 @@
-//! What a piece of work takes.
+//! The cost of a piece of work.
 
 use std::rt::HostRuntime;
 use std::time::{CpuClock, Instant};
 
-/// A watch that was started.
+/// A running watch.
 #[derive(Clone, Copy)]
 pub(crate) struct Watch {
     wall: Instant,
-    /// What the process had used, in microseconds.
+    /// The processor time that the process had used at the start, in microseconds.
     processor: u128,
 }
 
-/// What the process has used of the processor, in microseconds.
+/// The processor time that the process has used, in microseconds.
 fn processor(rt: &HostRuntime) -> Option<u128> {
     Some(rt.process_cpu_time().ok()?.as_micros())
 }
@@ -25,14 +25,14 @@ pub(crate) fn start_watch(rt: &HostRuntime) -> Option<Watch> {
 }
 
 impl Watch {
-    /// Says what it took, in microseconds of the wall and of the processor.
+    /// Prints the wall time and the processor time of the work, in microseconds.
     pub(crate) fn tell(self, rt: &HostRuntime, what: &str) -> Option<()> {
         let wall = self.wall.elapsed(rt).ok()?.as_micros();
         let processor = processor(rt)?.saturating_sub(self.processor);
         println!(rt; "{what}: {wall} us, {processor} us of the processor").ok()
     }
 
-    /// The same, and how many rows or ids were found.
+    /// Prints the same, and how many rows or ids were found.
     pub(crate) fn tell_found(self, rt: &HostRuntime, what: &str, found: u64) -> Option<()> {
         self.tell(rt, what)?;
         println!(rt; "{found} found").ok()

@@ -1,5 +1,5 @@
--- Words that private functions and proofs need, of this crate or of one above it.
--- No public clause cites them.
+-- Definitions for private functions and proofs, of this crate or of one above it. No public clause
+-- cites them.
 use Rattle.std.specs.Prelude.{◌≡◌, ℕ, ◌+◌, ◌*◌, ◌<◌, ◌≤◌, List, length, slice_index, ◌≢◌, ◌⊎◌, [], ◌∷◌, ◌&&◌}
 use Rattle.std.specs.Prelude.{Bool, nat_le, nat_lt, Option, Some, None}
 use Rattle.lru.specs.LruCache.{LruCache}
@@ -10,13 +10,13 @@ pub record BeginsWithZeros (n : ℕ) (file : List ℕ) : Type 0 where
   pub long : n ≤ length file
   pub zeros : (i : ℕ) → i < n → slice_index file i ≡ 0
 
--- these bytes, written at a gate, close it: a zero where
--- the gate reads open, and none where it reads closed
+-- these bytes, written at a gate, close it: a zero if a read returns the gate as open, and none if
+-- it returns it as closed
 abbrev pub Closes : ℕ → List ℕ → List ℕ → Type 0
 Closes at now bytes =
     ((bytes ≡ []) × (slice_index now at ≢ 165)) ⊎ ((bytes ≡ 0 ∷ []) × (slice_index now at ≡ 165))
 
--- the block is not below the first one, and below the end if one is given
+-- the block is `from` or a later one, and before `end` if that is given
 abbrev pub is_within : ℕ → Option ℕ → ℕ → Bool
 is_within from None block = nat_le from block
 is_within from (Some end) block = nat_le from block && nat_lt block end

@@ -1,7 +1,7 @@
-//! Cases that are questions, each with its answer.
+//! Cases that are questions, each with its expected answer.
 //!
-//! A line is a question and its answer, as in `time "20201301" -> none`, where the answer may go on
-//! in lines below that begin with `= `. A case ends with `asked 8`, the number of its questions.
+//! A line is a question and its answer, as in `time "20201301" -> none`. The answer may continue on
+//! the lines below, which begin with `= `. A case ends with `asked 8`, the number of its questions.
 
 use crate::fault::Fault;
 use crate::running::{Block, Subject};
@@ -10,10 +10,10 @@ use crate::words::number;
 use std::alloc::{AllocError, AllocFailed, Global};
 use std::mem;
 
-/// Why a question has no answer.
+/// Why a question can't be answered.
 #[derive(Clone, Copy, Debug, PartialEq, Eq)]
 pub enum NoAnswer {
-    /// It is none: an unknown word, a word too many or too few, or no number.
+    /// It isn't valid: an unknown word, a word too many or too few, or not a number.
     NoQuestion,
     OutOfMemory,
 }
@@ -39,22 +39,22 @@ impl From<NoAnswer> for Fault {
     }
 }
 
-/// What is answered to a question: a line, or some with an LF between two.
+/// The answer to a question: one line, or several separated by LF.
 pub type Answer = Result<String, NoAnswer>;
 
-/// What answers questions.
+/// Answers the questions of cases.
 pub trait Answers {
     /// A case begins.
     fn begin(&mut self);
 
-    /// Takes a line of a part with this name.
+    /// Takes a line of the part with this name.
     fn give(&mut self, part: &str, word: &str, rest: &str) -> Result<(), NoAnswer>;
 
-    /// Answers a question: its first word, and what stands behind that.
+    /// Answers a question, given as its first word and the text after it.
     fn answer(&mut self, word: &str, rest: &str) -> Answer;
 }
 
-/// What stands behind the first word of a question, and what stands behind the arrow.
+/// Splits the text after the first word of a question at the arrow.
 fn split_answer(text: &str) -> Result<(&str, &str), Fault> {
     if let Some(wanted) = text.strip_prefix("->") {
         return Ok(("", wanted));
@@ -63,24 +63,25 @@ fn split_answer(text: &str) -> Result<(&str, &str), Fault> {
         .ok_or(Fault::Line("its answer lacks"))
 }
 
-/// What answers questions, and what came of those that were asked.
+/// A subject that answers questions, with the state of the current case.
 #[derive(Drop)]
 pub struct Asked<A: Answers + Drop> {
     alloc: Global,
     answers: A,
-    /// The part whose lines come, if it is one.
+    /// The part whose lines are being read, if it is a part.
     part: Option<String>,
-    /// The last question with its answer, and what is wanted there; both are empty before one.
+    /// The last question with its answer, and the expected text; both are empty before the first
+    /// question.
     got: String,
     wanted: String,
-    /// How many questions were asked, and whether that was told.
+    /// How many questions were asked, and whether the case's `asked` line has been read since.
     count: u64,
     is_told: bool,
     shown: Shown,
 }
 
 impl<A: Answers + Drop> Asked<A> {
-    /// Nothing was asked yet.
+    /// A state before the first case.
     pub fn new(alloc: Global, answers: A) -> Asked<A> {
         Asked {
             alloc,
@@ -94,14 +95,14 @@ impl<A: Answers + Drop> Asked<A> {
         }
     }
 
-    /// Compares the last answer with what is wanted.
+    /// Compares the last answer with the expected one.
     fn settle(&mut self) -> Result<(), Fault> {
         let got = mem::replace(&mut self.got, String::new(self.alloc));
         let wanted = mem::replace(&mut self.wanted, String::new(self.alloc));
         self.shown.compare(wanted.as_bytes(), got.as_bytes())
     }
 
-    /// Asks a question.
+    /// Asks a question, and begins the expected text with its answer.
     fn ask(&mut self, word: &str, rest: &str) -> Result<(), Fault> {
         let (rest, wanted) = split_answer(rest)?;
         self.count = self.count.saturating_add(1);
@@ -115,7 +116,7 @@ impl<A: Answers + Drop> Asked<A> {
         }
     }
 
-    /// Takes one more line of an answer.
+    /// Adds a line to the expected answer.
     fn go_on(&mut self, line: &str) -> Result<(), Fault> {
         if self.wanted.is_empty() {
             return Err(Fault::Line("it stands behind no question"));
@@ -125,7 +126,7 @@ impl<A: Answers + Drop> Asked<A> {
         Ok(())
     }
 
-    /// Whether so many questions were asked.
+    /// Checks that the case asked this many questions.
     fn tell(&mut self, word: &str) -> Result<(), Fault> {
         self.is_told = true;
         if number(word)? != self.count {
@@ -134,7 +135,7 @@ impl<A: Answers + Drop> Asked<A> {
         Ok(())
     }
 
-    /// Takes a line of a case.
+    /// Carries out a line of a case.
     fn take_line(&mut self, word: &str, rest: &str) -> Result<(), Fault> {
         if word == "=" {
             return self.go_on(rest);

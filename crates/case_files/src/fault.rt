@@ -6,13 +6,13 @@ use thiserror::Error;
 /// Why a case fails.
 #[derive(Clone, Copy, Debug, PartialEq, Eq, Error)]
 pub enum Fault {
-    /// Memory ran out.
+    /// There isn't enough memory.
     #[error("memory ran out")]
     Memory,
-    /// A line of the file isn't as it has to be, or asks for what can't be had.
+    /// A line of the file is malformed, or asks for something impossible.
     #[error("{0}")]
     Line(&'static str),
-    /// Something else came than what is wanted.
+    /// The result differs from the expected one.
     #[error("something else came")]
     Differs,
 }

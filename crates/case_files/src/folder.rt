@@ -5,8 +5,9 @@ use std::process::ExitCode;
 use std::rt::HostRuntime;
 use std::{fs, io};
 
-/// Carries out the cases of each file in a folder, in the order of their names, and prints which
-/// passed and how many there were. The status is a failure unless there were some and all passed.
+/// Runs the cases of each file in a folder, in the order of the file names, and prints which passed
+/// and how many there were. The status is a success exactly if there was at least one case and
+/// nothing failed.
 pub fn run<S: Subject>(rt: &HostRuntime, folder: &str, subject: &mut S) -> ExitCode {
     match run_files(rt, folder, subject) {
         Ok(tally) if tally.cases > 0 && tally.failed == 0 => ExitCode::SUCCESS,
@@ -18,7 +19,7 @@ pub fn run<S: Subject>(rt: &HostRuntime, folder: &str, subject: &mut S) -> ExitC
     }
 }
 
-/// Carries out the cases of each file in a folder.
+/// Runs the cases of each file in a folder.
 fn run_files<S: Subject>(rt: &HostRuntime, folder: &str, subject: &mut S) -> io::Result<Tally> {
     let mut all = Tally {
         cases: 0,
@@ -33,7 +34,7 @@ fn run_files<S: Subject>(rt: &HostRuntime, folder: &str, subject: &mut S) -> io:
     Ok(all)
 }
 
-/// Carries out the cases of a file.
+/// Runs the cases of a file.
 fn run_file<S: Subject>(
     rt: &HostRuntime,
     subject: &mut S,

@@ -1,5 +1,5 @@
-//! Cases in files: they are read line by line, a subject carries them out, and each one is told to
-//! be `ok`, or what differed. Nothing here has a clause.
+//! Cases in files: the files are read line by line, a subject carries out the lines, and for each
+//! case `ok` is printed, or how its result differs. Nothing here has a clause.
 #![tactic(auto)]
 
 mod answers;

@@ -3,10 +3,10 @@
 use crate::answers::NoAnswer;
 use std::alloc::Global;
 
-/// The letters that stand for a byte behind a backslash.
+/// The letters that stand for a byte after a backslash.
 const LETTERS: [(char, u8); 3] = [('n', b'\n'), ('r', b'\r'), ('t', b'\t')];
 
-/// Adds a text as often as the number behind it says, as in `x*9`.
+/// Appends a text as often as the number after it says, as in `x*9`.
 fn put_repeated(text: &mut Vec<u8>, words: &str) -> Result<(), NoAnswer> {
     let (piece, count) = words.split_once('*').ok_or(NoAnswer::NoQuestion)?;
     let Ok(count) = count.parse::<u32>() else {
@@ -18,7 +18,7 @@ fn put_repeated(text: &mut Vec<u8>, words: &str) -> Result<(), NoAnswer> {
     Ok(())
 }
 
-/// Adds the byte of two digits of base 16.
+/// Appends the byte with these two hexadecimal digits.
 fn put_byte(text: &mut Vec<u8>, digits: &str) -> Result<(), NoAnswer> {
     let Ok(byte) = u8::from_str_radix(digits, 16) else {
         return Err(NoAnswer::NoQuestion);
@@ -27,7 +27,7 @@ fn put_byte(text: &mut Vec<u8>, digits: &str) -> Result<(), NoAnswer> {
     Ok(())
 }
 
-/// Adds what stands for a byte or some, and gives what is behind it.
+/// Appends the bytes that an escape stands for, and returns the text after the escape.
 fn put_escape<'a>(text: &mut Vec<u8>, piece: &'a str) -> Result<&'a str, NoAnswer> {
     for (letter, byte) in &LETTERS {
         if let Some(rest) = piece.strip_prefix(*letter) {
@@ -46,8 +46,8 @@ fn put_escape<'a>(text: &mut Vec<u8>, piece: &'a str) -> Result<&'a str, NoAnswe
     Ok(rest)
 }
 
-/// The bytes of a text in quotes. In it `\n`, `\r` and `\t` stand for LF, CR and TAB, `\xff` for
-/// the byte of these digits, and `\(ab*3)` for `ababab`.
+/// The bytes of a text in quotes, in which `\n`, `\r` and `\t` stand for LF, CR and TAB, `\xff` for
+/// the byte with these hexadecimal digits, and `\(ab*3)` for `ababab`.
 pub fn unquoted(alloc: Global, quoted: &str) -> Result<Vec<u8>, NoAnswer> {
     let quoted = quoted.strip_prefix('"').ok_or(NoAnswer::NoQuestion)?;
     let quoted = quoted.strip_suffix('"').ok_or(NoAnswer::NoQuestion)?;

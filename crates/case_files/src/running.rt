@@ -6,34 +6,34 @@ use crate::words::two_words;
 use std::io;
 use std::rt::HostRuntime;
 
-/// What a line begins that names a block of lines.
+/// The kinds of block that a line can begin.
 #[derive(Clone, Copy, Debug, PartialEq, Eq)]
 pub enum Block {
     /// A case, which is carried out.
     Case,
-    /// Lines that cases name, and that are carried out there.
+    /// Lines that cases refer to by the part's name.
     Part,
 }
 
-/// What cases are carried out on.
+/// What carries out the lines of cases.
 pub trait Subject {
     /// Begins a block of lines.
     fn begin(&mut self, block: Block, name: &str) -> Result<(), Fault>;
 
-    /// Carries out a line of it: its first word, and what stands behind that.
+    /// Carries out a line of the block, given as its first word and the text after it.
     fn take(&mut self, word: &str, rest: &str) -> Result<(), Fault>;
 
-    /// Ends it. A block that asked for nothing fails.
+    /// Ends the block. A block that checked nothing fails.
     fn end(&mut self) -> Result<(), Fault>;
 
-    /// Ends a file of blocks. A part that no case named fails.
+    /// Ends a file of blocks. A part that no case refers to fails.
     fn end_file(&mut self) -> Result<(), Fault>;
 
-    /// The texts that differed last.
+    /// The two texts that differed last.
     fn shown(&self) -> &Shown;
 }
 
-/// How many cases there were, and how many things failed: cases, parts and files.
+/// How many cases there were, and how many cases, parts and files failed.
 #[derive(Clone, Copy, Debug, PartialEq, Eq)]
 pub(crate) struct Tally {
     pub(crate) cases: u32,
@@ -48,7 +48,7 @@ struct Open<'a> {
     has_failed: bool,
 }
 
-/// A file whose lines are carried out, up to one of them.
+/// A file, up to the line that is being carried out.
 #[derive(Drop)]
 struct Progress<'a> {
     rt: &'a HostRuntime,
@@ -59,7 +59,7 @@ struct Progress<'a> {
 }
 
 impl<'a> Progress<'a> {
-    /// Takes the next line.
+    /// Carries out the next line.
     fn take<S: Subject>(&mut self, subject: &mut S, text: &'a str) -> io::Result<()> {
         self.line = self.line.saturating_add(1);
         let (word, rest) = two_words(text);
@@ -75,7 +75,7 @@ impl<'a> Progress<'a> {
         }
     }
 
-    /// Whether the lines of a block that failed are passed over.
+    /// Whether the open block has failed, and so its further lines are skipped.
     fn is_passed_over(&self) -> bool {
         match self.open {
             Some(open) => open.has_failed,
@@ -83,7 +83,7 @@ impl<'a> Progress<'a> {
         }
     }
 
-    /// Has a line carried out.
+    /// Lets the subject carry out a line.
     fn carried_out<S: Subject>(
         &self,
         subject: &mut S,
@@ -96,7 +96,7 @@ impl<'a> Progress<'a> {
         }
     }
 
-    /// Begins a block, behind the end of the one before.
+    /// Ends the open block and begins another one.
     fn begin<S: Subject>(
         &mut self,
         subject: &mut S,
@@ -116,7 +116,7 @@ impl<'a> Progress<'a> {
         self.note(subject, done)
     }
 
-    /// Ends the block that is open.
+    /// Ends the open block, and prints `ok` if it is a case that passed.
     fn end<S: Subject>(&mut self, subject: &mut S) -> io::Result<()> {
         if self.open.is_some() && !self.is_passed_over() {
             let done = subject.end();
@@ -148,7 +148,7 @@ impl<'a> Progress<'a> {
         self.note(subject, done)
     }
 
-    /// Notes and tells that the open block failed, if it did.
+    /// Records and prints that the open block, or the file, failed, if it did.
     fn note<S: Subject>(&mut self, subject: &S, done: Result<(), Fault>) -> io::Result<()> {
         let Err(fault) = done else {
             return Ok(());
@@ -169,14 +169,14 @@ impl<'a> Progress<'a> {
     }
 }
 
-/// Tells two texts.
+/// Prints the two texts that differ.
 fn tell(rt: &HostRuntime, shown: &Shown) -> io::Result<()> {
     let wanted = String::from_utf8_lossy(rt.alloc(), shown.wanted.as_slice())?;
     let got = String::from_utf8_lossy(rt.alloc(), shown.got.as_slice())?;
     println!(rt; "wanted:\n{wanted}\ngot:\n{got}")
 }
 
-/// Carries out the cases of a file, and answers how many there were and failed.
+/// Runs the cases of a file, and returns how many there were and how many failed.
 pub(crate) fn run_text<'a, S: Subject>(
     rt: &'a HostRuntime,
     subject: &mut S,

@@ -1,4 +1,4 @@
-//! What was wanted and what came, where they differ.
+//! The expected text and the actual one, if they differ.
 
 use crate::fault::Fault;
 use std::alloc::Global;
@@ -19,7 +19,7 @@ impl Shown {
         }
     }
 
-    /// Compares two texts, and keeps them where they differ.
+    /// Compares two texts, and keeps them if they differ.
     pub fn compare(&mut self, wanted: &[u8], got: &[u8]) -> Result<(), Fault> {
         if wanted == got {
             Ok(())
@@ -28,7 +28,7 @@ impl Shown {
         }
     }
 
-    /// Keeps two texts as such that differ.
+    /// Keeps two texts that differ.
     pub fn differ(&mut self, wanted: &[u8], got: &[u8]) -> Fault {
         self.wanted.clear();
         self.got.clear();

@@ -2,7 +2,7 @@
 
 use crate::fault::Fault;
 
-/// The first word of a text, and what stands behind it.
+/// The first word of a text, and the text after it.
 pub fn two_words(text: &str) -> (&str, &str) {
     match text.split_once(' ') {
         Some(words) => words,
@@ -10,7 +10,7 @@ pub fn two_words(text: &str) -> (&str, &str) {
     }
 }
 
-/// The number that a word is.
+/// Reads a word as a decimal number.
 pub fn number(word: &str) -> Result<u64, Fault> {
     match word.parse::<u64>() {
         Ok(number) => Ok(number),

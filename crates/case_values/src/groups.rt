@@ -1,23 +1,23 @@
-//! What is tried in turn, and is told once where it is alike.
+//! Results of a sequence of tries, in which runs of equal results are written as one line.
 
 use case_files::{Answer, NoAnswer};
 use std::alloc::Global;
 use std::mem;
 
-/// The answers to what is tried in turn, counted from 0 on: a line for those that are alike and
-/// follow each other, as in `0 to 8: 2, yes`.
+/// The results of tries, which are numbered from 0 on: one line for each run of equal results, as
+/// in `0 to 8: 2, yes`.
 #[derive(Drop)]
 pub struct Groups {
     alloc: Global,
     text: String,
-    /// The last answer, the number of the first that is like it, and how many answers there are.
+    /// The last result, the number of the first one in its run, and how many results there are.
     last: String,
     first: u64,
     count: u64,
 }
 
 impl Groups {
-    /// None.
+    /// No results.
     pub fn new(alloc: Global) -> Groups {
         Groups {
             alloc,
@@ -28,7 +28,7 @@ impl Groups {
         }
     }
 
-    /// Takes the next answer.
+    /// Adds the next result.
     pub fn put(&mut self, answer: String) -> Result<(), NoAnswer> {
         if self.count == 0 || answer != self.last {
             self.tell()?;
@@ -39,7 +39,7 @@ impl Groups {
         Ok(())
     }
 
-    /// Tells the last answer, if there is one.
+    /// Writes the line of the last run, if there is one.
     fn tell(&mut self) -> Result<(), NoAnswer> {
         let (first, last) = (self.first, self.count.saturating_sub(1));
         if self.count == 0 {
@@ -57,7 +57,7 @@ impl Groups {
         Ok(())
     }
 
-    /// All of them.
+    /// Ends the last run, and returns all lines.
     pub fn end(&mut self) -> Answer {
         self.tell()?;
         Ok(mem::replace(&mut self.text, String::new(self.alloc)))

@@ -1,9 +1,9 @@
-//! Bytes in base 16.
+//! Bytes in hexadecimal.
 
 use case_files::{Answer, NoAnswer};
 use std::alloc::Global;
 
-/// The bytes that are written with two digits each.
+/// Reads bytes that are written with two hexadecimal digits each.
 pub fn read_hex(alloc: Global, digits: &str) -> Result<Vec<u8>, NoAnswer> {
     let mut bytes = Vec::new(alloc);
     let mut rest = digits;
@@ -21,7 +21,7 @@ pub fn read_hex(alloc: Global, digits: &str) -> Result<Vec<u8>, NoAnswer> {
     Ok(bytes)
 }
 
-/// Bytes with two digits each.
+/// Writes bytes with two hexadecimal digits each.
 pub fn spell_hex(alloc: Global, bytes: &[u8]) -> Answer {
     let mut text = String::new(alloc);
     for byte in bytes {

@@ -1,5 +1,5 @@
-//! How values stand in cases: numbers, days, kinds, rows and bytes; and what is tried in turn.
-//! Nothing here has a clause.
+//! How cases write values: numbers, days, kinds, rows and bytes; and results of a sequence of
+//! tries. Nothing here has a clause.
 #![tactic(auto)]
 
 mod groups;

@@ -1,5 +1,4 @@
-//! What is asked of the rows that the first so many imports show: `at`, their number, and one of
-//! these.
+//! Questions about the rows that the first PIN imports show: `at PIN`, and one of these.
 //!
 //! `get KIND ID DATE` asks for the component's row at the date, `versions KIND ID`, `replacements
 //! ID DATE`, `replaces ID DATE`, `about KIND ID DATE`, `timeline KIND ID`, `page KIND DATE AFTER
@@ -13,7 +12,7 @@ use case_files::NoAnswer;
 use rf2_rows::{EffectiveTime, Kind, Sctid};
 use std::alloc::Global;
 
-/// A question, without the prefix that is asked for.
+/// A question, without the prefix that it searches for.
 #[derive(Clone, Copy)]
 pub enum Question {
     Get(Kind, u128, EffectiveTime),
@@ -35,7 +34,7 @@ pub enum Question {
     Dates,
 }
 
-/// A question about a component at a date.
+/// Reads a question about a component at a date.
 fn ask_of_component(word: &str, words: &[&str]) -> Result<Question, NoAnswer> {
     let [id, date] = words else {
         return Err(NoAnswer::NoQuestion);
@@ -50,7 +49,7 @@ fn ask_of_component(word: &str, words: &[&str]) -> Result<Question, NoAnswer> {
     }
 }
 
-/// A question about a component of a kind, at a date or at all dates.
+/// Reads a question about a component of a kind, at a date or at all dates.
 fn ask_of_kind(word: &str, words: &[&str]) -> Result<Question, NoAnswer> {
     match (word, words) {
         ("get", [kind, id, date]) => {
@@ -65,7 +64,7 @@ fn ask_of_kind(word: &str, words: &[&str]) -> Result<Question, NoAnswer> {
     }
 }
 
-/// A question for the first rows of a kind.
+/// Reads a question for the first rows of a kind.
 fn ask_for_page(words: &[&str]) -> Result<Question, NoAnswer> {
     let [kind, date, after, limit] = words else {
         return Err(NoAnswer::NoQuestion);
@@ -74,7 +73,7 @@ fn ask_for_page(words: &[&str]) -> Result<Question, NoAnswer> {
     Ok(Question::Page(kind, date, above(*after)?, number(*limit)?))
 }
 
-/// A question for the first rows of a kind that changed from one date to another.
+/// Reads a question for the first rows of a kind that changed from one date to another.
 fn ask_for_delta(words: &[&str]) -> Result<Question, NoAnswer> {
     let [kind, from, date, after, limit] = words else {
         return Err(NoAnswer::NoQuestion);
@@ -84,7 +83,7 @@ fn ask_for_delta(words: &[&str]) -> Result<Question, NoAnswer> {
     Ok(Question::Delta(kind, from, date, after, limit))
 }
 
-/// A question about a reference set.
+/// Reads a question about a reference set.
 fn ask_of_refset(word: &str, words: &[&str]) -> Result<Question, NoAnswer> {
     match (word, words) {
         ("members", [refset, date, after, limit]) => {
@@ -102,7 +101,7 @@ fn ask_of_refset(word: &str, words: &[&str]) -> Result<Question, NoAnswer> {
     }
 }
 
-/// A question for descriptions.
+/// Reads a question for descriptions.
 fn ask_for_terms(words: &[&str]) -> Result<Question, NoAnswer> {
     match words {
         [date, limit] => Ok(Question::Terms(day_of(*date)?, number(*limit)?)),
@@ -113,7 +112,7 @@ fn ask_for_terms(words: &[&str]) -> Result<Question, NoAnswer> {
     }
 }
 
-/// The question that words ask.
+/// Reads a question from its words.
 fn question_of(word: &str, words: &[&str]) -> Result<Question, NoAnswer> {
     match (word, words.len()) {
         ("replacements" | "replaces", _) => ask_of_component(word, words),
@@ -127,7 +126,7 @@ fn question_of(word: &str, words: &[&str]) -> Result<Question, NoAnswer> {
     }
 }
 
-/// The question that a text asks.
+/// Reads a question from a text.
 pub fn read_question(alloc: Global, text: &str) -> Result<Question, NoAnswer> {
     let words: Vec<&str> = text.split(' ').collect(alloc)?;
     match words.as_slice() {

@@ -1,10 +1,10 @@
-//! Rows as text. A bar stands for a TAB, and a name in capitals for an identifier.
+//! Rows as text, in which a bar stands for a TAB, and a name in capitals for an identifier.
 
 use case_files::{Answer, NoAnswer, unquoted};
 use rf2_rows::{Kind, Row, RowFault, Shape, parse_line, write_row};
 use std::alloc::{AllocError, Global};
 
-/// What names in capitals, and a bar, stand for in the text of a row.
+/// The names in capitals and the bar, with the texts that they stand for.
 const NAMES: [(&str, &str); 8] = [
     ("CORE", "900000000000207008"),
     ("PRIM", "900000000000074008"),
@@ -16,7 +16,7 @@ const NAMES: [(&str, &str); 8] = [
     ("\\r", "\r"),
 ];
 
-/// A text in which names stand for identifiers and a bar for a TAB.
+/// Replaces the names by their identifiers, and each bar by a TAB.
 pub fn row_text(alloc: Global, text: &str) -> Result<String, AllocError> {
     let mut row = String::from_str(alloc, text)?;
     for (name, meaning) in &NAMES {
@@ -25,12 +25,12 @@ pub fn row_text(alloc: Global, text: &str) -> Result<String, AllocError> {
     Ok(row)
 }
 
-/// The bytes of such a text in quotes.
+/// The bytes of such a text that is in quotes.
 pub fn row_bytes(alloc: Global, quoted: &str) -> Result<Vec<u8>, NoAnswer> {
     unquoted(alloc, row_text(alloc, quoted)?.as_str())
 }
 
-/// The text of bytes, with names for identifiers and a bar for each TAB.
+/// The text of these bytes, with names in place of identifiers, and a bar in place of each TAB.
 pub fn spell_text(alloc: Global, bytes: &[u8]) -> Answer {
     let Ok(text) = str::from_utf8(bytes) else {
         return Ok(String::from_str(alloc, "(no text)")?);
@@ -42,7 +42,7 @@ pub fn spell_text(alloc: Global, bytes: &[u8]) -> Answer {
     Ok(spelled)
 }
 
-/// The number of a component, that of a member in base 16.
+/// The number of a component; for a member, in hexadecimal.
 pub fn spell_id(alloc: Global, kind: Kind, id: u128) -> Result<String, AllocError> {
     match kind {
         Kind::Association | Kind::Member => format!(in alloc; "{id:032x}"),
@@ -50,20 +50,20 @@ pub fn spell_id(alloc: Global, kind: Kind, id: u128) -> Result<String, AllocErro
     }
 }
 
-/// The line that is written of a row.
+/// The line of a row.
 pub fn line_of(alloc: Global, row: &Row) -> Answer {
     let mut line = Vec::new(alloc);
     write_row(row, &mut line)?;
     spell_text(alloc, line.as_slice())
 }
 
-/// How many columns a line has behind its first six.
+/// How many columns a line has after its first six.
 fn count_further(line: &[u8]) -> usize {
     let tabs = line.iter().filter(|byte| **byte == b'\t').count();
     tabs.saturating_sub(5)
 }
 
-/// The row that a line spells. A member may have any further columns.
+/// Reads the row of a line. A member may have any number of further columns.
 pub fn read_row(alloc: Global, kind: Kind, line: &[u8]) -> Result<Row, NoAnswer> {
     let further = count_further(line);
     match parse_line(alloc, Shape { kind, further }, line) {

@@ -4,12 +4,12 @@ use case_files::NoAnswer;
 use rf2_rows::{EffectiveTime, Kind, Sctid, Shape};
 use std::str::FromStr;
 
-/// A word, and the words behind it.
+/// Splits a text into its first word and the words after it.
 pub fn first_word(words: &str) -> Result<(&str, &str), NoAnswer> {
     words.split_once(' ').ok_or(NoAnswer::NoQuestion)
 }
 
-/// The number that a word spells.
+/// Reads a number.
 pub fn number<T: FromStr>(word: &str) -> Result<T, NoAnswer>
 where
     T::Err: Drop,
@@ -20,7 +20,7 @@ where
     }
 }
 
-/// The kind that a word names.
+/// Reads the name of a kind.
 pub fn kind_of(word: &str) -> Result<Kind, NoAnswer> {
     match word {
         "concept" => Ok(Kind::Concept),
@@ -33,8 +33,8 @@ pub fn kind_of(word: &str) -> Result<Kind, NoAnswer> {
     }
 }
 
-/// The shape that a word names: a kind, and behind a plus sign how many further columns a member
-/// has.
+/// Reads a shape: the name of a kind and, after a plus sign, the number of a member's further
+/// columns.
 pub fn shape_of(word: &str) -> Result<Shape, NoAnswer> {
     match word.split_once('+') {
         Some((kind, further)) => Ok(Shape {
@@ -45,17 +45,17 @@ pub fn shape_of(word: &str) -> Result<Shape, NoAnswer> {
     }
 }
 
-/// The identifier with the number that a word spells.
+/// Reads an identifier.
 pub fn sctid_of(word: &str) -> Result<Sctid, NoAnswer> {
     Sctid::of(number(word)?).ok_or(NoAnswer::NoQuestion)
 }
 
-/// The day with the number that a word spells.
+/// Reads a day.
 pub fn day_of(word: &str) -> Result<EffectiveTime, NoAnswer> {
     EffectiveTime::of(number(word)?).ok_or(NoAnswer::NoQuestion)
 }
 
-/// The number above which is asked, or none for `-`.
+/// Reads the number that the results have to exceed, or none for `-`.
 pub fn above(word: &str) -> Result<Option<u128>, NoAnswer> {
     match word {
         "-" => Ok(None),
@@ -63,7 +63,7 @@ pub fn above(word: &str) -> Result<Option<u128>, NoAnswer> {
     }
 }
 
-/// The component above which is asked, or none for `-`.
+/// Reads the component that the results have to exceed, or none for `-`.
 pub fn component_above(word: &str) -> Result<Option<u64>, NoAnswer> {
     match word {
         "-" => Ok(None),
@@ -71,7 +71,8 @@ pub fn component_above(word: &str) -> Result<Option<u64>, NoAnswer> {
     }
 }
 
-/// The words of a question, and the prefix that stands behind them in quotes, empty without one.
+/// Splits a question into its words and the prefix in quotes after them, which is empty if there is
+/// none.
 pub fn split_prefix(words: &str) -> Result<(&str, &str), NoAnswer> {
     match words.split_once(" \"") {
         Some((words, prefix)) => {

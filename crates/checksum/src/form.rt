@@ -1,10 +1,10 @@
 //! Whether bytes are kept with checksums.
 
-/// How the records of a segment begin.
+/// What the records of a segment begin with.
 #[derive(Clone, Copy, Debug, PartialEq, Eq)]
 pub enum Form {
-    /// Each with its length.
+    /// With their lengths.
     Plain,
-    /// Each with the checksum of what follows.
+    /// With the checksums of the bytes that follow.
     Checked,
 }

@@ -2,12 +2,12 @@
 
 ghost use Rattle.checksum.specs.Crc32c.{GoesOn, IsNumberOf32Bits, OneByteIsNoticed};
 
-/// The checksum of bytes and of others behind them goes on from that of the first.
+/// The checksum of bytes followed by others can be computed from that of the first.
 pub fn goes_on()
     ensures { GoesOn }
 {}
 
-/// Bytes of which one was changed have another checksum.
+/// Changing one byte changes the checksum.
 pub fn one_byte_is_noticed()
     ensures { OneByteIsNoticed }
 {}

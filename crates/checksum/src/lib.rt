@@ -12,7 +12,7 @@ mod tables;
 pub use form::Form;
 use tables::{after_8, after_16, after_24, after_32, after_40, after_48, after_56, after_64};
 
-/// The register after one byte more.
+/// The register after one more byte.
 fn after_byte(register: u32, byte: u8) -> u32
     ensures { result ≡ with_byte register byte }
 {
@@ -20,8 +20,8 @@ fn after_byte(register: u32, byte: u8) -> u32
     (register >> 8) ^ after_8(low ^ byte)
 }
 
-/// The register after eight bytes more: each is looked up by how far it is shifted out then. The
-/// last four don't wait for the register, so they stand first.
+/// The register after eight more bytes: each is looked up in the table for how far it is shifted
+/// out by then. The last four don't depend on the register, and so they come first.
 fn after_eight(register: u32, bytes: [u8; 8]) -> u32
     ensures { result ≡ fold with_byte register bytes }
 {
@@ -47,7 +47,7 @@ fn after(register: u32, bytes: &[u8]) -> u32
     reached
 }
 
-/// The checksum of bytes behind others, whose checksum is `crc`.
+/// The checksum of these bytes after others, whose checksum is `crc`.
 #[tactic(auto, unfolding(crate::specs::Crc32c::continued))]
 pub fn append(crc: u32, bytes: &[u8]) -> u32
     ensures { result ≡ continued crc bytes.now }

@@ -1,4 +1,4 @@
-//! What becomes of a byte as the register shifts it out: by 8 bits, by 16, up to 64.
+//! The contribution of a byte to the register when it is shifted out: by 8 bits, by 16, up to 64.
 
 ghost use Rattle.std.specs.Prelude.{◌≡◌};
 ghost use Rattle.checksum.specs.Crc32c.{shifted_by};

@@ -1,4 +1,4 @@
--- What the check of a release does: it asks the line that a session would ask, and then reads.
+-- Checking a release: it is answered like the line in a session, and afterwards only read.
 use Rattle.std.specs.Prelude.{◌≡◌, ◌≤◌, ◌↔◌, ℕ, List}
 use Rattle.disk_model.specs.View.{DiskView}
 use Rattle.history_store.specs.StoreValue.{StoreValue}
@@ -7,14 +7,14 @@ use Rattle.line_server.specs.Sources.{SourceView}
 use Rattle.command_line.specs.Endings.{Report}
 use Rattle.command_line.specs.Tasks.{IsLineTold, IsOnOpened}
 
--- The device was left as calls leave it that only read: what stops may leave of an honest one
--- stays, and so does whether it is honest, and no failure is forgotten.
+-- Only reads were made on the device: what crashes may leave of an honest one is unchanged, so is
+-- whether it is honest, and the count of failures isn't less.
 pub record IsOnlyRead {D : Type 0} (view : D → DiskView) (old new : D) : Type 0 where
   pub moments : (view old).is_honest → (view new).moments ≡ (view old).moments
   pub honesty : (view old).is_honest ↔ (view new).is_honest
   pub failures : (view old).failures ≤ (view new).failures
 
--- the line that checks the release was answered, and from then on the device was only read
+-- the line that checks the release was answered, and afterwards the device was only read
 abbrev pub Checks : {D : Type 0} → SourceView → (D → DiskView) → List ℕ → D → Report → StoreValue D
     → Type 0
 Checks {D} source view name left report store =

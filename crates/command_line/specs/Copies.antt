@@ -1,4 +1,4 @@
--- What copying a store does.
+-- Copying a store.
 use Rattle.std.specs.Prelude.{◌≡◌, ◌⊎◌, ◌↔◌, ℕ, [], Option, Some, None, Result, Ok, Err}
 use Rattle.std.specs.Prelude.{IfOk, IfErr, OnOk, length}
 use Rattle.disk_model.specs.Disk.{IsImage, LeavesOnly}
@@ -17,7 +17,7 @@ use Rattle.line_server.specs.declared.refusal.LineRefusal.TheVariants.{PinRange,
 use Rattle.line_server.specs.ReplyValue.{Answer, Done as AllDone}
 use Rattle.command_line.specs.Endings.{Report, Tells}
 
--- why a store isn't copied, as it is told
+-- the refusal for a store that couldn't be copied
 abbrev pub copy_refusal : CopyFault → LineRefusal
 copy_refusal faults.OutOfMemory = Store store.OutOfMemory
 copy_refusal faults.SourceFailed = Store store.DiskFault
@@ -28,21 +28,21 @@ copy_refusal faults.NotEmpty = Store store.NotEmpty
 copy_refusal faults.NoRoom = Store store.Full
 copy_refusal faults.TargetFailed = Store store.DiskFault
 
--- what is told of a copy: that it was made, or why not
+-- the outcome of a copy, as it is written
 abbrev pub copy_told : Result DirectoryValue CopyFault → Result Answer LineRefusal
 copy_told (Ok copy) = Ok (AllDone [])
 copy_told (Err e) = Err (copy_refusal e)
 
--- The first imports of the store on one device, or all of them, were copied to another one, or it
--- is said why not.
+-- The first imports of the store on one device, or all of them, were copied to another one; or the
+-- result says why not.
 pub record IsCopied {D : Type 0} (view : D → DiskView) (imports : Option ℕ)
     (result : Result DirectoryValue CopyFault) (source source_left target target_left : D)
     : Type 0 where
-  -- whatever a stop leaves from now on is the copy
+  -- every image that a crash may leave is the copy
   pub copied : (view source).is_honest → (view target).is_honest → IfOk result
       (λ copy. HasCopy imports (view source).moments.state.now copy
       (view target_left).moments.state)
-  -- a stop at any moment leaves what it might have left before, no store, or the whole copy
+  -- a crash at any moment leaves what it might have left before, no store, or the whole copy
   pub any_moment : (view source).is_honest → (view target).is_honest
       → LeavesOnly (view target).moments (view target_left).moments
       (λ c. IsImage (view target).moments.state c ⊎ (IsStore c → ⊥)
@@ -53,7 +53,7 @@ pub record IsCopied {D : Type 0} (view : D → DiskView) (imports : Option ℕ)
       (view target).moments.state.now)
   pub stays : (view source).is_honest → (view target).is_honest
       → StaysUnlessFailed result (view target).moments (view target_left).moments
-  -- the store that is copied is synced, and changes in nothing else
+  -- the store that is copied is synced, and otherwise unchanged
   pub source_stays : (view source).is_honest → ((view source_left).moments ≡ (view source).moments)
       ⊎ ((view source_left).moments ≡ synced (view source).moments)
   pub source_any_moment : (view source).is_honest
@@ -66,19 +66,20 @@ pub record IsCopied {D : Type 0} (view : D → DiskView) (imports : Option ℕ)
   pub target_failures : Counts CountsTarget result (view target).failures
       (view target_left).failures
 
--- what was made for a copy was removed, or that can't be done and it was left so
+-- the file that was made for a copy was removed; or that can't be done, and it is unchanged
 abbrev pub IsRemoved : {D : Type 0} → (removes retains : Type 0) → D → Option D → Type 0
 IsRemoved removes retains made left =
     (removes × (left ≡ None)) ⊎ (retains × (left ≡ Some made))
 
--- the copy stays, and what was made for one that failed is removed
+-- a copy is kept, and what was made for one that failed is removed
 abbrev pub IsKept : {D : Type 0} → (removes retains : Type 0) → Result DirectoryValue CopyFault → D
     → Option D → Type 0
 IsKept removes retains (Ok copy) made left = left ≡ Some made
 IsKept removes retains (Err e) made left = IsRemoved removes retains made left
 
--- A copy was made of the store on one device onto another one, or it is said why not. That was
--- told, and each device was left as it then was, but for one that was made for a copy that failed.
+-- A copy was made of the store on one device onto another one, or the result says why not. The
+-- result was written, and each device was left in its state after that, except one that was made
+-- for a copy that failed.
 pub record IsCopyMade {D : Type 0} (view : D → DiskView) (removes retains : Type 0)
     (imports : Option ℕ) (source target : D) (left made : Option D) (report : Report)
     : Type 0 where

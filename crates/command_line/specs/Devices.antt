@@ -1,7 +1,7 @@
--- How many devices were asked for.
+-- Counting how often a device was asked for.
 use Rattle.std.specs.Prelude.{ℕ}
 use Rattle.command_line.specs.declared.devices.FileDisks.{FileDisks}
 
--- how many files were asked for
+-- how often a file was asked for
 abbrev pub files_asked : {F R : Type 0} → FileDisks F R → ℕ
 files_asked files = files.asked

@@ -1,11 +1,11 @@
--- What telling the digest of a store does: it asks the line that a session would ask.
+-- Writing the digest of a store: it is answered like the line in a session.
 use Rattle.std.specs.Prelude.{ℕ, List, ◌++◌, codes, decimal, Option, Some, None}
 use Rattle.disk_model.specs.View.{DiskView}
 use Rattle.line_server.specs.Sources.{no_releases}
 use Rattle.command_line.specs.Endings.{Report}
 use Rattle.command_line.specs.Tasks.{IsLineTold, IsOnOpened}
 
--- the line of a session that asks for the digest of all imports, or of the first ones
+-- the line that asks for the digest of all imports, or of the first ones
 abbrev pub digest_line : Option ℕ → List ℕ
 digest_line None = codes "0 DIGEST"
 digest_line (Some imports) = codes "0 AT " ++ decimal imports ++ codes " DIGEST"

@@ -1,4 +1,4 @@
--- How the program ends, and what it says of it.
+-- How the program ends, and what it writes about that.
 use Rattle.std.specs.Prelude.{◌≡◌, ℕ, List, Option, Result, Ok, Err, IsOk}
 use Rattle.std.specs.Io.KnownBytes.{Appends}
 use Rattle.line_server.specs.declared.refusal.LineRefusal.{LineRefusal}
@@ -9,7 +9,7 @@ use Rattle.line_server.specs.Streams.{AppendsSome}
 use Rattle.command_line.specs.declared.endings.Ending.{Ending}
 use Rattle.command_line.specs.declared.endings.Ending.TheVariants as endings
 
--- how a task ended, and the bytes of the output before it and after, where they are known
+-- how a task ended, and the bytes of the output before and after it, if they are known
 pub record Report : Type 0 where
   pub ended : Result Ending ServeFault
   pub old : Option (List ℕ)
@@ -18,8 +18,8 @@ pub record Report : Type 0 where
 abbrev pub report : Result Ending ServeFault → Option (List ℕ) → Option (List ℕ) → Report
 report ended old new = record { ended = ended; old = old; new = new }
 
--- What was to be told was told: an answer where the task is done, and where it was refused the
--- refusal that its ending has. Where the output failed, a front part of it stands there, and not all.
+-- The outcome was written: an answer if the task is done, and if it was refused the refusal that
+-- its ending has. If the output failed, a proper prefix of it was written.
 abbrev pub IsTold : Result Ending ServeFault → Result Answer LineRefusal → Option (List ℕ)
     → Option (List ℕ) → Type 0
 IsTold (Ok endings.Done) outcome old new = IsOk outcome
@@ -29,6 +29,6 @@ IsTold (Ok (endings.Refused refusal)) outcome old new =
 IsTold (Err fault) outcome old new =
     (fault ≡ faults.Write) × AppendsSome old new (bytes_of (reply_value outcome))
 
--- this was told as a task ended
+-- this outcome was written, and the task ended accordingly
 abbrev pub Tells : Report → Result Answer LineRefusal → Type 0
 Tells report outcome = IsTold report.ended outcome report.old report.new

@@ -1,4 +1,4 @@
--- What merging the segments of a store does.
+-- Merging the segments of a store.
 use Rattle.std.specs.Prelude.{◌≡◌, ◌⊎◌, ℕ, ◌<◌, ◌≤◌, List, [], ◌∷◌, length, min, codes}
 use Rattle.std.specs.Prelude.{None, Result, Ok, Err, Bool, IsOk, IsErr, unwrap_or}
 use Rattle.std.specs.Prelude.{option_map}
@@ -20,17 +20,17 @@ use Rattle.line_server.specs.Turns.{Turn, IsTurn}
 use Rattle.command_line.specs.Endings.{Report, Tells}
 use Rattle.command_line.specs.Tasks.{IsOnOpened, status_line}
 
--- how many rows are left to the merge that goes on; 0 where none does
+-- how many rows are left to the merge in progress; 0 without one
 abbrev pub rows_left : {D : Type 0} → Server D → ℕ
 rows_left server = unwrap_or (option_map (λ merge. merge.left) server.store.catalog.merge) 0
 
--- the line begins, carries on or publishes a merge; it carries one on only while rows are left
+-- the line begins, advances or publishes a merge; it advances one only while rows are left
 abbrev pub IsMergeLine : {D : Type 0} → List ℕ → Server D → Type 0
 IsMergeLine line now =
     (line ≡ codes "0 MERGE") ⊎ ((line ≡ codes "0 STEP 100000") × (1 ≤ rows_left now))
     ⊎ (line ≡ codes "0 PUBLISH")
 
--- the line that cuts off what is behind the last segment
+-- the line that cuts off everything after the last segment
 abbrev pub trim_line : List ℕ
 trim_line = codes "0 TRIM"
 
@@ -45,12 +45,12 @@ Merges {D} view old (turn ∷ turns) new =
 abbrev pub segments_of : {D : Type 0} → Server D → ℕ
 segments_of server = length server.store.catalog.entries
 
--- no merge goes on
+-- no merge is in progress
 abbrev pub HasNoMerge : {D : Type 0} → Server D → Type 0
 HasNoMerge server = server.store.catalog.merge ≡ None
 
--- Lines of merges were answered OK, and then the one that trims. From more than so many
--- segments that many are left, and from fewer as many as there were. No merge is left begun.
+-- Lines of merges were answered OK, and then the one that trims. If there were more segments than
+-- `most`, that many are left, and otherwise as many as there were. No merge is left in progress.
 pub record IsMergedTo {D : Type 0} (view : D → DiskView) (most : ℕ) (old new : Server D)
     : Type 0 where
   pub turns : List Turn
@@ -62,13 +62,13 @@ pub record IsMergedTo {D : Type 0} (view : D → DiskView) (most : ℕ) (old new
   pub goes : IsTurn no_releases view before trim new
   pub number : segments_of new ≡ min (segments_of old) most
   pub none_left : HasNoMerge new
-  -- in version 3 none is left without checksums where one is asked for, unless it was the only one
-  -- and had none
+  -- in version 3 no segment without checksums is left if one segment was asked for, unless the
+  -- store's only segment was one
   pub checksums : most ≤ 1 → HasNoMerge old → old.store.catalog.layout ≡ layouts.Three
       → (HasOnlyPlain old.store.catalog → ⊥) → plain_count new.store.catalog.entries ≡ 0
 
--- What ends the merging of segments: memory, the device, its bytes or its room, or the count of
--- publications. Lines that are asked in their order are refused for no other reason.
+-- Why merging segments ends early: because of memory, the device, its bytes or its room, or the
+-- count of publications. Lines that are asked in this order are refused for no other reason.
 abbrev pub IsHalt : Result Answer LineRefusal → Type 0
 IsHalt (Err (refusals.Store store.OutOfMemory)) = Unit {0}
 IsHalt (Err (refusals.Store store.DiskFault)) = Unit {0}
@@ -77,16 +77,16 @@ IsHalt (Err (refusals.Store store.Damaged)) = Unit {0}
 IsHalt (Err (refusals.Store store.CountSpent)) = Unit {0}
 IsHalt _ = ⊥
 
--- a line of a merge is asked while there are more than so many segments, and the
--- one that trims where that many are left, or as many as there were, and no merge goes on
+-- a line of a merge is asked while there are more segments than `most`; and the one that trims if
+-- that many are left, or as many as there were, and no merge is in progress
 abbrev pub IsDue : {D : Type 0} → ℕ → Turn → Server D → Server D → Type 0
 IsDue most turn first now =
     (IsMergeLine turn.line now × (most < segments_of now))
     ⊎ ((turn.line ≡ trim_line) × (segments_of now ≡ min (segments_of first) most)
     × HasNoMerge now)
 
--- Lines of merges were answered OK, and then one of these lines was
--- refused, which was due, for a reason that lies outside of them.
+-- Lines of merges were answered OK, and then one of these lines, in its turn, was refused for one
+-- of the reasons of `IsHalt`.
 pub record IsHaltedBy {D : Type 0} (view : D → DiskView) (most : ℕ) (last : Turn)
     (old new : Server D) : Type 0 where
   pub turns : List Turn
@@ -104,7 +104,7 @@ IsMergedAndAsked {D} view most last old new =
     (mid : Server D) × IsMergedTo view most old mid
     × (last.line ≡ status_line) × IsTurn no_releases view mid last new
 
--- the last line was that for the status, or one that was refused; its reply was told
+-- the last line was the one for the status, or one that was refused; its reply was written
 pub record TellsLines {D : Type 0} (view : D → DiskView) (most : ℕ) (left : D) (report : Report)
     (store : StoreValue D) : Type 0 where
   pub last : Turn
@@ -114,19 +114,19 @@ pub record TellsLines {D : Type 0} (view : D → DiskView) (most : ℕ) (left : 
       ⊎ IsHaltedBy view most last (server fresh store) (server state after)
   pub told : Tells report last.outcome
   pub left_so : left ≡ after.disk
-  -- what stands in the store stays the same
+  -- the contents of the store are unchanged
   pub history : (view store.disk).is_honest → after.history ≡ store.history
 
--- after the only segment was written anew, or had no need of that, lines merge the segments; else
--- it was told why it wasn't
+-- after the only segment was rewritten, or didn't have to be, lines merge the segments; otherwise
+-- the refusal was written
 abbrev pub GoesOn : {D : Type 0} → (D → DiskView) → ℕ → D → Report → Result Bool Refusal
     → StoreValue D → Type 0
 GoesOn view most left report (Ok anew) store = TellsLines view most left report store
 GoesOn view most left report (Err e) store =
     Tells report (Err (refusals.Store e)) × (left ≡ store.disk)
 
--- If the store is of version 3, and its only segment has no checksums, that is written anew. Then
--- the segments are merged.
+-- If the store is of version 3, and its only segment has no checksums, that is rewritten. Then the
+-- segments are merged.
 pub record TellsMerge {D : Type 0} (view : D → DiskView) (most : ℕ) (left : D) (report : Report)
     (store : StoreValue D) : Type 0 where
   pub result : Result Bool Refusal

@@ -1,4 +1,4 @@
--- What a disk under a name does of a write.
+-- Writes to a disk that was opened by a name.
 use Rattle.std.specs.Prelude.{◌≡◌, ◌⊎◌, ℕ, Result, IsErr}
 use Rattle.disk_model.specs.Disk.{raised_by}
 use Rattle.disk_model.specs.View.{DiskView}
@@ -15,8 +15,8 @@ named_view view named =
       other_calls = named.other_calls;
     }
 
--- The write went to the disk, to which the name was seen to lead still. Or that wasn't seen, the
--- write failed, and the disk is as it was.
+-- The write went to the disk, after the name was seen to still refer to it. Or it wasn't seen, the
+-- write failed, and the disk is unchanged.
 abbrev pub WritesNamed : {D N T E : Type 0} → (leads misses : N → ℕ → Type 0) → (D → DiskView)
     → Result T E → NamedDisk D N → NamedDisk D N → Type 0
 WritesNamed leads misses view result old new =

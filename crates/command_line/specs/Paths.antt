@@ -3,7 +3,7 @@ use Rattle.std.specs.Prelude.{◌≡◌, ◌≢◌, ◌⊎◌, ℕ, List, [], �
 use Rattle.std.specs.Prelude.{None}
 use Rattle.std.specs.List.{All}
 
--- what stands between the names of a path
+-- the separator between the names of a path
 abbrev pub slash : ℕ
 slash = 47
 
@@ -13,16 +13,16 @@ pub record IsTrimmed (path trimmed : List ℕ) : Type 0 where
   pub path_is : path ≡ trimmed ++ replicate slashes slash
   pub ends : (front : List ℕ) → trimmed ≢ front ++ slash ∷ []
 
--- the path names what has this name in this folder: in the current
--- one if it is a name alone, in the root, or in the one above
+-- The path refers to what has this name in this folder: the current folder if the path is only a
+-- name, the root, or the folder before the last slash.
 pub record IsIn (path folder name : List ℕ) : Type 0 where
   pub last : All (λ byte. byte ≢ slash) name
   pub above : ((path ≡ name) × (folder ≡ codes "."))
       ⊎ ((path ≡ slash ∷ name) × (folder ≡ codes "/"))
       ⊎ ((path ≡ folder ++ slash ∷ name) × (folder ≢ []))
 
--- The release's name in its folder, without slashes at its end. Where
--- the folder isn't given it is the one above, and what is given is a path.
+-- The release's name in its folder, without slashes at its end. If the folder isn't given, `word`
+-- is a path, and the folder is the one before its last part.
 abbrev pub IsNamed : Option (List ℕ) → List ℕ → List ℕ → List ℕ → Type 0
 IsNamed (Some given) word folder name = (folder ≡ given) × IsTrimmed word name
 IsNamed None word folder name = (path : List ℕ) × IsTrimmed word path × IsIn path folder name

@@ -1,5 +1,5 @@
--- Words that private functions and proofs need, of this crate or of one above it.
--- No public clause cites them.
+-- Definitions for private functions and proofs, of this crate or of one above it. No public clause
+-- cites them.
 use Rattle.std.specs.Prelude.{◌≡◌, ℕ, ◌+◌, ◌<◌, ◌≤◌, List, Result, Ok, Err, IsOk, IsErr, [], ◌∷◌}
 use Rattle.line_server.specs.Sources.{no_releases}
 use Rattle.disk_model.specs.View.{DiskView}
@@ -19,7 +19,7 @@ use Rattle.line_server.specs.Turns.{Turn, HasTurn, IsTurn}
 use Rattle.command_line.specs.Merging.{IsMergeLine, Merges, IsHalt, IsHaltedBy, IsMergedTo}
 use Rattle.command_line.specs.Merging.{HasNoMerge, segments_of}
 
--- the line was answered OK, or its refusal comes back
+-- the line was answered OK, or its refusal is returned
 abbrev pub IsAsked : {D : Type 0} → (D → DiskView) → List ℕ → Result (Unit {0}) LineRefusal
     → Server D → Server D → Type 0
 IsAsked view line (Ok done) old new =
@@ -27,15 +27,15 @@ IsAsked view line (Ok done) old new =
 IsAsked view line (Err refusal) old new =
     HasTurn no_releases view line old new (λ turn. turn.outcome ≡ Err refusal)
 
--- no call has failed, and no merge goes on
+-- no call has failed, and no merge is in progress
 abbrev pub IsAtRest : {D : Type 0} → Server D → Type 0
 IsAtRest server = (server.store.needs_reopen ≡ false) × HasNoMerge server
 
--- no call has failed, and a merge goes on
+-- no call has failed, and a merge is in progress
 abbrev pub IsMerging : {D : Type 0} → Server D → Type 0
 IsMerging server = (server.store.needs_reopen ≡ false) × GoesOn server.store.catalog
 
--- no call has failed, and a merge goes on of which no row is left
+-- no call has failed, and a merge is in progress that has no row left
 abbrev pub HasMerged : {D : Type 0} → Server D → Type 0
 HasMerged server = (server.store.needs_reopen ≡ false) × IsFinished server.store.catalog
 
@@ -44,7 +44,7 @@ pub record HaveMerged {D : Type 0} (view : D → DiskView) (old new : Server D) 
   pub turns : List Turn
   pub merges : Merges view old turns new
 
--- lines of merges were answered OK, and then one was refused that was due
+-- lines of merges were answered OK, and then one was refused in its turn
 pub record IsStoppedBy {D : Type 0} (view : D → DiskView) (most : ℕ) (last : Turn)
     (old new : Server D) : Type 0 where
   pub before : Server D
@@ -55,18 +55,18 @@ pub record IsStoppedBy {D : Type 0} (view : D → DiskView) (most : ℕ) (last :
   pub refused : IsErr last.outcome
   pub cause : 1 ≤ most → IsHalt last.outcome
 
--- a line of a merge was refused, by this
+-- a line of a merge was refused for this reason
 abbrev pub IsStopped : {D : Type 0} → (D → DiskView) → ℕ → LineRefusal → Server D → Server D → Type 0
 IsStopped view most refusal old new =
     (last : Turn) × (last.outcome ≡ Err refusal) × IsStoppedBy view most last old new
 
--- a line was refused, by this
+-- a line was refused for this reason
 abbrev pub IsHalted : {D : Type 0} → (D → DiskView) → ℕ → LineRefusal → Server D → Server D → Type 0
 IsHalted view most refusal old new =
     (last : Turn) × (last.outcome ≡ Err refusal)
     × IsHaltedBy view most last old new
 
--- all rows of the merge were taken, and there are as many segments as before
+-- all rows of the merge were merged, and there are as many segments as before
 abbrev pub MergesRows : {D : Type 0} → (D → DiskView) → Result (Unit {0}) LineRefusal
     → Server D → Server D → Type 0
 MergesRows view (Ok done) old new =
@@ -82,7 +82,7 @@ IsOneLess view (Ok done) old new =
 IsOneLess view (Err refusal) old new =
     (most : ℕ) → most < segments_of old → IsStopped view most refusal old new
 
--- segments were merged until so many were left, and the disk was trimmed
+-- segments were merged until `most` were left, and the disk was trimmed
 abbrev pub IsTrimmedTo : {D : Type 0} → (D → DiskView) → ℕ → Result (Unit {0}) LineRefusal
     → Server D → Server D → Type 0
 IsTrimmedTo view most (Ok done) old new =
@@ -90,7 +90,7 @@ IsTrimmedTo view most (Ok done) old new =
 IsTrimmedTo view most (Err refusal) old new =
     IsHalted view most refusal old new
 
--- the number and the name of a fault of serving, by which the program ends
+-- the number and the name of a fault of serving, with which the program ends
 abbrev pub fault_sign : ServeFault → ℕ × List ℕ
 fault_sign faults.OutOfMemory = (1, codes "OutOfMemory")
 fault_sign faults.Read = (50, codes "Read")

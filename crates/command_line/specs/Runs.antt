@@ -1,4 +1,4 @@
--- What the program does of what its words ask for.
+-- What the program does for each command line.
 use Rattle.std.specs.Prelude.{◌≡◌, ◌≢◌, ◌⊎◌, ◌≤◌, ℕ, List, [], Option, Some, None, Result, Ok, Err}
 use Rattle.std.specs.Prelude.{⊤}
 use Rattle.std.specs.Io.KnownBytes.{Keeps}
@@ -32,10 +32,11 @@ use Rattle.command_line.specs.Checking.{IsCheck}
 use Rattle.command_line.specs.Digests.{IsDigest}
 use Rattle.command_line.specs.Copies.{IsCopyMade, IsRemoved}
 
--- What the words can name, as clauses see it: which device stands under a name, or is made there,
--- and whether it can't be had; which one is made where nothing may stand, or that none is; whether
--- the name stays; whether what was made is removed; whether there is a folder of a name to look for
--- releases in; and the releases of each folder, if they are honest.
+-- The system that the words refer to, as clauses see it: which device exists under a name or is
+-- made there, and when none can be opened; which one is made under a name that isn't in use, and
+-- when none can be; whether the name survives a crash; whether a new file is removed; whether there
+-- is a folder in which releases can be looked for; and the releases of each folder, if the folders
+-- are honest.
 pub record SystemView (D : Type 0) : Type 1 where
   pub stands : List ℕ → D → Type 0
   pub withholds : List ℕ → Type 0
@@ -53,23 +54,24 @@ pub record SystemView (D : Type 0) : Type 1 where
   pub releases : List ℕ → Releases
   pub device : D → DiskView
 
--- the source that a folder of releases is
+-- a folder of releases, as a source
 abbrev pub source_in : {D : Type 0} → SystemView D → List ℕ → SourceView
 source_in system dir = source_view system.is_honest (system.releases dir)
 
--- it was told that what is asked for under a name can't be had
+-- the outcome says that the device of a name can't be opened
 abbrev pub IsMissing : Report → Type 0
 IsMissing report = Tells report (Err (Store DiskFault))
 
--- the task was done on what is under a name, which was left so; or that can't be had
+-- the task was done on the device of a name, which was left in this state; or the device can't be
+-- opened
 abbrev pub IsDoneAt : {D : Type 0} → (D → Type 0) → (D → D → Type 0) → Type 0 → Option D → Type 0
 IsDoneAt {D} had done missing left =
     ((device : D) × (after : D) × had device × done device after × (left ≡ Some after))
     ⊎ (missing × (left ≡ None))
 
--- A store of this version was made on what stands under a name or was made there, once it was seen that the name
--- stays. What was had under a name that isn't seen to stay was left as it was, and that was told;
--- and so it was if nothing can be had there.
+-- A store of this layout version was made on the device that exists or was made under a name, once
+-- it was sure that the name survives a crash. If that isn't sure, the device was left unchanged,
+-- and the failure was written; so it was if no device can be opened there.
 abbrev pub IsMadeAt : {D : Type 0} → Layout → SystemView D → List ℕ → Option D → Report → Type 0
 IsMadeAt {D} layout system name left report =
     ((device : D) × (after : D) × system.makes name device × system.keeps name
@@ -78,10 +80,10 @@ IsMadeAt {D} layout system name left report =
     × (left ≡ Some device))
     ⊎ (system.denies name × IsMissing report × (left ≡ None))
 
--- The first imports of what stands under a name, or all, were copied to what was made under another
--- one, where nothing stood, once it was seen that the new name stays. Where one of the two can't be
--- had, or the new name isn't seen to stay, that was told: what was made is removed, and the other
--- one was left as it was.
+-- The first imports of one device's store, or all, were copied to a device that was made under
+-- another name, which wasn't in use, once it was sure that the new name survives a crash. If one of
+-- the two can't be opened or made, or the new name isn't sure to survive, that was written, the new
+-- file is removed, and the other device is unchanged.
 abbrev pub IsCopiedAt : {D : Type 0} → SystemView D → (name to : List ℕ) → Option ℕ
     → (left made : Option D) → Report → Type 0
 IsCopiedAt {D} system name to imports left made report =
@@ -96,9 +98,9 @@ IsCopiedAt {D} system name to imports left made report =
     × IsCopyMade system.device (system.removes to) (system.retains to) imports source target left
     made report)
 
--- The lines were served from what is under a name, with the releases of a folder that was found.
--- Where there is no such folder, that was told, nothing was read, and what is under the name was left
--- as it was. Where nothing can be had under the name, that was told, and nothing was read.
+-- The lines were served from the device of a name, with the releases of a folder that exists. If
+-- there is no such folder, that was written, nothing was read, and the device is unchanged. If the
+-- device can't be opened, that was written, and nothing was read.
 abbrev pub IsServedAt : {D : Type 0} → SystemView D → List ℕ → List ℕ → Option D
     → Result Ending ServeFault → Streams → Type 0
 IsServedAt {D} system name releases left ended streams =
@@ -111,8 +113,8 @@ IsServedAt {D} system name releases left ended streams =
     × Tells (report ended streams.old streams.new) (Err NoFolder) × (streams.rest ≡ streams.input)
     × (left ≡ Some device))
 
--- the lines of the script were served, as lines that come in
--- are, from a new store in memory and the sample releases
+-- the lines of the script were served like those of an input, from a new store in memory and the
+-- sample releases
 pub record IsDemonstrated (script : List ℕ) (report : Report) : Type 0 where
   pub disk : MemDisk
   pub empty : memory_moments disk ≡ made []
@@ -122,8 +124,8 @@ pub record IsDemonstrated (script : List ℕ) (report : Report) : Type 0 where
       memory_view
       disk left report.ended (streams (Some script) rest report.old report.new)
 
--- the lines of the script were served so, what was written went out at the end, and the status is 0
--- only where that ended well
+-- the lines of the script were served in this way, the output was flushed at the end, and the
+-- status is 0 only if that ended well
 pub record IsDemonstration (script : List ℕ) (status : ℕ) (old new : Option (List ℕ)) : Type 0 where
   pub ended : Result Ending ServeFault
   pub written : Option (List ℕ)
@@ -131,9 +133,10 @@ pub record IsDemonstration (script : List ℕ) (status : ℕ) (old new : Option 
   pub kept : Keeps written new
   pub done : status ≡ 0 → ended ≡ Ok Done
 
--- how each task is done, and how its device is left, and the one that it made for a copy: a store
--- is made on what was made under its name, and all else is done on what was under its name; only a
--- server reads, and the demonstration has no device
+-- How each task is done, and how its device is left, and the one that it made for a copy: `init`
+-- makes a store on the device that exists or is made under its name, and all other tasks use the
+-- device that exists under the name. Only `serve` reads the input, and the demonstration has no
+-- device.
 abbrev pub Does : {D : Type 0} → SystemView D → List ℕ → Task → (left made : Option D)
     → Result Ending ServeFault → Streams → Type 0
 Does system script (tasks.Init store layout) left made ended streams =
@@ -182,27 +185,27 @@ Does system script tasks.Demo left made ended streams =
     IsDemonstrated script (report ended streams.old streams.new) × (left ≡ None)
     × (streams.rest ≡ streams.input) × (made ≡ None)
 
--- a copy asks for a second device where it has what it copies
+-- a copy asks for a second device if it has opened the store that it copies
 abbrev pub AsksForPair : {D : Type 0} → Option D → ℕ → ℕ → Type 0
 AsksForPair None old new = new ≡ raised_by old 1
 AsksForPair (Some source) old new = new ≡ raised_by (raised_by old 1) 1
 
--- how often a task asks for what holds a store: the demonstration never, a copy for each of the
--- two, and any other once
+-- how often a task asks for a device: the demonstration never, a copy once for each of the two, and
+-- any other task once
 abbrev pub AsksFor : {D : Type 0} → Task → Option D → ℕ → ℕ → Type 0
 AsksFor tasks.Demo left old new = new ≡ old
 AsksFor (tasks.Copy store to imports) left old new = AsksForPair left old new
 AsksFor _ left old new = new ≡ raised_by old 1
 
--- The words ask for a task, and it was done. The status is 0 only where it ended so. So many
--- devices had been asked for before it, and so many after it.
+-- The words ask for a task, and it was done. The status is 0 only if it ended with success.
+-- `before` and `after` count how often a device was asked for.
 pub record IsRun {D : Type 0} (system : SystemView D) (script : List ℕ) (words : List (List ℕ))
     (left made : Option D) (status : ℕ) (known : Streams) (before after : ℕ) : Type 0 where
   pub task : Task
   pub asked : AskFor words task
   pub devices : AsksFor task left before after
   pub ended : Result Ending ServeFault
-  -- what was written, and went out at the end
+  -- what was written, and flushed at the end
   pub written : Option (List ℕ)
   pub does : Does system script task left made ended
       (streams known.input known.rest known.old written)
@@ -210,18 +213,18 @@ pub record IsRun {D : Type 0} (system : SystemView D) (script : List ℕ) (words
   pub at_most : status ≤ 1
   pub done : status ≡ 0 → ended ≡ Ok Done
 
--- the words are faulty: they don't ask for help
+-- the words are faulty, and don't ask for help
 abbrev pub IsFaulty : ErrorKind → Type 0
 IsFaulty kind = (kind ≢ DisplayHelp) × (kind ≢ DisplayVersion)
 
--- Why there is no task was told. Nothing but a help that was asked for is told on the output.
+-- It was written why there is no task. Only a help that was asked for is written to the output.
 abbrev pub IsExplained : Refused → ℕ → Option (List ℕ) → Option (List ℕ) → Type 0
 IsExplained refusals.OutOfMemory status old new = (status ≡ 1) × (new ≡ old)
 IsExplained (refusals.Words error) status old new =
     (IsFaulty (kind_of error) → (status ≡ 2) × (new ≡ old))
     × ((IsFaulty (kind_of error) → ⊥) → status ≤ 1)
 
--- the words ask for no task, and that was told; no device was asked for, and none is left
+-- the words ask for no task, and that was written; no device was asked for, and none is left
 pub record IsNoTask {D : Type 0} (words : List (List ℕ)) (left made : Option D) (status : ℕ)
     (known : Streams) (before after : ℕ) : Type 0 where
   pub refused : Refused

@@ -26,12 +26,13 @@ use Rattle.command_line.specs.Endings.{IsTold, Report, Tells}
 
 -- ---- init
 
--- what is told of the making of a store: that it was made, or why not
+-- the outcome of making a store, as it is written
 abbrev pub making_told : {D : Type 0} → StoreOr D → Result Answer LineRefusal
 making_told (Ok store) = Ok (AllDone [])
 making_told (Err e) = Err (Store e.0)
 
--- a store of this version was made, that was told, and the device was left so
+-- a store of this layout version was made, the outcome was written, and the device was left in its
+-- state after that
 pub record IsMade {D : Type 0} (layout : Layout) (view : D → DiskView) (device left : D)
     (report : Report) : Type 0 where
   pub had : StoreOr D
@@ -41,8 +42,8 @@ pub record IsMade {D : Type 0} (layout : Layout) (view : D → DiskView) (device
 
 -- ---- one line
 
--- The line was answered, where no session is pinned, the
--- reply was told, and the device was left as it then was.
+-- The line was answered, with no session pinned, the reply was written, and the device was left in
+-- its state after that.
 pub record IsLineTold {D : Type 0} (source : SourceView) (view : D → DiskView) (line : List ℕ)
     (store : StoreValue D) (left : D) (report : Report) : Type 0 where
   pub state : StateValue
@@ -51,8 +52,8 @@ pub record IsLineTold {D : Type 0} (source : SourceView) (view : D → DiskView)
       (λ turn. Tells report turn.outcome)
   pub left_so : left ≡ after.disk
 
--- the task was done on the store; or it was told why there is none, and the device was left as the
--- opening left it
+-- the task was done on the store; or the outcome says why there is no store, and the device was
+-- left as the opening left it
 abbrev pub OnStore : {D : Type 0} → (StoreValue D → Type 0) → StoreOr D → D → Report → Type 0
 OnStore done (Ok store) left report = done store
 OnStore done (Err e) left report = Tells report (Err (Store e.0)) × (left ≡ e.1)
@@ -84,13 +85,13 @@ IsStatus view device left report = IsOnOpened view
 
 -- ---- upgrade
 
--- what is told of an upgrade: that it was done, or why not
+-- the outcome of an upgrade, as it is written
 abbrev pub upgrade_told : Result (Unit {0}) Refusal → Result Answer LineRefusal
 upgrade_told (Ok done) = Ok (AllDone [])
 upgrade_told (Err e) = Err (Store e)
 
--- the store was brought to version 3, or it was refused; that was told, and the device was left as
--- it then was
+-- the store was upgraded to version 3, or that was refused; the outcome was written, and the device
+-- was left in its state after that
 pub record Upgrades {D : Type 0} (view : D → DiskView) (left : D) (report : Report)
     (store : StoreValue D) : Type 0 where
   pub result : Result (Unit {0}) Refusal
@@ -100,23 +101,23 @@ pub record Upgrades {D : Type 0} (view : D → DiskView) (left : D) (report : Re
   pub told : Tells report (upgrade_told result)
   pub left_so : left ≡ after.disk
 
--- the store was opened from this device, and brought to version 3
+-- the store was opened from this device, and upgraded to version 3
 abbrev pub IsUpgrade : {D : Type 0} → (D → DiskView) → D → D → Report → Type 0
 IsUpgrade view device left report =
     IsOnOpened view (Upgrades view left report) device left report
 
 -- ---- serve
 
--- how the task ended, by what serving answered
+-- how the task ended, from the result of serving
 abbrev pub ended_by : Result ℕ ServeFault → Result Ending ServeFault
 ended_by (Ok n) = Ok Done
 ended_by (Err fault) = Err fault
 
--- how often a server reads its input at most
+-- the most reads that a server makes of its input
 abbrev pub most_reads : ℕ
 most_reads = 4294967295
 
--- the lines of the input were served, and the device was left as it then was
+-- the lines of the input were served, and the device was left in its state after that
 pub record IsInputServed {D : Type 0} (source : SourceView) (view : D → DiskView)
     (store : StoreValue D) (left : D) (ended : Result Ending ServeFault) (streams : Streams)
     : Type 0 where
@@ -126,7 +127,8 @@ pub record IsInputServed {D : Type 0} (source : SourceView) (view : D → DiskVi
   pub served : IsServed result most_reads source view streams store after
   pub left_so : left ≡ after.disk
 
--- the lines were served from the store; or it was told why there is none, and nothing was read
+-- the lines were served from the store; or the outcome says why there is no store, and nothing was
+-- read
 abbrev pub Serves : {D : Type 0} → SourceView → (D → DiskView) → StoreOr D → D
     → Result Ending ServeFault → Streams → Type 0
 Serves source view (Ok store) left ended streams =

@@ -1,4 +1,5 @@
--- What the words of the command line ask for. They are read as clap reads words by these commands.
+-- Which task the words of the command line ask for. Words are parsed as clap parses them for these
+-- commands.
 use Rattle.std.specs.Prelude.{◌≡◌, ◌↔◌, ℕ, Bool, true, List, codes, Option, Some, None}
 use Rattle.clap.specs.Walk.{Text, Row, Rule, first_of}
 use Rattle.clap.specs.Simple.{App, new_rule, new_app, with_rule, with_subcommand, subcommand_of}
@@ -22,7 +23,7 @@ use Rattle.command_line.specs.declared.words.Refused.TheVariants as refusals
 abbrev pub wanted : Text → Rule
 wanted id = record (new_rule id) { value_names = 1; action = Some Set; required = true }
 
--- an option that has to be given: a value behind `--` and the name
+-- an option that has to be given: `--`, its name, and a value
 abbrev pub option : Text → Rule
 option id = record (wanted id) { long = Some id }
 
@@ -30,7 +31,7 @@ option id = record (wanted id) { long = Some id }
 abbrev pub optional : Text → Rule
 optional id = record (option id) { required = false }
 
--- a flag: true where `--` and the name are given
+-- a flag: true if `--` and its name are given
 abbrev pub flag : Text → Rule
 flag id = record (new_rule id) { long = Some id; action = Some SetTrue }
 
@@ -93,7 +94,7 @@ upgrade_command = with_rule (new_app (codes "upgrade")) (option (codes "store"))
 abbrev pub demo_command : App
 demo_command = new_app (codes "demo")
 
--- the program, which has a version, and of which a command has to be given
+-- the program, which has a version, and requires a command
 abbrev pub empty_program : App
 empty_program = record {
   top = record (new_app (codes "sctd")).top { subcommand_required = true; has_version = true };
@@ -109,7 +110,7 @@ program =
 
 -- ---- what is asked for
 
--- the values of this making of a store were read
+-- the arguments of this `init` were given
 abbrev pub IsInitOf : List Row → Task → Type 0
 IsInitOf rows (tasks.Init store layout) =
     (first_of (codes "store") rows ≡ Some store.now)
@@ -121,7 +122,7 @@ IsInitOf rows task = ⊥
 abbrev pub IsGivenFlag : Text → List Row → Type 0
 IsGivenFlag id rows = first_of id rows ≡ Some (codes "true")
 
--- the store, the release and whether people are told little were read
+-- the store, the release, and the flag for few messages were given
 abbrev pub NamesRelease : List Row → (store folder name : List ℕ) → Bool → Type 0
 NamesRelease rows store folder name quiet =
     (first_of (codes "store") rows ≡ Some store)
@@ -129,7 +130,7 @@ NamesRelease rows store folder name quiet =
     × IsNamed (first_of (codes "releases") rows) word folder name)
     × ((quiet ≡ true) ↔ IsGivenFlag (codes "quiet") rows)
 
--- the values of this import were read, or of this check of a release, for which there is a flag
+-- the arguments of this import were given; or of this check of a release, which has a flag
 abbrev pub IsImportOf : List Row → Task → Type 0
 IsImportOf rows (tasks.Import store folder name quiet) =
     NamesRelease rows store.now folder.now name.now quiet
@@ -138,25 +139,25 @@ IsImportOf rows (tasks.Check store folder name quiet) =
     NamesRelease rows store.now folder.now name.now quiet × IsGivenFlag (codes "check") rows
 IsImportOf rows task = ⊥
 
--- so many imports were read, or the option wasn't given
+-- this number of imports was given, or the option wasn't given
 abbrev pub AreImports : List Row → Option ℕ → Type 0
 AreImports rows None = first_of (codes "imports") rows ≡ None
 AreImports rows (Some imports) = (text : Text) × (first_of (codes "imports") rows ≡ Some text)
     × (imports ≡ digits_value 10 (without_leading_plus text))
 
--- the values of this copy of a store were read
+-- the arguments of this copy of a store were given
 abbrev pub IsCopyTaskOf : List Row → Task → Type 0
 IsCopyTaskOf rows (tasks.Copy store to imports) = (first_of (codes "store") rows ≡ Some store.now)
     × (first_of (codes "to") rows ≡ Some to.now) × AreImports rows imports
 IsCopyTaskOf rows task = ⊥
 
--- the values of this digest of a store were read
+-- the arguments of this digest of a store were given
 abbrev pub IsDigestTaskOf : List Row → Task → Type 0
 IsDigestTaskOf rows (tasks.Digest store imports) =
     (first_of (codes "store") rows ≡ Some store.now) × AreImports rows imports
 IsDigestTaskOf rows task = ⊥
 
--- a command was read with the values of this task
+-- a command was given with the arguments of this task
 abbrev pub Reads : Option (Text × List Row) → Task → Type 0
 Reads None task = ⊥
 Reads (Some read) (tasks.Init store layout) =
@@ -182,7 +183,7 @@ Reads (Some read) (tasks.Upgrade store) =
     (read.0 ≡ codes "upgrade") × (first_of (codes "store") read.1 ≡ Some store.now)
 Reads (Some read) tasks.Demo = read.0 ≡ codes "demo"
 
--- the words, of which the first is the program's name, are in order and ask for the task
+-- the words, whose first is the program's name, are valid and ask for the task
 abbrev pub AskFor : List Text → Task → Type 0
 AskFor words task = (fault_of program words ≡ []) × Reads (subcommand_of program words) task
 

@@ -1,4 +1,4 @@
-//! What was read of a line is carried out, and what comes out is told.
+//! Carries out a request, and writes the reply.
 
 ghost use Rattle.std.specs.Prelude.{ℕ, List};
 ghost use Rattle.command_line.specs.Tasks.{IsLineTold};
@@ -14,7 +14,7 @@ use line_server::{ServeFault, ServerState, Source, carry_out};
 use std::alloc::Global;
 use std::io::Write;
 
-/// Carries out what was read of a line, where no session is pinned, and tells what came out.
+/// Carries out what was read of a line, with no session pinned, and writes the reply.
 pub(crate) fn answer_read<D: Disk + Drop, S: Source, O: Write>(
     alloc: Global,
     read: &Result<Request<'_>, Unread>,

@@ -1,4 +1,4 @@
-//! The source of a release that is checked, and what more is told of it than of an import.
+//! The source of a release that is checked, and the additional messages of a check.
 
 ghost use Rattle.command_line.specs.Checking.{IsOnlyRead};
 
@@ -13,12 +13,12 @@ use line_server::{ServeFault, Source, SourceFault, scope_for};
 use std::alloc::Global;
 use std::io::{self, Write};
 
-/// The folder of a release that is checked. The contradiction for which it is refused isn't told
-/// at once: it is told among all others, once the reply has been written.
+/// The folder of a release that is checked. A contradiction for which the release is refused isn't
+/// reported at once: all contradictions are, once the reply has been written.
 #[derive(Drop)]
 pub(crate) struct CheckSource<'a, F: Folders, E: Write> {
     pub folder: FolderSource<'a, F, E>,
-    /// The contradiction for which the release was refused, if it was for one.
+    /// The contradiction for which the release was refused, if it was refused for one.
     pub refused: Option<Refusal>,
 }
 
@@ -41,8 +41,8 @@ impl<F: Folders, E: Write> Source for CheckSource<'_, F, E> {
 }
 
 impl<F: Folders, E: Write> CheckSource<'_, F, E> {
-    /// Tells all contradictions of a release, where the check was refused for one, and what else
-    /// may be wrong with it, where it was read. The release is had from its folder once more.
+    /// Reports all contradictions of a release, if the check was refused for one, and what else may
+    /// be wrong with the release, if it could be read. Reads the release from its folder once more.
     pub(crate) fn tell_more<D: Disk>(
         &mut self,
         alloc: Global,
@@ -55,7 +55,7 @@ impl<F: Folders, E: Write> CheckSource<'_, F, E> {
         if self.refused.is_none() && !matches!(ended, Ok(Ending::Done)) {
             return;
         }
-        // What there is to say of the folder was said when it was read first.
+        // Messages about the folder were printed when it was read the first time.
         let scope = scope_for(store);
         let again = self
             .folder
@@ -70,7 +70,7 @@ impl<F: Folders, E: Write> CheckSource<'_, F, E> {
         }
     }
 
-    /// Tells the contradictions of a release, and what else may be wrong with it.
+    /// Reports the contradictions of a release, and what else may be wrong with it.
     fn tell_of<D: Disk>(
         &mut self,
         alloc: Global,
@@ -88,7 +88,7 @@ impl<F: Folders, E: Write> CheckSource<'_, F, E> {
         }
     }
 
-    /// Tells the contradictions of a release, if it was refused for one.
+    /// Reports the contradictions of a release, if it was refused for one.
     fn tell_contradicting<D: Disk>(
         &mut self,
         alloc: Global,
@@ -112,8 +112,8 @@ impl<F: Folders, E: Write> CheckSource<'_, F, E> {
         }
     }
 
-    /// Tells the contradiction for which the release was refused,
-    /// as an import does. Whether it is the only one isn't known.
+    /// Reports the contradiction for which the release was refused, as an import does, and that
+    /// there may be others.
     fn tell_one(&mut self, alloc: Global, name: &str, scope: Scope) {
         if let Some(refused) = self.refused {
             self.folder.note_refusal(alloc, name, scope, refused);

@@ -1,4 +1,4 @@
-//! A release is checked before it counts.
+//! The check of a release.
 
 ghost use Rattle.command_line.specs.Endings.{report};
 ghost use Rattle.line_server.specs.Sources.{source_view};
@@ -15,7 +15,8 @@ use line_server::ServeFault;
 use std::alloc::Global;
 use std::io::Write;
 
-/// Checks a release against a store that was opened, and tells the reply. Then people are told more.
+/// Checks a release against an open store, and writes the reply. Then prints more messages for
+/// people.
 fn check_in<D: Disk + Drop, F: Folders, E: Write, O: Write>(
     alloc: Global,
     name: &str,
@@ -33,7 +34,7 @@ fn check_in<D: Disk + Drop, F: Folders, E: Write, O: Write>(
     ended
 }
 
-/// Checks a release against the store of a device, and tells the reply. The device comes back.
+/// Checks a release against the store of a device, and writes the reply. Returns the device.
 pub(crate) fn check<D: Disk + Drop, F: Folders, E: Write, O: Write>(
     alloc: Global,
     device: D,

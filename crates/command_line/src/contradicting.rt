@@ -1,4 +1,4 @@
-//! All contradictions of a release, told to people.
+//! Reports all contradictions of a release.
 
 use crate::telling::{meaning, write_place};
 use disk_model::Disk;
@@ -9,13 +9,13 @@ use shown_names::Shown;
 use std::alloc::{AllocError, Global};
 use std::io::{self, Write};
 
-/// How many contradictions of a release are told.
+/// The greatest number of contradictions that are reported.
 pub(crate) const MOST_TOLD: usize = 1_000;
 
-/// The number of the refusal of a row that differs from another one of the same id and date.
+/// The number of the refusal for a row that differs from another one with the same id and date.
 pub(crate) const CONTRADICTION: usize = 32;
 
-/// The files of a release without their bytes, for whoever has to name them later.
+/// The files of a release without their bytes, to keep their names for messages.
 pub(crate) fn files_without_bytes(
     alloc: Global,
     files: &[ReleaseFile],
@@ -31,7 +31,7 @@ pub(crate) fn files_without_bytes(
     Ok(named)
 }
 
-/// Tells the contradictions of a release, and how many more there are.
+/// Reports the contradictions of a release, and how many more there are.
 pub(crate) fn tell_contradictions<D: Disk, E: Write>(
     alloc: Global,
     files: &[ReleaseFile],
@@ -47,7 +47,7 @@ pub(crate) fn tell_contradictions<D: Disk, E: Write>(
     }
 }
 
-/// Writes where a row stands, and the one from which it differs.
+/// Writes where a row is, and the row from which it differs.
 fn write_one<D: Disk, E: Write>(
     alloc: Global,
     files: &[ReleaseFile],
@@ -65,8 +65,8 @@ fn write_one<D: Disk, E: Write>(
     writeln!(faults)
 }
 
-/// Writes a row that a store has, and which import brought it.
-/// Without memory for the row it is left out.
+/// Writes a row of the store, and which import brought it. The row is left out if there is no
+/// memory for it.
 fn write_known<D: Disk, E: Write>(
     alloc: Global,
     row: &Row,

@@ -1,4 +1,4 @@
-//! A store is copied to a new device.
+//! Copies a store to a new device.
 
 ghost use Rattle.std.specs.Prelude.{◌≡◌, Err};
 ghost use Rattle.command_line.specs.Copies.{IsCopyMade, IsKept, IsRemoved, copy_refusal, copy_told};
@@ -16,7 +16,7 @@ use std::alloc::Global;
 use std::io::Write;
 use store_copy::{CopyFault, copy};
 
-/// What is told of a store that isn't copied.
+/// The refusal for a store that couldn't be copied.
 fn refusal_of(fault: CopyFault) -> LineRefusal
     ensures { result ≡ copy_refusal fault }
 {
@@ -33,7 +33,7 @@ fn refusal_of(fault: CopyFault) -> LineRefusal
     }
 }
 
-/// Tells that a store was copied, or why not.
+/// Writes that a store was copied, or why not.
 fn tell_copy<O: Write>(
     alloc: Global,
     copied: &Result<Directory, CopyFault>,
@@ -48,7 +48,8 @@ fn tell_copy<O: Write>(
     }
 }
 
-/// What is known of the file that a copy failed at: the new one, or the store that is copied.
+/// The name and the last system error of the file at which a copy failed: the new file, or the
+/// store that is copied.
 fn context_of<'a, V: Devices>(
     devices: &V,
     path: &'a str,
@@ -69,7 +70,7 @@ fn context_of<'a, V: Devices>(
     }
 }
 
-/// Removes what was made for a copy under a name. Where that fails, it comes back.
+/// Removes the file that was made for a copy. Returns its device if that fails.
 fn discard<F: Folders, D: Drop, E: Write>(
     folders: &F,
     to: &str,
@@ -84,7 +85,7 @@ fn discard<F: Folders, D: Drop, E: Write>(
     }
 }
 
-/// The copy, or nothing where it failed and what was made for it is removed.
+/// Returns the device of a copy; none if the copy failed and its file was removed.
 fn keep<F: Folders, D: Drop, E: Write>(
     folders: &F,
     to: &str,
@@ -101,8 +102,8 @@ fn keep<F: Folders, D: Drop, E: Write>(
     }
 }
 
-/// Copies the first imports of the store of a device, or all, to a new one that stands under the
-/// name `to`, and tells it.
+/// Copies the first imports of the store of a device, or all, to a new device with the name `to`,
+/// and writes the result.
 fn copy_onto<V: Devices, F: Folders, O: Write, E: Write>(
     devices: &V,
     folders: &F,
@@ -131,8 +132,8 @@ fn copy_onto<V: Devices, F: Folders, O: Write, E: Write>(
     )
 }
 
-/// Copies the first imports of the store under a name, or all, to a new device under another one.
-/// The new name is seen to stay before anything is written.
+/// Copies the first imports of the store with this name, or all, to a new device with another name.
+/// Before anything is written, it makes sure that the new name survives a crash.
 pub(crate) fn copy_at<V: Devices, F: Folders, O: Write, E: Write>(
     devices: &mut V,
     folders: &F,

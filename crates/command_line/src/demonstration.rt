@@ -6,8 +6,8 @@ use line_server::{Source, SourceFault};
 use samples::sample;
 use std::alloc::Global;
 
-/// Imports of three releases, one of them while a merge goes on; what two
-/// sessions, of which one is pinned, are then told; and two refusals.
+/// Imports three releases, one of them during a merge; asks questions in two sessions, one of which
+/// is pinned; and shows two refusals.
 pub const SCRIPT: &[u8] = b"0 STATUS\n\
 0 GET C 138875005 20230131\n\
 0 IMPORT r1\n\
@@ -29,7 +29,7 @@ pub const SCRIPT: &[u8] = b"0 STATUS\n\
 1 PIN 9\n\
 0 IMPORT r9\n";
 
-/// The sample releases, and no others.
+/// A source with the sample releases only.
 #[derive(Clone, Copy)]
 pub(crate) struct Samples;
 

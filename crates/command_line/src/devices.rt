@@ -1,4 +1,4 @@
-//! Where the program finds what holds a store.
+//! The devices of stores, by name.
 
 ghost use Rattle.std.specs.Prelude.{◌≡◌, ℕ, List, IfOk, IfErr};
 ghost use Rattle.disk_model.specs.Disk.{raised_by};
@@ -13,38 +13,38 @@ use std::fs::{self, File, Files, OpenOptions};
 use std::io::{self, Write};
 use std::os::unix::fs::OpenOptionsExt;
 
-/// What holds stores, by names. It counts how often it is asked for one.
+/// The devices of stores, by name. It counts how often it was asked for one.
 pub trait Devices {
-    /// What holds a store.
+    /// The device of a store.
     type Device: Disk + Drop;
-    /// How many devices it was asked for, whatever it answered.
-    /// It has 64 bits; at its last value it stays.
+    /// How often it was asked for a device, whatever the result. It is a number of 64 bits, and
+    /// stays at its greatest value.
     ghost asked: { Self → ℕ };
-    /// This stands under the name, and is had from there.
+    /// This device exists under the name, and can be opened.
     ghost stands: { Self → List ℕ → Self.Device → Type 0 };
     /// There is no file of this name, or it can't be opened.
     ghost withholds: { Self → List ℕ → Type 0 };
-    /// This stands under the name, or was made there since nothing did.
+    /// This device exists under the name, or was made because there was none.
     ghost makes: { Self → List ℕ → Self.Device → Type 0 };
     /// There is no file of this name that can be opened, and none can be created.
     ghost denies: { Self → List ℕ → Type 0 };
-    /// This was made under the name, where nothing stood.
+    /// This device was made under the name, where there was none.
     ghost creates: { Self → List ℕ → Self.Device → Type 0 };
-    /// Something stands under the name, or nothing can be made there.
+    /// There is something under the name already, or nothing can be made there.
     ghost occupies: { Self → List ℕ → Type 0 };
 
-    /// What stands under a name. Where it can't be had, `faults` is told why.
+    /// Opens the device with this name. On failure, the reason goes to `faults`.
     fn device<E: Write>(&mut self, path: &str, faults: &mut E) -> Result<Self::Device, DiskFault>
         ensures had { IfOk result (stands self.old path.now) }
         ensures missing { IfErr result (λ _. withholds self.old path.now) }
-        // What stands under other names, or can be made there, is as before.
+        // The devices under other names, and where new ones can be made, are unchanged.
         ensures creates { (name : List ℕ) (device : Self.Device)
             → creates self.new name device → creates self.old name device }
         ensures occupies { (name : List ℕ) → occupies self.new name → occupies self.old name }
         ensures asked { asked self.new ≡ raised_by (asked self.old) 1 };
 
-    /// What stands under a name, or a new one where nothing does.
-    /// Where it can't be had or made, `faults` is told why.
+    /// Opens the device with this name, or makes one if there is none. On failure, the reason goes
+    /// to `faults`.
     fn device_or_new<E: Write>(
         &mut self,
         path: &str,
@@ -54,8 +54,8 @@ pub trait Devices {
         ensures denied { IfErr result (λ _. denies self.old path.now) }
         ensures asked { asked self.new ≡ raised_by (asked self.old) 1 };
 
-    /// A new device under a name, under which nothing stands.
-    /// Where something does, or none can be made, `faults` is told why.
+    /// Makes a new device under a name that isn't in use. On failure, the reason goes to `faults`,
+    /// also if the name is in use.
     fn new_device<E: Write>(
         &mut self,
         path: &str,
@@ -65,14 +65,14 @@ pub trait Devices {
         ensures occupied { IfErr result (λ _. occupies self.old path.now) }
         ensures asked { asked self.new ≡ raised_by (asked self.old) 1 };
 
-    /// What the system said of the device's call that failed last, if one has failed.
+    /// The system error of the last call on the device that failed, if one has failed.
     fn last_error(&self, device: &Self::Device) -> Option<io::Error>;
 
-    /// How many bytes stand under a name, if that can be had.
+    /// The length of the file with this name, in bytes, if it can be read.
     fn size(&self, path: &str) -> Option<u64>;
 }
 
-/// The real files. Nothing is claimed of which of them stand under a name.
+/// The real files. Which of them exist isn't specified.
 #[derive(Drop)]
 pub struct FileDisks<'a, R: Files<File = File>> {
     rt: &'a R,
@@ -80,7 +80,7 @@ pub struct FileDisks<'a, R: Files<File = File>> {
 }
 
 impl<'a, R: Files<File = File> + AllocGlobal> FileDisks<'a, R> {
-    /// None was asked for yet.
+    /// No file was asked for yet.
     pub fn new(rt: &'a R) -> FileDisks<'a, R>
         ensures { files_asked result ≡ 0 }
     {
@@ -88,7 +88,7 @@ impl<'a, R: Files<File = File> + AllocGlobal> FileDisks<'a, R> {
     }
 }
 
-/// A file's disk, under the name of the file.
+/// A disk in a file, with the file's name.
 type NamedFile<'a, R> = NamedDisk<FileDisk, FileName<'a, R>>;
 
 impl<'a, R: Files<File = File> + AllocGlobal> Devices for FileDisks<'a, R> {
@@ -125,7 +125,7 @@ impl<'a, R: Files<File = File> + AllocGlobal> Devices for FileDisks<'a, R> {
         faults: &mut E,
     ) -> Result<NamedFile<'a, R>, DiskFault> {
         self.asked = self.asked.saturating_add(1);
-        // Where that fails, the opening says why.
+        // If this fails, opening the file reports why.
         let _ = make_private(self.rt, path);
         let name = FileName::of(self.rt, path);
         let named = name_disk(name, FileDisk::open_or_make(self.rt, path));
@@ -163,10 +163,10 @@ impl<'a, R: Files<File = File> + AllocGlobal> Devices for FileDisks<'a, R> {
     }
 }
 
-/// The rights of a file that its owner alone may read and write.
+/// The permissions of a file that only its owner may read and write.
 const OWNER_ALONE: u32 = 0o600;
 
-/// Makes an empty file with these rights where nothing stands, not even a link.
+/// Makes an empty file with these permissions, if the name isn't in use, not even for a link.
 fn make_new<R: Files<File = File>>(rt: &R, path: &str) -> io::Result<()> {
     OpenOptions::new()
         .read(true)
@@ -177,7 +177,7 @@ fn make_new<R: Files<File = File>>(rt: &R, path: &str) -> io::Result<()> {
     Ok(())
 }
 
-/// Makes an empty file with these rights where there is none. A file that exists keeps its own.
+/// Makes an empty file with these permissions if there is none. An existing file keeps its own.
 fn make_private<R: Files<File = File>>(rt: &R, path: &str) -> io::Result<()> {
     OpenOptions::new()
         .read(true)
@@ -188,7 +188,7 @@ fn make_private<R: Files<File = File>>(rt: &R, path: &str) -> io::Result<()> {
     Ok(())
 }
 
-/// A file's disk, or the line that says why there is none.
+/// The disk of a file; if it couldn't be opened, writes the reason.
 fn device_or_told<'a, R: Files<File = File> + AllocGlobal, E: Write>(
     rt: &R,
     named: Result<NamedFile<'a, R>, OpenFault>,
@@ -204,7 +204,7 @@ fn device_or_told<'a, R: Files<File = File> + AllocGlobal, E: Write>(
     }
 }
 
-/// Writes why a file isn't had, and which process has it where that is known.
+/// Writes why a file couldn't be opened, and which process has it, if that is known.
 fn tell_withheld<R: Files<File = File> + AllocGlobal, E: Write>(
     rt: &R,
     fault: &OpenFault,

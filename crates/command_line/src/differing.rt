@@ -1,10 +1,10 @@
-//! The other row of a contradiction, looked for in the release, for people.
+//! Finds the other row of a contradiction in the release.
 
 use import_check::ReleaseFile;
 
-/// Looks in a release for the first row of the same kind, id and date that differs from a refused
-/// one. The refused row is given by its file and its line, both counted from 1, and the answer is
-/// the same pair of the other row.
+/// Finds the first row of a release that has the same kind, id and date as a refused row, and
+/// differs from it. The refused row is given by its file and its line, both counted from 1; so is
+/// the row that is returned.
 pub(crate) fn find_other(
     files: &[ReleaseFile],
     file: usize,
@@ -22,7 +22,7 @@ pub(crate) fn find_other(
     None
 }
 
-/// The line of a file with this number, from 1, without its end.
+/// The line with this number of a file, counted from 1, without its end.
 fn line_of(bytes: &[u8], line: usize) -> Option<&[u8]> {
     let found = bytes
         .split(|byte| *byte == b'\n')
@@ -30,7 +30,7 @@ fn line_of(bytes: &[u8], line: usize) -> Option<&[u8]> {
     Some(without_end(found))
 }
 
-/// The number of the first line of a file, behind its column names, that contradicts a row.
+/// The number of the first line of a file, after its column names, that contradicts a row.
 fn find_in(bytes: &[u8], row: &[u8]) -> Option<usize> {
     let at = bytes
         .split(|byte| *byte == b'\n')
@@ -39,18 +39,18 @@ fn find_in(bytes: &[u8], row: &[u8]) -> Option<usize> {
     Some(at.wrapping_add(2))
 }
 
-/// Whether a line has the id and the date of a row and something else besides.
+/// Whether a line has a row's id and date, and differs from it.
 fn contradicts(line: &[u8], row: &[u8]) -> bool {
     line != row && key_of(line) == key_of(row)
 }
 
-/// The first two columns: the id and the date.
+/// The first two columns: id and date.
 fn key_of(line: &[u8]) -> Option<(&[u8], &[u8])> {
     let mut columns = line.split(|byte| *byte == b'\t');
     Some((columns.next()?, columns.next()?))
 }
 
-/// A line may end with CR and LF.
+/// The line without a CR at its end.
 fn without_end(line: &[u8]) -> &[u8] {
     line.strip_suffix(b"\r".as_slice()).unwrap_or(line)
 }

@@ -1,4 +1,4 @@
-//! The digest of a store is told.
+//! The digest of a store.
 
 ghost use Rattle.std.specs.Prelude.{Some};
 ghost use Rattle.line_commands.specs.Requests.{Asks, command_of};
@@ -35,7 +35,7 @@ fn digest_command(imports: Option<u32>) -> Command<'static>
     }
 }
 
-/// Tells the digest of the store of a device, which comes back.
+/// Writes the digest of the store of a device. Returns the device.
 pub(crate) fn digest<D: Disk + Drop, O: Write>(
     alloc: Global,
     device: D,

@@ -1,4 +1,4 @@
-//! How a task ends, and the status that the program has then.
+//! How a task ends, and the exit status of the program.
 
 ghost use Rattle.std.specs.Prelude.{◌≡◌, ◌≤◌, Result, Ok, Err, OnOk, []};
 ghost use Rattle.std.specs.Io.KnownBytes.{Appends, Keeps};
@@ -15,21 +15,21 @@ use line_server::{LineRefusal, Reply, ServeFault, reply_done, reply_refusal};
 use std::alloc::Global;
 use std::io::Write;
 
-/// How a task ended, where what it had to say was written.
+/// How a task ended, if its output was written.
 #[derive(Clone, Copy, Debug, PartialEq, Eq)]
 pub enum Ending {
     Done,
-    /// It was refused, which the last line that was written says.
+    /// It was refused; the last line of its output says so.
     Refused(LineRefusal),
 }
 
-/// How a task ended, and the device that it was done on, if there is one.
+/// How a task ended, and its device, if it has one.
 pub(crate) type Ended<D> = (Result<Ending, ServeFault>, Option<D>);
 
 /// The same, and the device that was made for a copy, if there is one.
 pub(crate) type Performed<D> = (Result<Ending, ServeFault>, Option<D>, Option<D>);
 
-/// Flushes what was written, and answers the status.
+/// Flushes the output, and returns the exit status.
 pub(crate) fn finish<O: Write, E: Write>(
     ended: Result<Ending, ServeFault>,
     output: &mut O,
@@ -48,7 +48,8 @@ pub(crate) fn finish<O: Write, E: Write>(
     }
 }
 
-/// Writes that a stream failed or that memory ran out, if it can, and answers the status.
+/// Reports that a stream failed or memory ran out, if that can be written, and returns the exit
+/// status.
 pub(crate) fn fail<E: Write>(fault: ServeFault, faults: &mut E) -> u8
     ensures { result ≡ 1 }
 {
@@ -80,7 +81,7 @@ fn code_of(fault: ServeFault) -> u8
     }
 }
 
-/// The name that stands behind the number.
+/// The name of a fault, which is written after its number.
 fn name_of(fault: ServeFault) -> &'static str
     ensures { result.now ≡ (fault_sign fault).1 }
 {
@@ -103,7 +104,7 @@ fn tell_answer<O: Write>(output: &mut O, reply: &Reply) -> Result<Ending, ServeF
     }
 }
 
-/// Writes that all is done.
+/// Writes the reply `OK`.
 pub(crate) fn tell_done<O: Write>(alloc: Global, output: &mut O) -> Result<Ending, ServeFault>
     ensures { IsTold result (Ok (AllDone [])) (O.contents output.old) (O.contents output.new) }
 {
@@ -124,7 +125,7 @@ pub(crate) fn tell_refusal<O: Write>(
     }
 }
 
-/// Writes the line by which the store refuses.
+/// Writes the line of a store's refusal.
 pub(crate) fn refuse<O: Write>(
     alloc: Global,
     output: &mut O,
@@ -135,7 +136,7 @@ pub(crate) fn refuse<O: Write>(
     tell_refusal(alloc, output, LineRefusal::Store(refusal))
 }
 
-/// Writes what came out: an answer, or the line of a refusal.
+/// Writes the outcome of a request: its reply, or the line of a refusal.
 pub(crate) fn tell<O: Write>(
     alloc: Global,
     output: &mut O,

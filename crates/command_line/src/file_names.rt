@@ -1,4 +1,4 @@
-//! The names of files, and which files they lead to.
+//! The names of files, and the files that they refer to.
 
 ghost use Rattle.std.specs.Prelude.{ℕ};
 
@@ -8,24 +8,24 @@ use std::fs::{self, File, Files};
 use std::io::{self, ErrorKind};
 use std::os::unix::fs::MetadataExt;
 
-/// A file that a name leads to.
+/// The file that a name refers to.
 #[derive(Clone, Copy)]
 struct FoundFile {
-    /// The number of the device that it is on.
+    /// The number of the file system's device.
     device: u64,
-    /// Its own number on this device.
+    /// The file's number on this device (inode).
     number: u64,
     length: u64,
 }
 
 impl FoundFile {
-    /// Whether it is the file that another name led to, or the same name at another time.
+    /// Whether it is the same file, by its numbers.
     fn is_same(self, other: FoundFile) -> bool {
         self.device == other.device && self.number == other.number
     }
 }
 
-/// Which file a name leads to now.
+/// The file that a name refers to now.
 fn find<R: Files<File = File>>(rt: &R, path: &str) -> io::Result<FoundFile> {
     let metadata = fs::metadata(rt, path)?;
     Ok(FoundFile {
@@ -35,8 +35,8 @@ fn find<R: Files<File = File>>(rt: &R, path: &str) -> io::Result<FoundFile> {
     })
 }
 
-/// The name of a file, and which file it led to at first. The file has to stay open while this is
-/// looked at: else another one may get its number.
+/// The name of a file, and the file that it referred to at first. The file has to stay open as long
+/// as this is used, since otherwise another file may get its number.
 #[derive(Drop)]
 pub struct FileName<'a, R: Files<File = File>> {
     rt: &'a R,
@@ -45,7 +45,7 @@ pub struct FileName<'a, R: Files<File = File>> {
 }
 
 impl<'a, R: Files<File = File> + AllocGlobal> FileName<'a, R> {
-    /// The name of a file that is there.
+    /// The name of an existing file.
     pub(crate) fn of(rt: &'a R, path: &str) -> io::Result<FileName<'a, R>> {
         Ok(FileName {
             rt,
@@ -54,7 +54,7 @@ impl<'a, R: Files<File = File> + AllocGlobal> FileName<'a, R> {
         })
     }
 
-    /// The file that the name leads to now, where this is the one that it led to.
+    /// The file that the name refers to now, if it is still the same one.
     fn find_again(&self) -> io::Result<FoundFile> {
         match find(self.rt, self.path.as_str()) {
             Ok(found) if found.is_same(self.file) => Ok(found),
@@ -64,12 +64,12 @@ impl<'a, R: Files<File = File> + AllocGlobal> FileName<'a, R> {
     }
 }
 
-/// What is told of a name that leads elsewhere, or nowhere.
+/// The error for a name that refers to another file, or to none.
 fn was_replaced() -> io::Error {
     io::Error::other("the file was replaced or removed while it was open")
 }
 
-/// The real names. Nothing is claimed of where they lead.
+/// The real names. Which files they refer to isn't specified.
 impl<R: Files<File = File> + AllocGlobal> Name for FileName<'_, R> {
     ghost leads = { λ _ _. Unit {0} };
 
@@ -83,8 +83,8 @@ impl<R: Files<File = File> + AllocGlobal> Name for FileName<'_, R> {
     }
 }
 
-/// A file's disk under its name, which was looked up before the file was opened. It is looked up
-/// again now, so that both are of one file.
+/// The disk of a file, with the file's name, which was looked up before the file was opened. It is
+/// looked up again here, to make sure that both are the same file.
 pub(crate) fn name_disk<'a, R: Files<File = File> + AllocGlobal>(
     name: io::Result<FileName<'a, R>>,
     opened: Result<FileDisk, OpenFault>,

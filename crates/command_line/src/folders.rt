@@ -16,43 +16,45 @@ use std::alloc::Global;
 use std::fs::{self, File, Files};
 use std::io::{self, Write};
 
-/// The folders that the words name, and those of the files that they name.
+/// The folders of releases, and the folders that contain stores' files.
 pub trait Folders {
     /// The name of the file is still in its folder after a crash.
     ghost keeps: { Self → List ℕ → Type 0 };
-    /// The folder can't be synced, so the name may be lost in a crash.
+    /// The folder can't be synced, and so a crash may lose the name.
     ghost loses: { Self → List ℕ → Type 0 };
-    /// What was made under the name is there no longer.
+    /// The file that was made under the name no longer exists.
     ghost removes: { Self → List ℕ → Type 0 };
-    /// What was made under the name can't be removed.
+    /// The file that was made under the name can't be removed.
     ghost retains: { Self → List ℕ → Type 0 };
-    /// The folders have the releases that they are said to have, and they stay.
+    /// The folders have the releases that `releases` names, and these don't change.
     ghost is_honest: { Self → Type 0 };
-    /// The releases in the folders below one.
+    /// The releases in the folders below a folder.
     ghost releases: { Self → List ℕ → Releases };
-    /// There is a folder of this name to look for releases in.
+    /// There is a folder of this name, in which releases can be looked for.
     ghost finds: { Self → List ℕ → Type 0 };
-    /// There is no folder of this name to look for releases in.
+    /// There is no folder of this name in which releases could be looked for.
     ghost lacks: { Self → List ℕ → Type 0 };
 
-    /// Sees that what was made under a name keeps it. Where that fails, `faults` is told why.
+    /// Makes sure that the name of a new file survives a crash. On failure, the reason goes to
+    /// `faults`.
     fn settle<E: Write>(&self, alloc: Global, path: &str, faults: &mut E) -> Result<(), DiskFault>
         ensures kept { IfOk result (λ _. keeps self.now path.now) }
         ensures lost { IfErr result (λ _. loses self.now path.now) };
 
-    /// Removes what was made under a name. Where that fails, `faults` is told why.
+    /// Removes the file that was made under a name. On failure, the reason goes to `faults`.
     fn remove<E: Write>(&self, path: &str, faults: &mut E) -> Result<(), DiskFault>
         ensures removed { IfOk result (λ _. removes self.now path.now) }
         ensures retained { IfErr result (λ _. retains self.now path.now) };
 
-    /// Whether there is a folder to look for releases in. Where there is none, `faults` is told why.
+    /// Whether there is a folder in which releases can be looked for. If there is none, the reason
+    /// goes to `faults`.
     fn has_folder<E: Write>(&self, dir: &str, faults: &mut E) -> bool
         ensures found { result ≡ true → finds self.now dir.now }
         ensures missing { result ≡ false → lacks self.now dir.now };
 
-    /// The release in a folder below one, as far as the scope asks for its files. Where there is
-    /// none, `faults` is told why. It is also told which files are read and passed over; if
-    /// `quiet`, only of those that may be wrong.
+    /// Reads the release in a folder below another one, with the files that the scope includes. On
+    /// failure, the reason goes to `faults`. So do the names of the files that are read and of
+    /// those that aren't; if `quiet`, only of those that may be a mistake.
     fn release<E: Write>(
         &self,
         alloc: Global,
@@ -65,7 +67,7 @@ pub trait Folders {
         ensures { is_honest self.now → IsGiven result (releases self.now dir.now scope name.now) };
 }
 
-/// The real folders. Nothing is claimed of what they hold.
+/// The real folders. What they contain isn't specified.
 impl<R: Files<File = File> + AllocGlobal + Clone + Drop> Folders for R {
     ghost use Rattle.std.specs.Prelude.{None};
 
@@ -156,22 +158,22 @@ impl<R: Files<File = File> + AllocGlobal + Clone + Drop> Folders for R {
     }
 }
 
-/// The releases in the folders below one folder.
+/// A source of the releases in the folders below one folder.
 #[derive(Drop)]
 pub struct FolderSource<'a, F: Folders, E: Write> {
     pub folders: &'a F,
-    /// The folder that the releases' folders lie in.
+    /// The folder that contains the releases' folders.
     pub dir: &'a str,
-    /// Takes what stood in the way of a release, and what is told while it is imported.
+    /// Receives the reason why a release can't be read, and messages while one is imported.
     pub faults: &'a mut E,
-    /// What is done with a release, as people are told.
+    /// What is done with a release, for messages.
     pub doing: &'static str,
-    /// People are told of nothing but what may be wrong.
+    /// Only print messages about what may be wrong.
     pub quiet: bool,
 }
 
 impl<F: Folders, E: Write> FolderSource<'_, F, E> {
-    /// Tells of a task on the store under a name what the function `tell_why` does.
+    /// Like `telling::tell_why`, for the store with this name.
     pub(crate) fn tell_why(
         &mut self,
         ended: Result<Ending, ServeFault>,
@@ -202,7 +204,7 @@ impl<F: Folders, E: Write> Source for FolderSource<'_, F, E> {
         if !is_about_row(refusal) {
             return;
         }
-        // What there is to say of the folder was said when it was read first.
+        // Messages about the folder were printed when it was read the first time.
         let again = self
             .folders
             .release(alloc, self.dir, name, scope, true, &mut io::sink());

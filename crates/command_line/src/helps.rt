@@ -1,4 +1,4 @@
-//! What stands at the end of each help: examples, and where the guide is.
+//! The text at the end of each help: examples, and where to find the guide.
 
 /// The end of the program's own help.
 pub(crate) const PROGRAM: &str = "Examples:

@@ -1,4 +1,4 @@
-//! A release is imported.
+//! The import of a release.
 
 ghost use Rattle.command_line.specs.Endings.{report};
 ghost use Rattle.line_server.specs.Sources.{source_view};

@@ -1,4 +1,4 @@
-//! The status of a store is told.
+//! The status of a store.
 
 ghost use Rattle.command_line.specs.Endings.{report};
 ghost use Rattle.line_commands.specs.Requests.{Asks, command_of};
@@ -15,7 +15,7 @@ use line_server::{ServeFault, Source, SourceFault};
 use std::alloc::Global;
 use std::io::Write;
 
-/// What session 0 asks by the line for the status.
+/// The request of the line for the status, in session 0.
 pub(crate) fn status_request() -> Request<'static>
     ensures { Asks status_line result.session (command_of result.command) }
 {
@@ -48,8 +48,8 @@ impl Source for NoReleases {
     fn note_refusal(&mut self, _alloc: Global, _name: &str, _scope: Scope, _refusal: Refusal) {}
 }
 
-/// Tells the status of the store of a device, which comes back; and what is told of
-/// the store to people. Nothing but the opening is asked of the device.
+/// Writes the status of the store of a device, and returns the device and more figures about the
+/// store, to be shown to people. No call is made on the device except to open the store.
 pub(crate) fn status<D: Disk + Drop, O: Write>(
     alloc: Global,
     device: D,

@@ -1,4 +1,4 @@
-//! The command line of `sctd`: what its words ask for, and how that is done.
+//! The command line of `sctd`: its commands and options, and how they are carried out.
 #![tactic(auto)]
 
 mod answering;

@@ -1,4 +1,4 @@
-//! A store is made.
+//! Making a store.
 
 ghost use Rattle.command_line.specs.Tasks.{IsMade};
 ghost use Rattle.command_line.specs.Endings.{report};
@@ -11,7 +11,7 @@ use line_server::ServeFault;
 use std::alloc::Global;
 use std::io::Write;
 
-/// Makes a store of this version on a device, and tells it. The device comes back.
+/// Makes a store of this layout version on a device, and writes the reply. Returns the device.
 pub(crate) fn init<D: Disk + Drop, O: Write>(
     alloc: Global,
     device: D,

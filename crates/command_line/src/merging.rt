@@ -1,4 +1,4 @@
-//! The segments of a store are merged.
+//! Merges the segments of a store.
 
 ghost use Rattle.std.specs.Prelude.{ℕ, List};
 ghost use Rattle.line_commands.specs.Requests.{IsReading};
@@ -20,10 +20,10 @@ use line_server::{LineRefusal, ServeFault, ServerState, carry_out};
 use std::alloc::Global;
 use std::io::Write;
 
-/// The most rows that one request may ask for.
+/// How many rows one request merges.
 const STEP_ROWS: u32 = 100_000;
 
-/// Carries a request out, and gives the refusal back where it is refused.
+/// Carries out a request, and returns the refusal if it is refused.
 fn ask<D: Disk>(
     alloc: Global,
     read: &Result<Request<'_>, Unread>,
@@ -40,7 +40,7 @@ fn ask<D: Disk>(
     Ok(())
 }
 
-/// Takes all rows of the merge that goes on.
+/// Merges all rows of the merge in progress.
 fn take_rows<D: Disk>(
     alloc: Global,
     state: &mut ServerState,
@@ -63,7 +63,7 @@ fn take_rows<D: Disk>(
     Ok(())
 }
 
-/// Merges the two segments of fewest rows.
+/// Merges the two segments with the fewest rows.
 fn merge_two<D: Disk>(
     alloc: Global,
     state: &mut ServerState,
@@ -88,7 +88,8 @@ fn merge_two<D: Disk>(
     ask(alloc, &publish, state, store)
 }
 
-/// Merges until at most so many segments stand, and trims. `faults` is told of each merge.
+/// Merges until the store has at most `most` segments, and trims. Each merge is reported on
+/// `faults`.
 fn merge_to<D: Disk, E: Write>(
     alloc: Global,
     path: &str,
@@ -114,7 +115,7 @@ fn merge_to<D: Disk, E: Write>(
     ask(alloc, &trim, state, store)
 }
 
-/// Merges the segments of a store and asks for its status, and tells the last reply.
+/// Merges the segments of a store and asks for its status, and writes the last reply.
 fn merge_lines<D: Disk, O: Write, E: Write>(
     alloc: Global,
     path: &str,
@@ -141,8 +142,8 @@ fn merge_lines<D: Disk, O: Write, E: Write>(
     tell(alloc, output, outcome)
 }
 
-/// Merges the segments of a store that was opened, and tells the last reply. Where a store of
-/// version 3 has one segment alone, and that has no checksums, it is written anew first.
+/// Merges the segments of an open store, and writes the last reply. If a store of version 3 has
+/// only one segment, and that has no checksums, it is rewritten first.
 fn merge_all<D: Disk, O: Write, E: Write>(
     alloc: Global,
     path: &str,
@@ -166,7 +167,7 @@ fn merge_all<D: Disk, O: Write, E: Write>(
     }
 }
 
-/// Merges the segments of the store of a device, which comes back.
+/// Merges the segments of the store of a device. Returns the device.
 pub(crate) fn merge<D: Disk + Drop, O: Write, E: Write>(
     alloc: Global,
     device: D,

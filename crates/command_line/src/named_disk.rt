@@ -1,4 +1,5 @@
-//! A disk that was had under a name, and on which nothing is written once the name leads elsewhere.
+//! A disk that was opened by a name, and is no longer written once the name refers to something
+//! else.
 
 ghost use Rattle.std.specs.Prelude.{◌≡◌, ◌↔◌, ◌+◌, ◌≤◌, ℕ, length, IfOk, IfErr, OnOk, OnErr};
 ghost use Rattle.disk_model.specs.Disk.{Fails, followed_by, after_write};
@@ -9,23 +10,24 @@ use disk_model::{Disk, DiskFault, MAX_END};
 use fault_counts::raised;
 use std::io;
 
-/// The name that something was had by. It may come to lead elsewhere.
+/// The name by which something was opened. It may later refer to something else.
 pub trait Name {
-    /// It leads to what was had by it, and so many bytes or more are there.
+    /// The name refers to what was opened by it, which has at least this length.
     ghost leads: { Self → ℕ → Type 0 };
-    /// It leads elsewhere, or to fewer bytes, or that can't be seen.
+    /// The name refers to something else, or to something shorter, or that can't be found out.
     ghost misses: { Self → ℕ → Type 0 };
 
-    /// Whether it still leads to what was had by it, and to no fewer bytes than these; or why not.
+    /// Checks that the name still refers to what was opened by it, and that this has at least this
+    /// length; or says why not.
     fn look(&self, length: u64) -> io::Result<()>
         ensures leads { IfOk result (λ _. leads self.now length) }
         ensures misses { IfErr result (λ _. misses self.now length) };
 }
 
-/// A disk, and the name that it was had by. Before each write it is looked whether the name still
-/// leads to the disk, and the disk is no shorter than the calls have left it. Where it isn't so, the
-/// write fails and changes nothing: so nothing is published where nobody would find it. All else
-/// goes to the disk.
+/// A disk, and the name by which it was opened. Before each write it checks that the name still
+/// refers to the disk, and that the disk is no shorter than earlier calls have left it. Otherwise
+/// the write fails and changes nothing, so that nothing is published where nobody would find it.
+/// All other calls go to the disk.
 #[derive(Drop)]
 pub struct NamedDisk<D, N> {
     disk: D,
@@ -39,7 +41,7 @@ pub struct NamedDisk<D, N> {
 }
 
 impl<D, N> NamedDisk<D, N> {
-    /// A disk of this length, and its name.
+    /// A disk of this length, with its name.
     pub fn new(disk: D, name: N, length: u64) -> NamedDisk<D, N>
         ensures disk { result.disk ≡ disk }
         ensures name { result.name ≡ name }
@@ -67,7 +69,7 @@ impl<D, N> NamedDisk<D, N> {
     }
 }
 
-/// Counts a failure.
+/// Counts an error.
 fn counted<T: Drop>(answer: Result<T, DiskFault>, failures: &mut u64) -> Result<T, DiskFault>
     ensures same { result ≡ answer }
     ensures failures { CountsEach result failures.old failures.new }
@@ -106,7 +108,7 @@ impl<D: Disk, N: Name> Disk for NamedDisk<D, N> {
             (D.view self.new.disk).moments) }
         ensures meters { Calls (CountsEach result) Stays (RisesBy 1)
             (named_view D.view self.old) (named_view D.view self.new) }
-        // Nothing is written where the name leads elsewhere.
+        // Nothing is written if the name refers to something else.
         ensures named { WritesNamed N.leads N.misses D.view result self.old self.new }
     {
         self.other_calls = self.other_calls.saturating_add(1);

@@ -3,14 +3,14 @@
 ghost use Rattle.std.specs.Prelude.{option_map};
 ghost use Rattle.command_line.specs.Paths.{IsTrimmed, IsIn, IsNamed};
 
-/// A path without the slashes at its end.
+/// The path without slashes at its end.
 pub(crate) fn without_slashes(path: &str) -> &str
     ensures { IsTrimmed path.now result.now }
 {
     path.trim_end_matches('/')
 }
 
-/// The folder that holds what a path names, and its name there.
+/// The folder that contains what a path refers to, and its name there.
 pub(crate) fn folder_above(path: &str) -> (&str, &str)
     ensures { IsIn path.now result.0.now result.1.now }
 {
@@ -21,8 +21,8 @@ pub(crate) fn folder_above(path: &str) -> (&str, &str)
     }
 }
 
-/// The folder of releases and the name of one: the name without the slashes at
-/// its end, and where the folder isn't given, that of a path and its last part.
+/// The folder of releases, and the name of one. If the folder is given, the name is `word` without
+/// slashes at its end; otherwise `word` is a path, which is split before its last part.
 pub(crate) fn place_of<'a>(releases: Option<&'a str>, word: &'a str) -> (&'a str, &'a str)
     ensures { IsNamed (option_map (λ s. s.now) releases.entry) word.now
         result.0.now result.1.now }

@@ -1,4 +1,4 @@
-//! What people are told while a release is imported.
+//! Messages while a release is imported.
 
 use import_check::{Release, ReleaseFile, Scope};
 use release_folder::{Watcher, is_nearly_to_take, kind_to_take, lacks};
@@ -6,15 +6,15 @@ use rf2_values::Kind;
 use shown_names::Shown;
 use std::io::Write;
 
-/// Tells people which files of a release are read, and which are passed over.
+/// Reports which files of a release are read, and which aren't.
 #[derive(Drop)]
 pub(crate) struct Progress<'a, E: Write> {
     pub faults: &'a mut E,
-    /// Which files the release is asked for.
+    /// Which files of the release are read.
     pub scope: Scope,
-    /// People are told of nothing but what may be wrong.
+    /// Only print messages about what may be wrong.
     pub quiet: bool,
-    /// How many files were passed over that are read of the whole package.
+    /// How many files weren't read that would be if the scope were the whole package.
     pub later: u64,
 }
 
@@ -50,7 +50,7 @@ a release has it in {folders}"
     }
 }
 
-/// Where a release has the files that are read.
+/// The folders of a release in which files are read.
 fn folders_in(scope: Scope) -> &'static str {
     match scope {
         Scope::Basic => "Terminology or Refset/Content",
@@ -58,7 +58,8 @@ fn folders_in(scope: Scope) -> &'static str {
     }
 }
 
-/// Whether a file has a name to take. So where it was passed over it stands in another folder.
+/// Whether a file has the name of a release file. If such a file isn't read, it is in another
+/// folder.
 fn is_to_take(path: &str, scope: Scope) -> bool {
     let name = match path.rsplit_once('/') {
         Some((_, name)) => name,
@@ -67,7 +68,7 @@ fn is_to_take(path: &str, scope: Scope) -> bool {
     kind_to_take(name.as_bytes(), scope).is_some()
 }
 
-/// Whether a file stands in a folder that is read of the whole package.
+/// Whether a file is in a folder that is read if the scope is the whole package.
 fn is_in_place(path: &str) -> bool {
     match path.rsplit_once('/') {
         Some((folder, _)) => match folder.split_once('/') {
@@ -78,8 +79,8 @@ fn is_in_place(path: &str) -> bool {
     }
 }
 
-/// Tells that files of a release were passed over that are read of the whole package, and what they
-/// take.
+/// Reports that files of a release weren't read that would be if the scope were the whole package,
+/// and what to do to import them.
 pub(crate) fn tell_later<E: Write>(later: u64, quiet: bool, faults: &mut E) {
     if later > 0 && !quiet {
         let _ = writeln!(
@@ -90,7 +91,7 @@ store keeps them from layout 3 on; sctd upgrade, and import the release again"
     }
 }
 
-/// The kinds of which a Full release has files in most cases.
+/// The kinds for which a Full release usually has files.
 fn common_kinds(scope: Scope) -> &'static [Kind] {
     match scope {
         Scope::Basic => &[Kind::Description, Kind::Relationship],
@@ -98,7 +99,8 @@ fn common_kinds(scope: Scope) -> &'static [Kind] {
     }
 }
 
-/// Tells which files of a release were taken, and what is done with it now.
+/// Reports which files of a release were read and what is done with it now, and warns if files are
+/// missing that a release usually has.
 pub(crate) fn tell_taken<E: Write>(
     release: &Release,
     doing: &str,
@@ -137,7 +139,7 @@ pub(crate) fn tell_taken<E: Write>(
     }
 }
 
-/// How many lines a file has behind its first, which names its columns.
+/// How many lines a file has after its first, which has the column names.
 fn rows_of(file: &ReleaseFile) -> usize {
     let ends = file.bytes.iter().filter(|byte| **byte == b'\n').count();
     match file.bytes.last() {
@@ -146,7 +148,8 @@ fn rows_of(file: &ReleaseFile) -> usize {
     }
 }
 
-/// Whether a release has such a file in most cases.
+/// Whether the kind is that of concepts, descriptions or relationships. Nearly every release has a
+/// file of one of these.
 fn is_of_terminology(kind: Kind) -> bool {
     match kind {
         Kind::Concept | Kind::Description | Kind::Relationship => true,
@@ -154,7 +157,7 @@ fn is_of_terminology(kind: Kind) -> bool {
     }
 }
 
-/// What people call the rows of a kind.
+/// The name of a kind in messages.
 fn word_of(kind: Kind) -> &'static str {
     match kind {
         Kind::Concept => "Concept",

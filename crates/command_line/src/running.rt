@@ -1,4 +1,4 @@
-//! How what the words ask for is done.
+//! Carries out the command line.
 
 ghost use Rattle.std.specs.Prelude.{◌≡◌, ◌≤◌, ◌⊎◌, IfOk, IfErr, None, map, string_bytes};
 ghost use Rattle.command_line.specs.Endings.{report};
@@ -37,10 +37,10 @@ use line_server::{LineRefusal, ServeFault};
 use std::alloc::Global;
 use std::io::{Read, Write};
 
-/// Does what the words ask for, of which the first is the program's name, and answers the status of
-/// the program: 0 where it was done; 1 where it was refused, or a stream or the memory failed; 2
-/// where the words are no command. The device that the task was done on comes back as it was left,
-/// and so does the one that it made for a copy.
+/// Carries out a command line, whose first word is the program's name, and returns the exit status:
+/// 0 if it was done; 1 if it was refused, or a stream or memory failed; 2 if the words are no
+/// command. Also returns the device of the task, as it was left, and the device that was made for a
+/// copy.
 pub fn run<V: Devices, F: Folders, I: Read, O: Write, E: Write>(
     devices: &mut V,
     folders: &F,
@@ -51,7 +51,7 @@ pub fn run<V: Devices, F: Folders, I: Read, O: Write, E: Write>(
     faults: &mut E,
 ) -> (u8, Option<V::Device>, Option<V::Device>)
     ensures status { result.0 ≤ 2 }
-    // Words that are no command do nothing but to be told.
+    // Words that are no command only cause a message.
     ensures no_command { result.0 ≡ 2 → (input.new ≡ input.old) × (output.new ≡ output.old) }
     ensures done { IsRun (record {
       stands = V.stands devices.old;
@@ -89,7 +89,7 @@ pub fn run<V: Devices, F: Folders, I: Read, O: Write, E: Write>(
     }
 }
 
-/// Does a task. Where it is refused, `faults` is told why.
+/// Carries out a task. If it is refused, the reason goes to `faults`.
 fn perform<V: Devices, F: Folders, I: Read, O: Write, E: Write>(
     devices: &mut V,
     folders: &F,
@@ -158,15 +158,15 @@ fn perform<V: Devices, F: Folders, I: Read, O: Write, E: Write>(
     }
 }
 
-/// How a task ended that made no copy.
+/// The ending of a task that made no copy.
 fn alone<D: Drop>(ended: Ended<D>) -> Performed<D>
     ensures { result ≡ (ended.0, ended.1, None) }
 {
     (ended.0, ended.1, None)
 }
 
-/// Makes a store of this version under a name. The name is seen to stay before anything is
-/// written, so that a store that was made is found after a stop.
+/// Makes a store of this layout version under a name. Before anything is written, it makes sure
+/// that the name survives a crash, so that the store is found after one.
 fn init_at<V: Devices, F: Folders, O: Write, E: Write>(
     devices: &mut V,
     folders: &F,
@@ -211,7 +211,7 @@ fn init_at<V: Devices, F: Folders, O: Write, E: Write>(
     (ended, Some(left))
 }
 
-/// Imports a release into the store under a name.
+/// Imports a release into the store with this name.
 fn import_at<V: Devices, F: Folders, O: Write, E: Write>(
     devices: &mut V,
     folders: &F,
@@ -249,7 +249,7 @@ fn import_at<V: Devices, F: Folders, O: Write, E: Write>(
     }
 }
 
-/// Checks a release against the store under a name.
+/// Checks a release against the store with this name.
 fn check_at<V: Devices, F: Folders, O: Write, E: Write>(
     devices: &mut V,
     folders: &F,
@@ -292,8 +292,9 @@ fn check_at<V: Devices, F: Folders, O: Write, E: Write>(
     }
 }
 
-/// Answers the lines of the input from the store under a name. Where there is no folder to look for
-/// releases in, this is refused before the store is opened: each import would be.
+/// Answers the lines of the input from the store with this name. If there is no folder in which
+/// releases could be looked for, it refuses before the store is opened, since each import would be
+/// refused.
 fn serve_at<V: Devices, F: Folders, I: Read, O: Write, E: Write>(
     devices: &mut V,
     folders: &F,
@@ -347,7 +348,7 @@ fn serve_at<V: Devices, F: Folders, I: Read, O: Write, E: Write>(
     }
 }
 
-/// Tells the status of the store under a name.
+/// Writes the status of the store with this name.
 fn status_at<V: Devices, O: Write, E: Write>(
     devices: &mut V,
     alloc: Global,
@@ -379,7 +380,7 @@ fn status_at<V: Devices, O: Write, E: Write>(
     }
 }
 
-/// Merges the segments of the store under a name.
+/// Merges the segments of the store with this name.
 fn merge_at<V: Devices, O: Write, E: Write>(
     devices: &mut V,
     alloc: Global,
@@ -410,7 +411,7 @@ fn merge_at<V: Devices, O: Write, E: Write>(
     }
 }
 
-/// Tells the digest of the store under a name.
+/// Writes the digest of the store with this name.
 fn digest_at<V: Devices, O: Write, E: Write>(
     devices: &mut V,
     alloc: Global,
@@ -440,7 +441,7 @@ fn digest_at<V: Devices, O: Write, E: Write>(
     }
 }
 
-/// Brings the store under a name to version 3.
+/// Upgrades the store with this name to version 3.
 fn upgrade_at<V: Devices, O: Write, E: Write>(
     devices: &mut V,
     alloc: Global,
@@ -470,7 +471,7 @@ fn upgrade_at<V: Devices, O: Write, E: Write>(
     }
 }
 
-/// Answers the lines of the script, on a store in memory.
+/// Answers the lines of the script, with a store in memory.
 fn demo<O: Write>(alloc: Global, output: &mut O) -> Result<Ending, ServeFault>
     ensures { IsDemonstrated SCRIPT.now
         (report result (O.contents output.old) (O.contents output.new)) }
@@ -486,8 +487,8 @@ fn demo<O: Write>(alloc: Global, output: &mut O) -> Result<Ending, ServeFault>
     ended
 }
 
-/// Answers the lines of the script, on a store in memory, and answers the status of the program.
-/// Each line is shown on `faults` before its reply is written, as on a terminal one wants it.
+/// Answers the lines of the script, with a store in memory, and returns the exit status. Each line
+/// is shown on `faults` before its reply is written, as is useful on a terminal.
 pub fn demonstrate<O: Write, E: Write>(alloc: Global, output: &mut O, faults: &mut E) -> u8
     ensures status { result ≤ 1 }
     ensures done { IsDemonstration SCRIPT.now result
@@ -507,7 +508,7 @@ pub fn demonstrate<O: Write, E: Write>(alloc: Global, output: &mut O, faults: &m
     finish(ended, output, script.told)
 }
 
-/// Writes why the words give no task. A help that was asked for is no fault.
+/// Writes why the words are no task. A help that was asked for is no error.
 fn explain<O: Write, E: Write>(refused: &Refused, output: &mut O, faults: &mut E) -> u8
     ensures status { result ≤ 2 }
     ensures no_command { result ≡ 2 → output.new ≡ output.old }

@@ -1,4 +1,4 @@
-//! Lines are served.
+//! Serves lines.
 
 ghost use Rattle.std.specs.Prelude.{Ok};
 ghost use Rattle.line_server.specs.Streams.{streams};
@@ -12,7 +12,7 @@ use line_server::{ServeFault, Source, serve};
 use std::alloc::Global;
 use std::io::{Read, Write};
 
-/// How many reads of its input a server makes at most.
+/// The most reads that a server makes of its input.
 const MOST_READS: u32 = 4_294_967_295;
 
 /// Answers the lines of the input from a store.
@@ -34,7 +34,7 @@ fn serve_all<D: Disk + Drop, S: Source, I: Read, O: Write>(
     }
 }
 
-/// Answers the lines of the input from the store of a device, which comes back.
+/// Answers the lines of the input from the store of a device. Returns the device.
 pub(crate) fn serve_device<D: Disk + Drop, S: Source, I: Read, O: Write>(
     alloc: Global,
     device: D,
@@ -57,7 +57,7 @@ pub(crate) fn serve_device<D: Disk + Drop, S: Source, I: Read, O: Write>(
     }
 }
 
-/// Answers the lines of the input from a new store on a device, which comes back.
+/// Answers the lines of the input from a new store on a device. Returns the device.
 pub(crate) fn serve_new<D: Disk + Drop, S: Source, I: Read, O: Write>(
     alloc: Global,
     device: D,

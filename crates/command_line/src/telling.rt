@@ -1,4 +1,5 @@
-//! Why, for people: a line on standard error beside the ERR line that programs read.
+//! Messages for people, on standard error: why something was refused, in addition to the ERR line
+//! that programs read.
 
 use crate::contradicting::CONTRADICTION;
 use crate::differing::find_other;
@@ -48,19 +49,19 @@ them; no part is . or .., and it has at most 1,024 bytes"
     }
 }
 
-/// What is known of a task's store where its end is told:
-/// the store's name, and what the system said of its file.
+/// What a message about the end of a task says of the store: its name, and the system error of its
+/// file.
 #[derive(Clone, Copy)]
 pub(crate) struct Context<'a> {
     /// The name of the store: the path of its file.
     pub store: &'a str,
-    /// What the system said of the call on the file that failed last, if one has failed.
+    /// The system error of the last call on the file that failed, if one has failed.
     pub last_error: Option<io::Error>,
 }
 
-/// Tells what the system said of the call on the file that failed last, if one did, also where no
-/// task was refused: `serve` goes on after an `ERR 2`. Else it tells why the task was refused, if it
-/// was and that wasn't told before.
+/// Prints the last system error on the store's file, even if no task was refused, since `serve`
+/// continues after an `ERR 2`. If there was none, prints why the task was refused, unless that was
+/// printed already.
 pub(crate) fn tell_why<E: Write>(
     ended: Result<Ending, ServeFault>,
     context: &Context<'_>,
@@ -74,13 +75,13 @@ pub(crate) fn tell_why<E: Write>(
     };
 }
 
-/// What is told of a store that was opened: the version of its layout, how many of its segments
-/// have no checksums, how many blocks it needs, and the greatest effective time of a row.
+/// Figures about an open store, for people: its layout version, how many of its segments have no
+/// checksums, how many blocks it needs, and the greatest effective time of a row.
 #[derive(Clone, Copy)]
 pub(crate) struct Figures {
-    /// The version of the layout: 1, 2 or 3.
+    /// The layout version: 1, 2 or 3.
     pub layout: u32,
-    /// How many segments have no checksums, which is told in version 3.
+    /// How many segments have no checksums; shown only in version 3.
     pub plain: u32,
     /// How many blocks of 4,096 bytes the store needs.
     pub blocks: u64,
@@ -88,7 +89,7 @@ pub(crate) struct Figures {
     pub latest: Option<EffectiveTime>,
 }
 
-/// Tells how a store that was opened is laid out, how long its file is, and how late its rows are.
+/// Prints a store's figures, and the length of its file.
 pub(crate) fn tell_figures<E: Write>(
     store: &str,
     figures: Option<Figures>,
@@ -100,7 +101,7 @@ pub(crate) fn tell_figures<E: Write>(
     }
 }
 
-/// Writes these figures as a line.
+/// Writes the figures as a line.
 fn write_figures<E: Write>(
     store: &str,
     figures: Figures,
@@ -123,13 +124,13 @@ fn write_figures<E: Write>(
     writeln!(faults)
 }
 
-/// Tells how many segments a store has, after a merge.
+/// Prints how many segments a store has, after a merge.
 pub(crate) fn tell_segments<E: Write>(store: &str, segments: u32, faults: &mut E) {
     let name = Shown(store.as_bytes());
     let _ = writeln!(faults, "sctd: {name}: segments left: {segments}");
 }
 
-/// Tells that the only segment of a store was written anew.
+/// Prints that the only segment of a store was rewritten.
 pub(crate) fn tell_rewritten<E: Write>(store: &str, faults: &mut E) {
     let name = Shown(store.as_bytes());
     let _ = writeln!(
@@ -138,7 +139,7 @@ pub(crate) fn tell_rewritten<E: Write>(store: &str, faults: &mut E) {
     );
 }
 
-/// Writes why a task on a store was refused, where that wasn't told before.
+/// Writes why a task on a store was refused, if that wasn't written before.
 fn write_refusal<E: Write>(
     refusal: LineRefusal,
     store: Shown<'_>,
@@ -153,14 +154,14 @@ fn write_refusal<E: Write>(
     let code = usize::from(refusal.code());
     let why = meaning(code);
     match code {
-        // It was told where the file or the folder was looked for, or where the release was at hand.
+        // The reason was printed when the file, the folder or the release was read.
         2 | 20..=32 | 45 => Ok(()),
         40 | 43 => writeln!(faults, "sctd: {why}"),
         _ => writeln!(faults, "sctd: {store}: {why}"),
     }
 }
 
-/// Whether it is a line of the release that was refused.
+/// Whether a line of the release was refused.
 pub(crate) fn is_about_row(refusal: Refusal) -> bool {
     matches!(
         refusal,
@@ -168,8 +169,8 @@ pub(crate) fn is_about_row(refusal: Refusal) -> bool {
     )
 }
 
-/// Tells which line of a release was refused and why, where it is a line that was refused. Files
-/// that are no longer there are named by their numbers.
+/// Prints which line of a release was refused and why, if a line was. Files that are no longer in
+/// memory are identified by their numbers.
 pub(crate) fn tell_row<E: Write>(files: &[ReleaseFile], refusal: Refusal, faults: &mut E) {
     let _ = match refusal {
         Refusal::Line { file, line, .. } => {
@@ -194,7 +195,7 @@ fn write_line<E: Write>(
     writeln!(faults, ": {why}")
 }
 
-/// Writes where the row stands that was refused, and where the one from which it differs.
+/// Writes which row was refused, and from which other one it differs.
 fn write_contradiction<E: Write>(
     files: &[ReleaseFile],
     file: usize,
@@ -215,8 +216,8 @@ fn write_contradiction<E: Write>(
     }
 }
 
-/// Writes a line's number, and the name of its file, or that one's number from 1 where the name is
-/// no longer known.
+/// Writes a line's number and the name of its file, or the file's number, counted from 1, if the
+/// name isn't known.
 pub(crate) fn write_place<E: Write>(
     files: &[ReleaseFile],
     file: usize,

@@ -1,10 +1,10 @@
-//! A text that is read a line at a time, of which each line is shown as it is read.
+//! A text that is read line by line, and whose lines are shown as they are read.
 
 ghost use Rattle.std.specs.Prelude.{◌≤◌};
 
 use std::io::{self, Read, Write};
 
-/// What is left of a text, and where its lines are shown.
+/// The rest of a text, and where its lines are shown.
 #[derive(Drop)]
 pub(crate) struct ToldLines<'a, E: Write> {
     pub rest: &'a [u8],
@@ -24,7 +24,7 @@ impl<E: Write> Read for ToldLines<'_, E> {
     }
 }
 
-/// How many bytes the first line of a text has, with its end. Of an empty text it is one.
+/// The length of the first line of a text with its end, in bytes; 1 if the text is empty.
 fn first_line_length(text: &[u8]) -> usize
     ensures { 1 ≤ result }
 {
@@ -34,7 +34,7 @@ fn first_line_length(text: &[u8]) -> usize
     }
 }
 
-/// Shows a line, or a part of one, as what is asked.
+/// Shows a line, or a part of one, after a prompt.
 fn tell_line<E: Write>(line: &[u8], told: &mut E) -> io::Result<()> {
     if line.is_empty() {
         return Ok(());

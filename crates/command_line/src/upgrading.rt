@@ -1,4 +1,4 @@
-//! A store is brought to version 3 of the layout.
+//! The upgrade of a store to version 3 of the layout.
 
 ghost use Rattle.command_line.specs.Tasks.{IsUpgrade, Upgrades};
 ghost use Rattle.command_line.specs.Endings.{report};
@@ -10,7 +10,7 @@ use line_server::ServeFault;
 use std::alloc::Global;
 use std::io::Write;
 
-/// Brings a store that was opened to version 3, and tells it.
+/// Upgrades an open store to version 3, and writes the reply.
 fn upgrade_store<D: Disk, O: Write>(
     alloc: Global,
     store: &mut Store<D>,
@@ -25,7 +25,7 @@ fn upgrade_store<D: Disk, O: Write>(
     }
 }
 
-/// Brings the store of a device to version 3, and tells it. The device comes back.
+/// Upgrades the store of a device to version 3, and writes the reply. Returns the device.
 pub(crate) fn upgrade<D: Disk + Drop, O: Write>(
     alloc: Global,
     device: D,

@@ -1,4 +1,4 @@
-//! What may be wrong with a release that was checked, told to people.
+//! Warnings about a release that was checked.
 
 ghost use Rattle.command_line.specs.Checking.{IsOnlyRead};
 
@@ -10,21 +10,21 @@ use std::alloc::{AllocFailed, Global};
 use std::collections::BTreeSet;
 use std::io::{self, Write};
 
-/// A year, where days are numbers of eight digits.
+/// A year, as a difference of dates that are written as numbers of eight digits.
 const YEAR: u32 = 10_000;
 
-/// How many modules are named.
+/// The most modules that a warning names.
 const MOST_NAMED: usize = 10;
 
-/// How many rows of a store are read at once.
+/// How many rows of a store are read at a time.
 const ROWS_AT_ONCE: u32 = 4_096;
 
-/// What people are warned by.
+/// What the warnings are based on.
 #[derive(Drop)]
 pub(crate) struct Outline {
-    /// The greatest effective time of the release's rows, or 0 where it has none.
+    /// The greatest effective time of the release's rows; 0 if it has none.
     latest: u32,
-    /// The modules that its rows are of.
+    /// The modules of its rows.
     modules: BTreeSet<u64>,
 }
 
@@ -44,7 +44,7 @@ pub(crate) fn outline_of(
 }
 
 impl Outline {
-    /// Takes what the lines of a file say, behind its column names.
+    /// Adds what the lines of a file say, after its column names.
     fn note_all(&mut self, bytes: &[u8]) -> Result<(), AllocFailed<u64>> {
         for line in bytes.split(|byte| *byte == b'\n').skip(1) {
             if let Some((time, module)) = time_and_module(line) {
@@ -56,7 +56,7 @@ impl Outline {
     }
 }
 
-/// The second and the fourth column of a line, where they are an effective time and a module.
+/// The second and the fourth column of a line, if they are an effective time and an SCTID.
 fn time_and_module(line: &[u8]) -> Option<(EffectiveTime, Sctid)> {
     let mut columns = line.split(|byte| *byte == b'\t').skip(1);
     let time = EffectiveTime::parse(columns.next()?)?;
@@ -64,8 +64,8 @@ fn time_and_module(line: &[u8]) -> Option<(EffectiveTime, Sctid)> {
     Some((time, module))
 }
 
-/// Warns of times of a release that are far later than those of the store, and of modules that the
-/// store hasn't met. A store without rows has neither.
+/// Warns of times in a release that are far later than those in the store, and of modules that the
+/// store doesn't have. There are no warnings for a store without rows.
 pub(crate) fn tell_warnings<D: Disk, E: Write>(
     alloc: Global,
     outline: &Outline,
@@ -86,7 +86,7 @@ pub(crate) fn tell_warnings<D: Disk, E: Write>(
     }
 }
 
-/// Warns that a release wasn't looked at so, or not to its end.
+/// Warns that the release couldn't be compared in this way, or not completely.
 pub(crate) fn tell_uncompared<E: Write>(faults: &mut E) {
     let _ = writeln!(
         faults,
@@ -94,7 +94,7 @@ pub(crate) fn tell_uncompared<E: Write>(faults: &mut E) {
     );
 }
 
-/// Warns of a time that is more than a year later than all others.
+/// Warns of a time that is more than a year later than all times in the store.
 fn warn_of_time<E: Write>(time: u32, latest: u32, faults: &mut E) {
     if time > latest.saturating_add(YEAR) {
         let _ = writeln!(
@@ -105,8 +105,8 @@ store has, up to {latest}"
     }
 }
 
-/// The modules of which the store has no row. Rows are read in the order of their keys, until each
-/// module was met or no row is left.
+/// The modules that no row of the store has. Reads rows in key order, until each module was found
+/// or no row is left.
 fn unmet_modules<D: Disk>(
     alloc: Global,
     modules: &BTreeSet<u64>,
@@ -125,8 +125,8 @@ fn unmet_modules<D: Disk>(
     Ok(unmet)
 }
 
-/// The modules whose own concept isn't of the module itself. The
-/// concepts of most modules are, so that no other row has to be looked for.
+/// The modules whose own concept isn't in the module itself. Most modules' concepts are, and then
+/// no other row has to be read.
 fn modules_without_own_row<D: Disk>(
     alloc: Global,
     modules: &BTreeSet<u64>,
@@ -143,7 +143,7 @@ fn modules_without_own_row<D: Disk>(
     Ok(unmet)
 }
 
-/// Whether a row of a module's own concept is of the module.
+/// Whether a row of a module's own concept is in the module.
 fn has_own_row<D: Disk>(module: u64, store: &mut Store<D>) -> Result<bool, Refusal>
     ensures { IsOnlyRead D.view store.old.disk store.new.disk }
 {
@@ -152,8 +152,8 @@ fn has_own_row<D: Disk>(module: u64, store: &mut Store<D>) -> Result<bool, Refus
     Ok(rows.iter().any(|row| row.module_id.value() == module))
 }
 
-/// Removes the modules of the rows that come next after a key, if one is given, and answers the key
-/// of the last of these.
+/// Removes the modules of the next rows after a key, if one is given, and returns the key of the
+/// last of these rows.
 fn meet_next<D: Disk>(
     unmet: &mut BTreeSet<u64>,
     after: Option<Key>,
@@ -189,7 +189,7 @@ fn warn_of_modules<E: Write>(modules: &BTreeSet<u64>, faults: &mut E) -> io::Res
     writeln!(faults)
 }
 
-/// Writes the first of some modules, with commas between them.
+/// Writes the first of some modules, separated by commas.
 fn write_first<E: Write>(modules: &BTreeSet<u64>, faults: &mut E) -> io::Result<()> {
     for (i, module) in modules.iter().take(MOST_NAMED).enumerate() {
         if i > 0 {

@@ -1,4 +1,4 @@
-//! What the words of the command line ask for.
+//! Parses the command line.
 
 ghost use Rattle.std.specs.Prelude.{◌≡◌, ◌↔◌, true, Some, IfOk, IfErr, IfSome, map, codes};
 ghost use Rattle.std.specs.Prelude.{string_bytes};
@@ -25,27 +25,27 @@ use directory::Layout;
 use std::alloc::{AllocError, Global};
 use std::num::ParseIntError;
 
-/// The version of the program, and the versions of a store's layout that it opens.
+/// The version of the program, and the layout versions of stores that it opens.
 const VERSION: &str = "1.0.0, opens layout versions 1, 2 and 3";
 
-/// What the program is to do.
+/// A task of the program.
 #[derive(Clone, Copy, Debug, PartialEq, Eq)]
 pub enum Task<'a> {
-    /// Make a store of this version in a file.
+    /// Make a store of this layout version in a file.
     Init {
         store: &'a str,
         layout: Layout,
     },
-    /// Import the release in the folder `name` below `releases`.
-    /// If `quiet`, people are told of nothing but what may be wrong.
+    /// Import the release in the folder `name` below `releases`. If `quiet`, only print messages
+    /// about what may be wrong.
     Import {
         store: &'a str,
         releases: &'a str,
         name: &'a str,
         quiet: bool,
     },
-    /// Tell what an import of the release in the folder `name` below `releases` would answer.
-    /// If `quiet`, people are told of nothing but what may be wrong.
+    /// Say what an import of the release in the folder `name` below `releases` would reply. If
+    /// `quiet`, only print messages about what may be wrong.
     Check {
         store: &'a str,
         releases: &'a str,
@@ -57,35 +57,35 @@ pub enum Task<'a> {
         store: &'a str,
         releases: &'a str,
     },
-    /// Tell how many imports, rows and segments a store has.
+    /// Write the numbers of imports, rows and segments of a store.
     Status {
         store: &'a str,
     },
-    /// Merge segments until at most so many stand.
+    /// Merge segments until the store has at most this many.
     Merge {
         store: &'a str,
         segments: u32,
     },
-    /// Copy the first imports of a store, all where no number is given, into a new file.
+    /// Copy the first imports of a store, or all if no number is given, to a new file.
     Copy {
         store: &'a str,
         to: &'a str,
         imports: Option<u32>,
     },
-    /// Tell the digest of the rows that the first imports brought, all where no number is given.
+    /// Write the digest of the rows that the first imports brought, or all if no number is given.
     Digest {
         store: &'a str,
         imports: Option<u32>,
     },
-    /// Bring a store to version 3.
+    /// Upgrade a store to version 3.
     Upgrade {
         store: &'a str,
     },
-    /// Answer the lines of a script, on a store in memory.
+    /// Answer the lines of a script, with a store in memory.
     Demo,
 }
 
-/// Why there is nothing to do.
+/// Why there is no task.
 #[derive(Drop)]
 pub enum Refused {
     OutOfMemory,
@@ -99,7 +99,7 @@ impl From<AllocError> for Refused {
     }
 }
 
-/// What the words ask for, of which the first is the program's name.
+/// The task that the words ask for. The first word is the program's name.
 pub fn task_of<'a>(alloc: Global, words: &'a [String]) -> Result<Task<'a>, Refused>
     ensures task { IfOk result (AskFor (map string_bytes words.now)) }
     ensures refused { IfErr result (AskForNone (map string_bytes words.now)) }
@@ -134,7 +134,7 @@ fn store<'a>(alloc: Global) -> Arg<'a>
         .action(ArgAction::Set)
 }
 
-/// The option that names the folder of releases.
+/// The option for the folder of releases.
 fn releases<'a>(alloc: Global) -> Arg<'a>
     ensures { IsArgument (option (codes "releases")) result }
 {
@@ -146,8 +146,8 @@ fn releases<'a>(alloc: Global) -> Arg<'a>
         .action(ArgAction::Set)
 }
 
-/// The option that names the folder of releases, of a command in which the name of a release may be
-/// a path instead.
+/// The option for the folder of releases, in a command that accepts a release's path instead of its
+/// name.
 fn releases_if_given<'a>(alloc: Global) -> Arg<'a>
     ensures { IsArgument (optional (codes "releases")) result }
 {
@@ -158,7 +158,7 @@ fn releases_if_given<'a>(alloc: Global) -> Arg<'a>
         .action(ArgAction::Set)
 }
 
-/// The option with which a release is tried, and not imported.
+/// The option to check a release without importing it.
 fn check<'a>(alloc: Global) -> Arg<'a>
     ensures { IsArgument (flag (codes "check")) result }
 {
@@ -168,7 +168,7 @@ fn check<'a>(alloc: Global) -> Arg<'a>
         .action(ArgAction::SetTrue)
 }
 
-/// The option with which people are told of warnings and refusals alone.
+/// The option to print only warnings and refusals for people.
 fn quiet<'a>(alloc: Global) -> Arg<'a>
     ensures { IsArgument (flag (codes "quiet")) result }
 {
@@ -178,7 +178,7 @@ fn quiet<'a>(alloc: Global) -> Arg<'a>
         .action(ArgAction::SetTrue)
 }
 
-/// The name of a release, or its path.
+/// The argument for a release: its name or its path.
 fn name<'a>(alloc: Global) -> Arg<'a>
     ensures { IsArgument (wanted (codes "name")) result }
 {
@@ -189,7 +189,7 @@ fn name<'a>(alloc: Global) -> Arg<'a>
         .action(ArgAction::Set)
 }
 
-/// The option that says how many segments may stay.
+/// The option for how many segments may be left.
 fn segments<'a>(alloc: Global) -> Arg<'a>
     ensures { IsArgument segments_option result }
 {
@@ -202,7 +202,7 @@ fn segments<'a>(alloc: Global) -> Arg<'a>
         .action(ArgAction::Set)
 }
 
-/// The option that names the file of a copy.
+/// The option for the file of a copy.
 fn to<'a>(alloc: Global) -> Arg<'a>
     ensures { IsArgument (option (codes "to")) result }
 {
@@ -214,7 +214,7 @@ fn to<'a>(alloc: Global) -> Arg<'a>
         .action(ArgAction::Set)
 }
 
-/// The option that says how many imports count.
+/// The option for the number of imports.
 fn imports<'a>(alloc: Global) -> Arg<'a>
     ensures { IsArgument imports_option result }
 {
@@ -226,7 +226,7 @@ fn imports<'a>(alloc: Global) -> Arg<'a>
         .action(ArgAction::Set)
 }
 
-/// The option that says in which version of the layout a store is made.
+/// The option for the layout version of a new store.
 fn layout<'a>(alloc: Global) -> Arg<'a>
     ensures { IsArgument layout_option result }
 {
@@ -239,7 +239,7 @@ fn layout<'a>(alloc: Global) -> Arg<'a>
         .action(ArgAction::Set)
 }
 
-/// A command without arguments, and what its help begins and ends with.
+/// A command without arguments, with the beginning and the end of its help.
 fn new_command<'a>(alloc: Global, name: &'a str, about: &'a str, examples: &'a str) -> Command<'a>
     ensures { IsCommand (new_app name.now) result }
 {
@@ -356,7 +356,7 @@ fn commands<'a>(alloc: Global) -> Result<Command<'a>, AllocError>
         .subcommand(demo(alloc))
 }
 
-/// The task that the command has.
+/// The task of the command that was parsed.
 fn task_in<'a>(matches: &ArgMatches<'a>) -> Option<Task<'a>>
     ensures { IfSome result (Reads (subcommand_rows_of matches.now)) }
 {
@@ -388,7 +388,7 @@ fn task_in<'a>(matches: &ArgMatches<'a>) -> Option<Task<'a>>
     }
 }
 
-/// The making of a store that the words ask for.
+/// The task of `init`.
 fn init_of<'a>(found: &ArgMatches<'a>) -> Option<Task<'a>>
     ensures { IfSome result (IsInitOf (rows_of (found_of found.now))) }
 {
@@ -402,7 +402,7 @@ fn init_of<'a>(found: &ArgMatches<'a>) -> Option<Task<'a>>
     }
 }
 
-/// The version of the layout with this number, if a store is made in it.
+/// The layout version with this number, if stores can be made in it.
 fn layout_with(number: u32) -> Option<Layout>
     ensures { IfSome result (λ layout. number_of layout ≡ number) }
 {
@@ -413,8 +413,8 @@ fn layout_with(number: u32) -> Option<Layout>
     }
 }
 
-/// The import that the words ask for, or the check of a release. A folder that isn't given is the
-/// one above the release's.
+/// The task of `import`: an import, or the check of a release. If no folder of releases is given,
+/// it is the one that contains the release's folder.
 fn import_of<'a>(found: &ArgMatches<'a>) -> Option<Task<'a>>
     ensures { IfSome result (IsImportOf (rows_of (found_of found.now))) }
 {
@@ -438,7 +438,7 @@ fn import_of<'a>(found: &ArgMatches<'a>) -> Option<Task<'a>>
     }
 }
 
-/// The copy that the words ask for.
+/// The task of `copy`.
 fn copy_of<'a>(found: &ArgMatches<'a>) -> Option<Task<'a>>
     ensures { IfSome result (IsCopyTaskOf (rows_of (found_of found.now))) }
 {
@@ -450,7 +450,7 @@ fn copy_of<'a>(found: &ArgMatches<'a>) -> Option<Task<'a>>
     }
 }
 
-/// The digest that the words ask for.
+/// The task of `digest`.
 fn digest_of<'a>(found: &ArgMatches<'a>) -> Option<Task<'a>>
     ensures { IfSome result (IsDigestTaskOf (rows_of (found_of found.now))) }
 {
@@ -461,7 +461,7 @@ fn digest_of<'a>(found: &ArgMatches<'a>) -> Option<Task<'a>>
     }
 }
 
-/// How many imports the words say, if they do.
+/// The given number of imports, if there is one.
 fn imports_of(found: &ArgMatches<'_>) -> Result<Option<u32>, ParseIntError>
     ensures { IfOk result (AreImports (rows_of (found_of found.now))) }
 {

@@ -1,4 +1,4 @@
--- Where segments lie: the blocks of an extent, and extents that lie apart.
+-- The blocks of extents, and when extents are apart.
 use Rattle.std.specs.Prelude.{ℕ, ◌+◌, ◌≤◌, ◌<◌, List, [], ◌∷◌, ◌++◌, map, Option}
 use Rattle.std.specs.Option.{option_to_list}
 use Rattle.std.specs.List.{AllByRecursion}
@@ -6,15 +6,15 @@ use Rattle.blocks.specs.Extents.{block_count, start_of}
 use Rattle.blocks.specs.declared.extent.Extent.{Extent}
 use Rattle.directory.specs.declared.entry.Entry.{Entry}
 
--- the block behind its last
+-- the block after its last one
 abbrev pub end_block : Extent → ℕ
 end_block extent = extent.first + block_count extent
 
--- the block is one of the extent's
+-- the block belongs to the extent
 abbrev pub Covers : Extent → ℕ → Type 0
 Covers extent block = (extent.first ≤ block) × (block < end_block extent)
 
--- none of the so many blocks from first on is one of the extent's
+-- none of the `blocks` blocks from `first` on belongs to the extent
 abbrev pub SharesNoBlock : ℕ → ℕ → Extent → Type 0
 SharesNoBlock first blocks extent =
     (block : ℕ) → first ≤ block → block < first + blocks → Covers extent block → ⊥
@@ -28,7 +28,7 @@ abbrev pub AreApart : List Extent → Type 0
 AreApart [] = Unit {0}
 AreApart (extent ∷ extents) = AllByRecursion (AreBeside extent) extents × AreApart extents
 
--- the place on the disk is that of one of the extent's bytes
+-- the offset on the disk is that of one of the extent's bytes
 abbrev pub CoversByte : Extent → ℕ → Type 0
 CoversByte extent place = (start_of extent ≤ place) × (place < start_of extent + extent.bytes)
 
@@ -36,13 +36,13 @@ CoversByte extent place = (start_of extent ≤ place) × (place < start_of exten
 abbrev pub SharesNoByte : Extent → Extent → Type 0
 SharesNoByte a b = (place : ℕ) → CoversByte a place → CoversByte b place → ⊥
 
--- where a segment lies
+-- the extent of a segment
 abbrev pub extent_of : Entry → Extent
 extent_of entry = record { first = entry.first; bytes = entry.bytes }
 
 abbrev pub extents_of : List Entry → List Extent
 extents_of entries = map extent_of entries
 
--- the extents that are live, and the one that is reserved
+-- the extents of the listed segments, and the reserved one
 abbrev pub taken : List Entry → Option Extent → List Extent
 taken live reserved = extents_of live ++ option_to_list reserved

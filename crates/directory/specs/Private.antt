@@ -7,7 +7,7 @@ use Rattle.directory.specs.Places.{AreApart, extents_of}
 use Rattle.directory.specs.Listings.{DirectoryValue, IsEntry, next_layout, with_two_replaced}
 use Rattle.directory.specs.Content.{entry_bytes}
 
--- the bytes begin with so many entries, which a directory may list
+-- the bytes begin with `count` entries, which a directory may list
 pub record IsTable (bytes : List ℕ) (count : ℕ) (entries : List Entry) : Type 0 where
   pub rest : List ℕ
   pub bytes_are : bytes ≡ flat_map entry_bytes entries ++ rest

@@ -3,19 +3,19 @@ ghost use Rattle.std.specs.Prelude.{◌≡◌, ◌↔◌};
 use blocks::{BLOCK_LIMIT, Extent};
 use checksum::Form;
 
-/// The first block that a segment may lie in: the four before it hold the two slots.
+/// The first block that a segment may use: the four before it are the two slots.
 pub(crate) const DATA_START: u32 = 4;
 
-/// A segment: where it lies on the disk, and how many rows it holds.
+/// The entry of a segment: its position on the disk, and how many rows it has.
 #[derive(Clone, Copy, Debug, PartialEq, Eq)]
 pub struct Entry {
-    /// The number of its first block of 4,096 bytes, counted from 0 at the head of the disk.
+    /// The number of its first block of 4,096 bytes, counted from 0 at the beginning of the disk.
     pub first: u32,
     /// How many bytes it has, from the start of its first block on, without a gap.
     pub bytes: u32,
-    /// How many rows these bytes spell, each with the number of the import that stamped it.
+    /// How many rows these bytes encode, each with an import number.
     pub rows: u32,
-    /// How their records begin.
+    /// What its records begin with.
     pub form: Form,
 }
 
@@ -24,7 +24,7 @@ impl Entry {
     ghost use Rattle.directory.specs.Places.{extent_of};
     ghost use Rattle.directory.specs.Listings.{IsEntry};
 
-    /// Where it lies.
+    /// Its extent.
     pub fn extent(self) -> Extent
         ensures { result ≡ extent_of self }
     {
@@ -34,7 +34,7 @@ impl Entry {
         }
     }
 
-    /// Whether a directory may list it, as far as it goes by itself.
+    /// Whether a directory may list it, as far as that depends on the entry alone.
     pub(crate) fn is_allowed(self) -> bool
         ensures { IsTrue result ↔ IsEntry self }
     {

@@ -13,7 +13,7 @@ use thiserror::Error;
 #[error("no run of free blocks is long enough")]
 pub struct Full;
 
-/// Whether one of so many blocks from `first` on is one of the extent's.
+/// Whether one of the `blocks` blocks from `first` on belongs to the extent.
 fn is_met(first: u64, blocks: u64, extent: Extent) -> bool
     requires { first + blocks < 2 ^ 64 }
     ensures { result ≡ meets first blocks extent }
@@ -21,7 +21,7 @@ fn is_met(first: u64, blocks: u64, extent: Extent) -> bool
     first.max(u64::from(extent.first)) < (first + blocks).min(extent.end())
 }
 
-/// An extent that is taken and has one of so many blocks from `first` on.
+/// An extent in use that has one of the `blocks` blocks from `first` on.
 pub(crate) fn extent_met(
     first: u64,
     blocks: u64,
@@ -43,8 +43,8 @@ pub(crate) fn extent_met(
     }
 }
 
-/// The least place where a segment of so many blocks
-/// shares no block with those that are live or reserved.
+/// The first block of the first extent of `blocks` blocks that shares none with a listed segment or
+/// the reserved extent.
 pub fn first_fit(blocks: u32, live: &[Entry], reserved: Option<Extent>) -> Result<u32, Full>
     ensures fit { MatchResult result
         (λ first. fit blocks live.now reserved ≡ Some first)
@@ -55,7 +55,7 @@ pub fn first_fit(blocks: u32, live: &[Entry], reserved: Option<Extent>) -> Resul
 {
     let count = u64::from(blocks);
     let mut first = u64::from(DATA_START);
-    // Each round passes the end of an extent that it never meets again.
+    // Each round moves past the end of an extent, which isn't met again.
     'jumps: while let Some(extent) = extent_met(first, count, live, reserved) {
         first = extent.end();
     }

@@ -9,11 +9,12 @@ use std::alloc::{AllocError, Global};
 use std::marker::Model;
 use thiserror::Error;
 
-/// A directory has room for so many entries, whatever its version.
+/// The capacity of a directory, in entries, whatever its version.
 pub const MOST_PLACES: usize = 250;
 
-/// The epoch, the number of imports and where the segments lie. It always is what a content
-/// block may list, and has room for the most entries, so that none of its changes takes memory.
+/// The layout version, the epoch, the number of imports and the positions of the segments. It can
+/// always be encoded as a content block, and has capacity for the most entries, so that changing it
+/// allocates nothing.
 #[derive(Drop)]
 pub struct Directory {
     layout: Layout,
@@ -46,14 +47,15 @@ impl Model for Directory {
     } };
 }
 
-/// Why a content block gives no directory.
+/// Why a content block can't be decoded as a directory.
 #[derive(Clone, Copy, Debug, PartialEq, Eq, Error)]
 pub enum DirectoryFault {
     #[error("out of memory")]
     OutOfMemory,
-    /// Epoch 0, another mark, another byte where zeros stand, more entries than there may be, an
-    /// entry of no bytes or no rows, one among the slots or above the last block, or two that share
-    /// a block.
+    /// Epoch 0; an unknown mark; a non-zero byte where zeros have to be; too many entries; an entry
+    /// without bytes or rows, in the slots, past the last block, or of a form that is unknown or
+    /// not allowed in its version; two entries that share a block; or in version 3 a wrong
+    /// checksum.
     #[error("the block lists no directory")]
     BadDirectory,
 }
@@ -77,7 +79,7 @@ impl Directory {
     ghost use Rattle.directory.specs.Content.{Lists, listing_bytes, summed};
     ghost use Rattle.directory.specs.declared.listing.DirectoryFault.TheVariants as faults;
 
-    /// The directory of a new store in this version: epoch 1, no imports, no entries.
+    /// The directory of a new store with this layout version: epoch 1, no imports, no entries.
     pub fn new(alloc: Global, layout: Layout) -> Result<Directory, AllocError>
         ensures { IfOk result (λ d. d ≡ empty_listing layout) }
     {
@@ -90,7 +92,7 @@ impl Directory {
         })
     }
 
-    /// An equal directory.
+    /// A copy.
     pub fn try_clone(&self, alloc: Global) -> Result<Directory, AllocError>
         ensures { IfOk result (λ d. d ≡ self.now) }
     {
@@ -104,10 +106,11 @@ impl Directory {
         })
     }
 
-    /// The directory that a content block lists. What stands behind the last entry isn't read.
+    /// Decodes the directory that a content block lists. The bytes after the last entry aren't
+    /// interpreted; in version 3 the checksum covers them.
     pub fn decode(alloc: Global, block: &[u8; 4096]) -> Result<Directory, DirectoryFault>
         ensures found { IfOk result (λ d. Lists block.now d) }
-        // A block that lists something is never refused as bad.
+        // A block that lists a directory is never refused as bad.
         ensures only { (d : DirectoryValue) → Lists block.now d
             → MatchResult result (λ found. found ≡ d) (λ e. e ≡ faults.OutOfMemory) }
     {
@@ -129,7 +132,7 @@ impl Directory {
         })
     }
 
-    /// Writes the content block that lists it.
+    /// Encodes the directory as a content block.
     pub fn encode(&self, block: &mut [u8; 4096])
         ensures lists { Lists block.new self.now }
         ensures bytes { block.new ≡ summed self.now.layout (listing_bytes self.now
@@ -142,7 +145,8 @@ impl Directory {
         }
     }
 
-    /// Writes what the content block lists, and zeros behind it.
+    /// Writes the content block without its checksum: the header, the entries, and zeros after
+    /// them.
     fn write_listing(&self, block: &mut [u8; 4096])
         ensures { block.new ≡ listing_bytes self.now
             ++ replicate (4096 - length (listing_bytes self.now)) 0 }
@@ -158,42 +162,42 @@ impl Directory {
         write_entries(self.entries.as_slice(), &mut block[32..]);
     }
 
-    /// The version of its layout.
+    /// Its layout version.
     pub fn layout(&self) -> Layout
         ensures { result ≡ self.now.layout }
     {
         self.layout
     }
 
-    /// The number of that version.
+    /// The number of its layout version.
     pub fn version(&self) -> u32
         ensures { result ≡ number_of self.now.layout }
     {
         self.layout.number()
     }
 
-    /// Makes it one of the version in which it is written next. The epoch stays.
+    /// Sets the layout version to that of the next publication. The epoch is unchanged.
     pub fn upgrade(&mut self)
         ensures { self.new ≡ record self.old { layout = next_layout self.old.layout } }
     {
         self.layout = self.layout.next();
     }
 
-    /// Makes it one of version 3. The epoch stays.
+    /// Sets the layout version to 3. The epoch is unchanged.
     pub fn upgrade_to_three(&mut self)
         ensures { self.new ≡ record self.old { layout = layouts.Three } }
     {
         self.layout = Layout::Three;
     }
 
-    /// The number of its publication: 1 for a new store, and one more for each that follows.
+    /// The number of its publication: 1 for a new store, and one more for each later publication.
     pub fn epoch(&self) -> u64
         ensures { result ≡ self.now.epoch }
     {
         self.epoch
     }
 
-    /// The number of imports that were accepted.
+    /// The number of accepted imports.
     pub fn imports(&self) -> u32
         ensures { result ≡ self.now.imports }
     {
@@ -208,7 +212,7 @@ impl Directory {
         self.entries.as_slice()
     }
 
-    /// Goes on to the next epoch, with so many imports.
+    /// Advances to the next epoch, and sets the number of imports.
     pub fn advance(&mut self, imports: u32)
         requires { self.old.epoch + 1 < 2 ^ 64 }
         ensures { self.new ≡ record self.old { epoch = self.old.epoch + 1; imports = imports } }
@@ -217,7 +221,7 @@ impl Directory {
         self.imports = imports;
     }
 
-    /// Lists one entry more, at the end.
+    /// Adds an entry at the end.
     pub fn add(&mut self, entry: Entry)
         requires { IsListing (with_entry self.old entry) }
         ensures { self.new ≡ with_entry self.old entry }
@@ -227,7 +231,7 @@ impl Directory {
         };
     }
 
-    /// Puts the entry at place `i`, and closes up place `j`. The epoch stays.
+    /// Puts the entry at position `i`, and removes the one at position `j`. The epoch is unchanged.
     pub fn replace_two(&mut self, i: usize, j: usize, entry: Entry)
         requires places { i < j }
         requires within { j < length self.old.entries }
@@ -238,9 +242,9 @@ impl Directory {
         let _ = self.entries.remove(j);
     }
 
-    /// Takes a replacement back, as after a publication that failed: the version and the epoch from
-    /// before, and the two entries at their places again. `first` stood at place `i`, and `second`
-    /// at place `j`.
+    /// Undoes a replacement, for instance after a publication that failed: restores the version and
+    /// the epoch from before, and the two entries, `first` at position `i` and `second` at position
+    /// `j`.
     pub fn put_back(
         &mut self,
         layout: Layout,

@@ -1,4 +1,4 @@
-//! The block of a directory that was published before another one.
+//! The block of a directory that may have been published before another one.
 
 ghost use Rattle.std.specs.Prelude.{◌≡◌, ◌↔◌, length, IsTrue};
 ghost use Rattle.directory.specs.Content.{HasMark, HasOlderMark, MayPrecede};
@@ -22,9 +22,9 @@ fn has_older_mark(block: &[u8; 4096]) -> bool
     has_mark(Layout::One, block) || has_mark(Layout::Two, block)
 }
 
-/// Whether the block may be that of a directory which was published before one of this version.
-/// Beside a directory of version 3 it has a checksum, or the mark of a version without. Beside an
-/// older one it isn't of version 3, since the version never falls.
+/// Whether the block may be that of a directory which was published before one of this version. For
+/// a directory of version 3 it has to have a checksum, or the mark of a version without. For an
+/// older one it must not be of version 3, since the version never falls.
 pub fn may_precede(layout: Layout, block: &[u8; 4096]) -> bool
     ensures { IsTrue result ↔ MayPrecede layout block.now }
 {

@@ -1,10 +1,10 @@
 //! Extents, and a cache of blocks.
 //!
-//! - `extent FIRST BYTES` answers how many blocks an extent has and behind which it ends, and `slot
-//!   NAME` where a slot begins and how many bytes it has;
+//! - `extent FIRST BYTES` prints how many blocks an extent has and the block after its last one,
+//!   and `slot NAME` the first block of a slot and how many bytes it has;
 //! - `write-part FIRST BYTES AT BYTES` writes into an extent;
-//! - `cache BLOCKS` begins with a new cache, and `cached BLOCK` answers how many bytes of a block
-//!   are read through it, and the first of them; `through FROM COUNT` answers so many bytes, or the
+//! - `cache BLOCKS` begins with a new cache, and `cached BLOCK` prints how many bytes of a block
+//!   are read through it, and the first of them; `through FROM COUNT` prints COUNT bytes, or the
 //!   fault; `forget FIRST BYTES` and `forget-from BLOCK` let the cache forget blocks.
 
 use crate::disks::spell_done;
@@ -23,14 +23,14 @@ fn extent_of(words: &str) -> Result<Extent, NoAnswer> {
     })
 }
 
-/// How many blocks an extent has, and behind which it ends.
+/// How many blocks an extent has, and the block after its last one.
 pub fn spell_extent(alloc: Global, words: &str) -> Answer {
     let extent = extent_of(words)?;
     let (blocks, end) = (extent.blocks(), extent.end());
     Ok(format!(in alloc; "{blocks} {end}")?)
 }
 
-/// Where a slot begins, and how many bytes it has.
+/// The first block of a slot, and how many bytes it has.
 pub fn spell_slot(alloc: Global, name: &str) -> Answer {
     let slot = if name == "A" { Slot::A } else { Slot::B };
     let Extent { first, bytes } = slot.extent();
@@ -54,7 +54,7 @@ fn write_into(
     spell_done(alloc, write_part(disk, extent, from, bytes))
 }
 
-/// Writes bytes into an extent, as words say.
+/// Writes bytes into an extent, given by words.
 pub fn write_extent(alloc: Global, disk: &mut MemDisk, words: &str) -> Answer {
     let (first, words) = first_word(words)?;
     let (bytes, words) = first_word(words)?;
@@ -85,7 +85,7 @@ fn read_block(alloc: Global, disk: &mut MemDisk, cache: &mut BlockCache, block: 
     }
 }
 
-/// Bytes, of which many that are alike are counted.
+/// Bytes; if they are many and all equal, their number and the byte.
 fn spell_part(alloc: Global, bytes: &[u8]) -> Answer {
     match bytes.first() {
         Some(first) if bytes.len() > 99 && bytes.iter().all(|byte| byte == first) => {
@@ -113,7 +113,7 @@ fn read_bytes(alloc: Global, disk: &mut MemDisk, cache: &mut BlockCache, words: 
     }
 }
 
-/// Asks a cache, or lets it forget.
+/// Reads through a cache, or lets it forget blocks.
 pub fn ask_cache(
     alloc: Global,
     disk: &mut MemDisk,

@@ -1,21 +1,21 @@
-//! Calls on a disk, and what it shows.
+//! Calls on a disk, and what the disk reports.
 //!
-//! - `write AT BYTES`, in base 16, `fill AT COUNT BYTE`, `cut LENGTH` and `sync` answer `done` or
-//!   `failed`, `len` a number, and `read AT COUNT` how many bytes are read, and the buffer, in
+//! - `write AT BYTES`, in hexadecimal, `fill AT COUNT BYTE`, `cut LENGTH` and `sync` print `done`
+//!   or `failed`, `len` a number, and `read AT COUNT` how many bytes are read, and the buffer, in
 //!   which each byte was 7 before;
 //! - `break CALLS PART`, `read-break CALLS` and `fuse CALLS` let a changing call, a call that
-//!   reads, or all calls fail behind so many, and `reserve BYTES CALLS` makes room;
-//! - `changes`, `bytes-read` and `other-calls` answer what the disk counted, `bytes FROM TO` bytes
-//!   of it, and `images CALLS` the images behind so many changing calls: what is kept, what is left
-//!   where all is lost, and what is kept with 170 at each place that isn't sure. `images now` are
-//!   those of the present moment.
+//!   reads, or all calls fail after CALLS others, and `reserve BYTES CALLS` allocates memory;
+//! - `changes`, `bytes-read` and `other-calls` print what the disk counted, `bytes FROM TO` bytes
+//!   of it, and `images CALLS` the images after CALLS changing calls: with everything kept, with
+//!   everything unsynced lost, and with 170 at each unsynced position. `images now` are those of
+//!   the present moment.
 
 use case_files::{Answer, NoAnswer};
 use case_values::{first_word, number, read_hex, spell_hex};
 use disk_model::{Choice, Disk, DiskFault, MAX_END, MemDisk};
 use std::alloc::Global;
 
-/// That a call is done, or failed.
+/// `done`, or `failed`.
 pub fn spell_done(alloc: Global, done: Result<(), DiskFault>) -> Answer {
     let told = if done.is_ok() { "done" } else { "failed" };
     Ok(String::from_str(alloc, told)?)
@@ -37,7 +37,7 @@ fn write(alloc: Global, disk: &mut MemDisk, at: u64, bytes: &[u8]) -> Answer {
     spell_done(alloc, disk.write_at(at, bytes))
 }
 
-/// Writes one byte so often.
+/// Writes one byte many times.
 fn fill(alloc: Global, disk: &mut MemDisk, at: u64, words: &str) -> Answer {
     let (count, byte) = first_word(words)?;
     let bytes = vec![in alloc; number(byte)?; number(count)?]?;
@@ -55,7 +55,7 @@ fn read(alloc: Global, disk: &mut MemDisk, words: &str) -> Answer {
     Ok(format!(in alloc; "{count} {into}")?)
 }
 
-/// The image behind so many changing calls, or at the present moment.
+/// The image after this many changing calls, or at the present moment.
 pub fn image(disk: &MemDisk, calls: &str, choice: Choice) -> Result<Vec<u8>, NoAnswer> {
     if calls == "now" {
         return Ok(disk.image_now(choice)?);
@@ -80,7 +80,7 @@ fn images(alloc: Global, disk: &MemDisk, calls: &str) -> Answer {
     Ok(format!(in alloc; "{kept} {lost} {filled}")?)
 }
 
-/// Lets calls fail, or makes room.
+/// Lets calls fail, or allocates memory.
 fn prepare(disk: &mut MemDisk, word: &str, words: &str) -> Result<(), NoAnswer> {
     match word {
         "break" => {
@@ -97,7 +97,7 @@ fn prepare(disk: &mut MemDisk, word: &str, words: &str) -> Result<(), NoAnswer> 
     Ok(())
 }
 
-/// Makes a call that changes the disk, or asks it for bytes.
+/// Makes a call that changes the disk, or prints bytes of it.
 fn change(alloc: Global, disk: &mut MemDisk, word: &str, words: &str) -> Answer {
     match word {
         "write" => {
@@ -125,7 +125,7 @@ fn bytes(alloc: Global, disk: &MemDisk, words: &str) -> Answer {
     spell_hex(alloc, bytes.ok_or(NoAnswer::NoQuestion)?)
 }
 
-/// Makes a call on a disk, or answers what it shows.
+/// Makes a call on a disk, or prints what the disk reports.
 pub fn ask_disk(alloc: Global, disk: &mut MemDisk, word: &str, words: &str) -> Answer {
     match word {
         "len" => match disk.len() {

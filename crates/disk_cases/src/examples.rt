@@ -1,7 +1,7 @@
-//! The disk of a case, which is empty at first, and which function answers a question.
+//! The disk of a case, which is empty at first, and the function that answers each question.
 //!
-//! `disk BYTES`, in base 16, begins with another one, and `stop CALLS CHOICE` with what a stop
-//! leaves of the present one (`slots.rt`). The current slot and the cache stay as they are.
+//! `disk BYTES`, in hexadecimal, begins with another disk, and `stop CALLS CHOICE` with what a
+//! crash leaves of the present one (`slots.rt`). The current slot and the cache stay as they are.
 
 use crate::caches::{ask_cache, make_cache, spell_extent, spell_slot, write_extent};
 use crate::disks::{ask_disk, image};
@@ -34,13 +34,13 @@ impl Examples {
         }
     }
 
-    /// Puts a disk of these bytes in the place of the present one.
+    /// Replaces the present disk by one with these bytes.
     fn put(&mut self, bytes: Vec<u8>) -> Answer {
         self.disk = MemDisk::from_bytes(self.alloc, bytes);
         Ok(String::from_str(self.alloc, "done")?)
     }
 
-    /// Puts what a stop leaves in the place of the disk.
+    /// Replaces the disk by what a crash leaves of it.
     fn stop(&mut self, words: &str) -> Answer {
         let (calls, choice) = first_word(words)?;
         let left = image(&self.disk, calls, choice_of(choice)?)?;
@@ -56,13 +56,13 @@ impl Examples {
         spell_changed(self.alloc, changed)
     }
 
-    /// What stops leave.
+    /// What crashes leave.
     fn stops(&self, words: &str) -> Answer {
         let (choice, first) = first_word(words)?;
         spell_stops(self.alloc, &self.disk, choice_of(choice)?, number(first)?)
     }
 
-    /// Begins with a cache, or asks it.
+    /// Begins with a new cache, or reads through the present one.
     fn ask_cache(&mut self, word: &str, words: &str) -> Answer {
         if word == "cache" {
             self.cache = Some(make_cache(self.alloc, words)?);

@@ -1,5 +1,5 @@
-//! Disks in memory, the slots and extents on them, and a cache of blocks, by worked examples, which
-//! are cases in files.
+//! Worked examples of disks in memory, the slots and extents on them, and a cache of blocks, as
+//! cases in files.
 #![tactic(auto)]
 
 mod caches;

@@ -1,14 +1,14 @@
-//! The slots at the head of a disk. A content is an epoch, and one byte in all the rest.
+//! The slots at the beginning of a disk. A content is an epoch, followed by one repeated byte.
 //!
 //! - `format BYTE` makes slots with a content of epoch 1, `publish BYTE` publishes one of the next
 //!   epoch, `publish-in-steps BYTE` by three calls, of which `fill-other BYTE` makes the first two
-//!   and `close` the first; they answer the current slot and its epoch, or `failed`;
-//! - `current` answers what is read as the current slot: its name, its epoch and the byte; or the
-//!   fault. `other SLOT` answers whether the slot beside this one is open, and the byte of its
-//!   content then, or else 09;
-//! - `stops CHOICE CALLS` answers what is current behind so many changing calls, where a stop
-//!   leaves `kept`, `lost` or a byte in the place of what wasn't synced, and behind each later
-//!   call; lines are counted from there on.
+//!   and `close` the first; they print the current slot and its epoch, or `failed`;
+//! - `current` prints what is read as the current slot: its name, its epoch and the byte; or the
+//!   fault. `other SLOT` prints whether the slot besides this one is open, and the byte of its
+//!   content if it is, or else 09;
+//! - `stops CHOICE CALLS` prints which slot is current after CALLS changing calls, if a crash
+//!   leaves unsynced bytes `kept`, `lost` or replaced by a byte, and after each later call; lines
+//!   are counted from there on.
 
 ghost use Rattle.std.specs.Prelude.{◌≡◌};
 ghost use Rattle.blocks.specs.Slots.{epoch_of};
@@ -19,7 +19,7 @@ use case_values::{Groups, number};
 use disk_model::{Choice, DiskFault, MemDisk};
 use std::alloc::Global;
 
-/// A content of this epoch, with one byte in all the rest.
+/// A content with this epoch, followed by one repeated byte.
 fn content(epoch: u64, rest: u8) -> [u8; 4096]
     ensures { epoch_of result ≡ epoch }
 {
@@ -28,7 +28,7 @@ fn content(epoch: u64, rest: u8) -> [u8; 4096]
     content
 }
 
-/// What is left of what wasn't synced.
+/// What becomes of unsynced bytes.
 pub fn choice_of(word: &str) -> Result<Choice, NoAnswer> {
     match word {
         "kept" => Ok(Choice::Kept),
@@ -37,8 +37,8 @@ pub fn choice_of(word: &str) -> Result<Choice, NoAnswer> {
     }
 }
 
-/// Closes the gate of the other slot, writes a content behind it and opens it again, or does the
-/// first so many of these steps.
+/// Closes the gate of the other slot, writes a content behind it and opens it again, or makes only
+/// the first of these steps.
 fn step(disk: &mut MemDisk, current: Current, byte: u8, steps: u8) -> Result<Current, DiskFault> {
     let closed = close_other(disk, current)?;
     if steps == 1 {
@@ -62,7 +62,7 @@ fn publish_next(disk: &mut MemDisk, current: Current, byte: u8) -> Result<Curren
     }
 }
 
-/// Changes the slots. The current one, if there was one before.
+/// Changes the slots, and returns the current one, if there was one before.
 pub fn change_slots(
     disk: &mut MemDisk,
     current: Option<Current>,
@@ -104,7 +104,7 @@ pub fn spell_current(alloc: Global, disk: &mut MemDisk) -> Answer {
     }
 }
 
-/// What is read of the slot beside one.
+/// What is read of the slot besides this one.
 pub fn spell_other(alloc: Global, disk: &mut MemDisk, slot: &str) -> Answer {
     let slot = match slot {
         "A" => Slot::A,
@@ -118,7 +118,7 @@ pub fn spell_other(alloc: Global, disk: &mut MemDisk, slot: &str) -> Answer {
     }
 }
 
-/// What stops leave as the current slot.
+/// Which slot is current after crashes.
 pub fn spell_stops(alloc: Global, disk: &MemDisk, choice: Choice, first: u64) -> Answer {
     let mut groups = Groups::new(alloc);
     for calls in first..=disk.changes() {

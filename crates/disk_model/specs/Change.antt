@@ -1,4 +1,4 @@
--- What a disk in memory has on record, and the moments that follow from it.
+-- The record of a disk in memory, and the moments that follow from it.
 use Rattle.std.specs.Prelude.{ℕ, zero, suc, ◌+◌, Bool, true, false, List, [], ◌∷◌, take}
 use Rattle.std.specs.Prelude.{if◌then◌else◌, count_by}
 use Rattle.disk_model.specs.Disk.{DiskState, Moments, followed_by, settled, put, after_write}
@@ -20,8 +20,8 @@ abbrev pub written : List ℕ → ℕ → List ℕ → List ℕ
 written file at [] = file
 written file at (byte ∷ bytes) = put file at (byte ∷ bytes)
 
--- the state after one call; a call that failed counts as made for what a stop may leave, whatever a
--- read gives after it
+-- the state after a call; for what a crash may leave, a call that failed counts as made, whatever a
+-- read returns after it
 abbrev pub after_change : DiskState → Change → DiskState
 after_change s (Write at bytes) = after_write s at bytes
 after_change s (Cut len) = after_cut s len
@@ -31,7 +31,7 @@ after_change s (FailedWrite at bytes part) =
 after_change s (FailedCut len is_made) =
     reading (after_cut s len) (if is_made then take len s.now else s.now)
 
--- the moments after some calls more
+-- the moments after these further calls
 abbrev pub replayed : Moments → List Change → Moments
 replayed m [] = m
 replayed m (change ∷ changes) = replayed (followed_by m (after_change m.state change)) changes
@@ -40,7 +40,7 @@ replayed m (change ∷ changes) = replayed (followed_by m (after_change m.state 
 abbrev pub made : List ℕ → Moments
 made bytes = record { state = settled bytes; past = [] }
 
--- the call answered Ok
+-- the call returned `Ok`
 abbrev pub is_made : Change → Bool
 is_made (Write at bytes) = true
 is_made (Cut len) = true
@@ -48,12 +48,12 @@ is_made Sync = true
 is_made (FailedWrite at bytes part) = false
 is_made (FailedCut len cut) = false
 
--- how many calls answered Ok
+-- how many calls returned `Ok`
 abbrev pub count_made : List Change → ℕ
 count_made changes = count_by is_made changes
 
--- how many calls there are up to the one of this number among those that answered Ok;
--- none up to number 0
+-- how many calls there are up to the one with this number among those that returned `Ok`; none up
+-- to number 0
 abbrev pub place_of : List Change → ℕ → ℕ
 place_of [] number = 0
 place_of (change ∷ changes) zero = 0

@@ -1,4 +1,4 @@
--- The failures that a disk in memory was asked for, and what they make of a call.
+-- The failures that a disk in memory was asked for, and their effect on calls.
 use Rattle.std.specs.Prelude.{ℕ, zero, suc, nat_lt, Bool, true, false, if◌then◌else◌, Option, Some}
 use Rattle.std.specs.Prelude.{None, List, [], ◌∷◌}
 use Rattle.disk_model.specs.Change.{Change, Write, Cut, Sync, FailedWrite, FailedCut}
@@ -9,13 +9,13 @@ use Rattle.disk_model.specs.declared.memory.faults.Fate.TheVariants.{Passes, Fai
 abbrev pub no_faults : Faults
 no_faults = record { fuse = None; change_break = None; read_break = None }
 
--- a fuse after one call more: it stays at 0
+-- a fuse after one more call: at 0 it stays
 abbrev pub fuse_after : Option ℕ → Option ℕ
 fuse_after None = None
 fuse_after (Some zero) = Some 0
 fuse_after (Some (suc left)) = Some left
 
--- a break after one call more: it fails one call alone
+-- a break after one more call: it lets only one call fail
 abbrev pub break_after : Option (ℕ × ℕ) → Option (ℕ × ℕ)
 break_after None = None
 break_after (Some (zero, part)) = None
@@ -36,7 +36,7 @@ fate_by_break None = Passes
 fate_by_break (Some (zero, part)) = Fails part
 fate_by_break (Some (suc left, part)) = Passes
 
--- what becomes of the next changing call
+-- the fate of the next changing call
 abbrev pub fate_of : Faults → Fate
 fate_of f = if is_spent f.fuse then Fails 0 else fate_by_break f.change_break
 
@@ -47,7 +47,7 @@ after_change_call f = record {
   read_break = f.read_break;
 }
 
--- the next call of `len` or `read_at` passes
+-- the next call of `len` or `read_at` succeeds
 abbrev pub passes_read : Faults → Bool
 passes_read f = if is_spent f.fuse then false else if is_spent f.read_break then false else true
 
@@ -58,7 +58,7 @@ after_read_call f = record {
   read_break = if is_spent f.fuse then f.read_break else read_break_after f.read_break;
 }
 
--- what the record says of a call
+-- the entry of a call in the record
 abbrev pub written_as : Fate → ℕ → List ℕ → Change
 written_as Passes at bytes = Write at bytes
 written_as (Fails part) at bytes = FailedWrite at bytes part

@@ -1,4 +1,4 @@
--- What a disk in memory shows.
+-- The value of a disk in memory.
 use Rattle.std.specs.Prelude.{◌≡◌, ℕ, ◌+◌, List, take}
 use Rattle.disk_model.specs.Disk.{DiskState, Moments}
 use Rattle.disk_model.specs.Change.{Change, replayed, made, count_made, place_of}
@@ -17,15 +17,16 @@ first_bytes d = d.contents.first.items
 abbrev pub record_of : MemDisk → List Change
 record_of d = changes_in d.calls
 
--- the moments of a disk in memory, as its record says
+-- the moments of a disk in memory, according to its record
 abbrev pub memory_moments : MemDisk → Moments
 memory_moments d = replayed (made (first_bytes d)) (record_of d)
 
--- how many changing calls answered Ok
+-- how many changing calls returned `Ok`
 abbrev pub changes_of : MemDisk → ℕ
 changes_of d = count_made (record_of d)
 
--- the state right after the call of this number among those that answered Ok; the first one for 0
+-- the state right after the call with this number among those that returned `Ok`; the first one for
+-- 0
 abbrev pub state_after : MemDisk → ℕ → DiskState
 state_after d number =
     (replayed (made (first_bytes d)) (take (place_of (record_of d) number) (record_of d))).state
@@ -37,16 +38,16 @@ faults_of d = d.faults
 abbrev pub SameRecord : MemDisk → MemDisk → Type 0
 SameRecord old new = (first_bytes new ≡ first_bytes old) × (record_of new ≡ record_of old)
 
--- so many calls more, which write so many bytes and none past this place, need no memory
+-- this many more calls, which write this many bytes and none past this offset, need no memory
 abbrev pub HasRoomFor : MemDisk → ℕ → ℕ → ℕ → Type 0
 HasRoomFor d end calls bytes = HasRoom d.contents end × RecordHasRoomFor d.calls calls bytes
 
--- what needed no memory before needs none after
+-- calls that needed no memory before need none afterwards
 abbrev pub KeepsRoom : MemDisk → MemDisk → Type 0
 KeepsRoom old new =
     (end calls bytes : ℕ) → HasRoomFor old end calls bytes → HasRoomFor new end calls bytes
 
--- after calls that use so much of the room, the rest of it is there
+-- after calls that use this much of the capacity, the rest of it is left
 abbrev pub UsesRoom : MemDisk → MemDisk → ℕ → ℕ → Type 0
 UsesRoom old new used_calls used_bytes = (end calls bytes : ℕ)
     → HasRoomFor old end (calls + used_calls) (bytes + used_bytes) → HasRoomFor new end calls bytes

@@ -1,11 +1,11 @@
-/// Which of the images of a moment is wanted.
+/// Which image of a moment is chosen.
 #[derive(Clone, Copy)]
 pub enum Choice {
-    /// What a read gives there: all that was written is on the disk.
+    /// The bytes that a read returns at that moment: everything that was written is on the disk.
     Kept,
-    /// The bytes at the last sync, cut to the least length since then:
-    /// nothing that was written is on the disk.
+    /// The bytes at the last sync, cut to the smallest length since then: nothing that was written
+    /// is on the disk.
     Lost,
-    /// What a read gives there, with this byte at each position that isn't sure.
+    /// The bytes that a read returns at that moment, with this byte at each unsynced position.
     Filled(u8),
 }

@@ -8,13 +8,13 @@ use std::io::{self, ErrorKind};
 use std::os::unix::fs::FileExt;
 use std::rt::Files;
 
-/// How often one read is tried again after an interruption, before that counts as a failure.
+/// How often an interrupted read is retried before it counts as a failure.
 const MAX_INTERRUPTIONS: u32 = 1_000;
 
-/// A file of the system, locked for as long as the disk is there: no other `FileDisk` has the same
-/// file, in this process or in another one. The system takes the lock back where the process ends,
-/// however it ends. Programs that take no lock aren't kept out. It claims nothing of what the file
-/// holds.
+/// A file of the system. It is locked as long as the disk exists: no other `FileDisk` can use the
+/// same file, in this process or in another one. The system releases the lock when the process
+/// ends, however it ends. Programs that take no lock aren't kept out. Nothing is specified about
+/// the file's bytes.
 #[derive(Drop)]
 pub struct FileDisk {
     file: File,
@@ -28,7 +28,7 @@ impl FileDisk {
     ghost use Rattle.disk_model.specs.FileDisk.{file_view, fault_of};
     ghost use Rattle.disk_model.specs.View.{IsUnused};
 
-    /// A file that exists, for reading and writing.
+    /// Opens an existing file for reading and writing.
     pub fn open<R: Files<File = File>>(rt: &R, path: &str) -> Result<FileDisk, OpenFault>
         ensures unused { IfOk result (λ disk. IsUnused (file_view disk)) }
     {
@@ -36,7 +36,7 @@ impl FileDisk {
         FileDisk::of(file)
     }
 
-    /// A file for reading and writing, which is made empty where there is none.
+    /// Opens a file for reading and writing, or makes an empty one if there is none.
     pub fn open_or_make<R: Files<File = File>>(rt: &R, path: &str) -> Result<FileDisk, OpenFault>
         ensures unused { IfOk result (λ disk. IsUnused (file_view disk)) }
     {
@@ -48,8 +48,8 @@ impl FileDisk {
         FileDisk::of(file)
     }
 
-    /// Locks the file, and waits until the device has what an earlier process wrote, before
-    /// anything of it is read. What is no regular file is refused.
+    /// Locks the file, and waits until the device has what earlier processes wrote, before anything
+    /// is read. Refuses anything but a regular file.
     fn of(opened: io::Result<File>) -> Result<FileDisk, OpenFault>
         ensures unused { IfOk result (λ disk. IsUnused (file_view disk)) }
     {
@@ -68,7 +68,7 @@ impl FileDisk {
         })
     }
 
-    /// What the system said of the call that failed last, if one has failed.
+    /// The system error of the last call that failed, if one has failed.
     pub fn fault(&self) -> Option<io::Error>
         ensures { result ≡ fault_of self.now }
     {
@@ -76,7 +76,7 @@ impl FileDisk {
     }
 }
 
-/// One read, tried again where it was interrupted.
+/// Makes one read, which is retried if it is interrupted.
 fn read_some(file: &File, at: u64, into: &mut [u8]) -> io::Result<usize>
     ensures { IfOk result (λ n. n ≤ length into.old) }
 {
@@ -107,7 +107,7 @@ fn read_all(file: &File, at: u64, into: &mut [u8]) -> io::Result<usize>
     Ok(done)
 }
 
-/// Counts a failure, and keeps what the system said of it.
+/// Counts a failure, and keeps its system error.
 fn answer<T: Drop>(
     outcome: io::Result<T>,
     failures: &mut u64,

@@ -1,8 +1,8 @@
-//! A disk: what a read gives, and what a stop at any moment may leave.
+//! A disk: what a read returns, and what a crash at any moment may leave.
 //!
-//! The trait `Disk` says this of any device by five calls. `MemDisk` is a disk in memory that is
-//! proved to keep to it; it gives the images of each of its moments, and fails where a test asks
-//! for it. `FileDisk` is a file of the system, of which nothing is claimed.
+//! The trait `Disk` says this of any device, for five calls. `MemDisk` is a disk in memory that is
+//! proved to keep it; it also returns the images of each of its moments, and fails when a test asks
+//! it to. `FileDisk` is a file of the system, of which nothing is specified.
 #![tactic(auto)]
 
 mod choice;

@@ -25,9 +25,9 @@ use record::Record;
 use replay::Replay;
 use std::alloc::{AllocError, Global};
 
-/// A disk in memory. It keeps each call that changed it on record, so that it can give the images
-/// of each moment. If memory runs out for a call or its record, this is a failure of the device,
-/// and nothing changes.
+/// A disk in memory. It records each call that changed it, so that it can return the images of each
+/// moment. If there is no memory for a call or its record, that is a failure of the device, and
+/// nothing changes.
 #[derive(Drop)]
 pub struct MemDisk {
     alloc: Global,
@@ -60,7 +60,7 @@ impl MemDisk {
         MemDisk::from_bytes(alloc, Vec::new(alloc))
     }
 
-    /// A disk that holds these bytes, as after a stop.
+    /// A disk with these bytes, as after a crash.
     pub fn from_bytes(alloc: Global, bytes: Vec<u8>) -> MemDisk
         ensures moments { memory_moments result ≡ made bytes.items }
         ensures kept { record_of result ≡ [] }
@@ -78,8 +78,8 @@ impl MemDisk {
         }
     }
 
-    /// So many calls more pass, reads among them, and then each one fails. A write or a
-    /// cut that fails so changes no byte, and counts as made for what a stop may leave.
+    /// Lets `calls` more calls succeed, reads among them, and then fails every call. A write or a
+    /// cut that fails in this way changes no byte, and counts as made for what a crash may leave.
     pub fn set_fuse(&mut self, calls: u64)
         ensures fuse { faults_of self.new ≡ record (faults_of self.old) { fuse = Some calls } }
         ensures kept { SameRecord self.old self.new }
@@ -89,10 +89,10 @@ impl MemDisk {
         self.faults.fuse = Some(calls);
     }
 
-    /// So many calls of `write_at`, `cut` and `sync` more pass, and the next one fails; later ones
-    /// pass. A write that fails so leaves its first `part` bytes written, and a cut is made where
-    /// `part` isn't 0. Both count as made for what a stop may leave. A sync that fails changes
-    /// nothing.
+    /// Lets `calls` more calls of `write_at`, `cut` and `sync` succeed, and fails the next one;
+    /// later ones succeed. A write that fails in this way writes its first `part` bytes, and a cut
+    /// is made if `part` isn't 0. Both count as made for what a crash may leave. A sync that fails
+    /// changes nothing.
     pub fn set_break(&mut self, calls: u64, part: u64)
         ensures fails { faults_of self.new
             ≡ record (faults_of self.old) { change_break = Some (calls, part) } }
@@ -103,7 +103,8 @@ impl MemDisk {
         self.faults.change_break = Some((calls, part));
     }
 
-    /// So many calls of `len` and `read_at` more pass, and the next one fails; later ones pass.
+    /// Lets `calls` more calls of `len` and `read_at` succeed, and fails the next one; later ones
+    /// succeed.
     pub fn set_read_break(&mut self, calls: u64)
         ensures fails { faults_of self.new
             ≡ record (faults_of self.old) { read_break = Some calls } }
@@ -114,16 +115,16 @@ impl MemDisk {
         self.faults.read_break = Some(calls);
     }
 
-    /// Takes all the memory for a disk of so many bytes, and for so many changing calls more that
-    /// write no more bytes together. Until either is passed no call runs out of memory. An
-    /// `Err` changes neither the bytes nor the record.
+    /// Allocates all memory for a disk of this many bytes, and for this many more changing calls
+    /// that together write at most as many bytes. Until either is exceeded, no call runs out of
+    /// memory. An `Err` changes neither the bytes nor the record.
     pub fn reserve(&mut self, bytes: u64, calls: u32) -> Result<(), AllocError>
         ensures room { OnOk result (HasRoomFor self.new bytes calls bytes) }
         ensures succeeds { HasRoomFor self.old bytes calls bytes → IsOk result }
         ensures kept { SameRecord self.old self.new }
         ensures meters { Calls Stays Stays Stays (memory_view self.old) (memory_view self.new) }
         ensures faults { faults_of self.new ≡ faults_of self.old }
-        // Whatever it answers, what needed no memory before needs none after.
+        // Whatever the result: calls that needed no memory before need none afterwards.
         ensures keeps { KeepsRoom self.old self.new }
     {
         let len = bytes as usize;
@@ -131,37 +132,37 @@ impl MemDisk {
         self.calls.make_room(calls as usize, len)
     }
 
-    /// How many calls of `write_at`, `cut` and `sync` have answered Ok since it was made.
+    /// How many calls of `write_at`, `cut` and `sync` have returned `Ok` since the disk was made.
     pub fn changes(&self) -> u64
         ensures { result ≡ changes_of self.now }
     {
         self.calls.made() as u64
     }
 
-    /// How many bytes its reads were asked for since it was made, by those that failed too.
+    /// How many bytes its reads requested since it was made, including those that failed.
     pub fn bytes_read(&self) -> u64
         ensures { result ≡ (memory_view self.now).bytes_read }
     {
         self.bytes_read
     }
 
-    /// How many calls but reads were made since it was made, those that failed too.
+    /// How many calls other than reads were made since it was made, including those that failed.
     pub fn other_calls(&self) -> u64
         ensures { result ≡ (memory_view self.now).other_calls }
     {
         self.other_calls
     }
 
-    /// What a read gives.
+    /// The bytes that a read returns.
     pub fn bytes(&self) -> &[u8]
         ensures { result.now ≡ (memory_moments self.now).state.now }
     {
         self.contents.bytes()
     }
 
-    /// An image of the moment right after the changing call of this number among those that
-    /// answered Ok; for 0, of the moment when it was made. Writes and cuts that failed before it
-    /// count as made. It only fails if memory runs out.
+    /// An image of the moment right after the changing call with this number among those that
+    /// returned `Ok`; for 0, of the moment when the disk was made. Writes and cuts that failed
+    /// before it count as made. Fails only if memory runs out.
     pub fn image(&self, after: u64, choice: Choice) -> Result<Vec<u8>, AllocError>
         requires { after ≤ changes_of self.now }
         ensures chosen { IfOk result
@@ -176,7 +177,7 @@ impl MemDisk {
         Ok(moment.into_image(choice))
     }
 
-    /// An image of the present moment. It only fails if memory runs out.
+    /// An image of the present moment. Fails only if memory runs out.
     pub fn image_now(&self, choice: Choice) -> Result<Vec<u8>, AllocError>
         ensures chosen { IfOk result
             (λ image. IsChosen (memory_moments self.now).state choice image.items) }
@@ -187,7 +188,7 @@ impl MemDisk {
         Ok(moment.into_image(choice))
     }
 
-    /// Notes a write, and makes as much of it as its fate says; or changes nothing.
+    /// Records a write, and makes as much of it as its fate says; or changes nothing.
     fn note_write(&mut self, at: u64, bytes: &[u8], fate: Fate) -> Result<(), AllocError>
         requires { at + length bytes.now ≤ MAX_END }
         ensures ok { OnOk result
@@ -212,7 +213,7 @@ impl MemDisk {
         Ok(())
     }
 
-    /// Notes a cut, and makes it as its fate says; or changes nothing.
+    /// Records a cut, and makes it if its fate says so; or changes nothing.
     fn note_cut(&mut self, len: u64, fate: Fate) -> Result<(), AllocError>
         ensures ok { OnOk result (record_of self.new ≡ record_of self.old ++ cut_as fate len ∷ []) }
         ensures err { OnErr result (record_of self.new ≡ record_of self.old) }
@@ -231,7 +232,7 @@ impl MemDisk {
         Ok(())
     }
 
-    /// Notes a sync, unless it fails.
+    /// Records a sync, unless it fails.
     fn note_sync(&mut self, fate: Fate) -> Result<(), AllocError>
         ensures ok { OnOk result (record_of self.new ≡ record_of self.old ++ synced_as fate) }
         ensures err { OnErr result (record_of self.new ≡ record_of self.old) }
@@ -246,7 +247,7 @@ impl MemDisk {
         Ok(())
     }
 
-    /// The answer of a changing call, by what became of it.
+    /// The result of a changing call, according to its fate.
     fn answer(&mut self, noted: Result<(), AllocError>, fate: Fate) -> Result<(), DiskFault>
         ensures passed { OnOk result (IsOk noted × (fate ≡ Passes)) }
         ensures failed { OnErr result (IsOk noted → ¬ (fate ≡ Passes)) }
@@ -342,7 +343,7 @@ impl Disk for MemDisk {
         ensures succeeds { HasRoomFor self.old (at + length bytes.now) 1 (length bytes.now)
             → fate_of (faults_of self.old) ≡ Passes → IsOk result }
         ensures first { first_bytes self.new ≡ first_bytes self.old }
-        // If memory runs out, the record stays as it was, and with it what a stop may leave.
+        // If memory runs out, the record is unchanged, and so is what a crash may leave.
         ensures unmade { fate_of (faults_of self.old) ≡ Passes
             → OnErr result (record_of self.new ≡ record_of self.old) }
         ensures noted { OnOk result
@@ -350,7 +351,7 @@ impl Disk for MemDisk {
         ensures traced { HasRoomFor self.old (at + length bytes.now) 1 (length bytes.now)
             → record_of self.new
             ≡ record_of self.old ++ written_as (fate_of (faults_of self.old)) at bytes.now ∷ [] }
-        // Whatever it answers, this call alone is new on the record, or none.
+        // Whatever the result: this call, or nothing, was added to the record.
         ensures one { (record_of self.new ≡ record_of self.old) ⊎ (record_of self.new
             ≡ record_of self.old ++ written_as (fate_of (faults_of self.old)) at bytes.now ∷ []) }
         ensures room { UsesRoom self.old self.new 1 (length bytes.now) }
@@ -374,7 +375,7 @@ impl Disk for MemDisk {
         ensures succeeds { HasRoomFor self.old 0 1 0
             → fate_of (faults_of self.old) ≡ Passes → IsOk result }
         ensures first { first_bytes self.new ≡ first_bytes self.old }
-        // If memory runs out, the record stays as it was, and with it what a stop may leave.
+        // If memory runs out, the record is unchanged, and so is what a crash may leave.
         ensures unmade { fate_of (faults_of self.old) ≡ Passes
             → OnErr result (record_of self.new ≡ record_of self.old) }
         ensures noted { OnOk result (record_of self.new ≡ record_of self.old ++ Cut len ∷ []) }
@@ -401,7 +402,7 @@ impl Disk for MemDisk {
         ensures succeeds { HasRoomFor self.old 0 1 0
             → fate_of (faults_of self.old) ≡ Passes → IsOk result }
         ensures first { first_bytes self.new ≡ first_bytes self.old }
-        // A sync that fails, for whatever reason, leaves the record as it was.
+        // A sync that fails, for whatever reason, leaves the record unchanged.
         ensures unmade { OnErr result (record_of self.new ≡ record_of self.old) }
         ensures noted { OnOk result (record_of self.new ≡ record_of self.old ++ Sync ∷ []) }
         ensures traced { HasRoomFor self.old 0 1 0 → record_of self.new

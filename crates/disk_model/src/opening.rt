@@ -1,11 +1,11 @@
-//! Why a file isn't had as a disk, and that its name stays.
+//! Opening a file as a disk, and making sure that its name survives a crash.
 
 use std::alloc::Global;
 use std::fs::{self, File, Files, TryLockError};
 use std::io;
 use thiserror::Error;
 
-/// Why a file is no disk.
+/// Why a file can't be opened as a disk.
 #[derive(Debug, Drop, Error)]
 pub enum OpenFault {
     #[error("in use by another process")]
@@ -26,7 +26,7 @@ impl From<TryLockError> for OpenFault {
     }
 }
 
-/// The folder that a file of this name stands in.
+/// The folder that contains a file of this name.
 fn folder_of(path: &str) -> &str {
     match path.rsplit_once('/') {
         Some(("", _)) => "/",
@@ -35,8 +35,8 @@ fn folder_of(path: &str) -> &str {
     }
 }
 
-/// Waits until the device has the name of a file that was made: the folder that the file stands in
-/// is synced. Where the name is a link, this is the folder of the file that it leads to.
+/// Waits until the device has the name of a file that was made, by syncing the folder that contains
+/// the file. If the name is a link, this is the folder of the file that it refers to.
 pub fn sync_folder_of<R: Files<File = File>>(rt: &R, alloc: Global, path: &str) -> io::Result<()> {
     let folder = if fs::symlink_metadata(rt, path)?.is_symlink() {
         let file = rt.canonicalize(alloc, path)?;

@@ -1,4 +1,4 @@
-//! Why a row could not be read.
+//! Why a row couldn't be read.
 
 ghost use Rattle.std.specs.Prelude.{◌≡◌};
 ghost use Rattle.fault_counts.specs.declared.fault.ReadFault.TheVariants as readfault;
@@ -6,7 +6,7 @@ ghost use Rattle.fault_counts.specs.declared.fault.ReadFault.TheVariants as read
 use std::alloc::{AllocError, AllocFailed};
 use thiserror::Error;
 
-/// Why a row could not be read: one that an index lists, or one that is known before an import.
+/// Why a row couldn't be read: one that an index lists, or one that was known before an import.
 #[derive(Clone, Copy, Debug, PartialEq, Eq, Error)]
 pub enum ReadFault {
     #[error("out of memory")]

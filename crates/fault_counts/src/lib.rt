@@ -1,5 +1,5 @@
-//! Counts of faults: how they rise, defined once for every crate whose calls count theirs; and why
-//! a row could not be read.
+//! Counts of faults: how they rise, defined once for all crates that count faults; and why a row
+//! couldn't be read.
 #![tactic(auto)]
 
 ghost use Rattle.std.specs.Prelude.{◌≡◌, ◌+◌, ◌-◌, ◌^◌, min};
@@ -9,7 +9,7 @@ mod fault;
 
 pub use fault::ReadFault;
 
-/// The count after one fault more. At its last value it stays.
+/// The count after one more fault. It stays at its greatest value.
 pub fn raised(count: u64) -> u64
     ensures one_more { result ≡ min (count + 1) (2 ^ 64 - 1) }
     ensures risen { HasRisen count result }

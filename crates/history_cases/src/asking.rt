@@ -1,25 +1,25 @@
-//! An index of lists of the rows of a history, and what is asked of it.
+//! An index of lists of a history's rows, and the questions about it.
 //!
 //! - `lists 1-2 3-3` makes an index of a list for each of these ranges of imports, `spread COUNT`
-//!   of so many lists, to which the rows are dealt in turn, the last one first, and `dates DATE
-//!   ..` of a list for each of these dates; each answers how many lists it has. From there on the
+//!   of COUNT lists, to which the rows are dealt in turn, the last one first, and `dates DATE ..`
+//!   of a list for each of these dates; each prints how many lists the index has. From then on the
 //!   index is asked too.
-//! - `merge 1-2 3-3 COUNT` posts the terms and links of one list, which are made of those of two
-//!   ranges of imports by so many in each turn, and `link twice` posts the links of the first list
-//!   of rows, twice each. Both answer how many lists are posted.
-//! - `posted COUNT` posts the terms and links of the first so many lists alone, `post 1-1 ..` those
-//!   of other lists, and `link NUMBER ..` the links of these rows of the first list, and they
-//!   answer the same; `read 1-1 ..` lets other lists be read, and answers how many; `put I J 4-5`
-//!   puts the rows of a range in the place of two lists, and answers how many the index then has.
-//!   From there on nothing but the index is asked.
-//! - `fails PIN` and a question of `case_values` lets each read of it fail, and answers how many
+//! - `merge 1-2 3-3 COUNT` posts the terms and links of one list, which are merged from those of
+//!   two ranges of imports in steps of COUNT, and `link twice` posts the links of the first list of
+//!   rows, twice each. Both print how many lists are posted.
+//! - `posted COUNT` posts the terms and links of the first COUNT lists only, `post 1-1 ..` those of
+//!   other lists, and `link NUMBER ..` the links of these rows of the first list, and they print
+//!   the same; `read 1-1 ..` lets other lists be read, and prints how many; `put I J 4-5` replaces
+//!   two lists by the rows of a range, and prints how many lists the index then has. From then on
+//!   only the index is asked.
+//! - `fails PIN` and a question of `case_values` lets each read for it fail, and prints how many
 //!   there are.
-//! - `reads PIN` and a question for concepts answers how many rows are read for it.
-//! - `taken COUNT COUNT` takes so many places of two lists in key order, and then so many more.
-//! - `hints COUNT` makes room for so many hints, and `hinted PIN KIND ID DATE` answers the list in
-//!   which the component's row at the date stands, from 0, and the row's day, by these hints;
-//!   `place PIN KIND ID DATE` answers the same without them.
-//! - `row LIST NUMBER DATE PIN` answers the id of a row of a list, and its day if it is current at
+//! - `reads PIN` and a question for concepts prints how many rows are read for it.
+//! - `taken COUNT COUNT` takes COUNT places of two lists in key order, and then COUNT more.
+//! - `hints COUNT` makes COUNT hints, and `hinted PIN KIND ID DATE` prints, using these hints, the
+//!   list that has the component's row at the date, counted from 0, and the row's day; `place PIN
+//!   KIND ID DATE` prints the same without hints.
+//! - `row LIST NUMBER DATE PIN` prints the id of a row of a list, and its day if it is current at
 //!   the date, for a pin.
 
 use crate::examples::Examples;
@@ -43,7 +43,7 @@ fn count_lines(text: &str) -> usize {
     text.lines().count()
 }
 
-/// The prefix that a text spells, in which a byte may be written by its digits.
+/// The prefix that a text spells, in which a byte may be given by its digits.
 fn prefix_of(alloc: Global, text: &str) -> Answer {
     let quoted = format!(in alloc; "\"{text}\"")?;
     match str::from_utf8(&unquoted(alloc, quoted.as_str())?) {
@@ -52,7 +52,7 @@ fn prefix_of(alloc: Global, text: &str) -> Answer {
     }
 }
 
-/// Posts the terms and links of two ranges of imports as those of one list.
+/// Posts the merged terms and links of two ranges of imports as those of one list.
 fn merge(
     alloc: Global,
     rows: &[StampedRow],
@@ -68,7 +68,7 @@ fn merge(
     Ok(())
 }
 
-/// Puts the rows of a range of imports in the place of two lists.
+/// Replaces two lists by the rows of a range of imports.
 fn put(
     alloc: Global,
     rows: &[StampedRow],
@@ -81,7 +81,7 @@ fn put(
     made.put(alloc, places, list_of(alloc, rows, range)?)
 }
 
-/// Changes an index, or what is posted or read beside it, and answers how many lists there are of
+/// Changes an index, or the postings or rows besides it, and returns how many lists there are of
 /// what it changed.
 fn change_index(
     alloc: Global,
@@ -108,8 +108,8 @@ fn change_index(
 }
 
 impl Examples {
-    /// What a pin shows: by the plain programs, or by the index if nothing else is asked; and what
-    /// the index says otherwise.
+    /// What a pin shows, by the plain programs, or by the index if only that is asked; and the
+    /// index's answer if it differs.
     fn ask(&self, text: &str) -> Result<(String, Option<String>), NoAnswer> {
         let (pin, text) = first_word(text)?;
         let (text, prefix) = split_prefix(text)?;
@@ -121,7 +121,7 @@ impl Examples {
         self.ask_both(request, prefix.as_str())
     }
 
-    /// The same of a question.
+    /// The same for a question.
     fn ask_both(
         &self,
         request: Request,
@@ -141,7 +141,7 @@ impl Examples {
         Ok((found, Some(indexed)))
     }
 
-    /// What the plain programs answer.
+    /// The answer of the plain programs.
     fn ask_plainly(&self, request: Request, prefix: &str) -> Answer {
         let shown = plain_history::rows_at(self.alloc, request.pin, &self.rows)?;
         ask_plainly(self.alloc, &shown, request.question, prefix)
@@ -157,7 +157,7 @@ impl Examples {
         }
     }
 
-    /// How many lines the questions have as their answers that a text stands for.
+    /// The total number of lines in the answers to the questions that a text stands for.
     pub(crate) fn ask_all(&self, text: &str) -> Answer {
         let text = text.strip_prefix("at ").ok_or(NoAnswer::NoQuestion)?;
         let mut count = 0usize;
@@ -174,7 +174,7 @@ impl Examples {
         Ok(format!(in self.alloc; "{count} lines")?)
     }
 
-    /// How many reads a question takes, each of which fails once in each way.
+    /// How many reads a question makes, each of which fails once in each way.
     pub(crate) fn ask_failing(&self, text: &str) -> Answer {
         let made = self.made.as_ref().ok_or(NoAnswer::NoQuestion)?;
         let (pin, text) = first_word(text)?;
@@ -213,7 +213,7 @@ impl Examples {
         Ok(format!(in self.alloc; "{count} lists")?)
     }
 
-    /// Changes the index, or what is posted or read beside it.
+    /// Changes the index, or the postings or rows besides it.
     pub(crate) fn change(&mut self, word: &str, rest: &str) -> Answer {
         let Some(made) = &mut self.made else {
             return Err(NoAnswer::NoQuestion);
@@ -227,20 +227,20 @@ impl Examples {
         Ok(format!(in self.alloc; "{count} lists")?)
     }
 
-    /// The places of two lists, taken in turns.
+    /// The places of two lists, taken in two steps.
     pub(crate) fn taken(&self, counts: &str) -> Answer {
         let made = self.made.as_ref().ok_or(NoAnswer::NoQuestion)?;
         take_in_turns(self.alloc, &made.lists, counts)
     }
 
-    /// Makes room for hints.
+    /// Makes hints.
     pub(crate) fn hint(&mut self, count: &str) -> Answer {
         let count: usize = number(count)?;
         self.hints = Some(Hints::new(self.alloc, count)?);
         Ok(format!(in self.alloc; "{count} hints")?)
     }
 
-    /// Where a component's row stands, by hints for `hinted`.
+    /// The place of a component's row, found with hints for `hinted`.
     pub(crate) fn place(&mut self, word: &str, words: &str) -> Answer {
         let made = self.made.as_ref().ok_or(NoAnswer::NoQuestion)?;
         let (pin, words) = first_word(words)?;
@@ -262,7 +262,7 @@ impl Examples {
         }
     }
 
-    /// The row of a list with a number, and its day if it is current.
+    /// The row with this number of a list, and its day if it is current.
     pub(crate) fn row(&self, words: &str) -> Answer {
         let made = self.made.as_ref().ok_or(NoAnswer::NoQuestion)?;
         let (list, words) = first_word(words)?;

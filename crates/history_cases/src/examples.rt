@@ -1,17 +1,17 @@
-//! Histories: releases one after the other, and what is said of them.
+//! Histories: releases one after the other, and questions about them.
 //!
-//! A part is a release: the lines of its rows, each behind its kind, as in `concept 138875005|..`,
-//! in quotes where a byte is written by its digits. Each case begins with an empty history.
-//! - `import NAME` answers the receipt, or `refused`;
-//! - `receipt NUMBER` answers what an import brought;
-//! - `snapshot PIN DATE` answers how many rows it has;
-//! - `shown NAME COUNT` answers how many rows of a release are shown, and how many once they are
-//!   cut off behind so many; `shown_bytes` answers how many bytes shown rows take;
-//! - `at PIN` and a question of `case_values` answers what the first so many imports show;
+//! A part is a release: the lines of its rows, each after its kind, as in `concept 138875005|..`,
+//! in quotes if a byte is given by its digits. Each case begins with an empty history.
+//! - `import NAME` prints the receipt, or `refused`;
+//! - `receipt NUMBER` prints the receipt of an import at a later time;
+//! - `snapshot PIN DATE` prints how many rows the Snapshot has;
+//! - `shown NAME COUNT` prints how many ghost rows there are of a release, and how many after they
+//!   are cut to COUNT; `shown_bytes` prints how many bytes ghost rows take;
+//! - `at PIN` and a question of `case_values` prints what the first PIN imports show;
 //! - `all` and such a question with groups, as `at {0,1} ..`, asks it for each choice of a word in
-//!   each group, and answers how many lines are answered in all.
+//!   each group, and prints the total number of lines in the answers.
 //!
-//! An index of lists answers these too once there is one: see `asking`.
+//! Once there is an index of lists, it answers these questions too: see `asking`.
 
 use crate::indexed::Indexed;
 use as_of_index::Hints;
@@ -29,7 +29,7 @@ struct Given {
     row: Row,
 }
 
-/// The rows of the releases that were given, those that a case imported, and its index.
+/// The rows of the given releases, those that a case imported, and its index.
 #[derive(Drop)]
 pub struct Examples {
     pub(crate) alloc: Global,
@@ -37,13 +37,13 @@ pub struct Examples {
     imports: u16,
     pub(crate) rows: Vec<StampedRow>,
     pub(crate) made: Option<Indexed>,
-    /// Whether the plain programs aren't asked.
+    /// Whether only the index is asked, and not the plain programs.
     pub(crate) is_alone: bool,
     pub(crate) hints: Option<Hints>,
 }
 
 impl Examples {
-    /// Without a release.
+    /// No releases.
     pub fn new(alloc: Global) -> Examples {
         Examples {
             alloc,
@@ -56,7 +56,7 @@ impl Examples {
         }
     }
 
-    /// The rows of a release, of which there has to be one.
+    /// The rows of a release, which has to have been given.
     fn rows_of(&self, release: &str) -> Result<Vec<Row>, NoAnswer> {
         let mut rows = Vec::new(self.alloc);
         for given in &self.given {
@@ -70,7 +70,7 @@ impl Examples {
         Ok(rows)
     }
 
-    /// The row that a text spells, which may stand in quotes.
+    /// The row that a text spells, which may be in quotes.
     fn row_of(&self, kind: Kind, text: &str) -> Result<Row, NoAnswer> {
         if text.starts_with('"') {
             return read_row(self.alloc, kind, &row_bytes(self.alloc, text)?);
@@ -78,7 +78,7 @@ impl Examples {
         read_row(self.alloc, kind, row_text(self.alloc, text)?.as_bytes())
     }
 
-    /// Imports a release, and answers its receipt.
+    /// Imports a release, and prints its receipt.
     fn import(&mut self, release: &str) -> Answer {
         let release = self.rows_of(release)?;
         if !plain_history::accepts(&self.rows, &release) {
@@ -92,7 +92,7 @@ impl Examples {
         Ok(format!(in self.alloc; "{number}: {new} new, {repeated} repeated")?)
     }
 
-    /// What an import brought.
+    /// The receipt of an import at a later time.
     fn receipt(&self, words: &str) -> Answer {
         let imports = u32::from(self.imports);
         let Some(receipt) = plain_history::import_receipt(imports, &self.rows, number(words)?)
@@ -109,7 +109,7 @@ impl Examples {
         }
     }
 
-    /// How many rows of a release there are, and how many once they are cut off behind some.
+    /// How many ghost rows there are of a release, and how many after they are cut.
     fn shown(&self, words: &str) -> Answer {
         let (release, count) = first_word(words)?;
         let mut shown = GhostRows::new(self.alloc);
@@ -130,7 +130,7 @@ impl Examples {
         Ok(format!(in self.alloc; "{count} rows")?)
     }
 
-    /// How many bytes shown rows take.
+    /// How many bytes ghost rows take.
     fn shown_bytes(&self) -> Answer {
         let bytes = size_of::<GhostRows>();
         Ok(format!(in self.alloc; "{bytes}")?)

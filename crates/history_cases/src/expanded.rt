@@ -1,18 +1,18 @@
-//! Questions that stand for many: in each of their groups, as `{1,2}`, a choice is made.
+//! Questions that stand for many: in each of their groups, such as `{1,2}`, one word is chosen.
 
 use std::alloc::{AllocError, Global};
 
-/// How many groups a question has at most. Further ones stay as they are, and ask nothing.
+/// The most groups of a question. Further ones aren't expanded, and so the question isn't valid.
 const GROUPS: usize = 5;
 
-/// What stands in front of a text's first group, in it, and behind it.
+/// The text before the first group, the words in it, and the text after it.
 fn first_group(text: &str) -> Option<(&str, &str, &str)> {
     let (front, rest) = text.split_once('{')?;
     let (group, behind) = rest.split_once('}')?;
     Some((front, group, behind))
 }
 
-/// Adds a text for each choice of the first group, or the text itself where it has none.
+/// Adds a text for each choice of the first group, or the text itself if it has no group.
 fn push_choices(alloc: Global, text: &str, all: &mut Vec<String>) -> Result<(), AllocError> {
     let Some((front, group, behind)) = first_group(text) else {
         all.push(String::from_str(alloc, text)?)?;

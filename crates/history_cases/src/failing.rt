@@ -1,4 +1,4 @@
-//! Reads that fail, one in each asking.
+//! Reads that fail, one for each time that a question is asked.
 
 use crate::index_questions::{Request, rows_found};
 use crate::indexed::Indexed;
@@ -7,14 +7,14 @@ use as_of_index::ReadFault;
 use case_files::Answer;
 use std::alloc::Global;
 
-/// A read that fails, from 1 on and 0 for none, and how.
+/// The number of the read that fails, from 1 on, or 0 for none; and how it fails.
 #[derive(Clone, Copy)]
 struct Failing {
     read: u64,
     fault: ReadFault,
 }
 
-/// How many rows are answered.
+/// How many rows the answer has.
 fn count_found(
     alloc: Global,
     made: &Indexed,
@@ -25,8 +25,8 @@ fn count_found(
     Ok(rows_found(alloc, made, reader, request, prefix)?.len() as u64)
 }
 
-/// Whether a read that fails is handed on at once, and told of once, and the same reader answers
-/// so many rows afterwards.
+/// Whether the error of a read is returned at once and counted once, and the same reader answers
+/// with this many rows afterwards.
 fn is_handed_on(
     alloc: Global,
     made: &Indexed,
@@ -52,8 +52,8 @@ fn is_handed_on(
     !fails || count_found(alloc, made, &mut reader, request, prefix) == Ok(answered)
 }
 
-/// Lets each read of a question fail in each way. As many rows are read as are answered, and each
-/// fault is the answer.
+/// Lets each read of a question fail in each way. As many rows have to be read as are in the
+/// answer, and each fault has to be returned.
 pub fn fail_each_read(
     alloc: Global,
     made: &Indexed,

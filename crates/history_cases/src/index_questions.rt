@@ -1,4 +1,4 @@
-//! What an index answers.
+//! The answers of an index.
 
 use crate::indexed::Indexed;
 use crate::spelled::{spell_dates, spell_ids, spell_rows};
@@ -13,7 +13,7 @@ use rf2_values::Row;
 use std::alloc::{AllocError, Global};
 use term_prefix::{Search, find};
 
-/// A question, without the prefix that is asked for, and the pin.
+/// A question and a pin, without the prefix that is searched for.
 #[derive(Clone, Copy)]
 pub struct Request {
     pub question: Question,
@@ -38,7 +38,7 @@ fn rows_of(alloc: Global, found: Option<Row>) -> Result<Vec<Row>, ReadFault> {
     Ok(rows)
 }
 
-/// The descriptions that are found at a date and a pin, above an id and at most so many.
+/// The descriptions that are found at a date and a pin, with ids greater than one, up to a limit.
 fn search<R: RowReader>(
     alloc: Global,
     made: &Indexed,
@@ -55,7 +55,7 @@ fn search<R: RowReader>(
     find(alloc, &made.terms, &made.index, reader, prefix, &asked)
 }
 
-/// The rows that are found, where the question asks for rows.
+/// The rows that are found, if the question asks for rows.
 pub fn rows_found<R: RowReader>(
     alloc: Global,
     made: &Indexed,
@@ -112,8 +112,8 @@ pub fn rows_found<R: RowReader>(
     }
 }
 
-/// Rows that are found. Only these are read, and each of them once; a place at which none stands
-/// is told of once.
+/// The rows that are found. Only these have to be read, each once; a place without a row has to be
+/// counted once.
 fn find_rows(alloc: Global, made: &Indexed, request: Request, prefix: &str) -> Answer {
     let mut reader = made.reader();
     let found = rows_found(alloc, made, &mut reader, request, prefix);
@@ -130,7 +130,7 @@ fn find_rows(alloc: Global, made: &Indexed, request: Request, prefix: &str) -> A
     Ok(format!(in alloc; "{text}, with {reads} reads and {damages} damages")?)
 }
 
-/// The concepts that are found, where the question asks for concepts.
+/// The concepts that are found, if the question asks for concepts.
 fn concepts_found<R: RowReader>(
     alloc: Global,
     made: &Indexed,
@@ -171,7 +171,7 @@ pub fn count_reads(alloc: Global, made: &Indexed, request: Request) -> Answer {
     }
 }
 
-/// What the index answers.
+/// The answer of the index.
 pub fn ask_index(alloc: Global, made: &Indexed, request: Request, prefix: &str) -> Answer {
     match request.question {
         Question::Children(_, _) | Question::Descendants(_, _) | Question::Ancestors(_, _) => {

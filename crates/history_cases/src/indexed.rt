@@ -1,4 +1,4 @@
-//! Lists of the rows of some imports, with what is listed and posted of them.
+//! Lists of the rows of some imports, with their index and postings.
 
 use as_of_index::{Index, MAX_LISTS, PlaceList};
 use case_files::NoAnswer;
@@ -11,7 +11,7 @@ use segment::RowPlace;
 use std::alloc::{AllocError, Global};
 use term_prefix::Terms;
 
-/// Lists of rows, the index of their places, and what is posted of their terms and links.
+/// Lists of rows, the index of their places, and the postings of their terms and links.
 #[derive(Drop)]
 pub struct Indexed {
     pub lists: Vec<Vec<StampedRow>>,
@@ -20,7 +20,7 @@ pub struct Indexed {
     pub links: Links,
 }
 
-/// Where the rows of a list stand.
+/// The places of the rows of a list.
 pub fn places_of(alloc: Global, rows: &[StampedRow]) -> Result<Vec<RowPlace>, AllocError> {
     let mut places = Vec::new(alloc);
     let mut at = 0u32;
@@ -32,7 +32,7 @@ pub fn places_of(alloc: Global, rows: &[StampedRow]) -> Result<Vec<RowPlace>, Al
     Ok(places)
 }
 
-/// The places of a list, which have to be in order.
+/// The list of the places of rows, which have to be in order.
 fn list_places(alloc: Global, rows: &[StampedRow]) -> Result<PlaceList, NoAnswer> {
     let places = places_of(alloc, rows)?;
     if !may_list(&places) {
@@ -41,7 +41,7 @@ fn list_places(alloc: Global, rows: &[StampedRow]) -> Result<PlaceList, NoAnswer
     Ok(PlaceList::new(alloc, places)?)
 }
 
-/// Adds the places of a list, which have to be listed nowhere else.
+/// Adds a list of places, which must not share a key with another list.
 fn add_places(index: &mut Index, list: PlaceList) -> Result<(), NoAnswer> {
     if !may_add(&*index, &list) {
         return Err(NoAnswer::NoQuestion);
@@ -50,7 +50,7 @@ fn add_places(index: &mut Index, list: PlaceList) -> Result<(), NoAnswer> {
     Ok(())
 }
 
-/// Puts the places of a list in the place of two, where its keys are in none of the lists.
+/// Replaces two lists by one, which must not share a key with another list.
 fn put_in(index: &mut Index, i: usize, j: usize, list: PlaceList) -> Result<(), NoAnswer> {
     if i >= j {
         return Err(NoAnswer::NoQuestion);
@@ -74,7 +74,7 @@ fn index_of(alloc: Global, lists: &[Vec<StampedRow>]) -> Result<Index, NoAnswer>
     Ok(index)
 }
 
-/// What is posted of the terms of a list.
+/// The postings of the terms of a list.
 pub fn post_terms(alloc: Global, rows: &[StampedRow]) -> Result<term_prefix::Postings, AllocError> {
     let mut postings = term_prefix::Postings::new(alloc);
     for (number, stamped) in (0u32..).zip(rows) {
@@ -83,7 +83,7 @@ pub fn post_terms(alloc: Global, rows: &[StampedRow]) -> Result<term_prefix::Pos
     Ok(postings)
 }
 
-/// What is posted of the links of a list.
+/// The postings of the links of a list.
 pub fn post_links(alloc: Global, rows: &[StampedRow]) -> Result<links::Postings, AllocError> {
     let mut postings = links::Postings::new(alloc);
     for (number, stamped) in (0u32..).zip(rows) {
@@ -116,7 +116,7 @@ fn links_of(alloc: Global, lists: &[Vec<StampedRow>]) -> Result<Links, NoAnswer>
     Ok(links)
 }
 
-/// The rows of the imports from the first up to the last, as in `2-3`.
+/// The rows of a range of imports, such as `2-3`.
 pub fn list_of(
     alloc: Global,
     rows: &[StampedRow],
@@ -133,7 +133,7 @@ pub fn list_of(
     Ok(list)
 }
 
-/// A list for each of some ranges of imports; none of an empty text.
+/// A list for each of some ranges of imports; none for an empty text.
 pub fn lists_of(
     alloc: Global,
     rows: &[StampedRow],
@@ -148,7 +148,7 @@ pub fn lists_of(
     Ok(lists)
 }
 
-/// The rows with so many others of some between two of them, and `left` behind the last.
+/// Every `count`-th row, counted so that `left` rows remain after the last one.
 fn every(
     alloc: Global,
     rows: &[StampedRow],
@@ -165,7 +165,7 @@ fn every(
     Ok(list)
 }
 
-/// The rows in so many lists, to which they are dealt in turn, the last one first.
+/// The rows dealt to this many lists in turn, the last one first.
 pub fn spread(
     alloc: Global,
     rows: &[StampedRow],
@@ -206,7 +206,7 @@ pub fn by_date(
     Ok(lists)
 }
 
-/// What is posted of the links of some rows of a list, each by its number.
+/// The postings of the links of some rows of a list, given by their numbers.
 fn post_rows(
     alloc: Global,
     rows: &[StampedRow],
@@ -223,7 +223,7 @@ fn post_rows(
     Ok(postings)
 }
 
-/// What is posted of the links of a list whose rows are posted twice each.
+/// The postings of the links of a list, with each row posted twice.
 fn post_twice(alloc: Global, rows: &[StampedRow]) -> Result<links::Postings, AllocError> {
     let mut postings = links::Postings::new(alloc);
     for (number, stamped) in (0u32..).zip(rows) {
@@ -234,7 +234,7 @@ fn post_twice(alloc: Global, rows: &[StampedRow]) -> Result<links::Postings, All
 }
 
 impl Indexed {
-    /// All that is listed and posted of some lists.
+    /// The index and the postings of some lists.
     pub fn new(alloc: Global, lists: Vec<Vec<StampedRow>>) -> Result<Indexed, NoAnswer> {
         let (terms, links) = (terms_of(alloc, &lists)?, links_of(alloc, &lists)?);
         let index = index_of(alloc, &lists)?;
@@ -246,7 +246,7 @@ impl Indexed {
         })
     }
 
-    /// Posts what is posted of the first so many lists alone.
+    /// Keeps the postings of only the first `count` lists.
     pub fn post_front(&mut self, alloc: Global, count: usize) -> Result<(), NoAnswer> {
         let front = self.lists.get(..count).ok_or(NoAnswer::NoQuestion)?;
         let (terms, links) = (terms_of(alloc, front)?, links_of(alloc, front)?);
@@ -255,14 +255,14 @@ impl Indexed {
         Ok(())
     }
 
-    /// Posts what is posted of other lists.
+    /// Replaces the postings by those of other lists.
     pub fn post_lists(&mut self, alloc: Global, lists: &[Vec<StampedRow>]) -> Result<(), NoAnswer> {
         self.terms = terms_of(alloc, lists)?;
         self.links = links_of(alloc, lists)?;
         Ok(())
     }
 
-    /// Posts the terms and links of one list.
+    /// Replaces the postings by those of one list.
     pub fn post_merged(
         &mut self,
         alloc: Global,
@@ -276,8 +276,8 @@ impl Indexed {
         Ok(())
     }
 
-    /// Posts the links of the first list anew: of the rows with these numbers, or of each row
-    /// twice for `twice`.
+    /// Replaces the postings of the first list's links: by those of the rows with these numbers, or
+    /// of each row twice for `twice`.
     pub fn link(&mut self, alloc: Global, numbers: &str) -> Result<(), NoAnswer> {
         let rows = self.lists.first().ok_or(NoAnswer::NoQuestion)?;
         let postings = match numbers {
@@ -290,7 +290,7 @@ impl Indexed {
         Ok(())
     }
 
-    /// Puts a list in the place of two, which has to have rows that stand in none.
+    /// Replaces two lists by one, whose rows must not be in another list.
     pub fn put(
         &mut self,
         alloc: Global,

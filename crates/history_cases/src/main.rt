@@ -1,5 +1,5 @@
-//! What a history says, by worked examples, which are cases in files: the plain programs and an
-//! index of it have to answer the same.
+//! Worked examples of what a history shows, as cases in files: the plain programs and an index of
+//! the history have to give the same answers.
 #![tactic(auto)]
 
 mod asking;

@@ -1,4 +1,4 @@
-//! What the plain programs answer, of the rows that a pin shows.
+//! The answers of the plain programs, about the rows that a pin shows.
 
 use crate::spelled::{spell_dates, spell_ids, spell_row, spell_rows};
 use case_files::{Answer, NoAnswer};
@@ -20,7 +20,7 @@ fn spell_concepts(alloc: Global, concepts: &[Sctid]) -> Answer {
     spell_ids(alloc, &ids)
 }
 
-/// The rows that are found, where the question asks for rows.
+/// The rows that are found, if the question asks for rows.
 fn find<'a>(
     alloc: Global,
     shown: &'a [Row],
@@ -56,7 +56,7 @@ fn find<'a>(
     })
 }
 
-/// What the plain programs answer.
+/// The answer of the plain programs.
 pub fn ask_plainly(alloc: Global, shown: &[Row], question: Question, prefix: &str) -> Answer {
     match question {
         Question::Get(kind, id, date) => get(alloc, shown, kind, id, date),

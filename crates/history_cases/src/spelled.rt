@@ -1,11 +1,11 @@
-//! How rows, identifiers and days that are found stand in an answer: one a line, or `none`.
+//! How rows, identifiers and days are printed in an answer: one on each line, or `none`.
 
 use case_files::Answer;
 use case_values::line_of;
 use rf2_values::{EffectiveTime, Row};
 use std::alloc::{AllocError, Global};
 
-/// Adds a line to some.
+/// Appends a line to others.
 fn put_line(text: &mut String, line: &str) -> Result<(), AllocError> {
     if !text.is_empty() {
         text.push('\n')?;
@@ -13,7 +13,7 @@ fn put_line(text: &mut String, line: &str) -> Result<(), AllocError> {
     text.push_str(line)
 }
 
-/// A text, or that there is nothing.
+/// A text, or `none` if it is empty.
 fn or_none(mut text: String) -> Answer {
     if text.is_empty() {
         text.push_str("none")?;

@@ -1,4 +1,4 @@
-//! Two lists of rows that are put into one in turns: their places, their terms and their links.
+//! Two lists of rows that are merged in steps: their places, their terms and their links.
 
 ghost use Rattle.term_prefix.specs.Merged.{IsMergeOfTerms};
 
@@ -13,7 +13,7 @@ use merge::{MergeProgress, Taken};
 use segment::RowPlace;
 use std::alloc::{AllocError, Global};
 
-/// How many turns a merge has at most.
+/// The most steps of a merge.
 const TURNS: usize = 1000;
 
 /// The numbers that the rows of two lists have among those of both.
@@ -27,7 +27,7 @@ fn numbers_of<'a>(first: &'a [RowPlace], second: &'a [RowPlace]) -> Result<Numbe
     Ok(Numbers::new(first, second))
 }
 
-/// Takes so many terms in each turn until none is left.
+/// Merges this many terms in each step, until none is left.
 fn advance_terms(
     merging: &mut term_prefix::Merging,
     a: &term_prefix::Sealed,
@@ -52,7 +52,7 @@ fn advance_terms(
     Err(NoAnswer::NoQuestion)
 }
 
-/// The terms of two lists of rows in one, by so many in each turn.
+/// The merged terms of two lists of rows, this many in each step.
 fn merge_terms(
     alloc: Global,
     [first, second]: [&[StampedRow]; 2],
@@ -66,7 +66,7 @@ fn merge_terms(
     Ok(merging.seal())
 }
 
-/// Merges so many links, references and subjects in each turn.
+/// Merges this many links, references and subjects in each step.
 fn advance_links(
     alloc: Global,
     a: &links::Sealed,
@@ -82,7 +82,7 @@ fn advance_links(
     Ok(merging.seal())
 }
 
-/// The links of two lists of rows in one, by so many of each sort in each turn.
+/// The merged links of two lists of rows, this many of each sort in each step.
 fn merge_links(
     alloc: Global,
     [first, second]: [&[StampedRow]; 2],
@@ -94,7 +94,7 @@ fn merge_links(
     advance_links(alloc, &a, &b, numbers, many)
 }
 
-/// What is posted of two lists of rows, put into one list by so many in each turn.
+/// The merged postings of two lists of rows, this many in each step.
 pub fn merge_posted(
     alloc: Global,
     both: [&[StampedRow]; 2],
@@ -106,7 +106,7 @@ pub fn merge_posted(
     Ok((terms, merge_links(alloc, both, &numbers, many)?))
 }
 
-/// Adds what a turn took, a line for each place, and how many are left.
+/// Appends the places that a step took, one on each line, and how many are left.
 fn put_turn(
     alloc: Global,
     text: &mut String,
@@ -125,7 +125,7 @@ fn put_turn(
     text.push_str(line.as_str())
 }
 
-/// The places of two lists, taken in two turns.
+/// The places of two lists, taken in two steps.
 pub fn take_in_turns(alloc: Global, lists: &[Vec<StampedRow>], counts: &str) -> Answer {
     let [first, second] = lists else {
         return Err(NoAnswer::NoQuestion);

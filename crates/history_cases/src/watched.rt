@@ -1,4 +1,4 @@
-//! A reader of which one read fails.
+//! A reader, one of whose reads fails.
 
 ghost use Rattle.std.specs.Prelude.{◌≡◌, ◌↔◌, IsTrue};
 ghost use Rattle.rf2_values.specs.Key.{key_of};
@@ -10,12 +10,12 @@ use rf2_values::Key;
 use segment::RowPlace;
 use std::alloc::Global;
 
-/// Rows in memory that are counted as they are read, and with one read that fails.
+/// Reads rows in memory and counts the reads, one of which fails.
 #[derive(Drop)]
 pub struct Watched<'a> {
     lists: &'a [Vec<StampedRow>],
     reads: u64,
-    /// From 1 on; 0 for none.
+    /// The number of the read that fails, from 1 on; 0 for none.
     failing: u64,
     fault: ReadFault,
     disk_faults: u64,
@@ -34,7 +34,7 @@ impl Watched<'_> {
         }
     }
 
-    /// How often a row was asked for, the device failed, and a row was damaged.
+    /// How often a row was requested, how often the device failed, and how often a row was damaged.
     pub fn counts(&self) -> (u64, u64, u64) {
         (self.reads, self.disk_faults, self.damages)
     }

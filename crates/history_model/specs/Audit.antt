@@ -1,5 +1,5 @@
--- What holds of the answers to an audit's questions: what changed, what was ever about a component,
--- what it replaces, and which days have rows. `rows` are the rows that a pin shows.
+-- Laws of the answers to audit questions: what changed, what was ever about a component, what it
+-- replaces, and which days have rows. `rows` are the rows that a pin shows.
 use Rattle.std.specs.Prelude.{Option, Some, None, ◌≡◌, ◌≢◌, ◌↔◌, ◌⊎◌, ℕ, ◌<◌, ◌≤◌}
 use Rattle.std.specs.Prelude.{List, [], map, true}
 use Rattle.std.specs.Ordering.{nat_cmp, ordering_then}
@@ -19,20 +19,20 @@ use Rattle.history_model.specs.Laws.{by_id, by_time}
 abbrev pub changed_ids : Kind → ℕ → ℕ → List RowValue → List ℕ
 changed_ids kind from date rows = map (λ row. row.id) (changed_above kind from date None rows)
 
--- they are those that have another row at the one date than at the other, where having none counts
--- too
+-- they are those with different rows at the two dates, where having no row counts as different from
+-- having one
 abbrev pub DeltaIsWhatDiffers : Type 0
 DeltaIsWhatDiffers = (kind : Kind) (from date id : ℕ) (rows : List RowValue)
     → IsAscending row_cmp rows → from ≤ date
     → Has (changed_ids kind from date rows) id ↔ (get kind id from rows ≢ get kind id date rows)
 
--- of each there is the row at the later date
+-- for each of them there is the row at the later date
 abbrev pub DeltaHasTheLaterRow : Type 0
 DeltaHasTheLaterRow = (kind : Kind) (from date : ℕ) (rows : List RowValue) (row : RowValue)
     → IsAscending row_cmp rows → Has (changed_above kind from date None rows) row
     → get kind row.id date rows ≡ Some row
 
--- what changed from before all rows on is what a page shows
+-- what changed since before all rows is what a page shows
 abbrev pub DeltaFromTheFirst : Type 0
 DeltaFromTheFirst =
     (kind : Kind) (from date : ℕ) (after : Option ℕ) (limit : ℕ) (rows : List RowValue)
@@ -45,7 +45,7 @@ DeltaBackwardsIsEmpty =
     (kind : Kind) (from date : ℕ) (after : Option ℕ) (limit : ℕ) (rows : List RowValue)
     → date ≤ from → delta kind from date after limit rows ≡ []
 
--- two Deltas, the one from where the other ends, cover the one over both
+-- two Deltas, of which one begins where the other ends, cover the Delta over both
 abbrev pub TwoDeltasCoverBoth : Type 0
 TwoDeltasCoverBoth = (kind : Kind) (from between date id : ℕ) (rows : List RowValue)
     → from ≤ between → between ≤ date → Has (changed_ids kind from date rows) id
@@ -57,20 +57,20 @@ DeltaAscends = (kind : Kind) (from date : ℕ) (after : Option ℕ) (limit : ℕ
 
 -- ---- what was ever about a component
 
--- a timeline has all versions of the components that are about the component at some date, and
--- nothing of others
+-- a timeline has all versions of the components that were about the component at some date, and
+-- nothing else
 abbrev pub TimelineIsAll : Type 0
 TimelineIsAll = (kind : Kind) (id : ℕ) (rows : List RowValue) (row : RowValue)
     → Has (timeline kind id rows) row
     ↔ ((date : ℕ) × (other : RowValue) × Has (about kind id date rows) other
     × Has (versions kind other.id rows) row)
 
--- so it has each row that is about the component at any date
+-- so it has each row that is about the component at some date
 abbrev pub TimelineHasWhatIsAbout : Type 0
 TimelineHasWhatIsAbout = (kind : Kind) (id date : ℕ) (rows : List RowValue) (row : RowValue)
     → Has (about kind id date rows) row → Has (timeline kind id rows) row
 
--- by id, then by time
+-- the order by id, then by time
 abbrev pub by_version : RowValue → RowValue → Ordering
 by_version a b = ordering_then (by_id a b) (by_time a b)
 
@@ -80,14 +80,14 @@ TimelineAscends = (kind : Kind) (id : ℕ) (rows : List RowValue)
 
 -- ---- what a component replaces
 
--- they are all associations of the Snapshot that say so
+-- they are all associations of the Snapshot with this target
 abbrev pub ReplacesAreAll : Type 0
 ReplacesAreAll = (id date : ℕ) (rows : List RowValue) (row : RowValue)
     → IsAscending row_cmp rows → Has (replaces id date rows) row
     ↔ (Has (snapshot rows date) row × (is_replaced_by id row ≡ true))
 
--- what stands in the place of a component, and what the other one replaces, are the same
--- associations, seen from their two ends
+-- what replaces a component, and what the other one replaces, are the same associations, from their
+-- two ends
 abbrev pub BothEndsAreOne : Type 0
 BothEndsAreOne = (id target date : ℕ) (rows : List RowValue) (row : RowValue)
     → IsAscending row_cmp rows
@@ -111,7 +111,7 @@ DatesAscend = (rows : List RowValue) → IsAscending nat_cmp (dates rows)
 
 -- ---- later imports
 
--- the answers at a pin are unchanged by later imports
+-- the answers at a pin aren't changed by later imports
 abbrev pub DeltaStays : Type 0
 DeltaStays = (h : History) (release : List RowValue) (pin : ℕ)
     (kind : Kind) (from date : ℕ) (after : Option ℕ) (limit : ℕ)

@@ -1,5 +1,4 @@
--- Which concepts are above a concept at a date, and which below it. `rows` are the rows that a pin
--- shows.
+-- The concepts above and below a concept at a date. `rows` are the rows that a pin shows.
 use Rattle.std.specs.Prelude.{◌≡◌, ◌↔◌, ℕ, ◌≤◌, List, [], ◌∷◌}
 use Rattle.std.specs.Ordering.{nat_cmp}
 use Rattle.rf2_values.specs.Row.{RowValue}
@@ -7,7 +6,8 @@ use Rattle.history_model.specs.InOrder.{Has, IsAscending}
 use Rattle.history_model.specs.History.{History, IsHistory, after_release, rows_at}
 use Rattle.history_model.specs.Queries.{children, parents}
 
--- from one concept to another over those between, each a next one of the one before
+-- a path from one concept to another, by way of those between, where each is a next one of the one
+-- before
 abbrev pub IsPath : (ℕ → List ℕ) → ℕ → List ℕ → ℕ → Type 0
 IsPath next from [] to = Has (next from) to
 IsPath next from (x ∷ between) to = Has (next from) x × IsPath next x between to
@@ -16,27 +16,27 @@ IsPath next from (x ∷ between) to = Has (next from) x × IsPath next x between
 abbrev pub IsReached : (ℕ → List ℕ) → ℕ → ℕ → Type 0
 IsReached next from to = (between : List ℕ) × IsPath next from between to
 
--- the list is of all that is reached, ascending, each once
+-- the list has everything that is reached, in ascending order, without duplicates
 pub record AreReached (next : ℕ → List ℕ) (from : ℕ) (ids : List ℕ) : Type 0 where
   pub ascending : IsAscending nat_cmp ids
   pub members : (id : ℕ) → Has ids id ↔ IsReached next from id
 
--- all that is reached from child to child
+-- everything that is reached by steps from parent to child
 abbrev pub AreDescendants : ℕ → ℕ → List RowValue → List ℕ → Type 0
 AreDescendants concept date rows = AreReached (λ c. children c date rows) concept
 
--- all that is reached from parent to parent
+-- everything that is reached by steps from child to parent
 abbrev pub AreAncestors : ℕ → ℕ → List RowValue → List ℕ → Type 0
 AreAncestors concept date rows = AreReached (λ c. parents c date rows) concept
 
 -- ---- laws
 
--- one concept is a parent of another exactly if that one is its child
+-- a concept is a parent of another exactly if the other is its child
 abbrev pub ParentsHaveChildren : Type 0
 ParentsHaveChildren = (date : ℕ) (rows : List RowValue) (parent child : ℕ)
     → Has (parents child date rows) parent ↔ Has (children parent date rows) child
 
--- one concept is an ancestor of another exactly if that one is its descendant
+-- a concept is an ancestor of another exactly if the other is its descendant
 abbrev pub AncestorsHaveDescendants : Type 0
 AncestorsHaveDescendants = (date : ℕ) (rows : List RowValue) (upper lower : ℕ)
     (ancestors descendants : List ℕ)
@@ -56,7 +56,7 @@ DescendantsOfDescendants = (concept other date : ℕ) (rows : List RowValue)
     → AreDescendants concept date rows descendants → AreDescendants other date rows lower
     → Has descendants other → (id : ℕ) → Has lower id → Has descendants id
 
--- a concept has one list of descendants, and one of ancestors
+-- a concept has only one list of descendants, and only one of ancestors
 abbrev pub OneListOfDescendants : Type 0
 OneListOfDescendants = (concept date : ℕ) (rows : List RowValue) (ids others : List ℕ)
     → AreDescendants concept date rows ids → AreDescendants concept date rows others
@@ -75,7 +75,7 @@ abbrev pub EachHasAncestors : Type 0
 EachHasAncestors = (concept date : ℕ) (rows : List RowValue)
     → (ids : List ℕ) × AreAncestors concept date rows ids
 
--- the descendants at a pin are unchanged by later imports, and so are the ancestors
+-- the descendants at a pin aren't changed by later imports, and neither are the ancestors
 abbrev pub DescendantsStay : Type 0
 DescendantsStay = (h : History) (release : List RowValue) (pin concept date : ℕ) (ids : List ℕ)
     → IsHistory h → pin ≤ h.imports

@@ -1,5 +1,5 @@
--- What holds of the members of reference sets: of all of them, of the active ones by what they refer
--- to, and of what a concept is called. `rows` are the rows that a pin shows.
+-- Laws of the members of reference sets: of all members, of the active ones by the components that
+-- they refer to, and of what a concept is called. `rows` are the rows that a pin shows.
 use Rattle.std.specs.Prelude.{Option, Some, None, true, ◌≡◌, ◌↔◌, ◌⊎◌, ℕ, ◌<◌, ◌≤◌}
 use Rattle.std.specs.Prelude.{List, [], ◌∷◌, ◌++◌, length, take}
 use Rattle.std.specs.List.{filter}
@@ -14,14 +14,14 @@ use Rattle.history_model.specs.Laws.{by_id, last_id, IsActiveAt}
 
 -- ---- all members of a reference set
 
--- they are those of all members that are of it: so a member is among them exactly where the page of
--- all members has it
+-- they are those of all members that belong to it: so it has a member exactly if the page of all
+-- members has it
 abbrev pub MembersAreOfTheKind : Type 0
 MembersAreOfTheKind = (refset date : ℕ) (after : Option ℕ) (rows : List RowValue)
     → members_above refset date after rows
     ≡ filter (λ row. is_member_of refset row.body) (all_above Member date after rows)
 
--- each member is of one reference set, and of no other
+-- each member belongs to exactly one reference set
 abbrev pub EachIsOfOneSet : Type 0
 EachIsOfOneSet = (date : ℕ) (after : Option ℕ) (rows : List RowValue) (row : RowValue)
     → Has (all_above Member date after rows) row
@@ -32,20 +32,20 @@ abbrev pub MembersAscend : Type 0
 MembersAscend = (refset date : ℕ) (after : Option ℕ) (limit : ℕ) (rows : List RowValue)
     → IsAscending row_cmp rows → IsAscending by_id (members refset date after limit rows)
 
--- all members are an answer of any limit, and then all members from behind its last one
+-- all members are an answer of any limit, followed by all members after its last one
 abbrev pub MembersAndTheRest : Type 0
 MembersAndTheRest = (refset date : ℕ) (after : Option ℕ) (limit : ℕ) (rows : List RowValue)
     → IsAscending row_cmp rows → members_above refset date after rows
     ≡ members refset date after limit rows
     ++ members_above refset date (last_id after (members refset date after limit rows)) rows
 
--- nothing stands behind an answer that has fewer members than its limit
+-- there are no members after an answer that has fewer members than its limit
 abbrev pub FewMembersAreLast : Type 0
 FewMembersAreLast = (refset date : ℕ) (after : Option ℕ) (limit : ℕ) (rows : List RowValue)
     → length (members refset date after limit rows) < limit
     → members_above refset date after rows ≡ members refset date after limit rows
 
--- each is the answer from behind the last member of the one before, and the answer behind the last
+-- each is the answer from after the last member of the one before, and the answer after the last
 -- one is empty
 abbrev pub ArePagesOfMembers :
     ℕ → ℕ → ℕ → List RowValue → Option ℕ → List (List RowValue) → Type 0
@@ -54,14 +54,14 @@ ArePagesOfMembers refset date limit rows after (first ∷ pages) =
     (first ≡ members refset date after limit rows)
     × ArePagesOfMembers refset date limit rows (last_id after first) pages
 
--- answers of any limit but zero, one after the other, are all members
+-- answers of any limit except zero, one after the other, are all members
 abbrev pub PagesOfMembersAreAll : Type 0
 PagesOfMembersAreAll = (refset date : ℕ) (after : Option ℕ) (limit : ℕ) (rows : List RowValue)
     (pages : List (List RowValue)) → IsAscending row_cmp rows → 1 ≤ limit
     → ArePagesOfMembers refset date limit rows after pages
     → joined pages ≡ members_above refset date after rows
 
--- there are such answers, one after the other, and none of them is empty
+-- there is a sequence of such answers that ends, and none of them is empty
 abbrev pub PagesOfMembersEnd : Type 0
 PagesOfMembersEnd = (refset date : ℕ) (after : Option ℕ) (limit : ℕ) (rows : List RowValue)
     → IsAscending row_cmp rows → 1 ≤ limit → (pages : List (List RowValue))
@@ -69,7 +69,7 @@ PagesOfMembersEnd = (refset date : ℕ) (after : Option ℕ) (limit : ℕ) (rows
 
 -- ---- the active members, by the component that they refer to
 
--- none of them is left out
+-- none of them is missing
 abbrev pub ValuesAreAll : Type 0
 ValuesAreAll = (refset date : ℕ) (after : Option ℕ) (rows : List RowValue) (row : RowValue)
     → IsAscending row_cmp rows → Has (values_above refset date after rows) row
@@ -81,12 +81,12 @@ ValuesAreTheActiveMembers = (date : ℕ) (rows : List RowValue) (row : RowValue)
     → IsAscending row_cmp rows → IsActiveAt Member date rows row
     ↔ ((refset : ℕ) × Has (values_above refset date None rows) row)
 
--- by component, then by member, each once
+-- in the order of component, then of member, without duplicates
 abbrev pub ValuesAscend : Type 0
 ValuesAscend = (refset date : ℕ) (after : Option ℕ) (limit : ℕ) (rows : List RowValue)
     → IsAscending value_cmp (values refset date after limit rows)
 
--- an answer is the first so many of them, and with these all that refer to the same components
+-- an answer is the first of them up to the limit, and all others that refer to the same components
 abbrev pub ValuesAreTheFirstWithTies : Type 0
 ValuesAreTheFirstWithTies =
     (refset date : ℕ) (after : Option ℕ) (limit : ℕ) (rows : List RowValue) (row : RowValue)
@@ -95,7 +95,7 @@ ValuesAreTheFirstWithTies =
     × Has (take limit (values_above refset date after rows)) other
     × (component_of other ≡ component_of row)))
 
--- no answer cuts the members apart that refer to one component
+-- no answer separates the members that refer to one component
 abbrev pub ValuesOfOneComponentStayTogether : Type 0
 ValuesOfOneComponentStayTogether =
     (refset date : ℕ) (after : Option ℕ) (limit : ℕ) (rows : List RowValue) (a b : RowValue)
@@ -115,34 +115,34 @@ FewValuesAreAll = (refset date : ℕ) (after : Option ℕ) (limit : ℕ) (rows :
     → length (values refset date after limit rows) < limit
     → values_above refset date after rows ≡ values refset date after limit rows
 
--- the component of the last row, or `after` where there is no row
+-- the component of the last row; `after` if there is no row
 abbrev pub last_component : Option ℕ → List RowValue → Option ℕ
 last_component after [] = after
 last_component after (row ∷ rows) = last_component (Some (component_of row)) rows
 
--- all of them are an answer of any limit, and then all above its last component
+-- all of them are an answer of any limit, followed by all with components greater than its last one
 abbrev pub ValuesAndTheRest : Type 0
 ValuesAndTheRest = (refset date : ℕ) (after : Option ℕ) (limit : ℕ) (rows : List RowValue)
     → IsAscending row_cmp rows → values_above refset date after rows
     ≡ values refset date after limit rows
     ++ values_above refset date (last_component after (values refset date after limit rows)) rows
 
--- each is the answer above the last component of the one before, and the answer above the last one
--- is empty
+-- each is the answer from after the last component of the one before, and the answer after the last
+-- one is empty
 abbrev pub ArePagesOfValues : ℕ → ℕ → ℕ → List RowValue → Option ℕ → List (List RowValue) → Type 0
 ArePagesOfValues refset date limit rows after [] = values refset date after limit rows ≡ []
 ArePagesOfValues refset date limit rows after (first ∷ pages) =
     (first ≡ values refset date after limit rows)
     × ArePagesOfValues refset date limit rows (last_component after first) pages
 
--- answers of any limit but zero, one after the other, are all of them
+-- answers of any limit except zero, one after the other, are all of them
 abbrev pub PagesOfValuesAreAll : Type 0
 PagesOfValuesAreAll = (refset date : ℕ) (after : Option ℕ) (limit : ℕ) (rows : List RowValue)
     (pages : List (List RowValue)) → IsAscending row_cmp rows → 1 ≤ limit
     → ArePagesOfValues refset date limit rows after pages
     → joined pages ≡ values_above refset date after rows
 
--- there are such answers, one after the other, and none of them is empty
+-- there is a sequence of such answers that ends, and none of them is empty
 abbrev pub PagesOfValuesEnd : Type 0
 PagesOfValuesEnd = (refset date : ℕ) (after : Option ℕ) (limit : ℕ) (rows : List RowValue)
     → IsAscending row_cmp rows → 1 ≤ limit → (pages : List (List RowValue))
@@ -158,8 +158,8 @@ pub record IsName (concept date refset : ℕ) (rows : List RowValue) (descriptio
   pub is_member : Has (about Member description.id date rows) member
   pub of_refset : is_member_of refset member.body ≡ true
 
--- the rows are those of all such pairs, and no others: so each is about the concept, or a member
--- about a description that is
+-- the rows are those of all such pairs, and no others: each is a description of the concept, or a
+-- member about one
 abbrev pub CalledAreNames : Type 0
 CalledAreNames = (concept date refset : ℕ) (rows : List RowValue) (row : RowValue)
     → Has (called concept date refset rows) row
@@ -167,7 +167,7 @@ CalledAreNames = (concept date refset : ℕ) (rows : List RowValue) (row : RowVa
     × IsName concept date refset rows description member
     × ((description ≡ row) ⊎ (member ≡ row)))
 
--- the descriptions ascend by id
+-- the descriptions are ascending by id
 abbrev pub CalledAscend : Type 0
 CalledAscend = (concept date refset : ℕ) (rows : List RowValue) → IsAscending row_cmp rows
     → IsAscending by_id (filter (is_kind Description) (called concept date refset rows))
@@ -180,7 +180,7 @@ CalledAreAmongValues = (concept date refset : ℕ) (rows : List RowValue) (row :
 
 -- ---- later imports
 
--- the answers at a pin are unchanged by later imports
+-- the answers at a pin aren't changed by later imports
 abbrev pub MembersStay : Type 0
 MembersStay = (h : History) (release : List RowValue) (pin refset date : ℕ)
     (after : Option ℕ) (limit : ℕ) → IsHistory h → pin ≤ h.imports

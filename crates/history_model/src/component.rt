@@ -5,10 +5,11 @@ ghost use Rattle.history_model.specs.Queries.{subject_of};
 
 use rf2_values::{Body, Row, Sctid};
 
-/// The concept that a relationship has as its type where it says "is a".
+/// The concept that is the type of an "is a" relationship.
 pub const IS_A: u64 = 116_680_003;
 
-/// What the row is about: the column of its kind that says so, which a concept has not.
+/// The component that the row is about, from the column of its kind that names it; a concept is
+/// about none.
 pub fn subject_of(row: &Row) -> Option<Sctid>
     ensures { result ≡ subject_of row.now }
 {

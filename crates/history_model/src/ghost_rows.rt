@@ -1,4 +1,4 @@
-//! Rows that only clauses see.
+//! Rows that only clauses can see.
 
 ghost use Rattle.std.specs.Prelude.{◌≡◌, ◌++◌, ◌+◌, ◌^◌, ◌<◌, ◌≤◌, ◌∷◌, [], length, take};
 ghost use Rattle.std.specs.Prelude.{OnOk, OnErr};
@@ -9,7 +9,7 @@ use std::alloc::{AllocError, Global};
 use std::marker::Model;
 use std::snapshot::Snapshot;
 
-/// A list of rows that only clauses see: how many there are is all that is held of them.
+/// A list of rows that only clauses can see; all that exists of it at run time is their number.
 #[derive(Drop)]
 pub struct GhostRows {
     count: usize,
@@ -40,7 +40,7 @@ impl GhostRows {
         }
     }
 
-    /// The same rows. It takes no memory.
+    /// A copy. Allocates nothing.
     pub fn copy(&self) -> GhostRows
         ensures { result ≡ self.now }
     {
@@ -50,7 +50,7 @@ impl GhostRows {
         }
     }
 
-    /// The rows of two lists in key order. It takes no memory.
+    /// The rows of two lists in key order. Allocates nothing.
     pub fn union(a: GhostRows, b: GhostRows) -> GhostRows
         requires lists { AreLists (a ∷ b ∷ []) }
         requires few { length a + length b < 2 ^ 64 }
@@ -62,11 +62,11 @@ impl GhostRows {
         }
     }
 
-    /// Adds a row at the end. It holds nothing of the row, which may be dropped or changed.
+    /// Adds a row at the end. Nothing of the row is kept, and it may be dropped or changed.
     pub fn push(&mut self, row: &StampedRow) -> Result<(), AllocError>
         ensures ok { OnOk result (self.new ≡ self.old ++ row.now ∷ []) }
         ensures err { OnErr result (self.new ≡ self.old) }
-        // It is refused only where their count has no room for one more.
+        // Fails only if the number of rows would not fit in 64 bits.
         ensures full { OnErr result (2 ^ 64 ≤ length self.old + 1) }
     {
         let Some(count) = self.count.checked_add(1) else {
@@ -84,7 +84,7 @@ impl GhostRows {
         self.count
     }
 
-    /// Takes away all rows from a place on: what `len` answered once is left.
+    /// Keeps the first `len` rows, which are those from when `len` returned that number.
     pub fn cut_to(&mut self, len: usize)
         ensures { self.new ≡ take len self.old }
     {

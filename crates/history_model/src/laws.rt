@@ -45,7 +45,7 @@ ghost use Rattle.history_model.specs.Membership.{PagesOfValuesEnd, CalledAreName
 ghost use Rattle.history_model.specs.Membership.{CalledAreAmongValues, MembersStay, ValuesStay};
 ghost use Rattle.history_model.specs.Membership.{CalledStays};
 
-/// A history is a chain of row sets, each within the next.
+/// A history is a chain of row sets, each contained in the next.
 pub fn each_history_is_a_chain()
     ensures { EachHistoryIsAChain }
 {}
@@ -55,12 +55,12 @@ pub fn each_chain_is_a_history()
     ensures { EachChainIsAHistory }
 {}
 
-/// No two histories have one chain.
+/// No two histories have the same chain.
 pub fn one_history_for_a_chain()
     ensures { OneHistoryForAChain }
 {}
 
-/// A release leaves a history.
+/// A history after a release is a history.
 pub fn release_leaves_a_history()
     ensures { ReleaseLeavesAHistory }
 {}
@@ -70,13 +70,13 @@ pub fn release_adds_its_rows()
     ensures { ReleaseAddsItsRows }
 {}
 
-/// What a pin shows is unchanged by later imports.
+/// What a pin shows isn't changed by later imports.
 pub fn pinned_stays()
     ensures { PinnedStays }
 {}
 
-/// Releases that are accepted one after the other are
-/// accepted in any order, with the same rows in the end.
+/// Releases that are accepted one after the other are accepted in any order, with the same rows at
+/// the end.
 pub fn order_is_free()
     ensures { OrderIsFree }
 {}
@@ -91,7 +91,7 @@ pub fn one_receipt_for_a_release()
     ensures { OneReceiptForARelease }
 {}
 
-/// The rows that take the number of a release are those that the history lacked.
+/// The rows that get the number of a release are those that the history lacked.
 pub fn new_rows_are_unknown()
     ensures { NewRowsAreUnknown }
 {}
@@ -101,12 +101,12 @@ pub fn receipt_counts_the_unknown()
     ensures { ReceiptCountsTheUnknown }
 {}
 
-/// A release adds its new rows as one list.
+/// The new rows of a release can be added as one list.
 pub fn release_is_one_list()
     ensures { ReleaseIsOneList }
 {}
 
-/// With two lists replaced by one of the rows of both, the rows of all lists are the same.
+/// Replacing two lists by one with the rows of both doesn't change the rows of all lists.
 pub fn merge_leaves_listed()
     ensures { MergeLeavesListed }
 {}
@@ -116,109 +116,109 @@ pub fn what_is_shown_ascends()
     ensures { WhatIsShownAscends }
 {}
 
-/// The Snapshot has one row of a component at most.
+/// The Snapshot has at most one row of a component.
 pub fn one_row_of_a_component()
     ensures { OneRowOfAComponent }
 {}
 
-/// Each answer that is a list ascends, and has nothing twice.
+/// Each answer that is a list is in ascending order, without duplicates.
 pub fn answers_ascend()
     ensures { AnswersAscend }
 {}
 
-/// No child is left out.
+/// No child is missing.
 pub fn children_are_all()
     ensures { ChildrenAreAll }
 {}
 
-/// No replacement is left out.
+/// No replacement is missing.
 pub fn replacements_are_all()
     ensures { ReplacementsAreAll }
 {}
 
-/// A kind is a page of any limit, and then all from behind its last row.
+/// The rows of a kind are a page of any limit, followed by all rows after the last one of the page.
 pub fn page_and_the_rest()
     ensures { PageAndTheRest }
 {}
 
-/// Nothing stands behind a page that has fewer rows than its limit.
+/// There are no rows after a page that has fewer rows than its limit.
 pub fn short_page_is_last()
     ensures { ShortPageIsLast }
 {}
 
-/// Pages of any limit, each from behind the last
-/// row of the one before, give all rows of a kind.
+/// Pages of any limit, each from after the last row of the one before, give all rows of a kind.
 pub fn pages_are_all()
     ensures { PagesAreAll }
 {}
 
-/// Pages of any limit, one after the other, come to an end.
+/// The sequence of such pages ends.
 pub fn pages_end()
     ensures { PagesEnd }
 {}
 
-/// What is about a component are the active rows of which it is the subject.
+/// What is about a component are the active rows whose subject it is.
 pub fn about_is_all()
     ensures { AboutIsAll }
 {}
 
-/// Each active row but a concept's is about one component.
+/// Each active row, except a concept's, is about exactly one component.
 pub fn each_is_about_one()
     ensures { EachIsAboutOne }
 {}
 
-/// What is about a component ascends by id.
+/// The rows about a component are ascending by id.
 pub fn about_ascends()
     ensures { AboutAscends }
 {}
 
-/// What a search finds ascends by id.
+/// The rows that a search finds are ascending by id.
 pub fn search_ascends()
     ensures { SearchAscends }
 {}
 
-/// A search from the first id on finds what `terms` finds.
+/// A search from the first id on finds the same rows as `terms`.
 pub fn search_from_the_first()
     ensures { SearchFromTheFirst }
 {}
 
-/// What is found is a search of any limit, and then all from behind its last row.
+/// The rows that can be found are those of a search of any limit, followed by all rows after its
+/// last one.
 pub fn search_and_the_rest()
     ensures { SearchAndTheRest }
 {}
 
-/// Nothing stands behind a search that found fewer rows than its limit.
+/// There is nothing to find after a search that found fewer rows than its limit.
 pub fn short_search_is_last()
     ensures { ShortSearchIsLast }
 {}
 
-/// Searches of any limit, each from behind the last
-/// row of the one before, find all there is to find.
+/// Searches of any limit, each from after the last row of the one before, find everything.
 pub fn searches_are_all()
     ensures { SearchesAreAll }
 {}
 
-/// Searches from the first id on, one after the other, find what `terms` finds without a limit.
+/// Searches from the first id on, one after the other, find the same rows as `terms` without a
+/// limit.
 pub fn searches_are_terms()
     ensures { SearchesAreTerms }
 {}
 
-/// Searches of any limit, one after the other, come to an end.
+/// The sequence of such searches ends.
 pub fn searches_end()
     ensures { SearchesEnd }
 {}
 
-/// What is about a component at a pin is unchanged by later imports.
+/// What is about a component at a pin isn't changed by later imports.
 pub fn about_stays()
     ensures { AboutStays }
 {}
 
-/// What a search finds at a pin is unchanged by later imports.
+/// What a search finds at a pin isn't changed by later imports.
 pub fn search_stays()
     ensures { SearchStays }
 {}
 
-/// The receipt of an import is unchanged by later imports.
+/// The receipt of an import isn't changed by later imports.
 pub fn import_receipt_stays()
     ensures { ImportReceiptStays }
 {}
@@ -248,12 +248,12 @@ pub fn receipts_count_the_rows()
     ensures { ReceiptsCountTheRows }
 {}
 
-/// One concept is a parent of another exactly if that one is its child.
+/// A concept is a parent of another exactly if the other is its child.
 pub fn parents_have_children()
     ensures { ParentsHaveChildren }
 {}
 
-/// One concept is an ancestor of another exactly if that one is its descendant.
+/// A concept is an ancestor of another exactly if the other is its descendant.
 pub fn ancestors_have_descendants()
     ensures { AncestorsHaveDescendants }
 {}
@@ -268,12 +268,12 @@ pub fn descendants_of_descendants()
     ensures { DescendantsOfDescendants }
 {}
 
-/// A concept has one list of descendants.
+/// A concept has only one list of descendants.
 pub fn one_list_of_descendants()
     ensures { OneListOfDescendants }
 {}
 
-/// A concept has one list of ancestors.
+/// A concept has only one list of ancestors.
 pub fn one_list_of_ancestors()
     ensures { OneListOfAncestors }
 {}
@@ -288,22 +288,22 @@ pub fn each_has_ancestors()
     ensures { EachHasAncestors }
 {}
 
-/// The descendants at a pin are unchanged by later imports.
+/// The descendants at a pin aren't changed by later imports.
 pub fn descendants_stay()
     ensures { DescendantsStay }
 {}
 
-/// The ancestors at a pin are unchanged by later imports.
+/// The ancestors at a pin aren't changed by later imports.
 pub fn ancestors_stay()
     ensures { AncestorsStay }
 {}
 
-/// A Delta has the components of which the rows at the two dates differ.
+/// A Delta has the components whose rows at the two dates differ.
 pub fn delta_is_what_differs()
     ensures { DeltaIsWhatDiffers }
 {}
 
-/// Of each component that changed, a Delta has the row at the later date.
+/// For each component that changed, a Delta has the row at the later date.
 pub fn delta_has_the_later_row()
     ensures { DeltaHasTheLaterRow }
 {}
@@ -318,7 +318,7 @@ pub fn delta_backwards_is_empty()
     ensures { DeltaBackwardsIsEmpty }
 {}
 
-/// Two Deltas, the one from where the other ends, cover the one over both.
+/// Two Deltas, of which one begins where the other ends, cover the Delta over both.
 pub fn two_deltas_cover_both()
     ensures { TwoDeltasCoverBoth }
 {}
@@ -328,12 +328,13 @@ pub fn delta_ascends()
     ensures { DeltaAscends }
 {}
 
-/// A Delta at a pin is unchanged by later imports.
+/// A Delta at a pin isn't changed by later imports.
 pub fn delta_stays()
     ensures { DeltaStays }
 {}
 
-/// A timeline has all versions of what is about the component at some date, and nothing else.
+/// A timeline has all versions of the components that were about the component at some date, and
+/// nothing else.
 pub fn timeline_is_all()
     ensures { TimelineIsAll }
 {}
@@ -348,27 +349,27 @@ pub fn timeline_ascends()
     ensures { TimelineAscends }
 {}
 
-/// A timeline at a pin is unchanged by later imports.
+/// A timeline at a pin isn't changed by later imports.
 pub fn timeline_stays()
     ensures { TimelineStays }
 {}
 
-/// No association of which the component is the target is left out.
+/// No association whose target is the component is missing.
 pub fn replaces_are_all()
     ensures { ReplacesAreAll }
 {}
 
-/// What replaces a component, and what it replaces, are the same associations.
+/// What replaces a component and what it replaces are the same associations, from two ends.
 pub fn both_ends_are_one()
     ensures { BothEndsAreOne }
 {}
 
-/// What a component replaces ascends by reference set, referenced component and member.
+/// What a component replaces is in the order of reference set, referenced component and member.
 pub fn replaces_ascend()
     ensures { ReplacesAscend }
 {}
 
-/// What a component replaces at a pin is unchanged by later imports.
+/// What a component replaces at a pin isn't changed by later imports.
 pub fn replaces_stay()
     ensures { ReplacesStay }
 {}
@@ -378,53 +379,53 @@ pub fn dates_are_those_of_versions()
     ensures { DatesAreThoseOfVersions }
 {}
 
-/// The dates ascend, each once.
+/// The dates are ascending, without duplicates.
 pub fn dates_ascend()
     ensures { DatesAscend }
 {}
 
-/// The dates at a pin are unchanged by later imports.
+/// The dates at a pin aren't changed by later imports.
 pub fn dates_stay()
     ensures { DatesStay }
 {}
 
-/// The members of a reference set are those of all members that are of it.
+/// The members of a reference set are those of all members that belong to it.
 pub fn members_are_of_the_kind()
     ensures { MembersAreOfTheKind }
 {}
 
-/// Each member is of one reference set.
+/// Each member belongs to exactly one reference set.
 pub fn each_is_of_one_set()
     ensures { EachIsOfOneSet }
 {}
 
-/// Members ascend by id.
+/// Members are ascending by id.
 pub fn members_ascend()
     ensures { MembersAscend }
 {}
 
-/// The members are an answer of any limit, and then all from behind its last one.
+/// The members are an answer of any limit, followed by all members after its last one.
 pub fn members_and_the_rest()
     ensures { MembersAndTheRest }
 {}
 
-/// Nothing stands behind an answer that has fewer members than its limit.
+/// There are no members after an answer that has fewer members than its limit.
 pub fn few_members_are_last()
     ensures { FewMembersAreLast }
 {}
 
-/// Answers of any limit, each from behind the last member
-/// of the one before, give all members of a reference set.
+/// Answers of any limit, each from after the last member of the one before, give all members of a
+/// reference set.
 pub fn pages_of_members_are_all()
     ensures { PagesOfMembersAreAll }
 {}
 
-/// Answers of any limit, one after the other, come to an end.
+/// The sequence of such answers ends.
 pub fn pages_of_members_end()
     ensures { PagesOfMembersEnd }
 {}
 
-/// No active member of a reference set is left out.
+/// No active member of a reference set is missing.
 pub fn values_are_all()
     ensures { ValuesAreAll }
 {}
@@ -434,17 +435,17 @@ pub fn values_are_the_active_members()
     ensures { ValuesAreTheActiveMembers }
 {}
 
-/// Values ascend by component, then by member.
+/// Values are in the order of component, then of member.
 pub fn values_ascend()
     ensures { ValuesAscend }
 {}
 
-/// Values are the first so many, and with these all that refer to the same components.
+/// Values are the first up to the limit, and all others that refer to the same components as these.
 pub fn values_are_the_first_with_ties()
     ensures { ValuesAreTheFirstWithTies }
 {}
 
-/// No answer cuts the members of one component apart.
+/// No answer separates the members of one component.
 pub fn values_of_one_component_stay_together()
     ensures { ValuesOfOneComponentStayTogether }
 {}
@@ -459,18 +460,19 @@ pub fn few_values_are_all()
     ensures { FewValuesAreAll }
 {}
 
-/// The values are an answer of any limit, and then all above its last component.
+/// The values are an answer of any limit, followed by all with components greater than its last
+/// one.
 pub fn values_and_the_rest()
     ensures { ValuesAndTheRest }
 {}
 
-/// Answers of any limit, each above the last component
-/// of the one before, give all values of a reference set.
+/// Answers of any limit, each from after the last component of the one before, give all values of a
+/// reference set.
 pub fn pages_of_values_are_all()
     ensures { PagesOfValuesAreAll }
 {}
 
-/// Answers of any limit, one after the other, come to an end.
+/// The sequence of such answers ends.
 pub fn pages_of_values_end()
     ensures { PagesOfValuesEnd }
 {}
@@ -481,7 +483,7 @@ pub fn called_are_names()
     ensures { CalledAreNames }
 {}
 
-/// The descriptions that a concept is called by ascend by id.
+/// The descriptions by which a concept is called are ascending by id.
 pub fn called_ascend()
     ensures { CalledAscend }
 {}
@@ -491,17 +493,17 @@ pub fn called_are_among_values()
     ensures { CalledAreAmongValues }
 {}
 
-/// Members at a pin are unchanged by later imports.
+/// Members at a pin aren't changed by later imports.
 pub fn members_stay()
     ensures { MembersStay }
 {}
 
-/// Values at a pin are unchanged by later imports.
+/// Values at a pin aren't changed by later imports.
 pub fn values_stay()
     ensures { ValuesStay }
 {}
 
-/// What a concept is called at a pin is unchanged by later imports.
+/// What a concept is called at a pin isn't changed by later imports.
 pub fn called_stays()
     ensures { CalledStays }
 {}

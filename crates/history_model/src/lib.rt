@@ -1,4 +1,4 @@
-//! What a history of releases says: the definitions and their laws.
+//! The meaning of a history of releases: definitions and their laws.
 #![tactic(auto)]
 
 mod component;

@@ -1,4 +1,4 @@
-//! A list that only clauses read.
+//! A list that only clauses can see.
 
 ghost use Rattle.std.specs.Prelude.{◌≡◌, List};
 ghost use Rattle.std.specs.Borrow.{ftrue};
@@ -6,7 +6,7 @@ ghost use Rattle.history_model.specs.declared.stamped.StampedRow.{StampedRow};
 
 use std::marker::{Model, PhantomData};
 
-/// Rows that only clauses read. It has no bytes.
+/// Rows that only clauses can see. It has no size at run time.
 #[derive(Drop)]
 pub(crate) struct ShownRows {
     marker: PhantomData<()>,
@@ -18,7 +18,7 @@ impl Model for ShownRows {
 }
 
 impl ShownRows {
-    /// The rows that the caller's proof names, which it makes of what `of` shows.
+    /// The rows that the caller's proof names, made from what `of` shows.
     pub(crate) fn any<T>(of: &T) -> ShownRows
         ghost rows: { List StampedRow }
         ensures { result.rows ≡ rows }

@@ -1,4 +1,4 @@
--- What the calls of a store answer.
+-- The results of a store's calls, and the store after them.
 use Rattle.std.specs.Prelude.{◌≡◌, ◌≢◌, ◌⊎◌, ℕ, ◌+◌, ◌≤◌, true, false, List, ◌∷◌}
 use Rattle.std.specs.Prelude.{length, None, Result, Ok, Err}
 use Rattle.fault_counts.specs.Counting.{HasRisen}
@@ -28,16 +28,16 @@ use Rattle.history_store.specs.Prepared.{IsNotSpent, IsForLater, IsAdmitted}
 use Rattle.history_store.specs.Written.{added_ranges, StemsWithinAll}
 use Rattle.history_store.specs.Refusals.{of_loading}
 
--- a store, or why there is none, and then its device
+-- a store; or why there is none, with the device
 abbrev pub StoreOr : Type 0 → Type 0
 StoreOr D = Result (StoreValue D) (Refusal × D)
 
--- the device, which comes back with a store or with a refusal
+-- the device, which is returned both with a store and with a refusal
 abbrev pub device_of : {D : Type 0} → StoreOr D → D
 device_of (Ok store) = store.disk
 device_of (Err e) = e.1
 
--- the count of the device's failures: risen where it failed, and else as before
+-- the count of the device's failures: it has risen if the device failed, and otherwise is unchanged
 abbrev pub CountsRefusal : Refusal → ℕ → ℕ → Type 0
 CountsRefusal refusals.DiskFault old new = HasRisen old new
 CountsRefusal _ old new = new ≡ old
@@ -50,36 +50,37 @@ abbrev pub Counts : {T : Type 0} → Result T Refusal → ℕ → ℕ → Type 0
 Counts (Ok x) old new = new ≡ old
 Counts (Err e) old new = CountsRefusal e old new
 
--- why no store is made on a disk that holds these bytes
+-- why no store is made on a disk with these bytes
 abbrev pub IsNotMade : Refusal → List ℕ → Type 0
 IsNotMade refusals.OutOfMemory bytes = length bytes ≡ 0
 IsNotMade refusals.DiskFault bytes = Unit {0}
 IsNotMade refusals.NotEmpty bytes = 1 ≤ length bytes
 IsNotMade _ bytes = ⊥
 
--- a new store in this version: nothing is imported, and it has no segment
+-- a new store with this layout version: it has no imports and no segments
 pub record IsNew {D : Type 0} (layout : Layout) (s : StoreValue D) : Type 0 where
   pub history : s.history ≡ no_history
   pub catalog : s.catalog ≡ catalog_of (empty_listing layout) None
   pub open_still : s.needs_reopen ≡ false
 
--- every refusal but the failed device leaves the device as it was, and what a stop may leave of it
+-- unless the device failed, a refusal returns the device unchanged, and what a crash may leave of
+-- it
 abbrev pub HandsBack : {D : Type 0} → (D → DiskView) → StoreOr D → D → Type 0
 HandsBack view (Ok store) disk = Unit {0}
 HandsBack view (Err e) disk = e.0 ≢ refusals.DiskFault → (view e.1).moments ≡ (view disk).moments
 
--- one sync changed the disk and nothing else did; where the device failed, maybe not even that
+-- the disk was synced once and otherwise is unchanged; if the device failed, maybe not even synced
 abbrev pub SyncsOnce : {D : Type 0} → (D → DiskView) → StoreOr D → D → Type 0
 SyncsOnce view (Ok store) disk = (view store.disk).moments ≡ synced (view disk).moments
 SyncsOnce view (Err e) disk = ((view e.1).moments ≡ synced (view disk).moments)
     ⊎ ((e.0 ≡ refusals.DiskFault) × ((view e.1).moments ≡ (view disk).moments))
 
--- a store is made on an empty disk alone
+-- a store can only be made on an empty disk
 abbrev pub IsMakingOf : {D : Type 0} → Layout → StoreOr D → List ℕ → Type 0
 IsMakingOf layout (Ok store) bytes = (length bytes ≡ 0) × IsNew layout store
 IsMakingOf layout (Err e) bytes = IsNotMade e.0 bytes
 
--- why no store is opened of bytes: why they aren't loaded, as a refusal
+-- why bytes aren't opened as a store: the reason why they can't be loaded, as a refusal
 abbrev pub IsNotOpened : Refusal → List ℕ → Type 0
 IsNotOpened refusal bytes =
     (fault : LoadFault) × (refusal ≡ of_loading fault) × IsNotLoaded fault bytes
@@ -90,14 +91,15 @@ pub record IsOpened {D : Type 0} (s : StoreValue D) (bytes : List ℕ) : Type 0 
   pub no_merge : s.catalog.merge ≡ None
   pub open_still : s.needs_reopen ≡ false
 
--- an opened store, whatever the disk gave: its rows and counts are a history, and no merge goes on
+-- an opened store, whatever the disk returned: its rows and counts are a history, and no merge is
+-- in progress
 pub record IsReady {D : Type 0} (s : StoreValue D) : Type 0 where
   pub history : IsHistory s.history
   pub no_merge : s.catalog.merge ≡ None
   pub open_still : s.needs_reopen ≡ false
 
--- a store is opened exactly where the bytes represent a history, unless memory runs out or the
--- device fails
+-- a store is opened exactly if the bytes represent a history, unless memory runs out or the device
+-- fails
 abbrev pub IsOpeningOf : {D : Type 0} → StoreOr D → List ℕ → Type 0
 IsOpeningOf (Ok store) bytes = IsOpened store bytes
 IsOpeningOf (Err e) bytes = IsNotOpened e.0 bytes
@@ -112,9 +114,9 @@ pub record IsTaken (h after : History) (catalog next : Catalog) (release : Relea
   pub receipt_is : ReceiptOf h accepted.rows receipt.number receipt.new receipt.repeated
   pub catalog_is : IsCatalogAfter (new_rows h accepted.rows) catalog next
 
--- A release that is taken, on every disk: each file is a release file, the history goes on with the
--- rows that are new by their keys, which the receipt counts, and a segment of these is added, if
--- there are any.
+-- A release that is accepted, as far as that can be said on every disk: each file is a valid
+-- release file, the next history has the rows whose keys are new, which the receipt counts, and the
+-- next catalog has a segment of these if there are any.
 pub record IsTakenByKey (h after : History) (catalog next : Catalog) (release : Release)
     (receipt : Receipt) : Type 0 where
   pub room : IsAdmitted h catalog release
@@ -128,7 +130,8 @@ pub record IsTakenByKey (h after : History) (catalog next : Catalog) (release : 
   }
   pub catalog_is : IsCatalogAfter (stamped (h.imports + 1) fresh.rows.items) catalog next
 
--- A release whose rows that are new by their keys lack something. This is said on every disk.
+-- A release whose rows with new keys can't be added, for the reason `Lacks`. This holds on every
+-- disk.
 pub record LacksByKey (h : History) (catalog : Catalog) (release : Release)
     (Lacks : List StampedRow → Catalog → Type 0) : Type 0 where
   pub room : IsAdmitted h catalog release
@@ -136,14 +139,14 @@ pub record LacksByKey (h : History) (catalog : Catalog) (release : Release)
   pub brings : BringsByKey (full h) release fresh
   pub lacks : Lacks (stamped (h.imports + 1) fresh.rows.items) catalog
 
--- a release that would be taken, but for its new rows
+-- a release that would be accepted, if its new rows could be added: `Lacks` says why they can't
 pub record WouldBeTakenBut (h : History) (catalog : Catalog) (release : Release)
     (Lacks : List StampedRow → Catalog → Type 0) : Type 0 where
   pub room : IsAdmitted h catalog release
   pub accepted : IsAccepted (full h) release
   pub lacks : Lacks (new_rows h accepted.rows) catalog
 
--- a release that would be taken: its new rows have a place, or there are none
+-- a release that would be accepted: its new rows have a place, or there are none
 pub record WouldBeTaken (h : History) (catalog : Catalog) (release : Release) : Type 0 where
   pub room : IsAdmitted h catalog release
   pub accepted : IsAccepted (full h) release
@@ -191,21 +194,21 @@ abbrev pub IsRefusedFor : {D : Type 0} → (Refusal → Type 0) → Refusal → 
 IsRefusedFor Why refusals.ReopenNeeded s = s.needs_reopen ≡ true
 IsRefusedFor Why e s = (s.needs_reopen ≡ false) × Why e
 
--- history and catalog stay, and a failure of the device alone closes the store
+-- history and catalog are unchanged, and only a device failure closes the store
 pub record IsRefused {D : Type 0} (e : Refusal) (old new : StoreValue D) : Type 0 where
   pub history : new.history ≡ old.history
   pub catalog : new.catalog ≡ old.catalog
   pub closed : e ≡ refusals.DiskFault → new.needs_reopen ≡ true
   pub still : e ≢ refusals.DiskFault → new.needs_reopen ≡ old.needs_reopen
 
--- what a stop may leave stays as it is at every refusal but the failed device
+-- unless the device failed, a refusal leaves unchanged what a crash may leave
 abbrev pub KeepsMoments : {T D : Type 0} → (D → DiskView) → Result T Refusal → StoreValue D
     → StoreValue D → Type 0
 KeepsMoments view (Ok x) old new = Unit {0}
 KeepsMoments view (Err e) old new = e ≢ refusals.DiskFault
     → (view new.disk).moments ≡ (view old.disk).moments
 
--- what an import answers, and the store after it
+-- the result of an import, and the store after it
 abbrev pub IsImportOf : {D : Type 0} → Result Receipt Refusal → StoreValue D → StoreValue D
     → Release → Type 0
 IsImportOf (Ok receipt) old new release =
@@ -214,19 +217,20 @@ IsImportOf (Ok receipt) old new release =
 IsImportOf (Err e) old new release =
     IsRefusedFor (IsNotTaken old.history old.catalog release) e old × IsRefused e old new
 
--- the bytes represent the history with an accepted release, in this version
+-- in this layout version, the bytes represent the history with an accepted release added
 abbrev pub RepresentsWith : Layout → History → Release → List ℕ → Type 0
 RepresentsWith layout h release c = (accepted : IsAccepted (full h) release)
     × RepresentsAs layout (after_release h accepted.rows) c
 
--- what a stop inside an import may leave: the history
--- from before in its version, or the one after it in the next
+-- what a crash during an import may leave: the history from before in its layout version, or the
+-- one after it in the next
 abbrev pub IsBeforeOrAfter : Layout → History → Release → List ℕ → Type 0
 IsBeforeOrAfter layout h release c =
     RepresentsAs layout h c ⊎ RepresentsWith (next_layout layout) h release c
 
--- The bytes are what a stop may have left before an import, but for the slots and the segment of
--- the new rows, which goes to the first place that has room for it; and the release would be taken.
+-- The bytes differ from an image that was possible before an import only in the slots and in the
+-- segment of the new rows, which is at the first extent with room for it; and the release would be
+-- accepted.
 abbrev pub StemsWithinNew : History → Catalog → Release → DiskState → List ℕ → Type 0
 StemsWithinNew h catalog release s c = (taken : WouldBeTaken h catalog release)
     × StemsWithinAll s (slots_range ∷ added_ranges catalog taken.next) c
@@ -239,14 +243,14 @@ IsReadRefusal refusals.Damaged s = s.needs_reopen ≡ false
 IsReadRefusal refusals.ReopenNeeded s = s.needs_reopen ≡ true
 IsReadRefusal _ s = ⊥
 
--- history and catalog stay, and the store stays open
+-- history and catalog are unchanged, and the store stays open
 pub record IsStill {D : Type 0} (old new : StoreValue D) : Type 0 where
   pub history : new.history ≡ old.history
   pub catalog : new.catalog ≡ old.catalog
   pub open_before : old.needs_reopen ≡ false
   pub open_still : new.needs_reopen ≡ false
 
--- a call that only reads leaves the store as it was, but that a failure of the device closes it
+-- a call that only reads leaves the store unchanged, except that a device failure closes it
 abbrev pub IsReadingOf : {T D : Type 0} → Result T Refusal → StoreValue D → StoreValue D → Type 0
 IsReadingOf (Ok x) old new = IsStill old new
 IsReadingOf (Err e) old new = IsReadRefusal e old × IsRefused e old new

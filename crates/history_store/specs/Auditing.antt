@@ -1,4 +1,4 @@
--- What a question for the concepts above a concept answers, and what it leaves of a store.
+-- The result of a query for the concepts above a concept, and the store after it.
 use Rattle.std.specs.Prelude.{◌≡◌, ℕ, ◌+◌, ◌≤◌, List, ◌∷◌, Result, IfOk}
 use Rattle.std.specs.List.{sum_by}
 use Rattle.rf2_values.specs.Row.{RowValue}
@@ -12,17 +12,17 @@ use Rattle.history_store.specs.Reading.{row_cost}
 use Rattle.history_store.specs.StoreValue.{StoreValue}
 use Rattle.history_store.specs.Queries.{IsQuery, ReadsThroughCache}
 
--- the most bytes that are read for the active relationships at the date of which one of the
--- concepts is the source
+-- the most bytes that are read for the active relationships, at a date, whose source is one of the
+-- concepts
 abbrev pub relationships_cost : ℕ → List RowValue → List ℕ → ℕ
 relationships_cost date rows concepts =
     sum_by (λ c. sum_by row_cost (about kinds.Relationship c date rows)) concepts
 
--- A query for the concepts above a concept at a date, of the rows that the pin shows: on an honest
--- disk all of them are answered. On every disk no call but reads is made, what is kept is not read
--- again, and no more is read than the relationships take of the concept and of those that are
--- answered. Whatever is answered, no more is read of an honest disk than the relationships take of
--- the concept and of those above it.
+-- A query for the concepts above a concept at a date, among the rows that the pin shows. On an
+-- honest disk all of them are found. On every disk no calls but reads are made, cached blocks
+-- aren't read again, and an answer reads no more than the relationships of the concept and of the
+-- concepts found take. Whatever the result, on an honest disk no more is read than the
+-- relationships of the concept and of those above it take.
 pub record IsAncestorsQuery {T D : Type 0} (result : Result T Refusal) (ids_of : T → List ℕ)
     (concept date pin : ℕ) (view : D → DiskView)
     (old new : StoreValue D) : Type 0 where

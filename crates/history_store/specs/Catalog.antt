@@ -1,4 +1,5 @@
--- The catalog of a store: where its segments lie, and what an import adds to it. It holds no row.
+-- The catalog of a store: where its segments are, and what an import adds to it. It contains no
+-- rows.
 use Rattle.std.specs.Prelude.{◌≡◌, ◌⊎◌, ℕ, ◌+◌, ◌^◌, ◌<◌, ◌≤◌, List, [], ◌∷◌, ◌++◌, length, sum_by}
 use Rattle.std.specs.Prelude.{Option, Some, None, Bool, true, false, count_by}
 use Rattle.blocks.specs.declared.extent.Extent.{Extent}
@@ -14,8 +15,8 @@ use Rattle.directory.specs.Fit.{fit}
 use Rattle.segment.specs.Records.{segment_of}
 use Rattle.store_image.specs.Kept.{entry_at}
 
--- a merge that goes on: the numbers of its two segments, from 0 on,
--- where its output is to lie and in which form, and how many rows are left
+-- a merge in progress: the numbers of its two segments, from 0 on, the extent and the form of its
+-- output, and how many rows are left to merge
 pub record Merge : Type 0 where
   pub i : ℕ
   pub j : ℕ
@@ -29,13 +30,13 @@ pub record Catalog : Type 0 where
   pub entries : List Entry
   pub merge : Option Merge
 
--- the catalog of a directory and of the merge that goes on
+-- the catalog of a directory and of the merge in progress
 abbrev pub catalog_of : DirectoryValue → Option Merge → Catalog
 catalog_of d merge =
     record { layout = d.layout; epoch = d.epoch; entries = d.entries; merge = merge }
 
--- the blocks that a store needs: those of the slots, of which one holds
--- the directory, and those of the segments that it lists
+-- how many blocks a store needs: those of the slots, one of which holds the directory, and those of
+-- the listed segments
 abbrev pub blocks_in_use : List Entry → ℕ
 blocks_in_use entries = 4 + sum_by (λ entry. block_count (extent_of entry)) entries
 
@@ -53,7 +54,7 @@ abbrev pub reserved_by : Option Merge → Option Extent
 reserved_by None = None
 reserved_by (Some merge) = Some merge.output
 
--- the first place where a segment of these rows finds room
+-- the first block of the first extent with room for a segment of these rows
 abbrev pub place_for : List StampedRow → Catalog → Option ℕ
 place_for rows catalog =
     fit (block_count (record { first = 0; bytes = length (segment_of rows) })) catalog.entries
@@ -64,8 +65,8 @@ abbrev pub next_catalog : Catalog → Catalog
 next_catalog catalog =
     record catalog { layout = next_layout catalog.layout; epoch = catalog.epoch + 1 }
 
--- a segment of these rows is added, at the first place where it finds room. The version from
--- before says how many entries there may be and which form the segment has, and the next one is
+-- a segment of these rows is added at the first extent with room for it. The layout version from
+-- before decides how many entries there may be and which form the segment has; the next version is
 -- written.
 pub record IsPlaced (rows : List StampedRow) (catalog next : Catalog) : Type 0 where
   pub few : length catalog.entries < most_entries catalog.layout
@@ -81,12 +82,12 @@ abbrev pub IsCatalogAfter : List StampedRow → Catalog → Catalog → Type 0
 IsCatalogAfter [] catalog next = next ≡ next_catalog catalog
 IsCatalogAfter (s ∷ rows) catalog next = IsPlaced (s ∷ rows) catalog next
 
--- a segment is wanted, and the directory lists as many as it can
+-- there are new rows, and the directory lists the greatest possible number of segments
 pub record HasNoEntry (rows : List StampedRow) (catalog : Catalog) : Type 0 where
   pub some : 1 ≤ length rows
   pub all_taken : length catalog.entries ≡ most_entries catalog.layout
 
--- a segment is wanted, and it is too long, or there is no place for it
+-- there are new rows, and their segment is too long or there is no extent for it
 pub record HasNoPlace (rows : List StampedRow) (catalog : Catalog) : Type 0 where
   pub some : 1 ≤ length rows
   pub few : length catalog.entries < most_entries catalog.layout

@@ -1,5 +1,4 @@
--- What the check of a release answers: whether an import of it would be taken, and with which
--- receipt.
+-- The result of checking a release: whether an import would accept it, and with which receipt.
 use Rattle.std.specs.Prelude.{◌≡◌, ◌⊎◌, ◌↔◌, ℕ, ◌+◌, ◌≤◌, true, false, List, Result, Ok, Err}
 use Rattle.std.specs.List.{sum_by}
 use Rattle.disk_model.specs.View.{DiskView}
@@ -40,12 +39,12 @@ IsCheckingOnAnyDisk (Ok receipt) old new release =
 IsCheckingOnAnyDisk (Err e) old new release =
     IsRefusedFor (IsNotTakenByKey old.history old.catalog release) e old × IsRefused e old new
 
--- A release was checked. Whatever is answered, history and catalog stay, and a failed device alone
--- closes the store. A store that has to be opened again leaves everything as it is, and so does one
--- to which a release for a later version is given. Only reads are made: each row of the store whose
--- key the release has is read once at most, through the blocks in memory, and no other; where a
--- file is no release file, nothing is read. What a stop may leave stays, and as long as no call has
--- failed it represents what the store holds.
+-- A release was checked. Whatever the result, history and catalog are unchanged, and only a device
+-- failure closes the store. The store is left unchanged if it has to be opened again, or if the
+-- release is for a later version. Only reads are made: each stored row whose key is in the release
+-- is read at most once, through the cache, and no other row; if a file isn't a valid release file,
+-- nothing is read. What a crash may leave is unchanged, and as long as no call has failed it
+-- represents what the store holds.
 pub record IsChecking {D : Type 0} (result : Result Receipt Refusal) (release : Release)
     (view : D → DiskView) (old new : StoreValue D) : Type 0 where
   pub answer : (view old.disk).is_honest → IsCheckingOf result old new release
@@ -63,7 +62,7 @@ pub record IsChecking {D : Type 0} (result : Result Receipt Refusal) (release : 
       + sum_by row_cost (already_known (full old.history) rows)
   pub bytes_unread : (IsRead release → ⊥) → (view new.disk).bytes_read ≤ (view old.disk).bytes_read
 
--- ---- what a check answers, an import answers next
+-- ---- an import returns what a check returned
 
 -- memory ran out, or the device failed
 abbrev pub HasFailed : Result Receipt Refusal → Type 0
@@ -71,21 +70,22 @@ HasFailed (Err refusals.OutOfMemory) = Unit {0}
 HasFailed (Err refusals.DiskFault) = Unit {0}
 HasFailed _ = ⊥
 
--- An import of the release that was checked last gives the same receipt or the same refusal, unless
--- memory runs out or the device fails in one of the two calls.
+-- An import of the release that was checked just before returns the same receipt or the same
+-- refusal, unless memory runs out or the device fails in one of the two calls.
 abbrev pub CheckedIsImported : Type 0 → Type 0
 CheckedIsImported D = (old checked new : StoreValue D) (release : Release)
     (answer result : Result Receipt Refusal)
     → IsCheckingOf answer old checked release → IsImportOf result checked new release
     → (result ≡ answer) ⊎ (HasFailed answer ⊎ HasFailed result)
 
--- memory ran out, the device failed, or a known row was read as damaged, or as one that contradicts
+-- memory ran out, the device failed, or a stored row was read as damaged or as contradicting the
+-- release
 abbrev pub DependsOnReading : Result Receipt Refusal → Type 0
 DependsOnReading (Err refusals.Damaged) = Unit {0}
 DependsOnReading (Err (refusals.Contradiction file line)) = Unit {0}
 DependsOnReading answer = HasFailed answer
 
--- the same on every disk, unless one of the two calls was answered by what was read
+-- the same on every disk, unless one of the two results depends on stored rows that were read
 abbrev pub CheckedIsImportedOnAnyDisk : Type 0 → Type 0
 CheckedIsImportedOnAnyDisk D = (old checked new : StoreValue D) (release : Release)
     (answer result : Result Receipt Refusal)
@@ -99,7 +99,7 @@ abbrev pub IsTooEarly : {D : Type 0} → StoreValue D → Release → Type 0
 IsTooEarly s release = (s.needs_reopen ≡ false)
     × IsNotSpent s.history.imports s.catalog.epoch × IsForLater s.catalog.layout release
 
--- An import and a check are refused so there, and nowhere else, whatever the disk.
+-- Exactly then an import and a check are refused with `LaterVersion`, on every disk.
 abbrev pub LaterIsRefused : Type 0 → Type 0
 LaterIsRefused D =
     (old new : StoreValue D) (release : Release) (result : Result Receipt Refusal)

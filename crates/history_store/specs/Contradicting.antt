@@ -1,4 +1,4 @@
--- What a store answers of the contradictions of a release.
+-- The result of listing the contradictions of a release.
 use Rattle.std.specs.Prelude.{◌≡◌, ◌⊎◌, ◌↔◌, ℕ, ◌+◌, ◌≤◌, true, false, List, map, MatchResult}
 use Rattle.std.specs.Prelude.{Option, MatchOption, Result, IfOk, IfErr}
 use Rattle.std.specs.List.{sum_by}
@@ -24,23 +24,23 @@ use Rattle.history_store.specs.StoreValue.{StoreValue, IsAcknowledged}
 use Rattle.history_store.specs.Queries.{ReadsThroughCache}
 use Rattle.history_store.specs.Answers.{Counts, IsRefused, IsStill}
 
--- the number of the import that brought the row with the key; none where no row has the key
+-- the number of the import that brought the row with this key; none if no row has the key
 abbrev pub IsBroughtBy : List StampedRow → Key → Option ℕ → Type 0
 IsBroughtBy rows key number = MatchOption number (IsUnknown (map (λ s. s.row) rows) key)
     (λ n. (s : StampedRow) × Has rows s × (key_of s.row ≡ key) × (s.import ≡ n))
 
--- the refusal is that of a reason for which contradictions are not listed
+-- the refusal's reason is one for which contradictions are not listed
 abbrev pub IsUnlisted : (honest : Type 0) → Refusal → Release → Type 0
 IsUnlisted honest e release =
     (fault : ImportFault) × (e ≡ refusal_of fault) × IsNotListed honest release fault
 
--- The contradictions of a release were listed, unless the store has to be opened again, or a file
--- is no release file, or a row can't be read. Whatever is answered, history and catalog stay, and a
--- failed device alone closes the store. A store that has to be opened again leaves everything as it
--- is. Only reads are made: each row of the store whose key the release has is read once at most,
--- through the blocks in memory, and no other; where a file is no release file, nothing is read.
--- What a stop may leave stays, and as long as no call has failed it represents what the store
--- holds.
+-- The contradictions of a release were listed, unless the store has to be opened again, a file
+-- isn't a valid release file, or a row can't be read. Whatever the result, history and catalog are
+-- unchanged, and only a device failure closes the store. A store that has to be opened again is
+-- left unchanged. Only reads are made: each stored row whose key is in the release is read at most
+-- once, through the cache, and no other row; if a file isn't a valid release file, nothing is read.
+-- What a crash may leave is unchanged, and as long as no call has failed it represents what the
+-- store holds.
 pub record IsListing {D : Type 0} (result : Result Contradictions Refusal) (release : Release)
     (limit : ℕ) (view : D → DiskView) (old new : StoreValue D) : Type 0 where
   pub found : (view old.disk).is_honest

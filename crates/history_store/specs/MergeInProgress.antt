@@ -1,5 +1,5 @@
--- A merge that goes on: in memory stands the index of the rows taken so far, and their bytes
--- stand where the output is to lie, as a read gives them.
+-- A merge in progress: memory has the index of the rows merged so far, and the disk, as reads
+-- return it, has their records in the output's extent.
 use Rattle.std.specs.Prelude.{◌≡◌, ℕ, ◌<◌, Bool, false, List, length, Option, Some, None}
 use Rattle.std.specs.Prelude.{slice_get}
 use Rattle.std.specs.List.{AllByRecursion}
@@ -15,7 +15,7 @@ use Rattle.store_image.specs.Ahead.{BeginsWith}
 use Rattle.history_store.specs.declared.merge_in_progress.MergeInProgress.{MergeInProgress}
 use Rattle.history_store.specs.Catalog.{Merge}
 
--- what the catalog shows of a merge that goes on
+-- what the catalog says of a merge in progress
 abbrev pub merge_of : Option MergeInProgress → Option Merge
 merge_of None = None
 merge_of (Some m) =
@@ -27,8 +27,7 @@ merge_of (Some m) =
       left = left_count m.output;
     })
 
--- The output is going to have the rows of both lists. Its extent shares no block with a segment
--- that is listed.
+-- The output will have the rows of both lists. Its extent shares no block with a listed segment.
 pub record IsMergeOf (d : DirectoryValue) (lists : List (List StampedRow)) (i j : ℕ)
     (entry : Entry) (output : OutputRows) : Type 0 where
   pub below : i < j
@@ -40,19 +39,19 @@ pub record IsMergeOf (d : DirectoryValue) (lists : List (List StampedRow)) (i j 
   pub has_form : HasForm d.layout entry
   pub beside : AllByRecursion (AreBeside (extent_of entry)) (extents_of d.entries)
 
--- a merge that goes on is of two of the segments that are listed
+-- a merge in progress is one of two listed segments
 abbrev pub IsMergingOf : DirectoryValue → List (List StampedRow) → Option MergeInProgress → Type 0
 IsMergingOf d lists None = Unit {0}
 IsMergingOf d lists (Some m) = IsMergeOf d lists m.i m.j m.entry m.output
 
--- a read gives what was written of the output; a stop may still lose it
+-- a read returns what was written of the output; a crash may still lose it
 abbrev pub IsWritten : Option MergeInProgress → List ℕ → Type 0
 IsWritten None now = Unit {0}
 IsWritten (Some m) now =
     BeginsWith (extent_of m.entry) (segment_in m.entry.form (taken_rows m.output)) now
 
--- A merge that goes on is of two of these segments. As long
--- as no call has failed, a read gives what was written of it.
+-- A merge in progress is one of two of these segments. As long as no call has failed, a read
+-- returns what was written of its output.
 pub record HasMerge (honest : Type 0) (now : List ℕ) (d : DirectoryValue)
     (lists : List (List StampedRow)) (merge : Option MergeInProgress) (needs_reopen : Bool)
     : Type 0 where

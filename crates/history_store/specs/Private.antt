@@ -1,4 +1,4 @@
--- Words that only this crate's private functions need of one another. No public clause cites them.
+-- Definitions for this crate's private functions. No public clause cites them.
 pub mod Reading
 pub mod Beginning
 pub mod Publishing
@@ -21,7 +21,7 @@ IsLatest time_of None xs = xs ≡ []
 IsLatest {X} time_of (Some day) xs =
     ((x : X) × Has xs x × (time_of x ≡ day)) × ((x : X) → Has xs x → time_of x ≤ day)
 
--- the effective time of a row, and of the row that stands at a place
+-- the effective time of a row, and of the row at a place
 abbrev pub row_time : StampedRow → ℕ
 row_time s = s.row.time
 
@@ -38,7 +38,7 @@ later (Some day) (Some other) = Some (max day other)
 abbrev pub places_brought : ℕ → List RowPlace → List RowPlace
 places_brought number places = filter (λ p. p.import == number) places
 
--- the receipt says how many these are, and their greatest time
+-- the receipt has the number of these places and their greatest time
 pub record IsReceiptOf (number : ℕ) (places : List RowPlace) (r : ImportReceipt) : Type 0 where
   pub new_is : r.new ≡ length (places_brought number places)
   pub latest_is : IsLatest place_time r.latest (places_brought number places)

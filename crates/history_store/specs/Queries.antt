@@ -1,4 +1,4 @@
--- What a query answers, and what it leaves of a store.
+-- The result of a query, and the store after it.
 use Rattle.std.specs.Prelude.{◌≡◌, ◌≢◌, ◌⊎◌, ◌↔◌, ℕ, Bool, true, false, List, Result, IfOk, IfErr}
 use Rattle.std.specs.Prelude.{◌+◌, ◌≤◌, OnOk, OnErr, Option, Some, None, map}
 use Rattle.std.specs.List.{list_any, sum_by}
@@ -21,43 +21,44 @@ use Rattle.history_store.specs.Written.{added_entries}
 use Rattle.history_store.specs.StoreValue.{StoreValue, IsAcknowledged}
 use Rattle.history_store.specs.Answers.{Counts, IsReadingOf}
 
--- whether the block is one of a listed segment
+-- whether the block belongs to a listed segment
 abbrev pub is_listed : List Entry → ℕ → Bool
 is_listed entries block = list_any (λ entry. is_in (extent_of entry) block) entries
 
--- Blocks of listed segments were looked up in the cache, and nothing else became of it. The
--- device was asked for 4,096 bytes at most for each of them that wasn't kept at that time.
+-- Blocks of listed segments were looked up in the cache, which otherwise is unchanged. The device
+-- was read at most 4,096 bytes for each of these blocks that wasn't cached at that time.
 abbrev pub ReadsThroughCache : {D : Type 0} → (D → DiskView) → StoreValue D → StoreValue D → Type 0
 ReadsThroughCache view old new = LooksUpSome (is_listed old.catalog.entries)
     old.cache new.cache (view old.disk).bytes_read (view new.disk).bytes_read
 
--- the blocks of an extent aren't kept any longer; without an extent none is forgotten
+-- the blocks of an extent are dropped from the cache; without an extent none is
 abbrev pub ForgetsIn : Option Extent → LruCache ℕ (List ℕ) → LruCache ℕ (List ℕ) → Type 0
 ForgetsIn None old new = new ≡ old
 ForgetsIn (Some extent) old new = Forgets (is_in extent) old new
 
--- Blocks that pass the test were looked up, and the disk was asked for no more than these take.
--- Then the blocks of an extent were forgotten, or none.
+-- Blocks that pass the test were looked up, and at most as many bytes as these take were read from
+-- the disk. Then the blocks of an extent were dropped, or none.
 abbrev pub LooksUpAndForgets : (test : ℕ → Bool) (extent : Option Extent)
     (old new : LruCache ℕ (List ℕ)) (before after : ℕ) → Type 0
 LooksUpAndForgets test extent old new before after = (mid : LruCache ℕ (List ℕ))
     × LooksUpSome test old mid before after × ((new ≡ mid) ⊎ ForgetsIn extent mid new)
 
--- blocks of listed segments were looked up, and then
--- those that the merge has reserved were forgotten, or none
+-- blocks of listed segments were looked up, and then the blocks that the merge reserved were
+-- dropped, or none
 abbrev pub StepsThroughCache : {D : Type 0} → (D → DiskView) → StoreValue D → StoreValue D → Type 0
 StepsThroughCache view old new =
     LooksUpAndForgets (is_listed old.catalog.entries) (reserved_by old.catalog.merge)
     old.cache new.cache (view old.disk).bytes_read (view new.disk).bytes_read
 
--- the blocks of these segments aren't kept any longer, and after that those of a slot aren't either
+-- the blocks of these segments are dropped from the cache, and then those of a slot
 abbrev pub ForgetsWritten : List Entry → LruCache ℕ (List ℕ) → LruCache ℕ (List ℕ) → Type 0
 ForgetsWritten entries old new = (slot : Slot) × (mid : LruCache ℕ (List ℕ))
     × Forgets (is_listed entries) old mid × Forgets (is_in (slot_extent slot)) mid new
 
--- What an import reads and forgets. Blocks of listed segments are looked up in the cache, which
--- makes this of it. A publication looks at one byte besides, the gate of a slot, and nothing else
--- is read. After Ok the blocks that were written are forgotten; after an error none is.
+-- What an import reads, and what it drops from the cache. Blocks of listed segments are looked up,
+-- which turns the cache into `looked_up`. A publication also reads one byte, the gate of a slot,
+-- and nothing else is read. After `Ok` the blocks that were written are dropped; after an error
+-- none is.
 pub record ImportsThroughCache {T D : Type 0} (result : Result T Refusal) (view : D → DiskView)
     (old new : StoreValue D) : Type 0 where
   pub looked_up : LruCache ℕ (List ℕ)
@@ -70,10 +71,10 @@ pub record ImportsThroughCache {T D : Type 0} (result : Result T Refusal) (view 
       (ForgetsWritten (added_entries old.catalog new.catalog) looked_up new.cache)
   pub keeps : OnErr result (new.cache ≡ looked_up)
 
--- Whatever is answered, history and catalog stay, and a failed device alone closes the store. A
--- store that has to be opened again leaves everything as it is. On an honest disk nothing is
--- damaged, what a stop may leave stays, and as long as no call has failed it represents what the
--- store holds.
+-- Whatever the result, history and catalog are unchanged, and only a device failure closes the
+-- store. A store that has to be opened again is left unchanged. On an honest disk nothing is
+-- reported as damaged, what a crash may leave is unchanged, and as long as no call has failed it
+-- represents what the store holds.
 pub record IsQuery {T D : Type 0} (result : Result T Refusal) (view : D → DiskView)
     (old new : StoreValue D) : Type 0 where
   pub undamaged : (view old.disk).is_honest → IfErr result (λ e. e ≢ refusals.Damaged)
@@ -84,11 +85,11 @@ pub record IsQuery {T D : Type 0} (result : Result T Refusal) (view : D → Disk
   pub honesty : (view old.disk).is_honest ↔ (view new.disk).is_honest
   pub failures : Counts result (view old.disk).failures (view new.disk).failures
 
--- A query for rows: `rows_of` says which rows an answer has, and `wanted` which are to be answered,
--- of the rows that the pin shows. On an honest disk these are the same, and on every disk they have
--- the same keys, no call but reads is made, what is kept is not read again, and no more is read
--- than the rows of the answer take. Whatever is answered, no more is read than the wanted rows
--- take, each counted once.
+-- A query for rows: `rows_of` gives the rows of an answer, and `wanted` those that should be in it,
+-- among the rows that the pin shows. On an honest disk both are equal. On every disk they have the
+-- same keys, no calls but reads are made, cached blocks aren't read again, and no more is read than
+-- the rows of the answer take. Whatever the result, no more is read than the wanted rows take, each
+-- counted once.
 pub record IsRowsQuery {T D : Type 0} (result : Result T Refusal) (rows_of : T → List RowValue)
     (wanted : List RowValue → List RowValue) (pin : ℕ) (view : D → DiskView)
     (old new : StoreValue D) : Type 0 where
@@ -104,9 +105,9 @@ pub record IsRowsQuery {T D : Type 0} (result : Result T Refusal) (rows_of : T �
   pub bytes_read_always : (view new.disk).bytes_read
       ≤ (view old.disk).bytes_read + sum_by row_cost (wanted (rows_at pin old.history.rows))
 
--- A query that the index answers on every disk, of the rows that the pin shows, without reading
--- one. Nothing changes, and it is refused only where the store has to be opened again, or memory
--- runs out.
+-- A query that the index answers on every disk, among the rows that the pin shows, without reading
+-- a row. Nothing changes, and it is refused only if the store has to be opened again or memory runs
+-- out.
 pub record IsIndexQuery {T D : Type 0} (result : Result T Refusal)
     (IsAnswer : T → List RowValue → Type 0) (pin : ℕ) (old new : StoreValue D) : Type 0 where
   pub found : IfOk result

@@ -1,4 +1,4 @@
--- What writing the only segment of a store anew answers.
+-- The result of rewriting the only segment of a store, and the store after it.
 use Rattle.std.specs.Prelude.{◌≡◌, ℕ, ◌+◌, ◌*◌, ◌<◌, List, [], ◌∷◌, ◌++◌, map, sum_by, Bool}
 use Rattle.std.specs.Prelude.{true, false}
 use Rattle.std.specs.Prelude.{Option, Some, None, Result, Ok, Err}
@@ -27,7 +27,8 @@ pub record IsOnlyPlain (layout : Layout) (entries : List Entry) (entry : Entry) 
 abbrev pub HasOnlyPlain : Catalog → Type 0
 HasOnlyPlain catalog = (entry : Entry) × IsOnlyPlain catalog.layout catalog.entries entry
 
--- the first place that has room for a segment of as many bytes beside those that are listed
+-- the first block of the first extent with room for a segment of as many bytes, besides the listed
+-- ones
 abbrev pub place_beside : Entry → List Entry → Option ℕ
 place_beside entry entries = fit (block_count (extent_of entry)) entries None
 
@@ -36,8 +37,8 @@ abbrev pub checked_at : ℕ → Entry → Entry
 checked_at first entry =
     record { first = first; bytes = entry.bytes; rows = entry.rows; form = forms.Checked }
 
--- the only segment is written anew: with checksums, at the first place that has room for it beside
--- the one from before, in whose place it is listed
+-- the only segment is rewritten with checksums, at the first extent with room for it besides the
+-- old one, and listed in place of the old one
 pub record IsRewritten (catalog next : Catalog) : Type 0 where
   pub entry : Entry
   pub only : IsOnlyPlain catalog.layout catalog.entries entry
@@ -54,13 +55,13 @@ pub record MayBeRewritten (catalog : Catalog) : Type 0 where
   pub only : HasOnlyPlain catalog
   pub epochs_left : catalog.epoch < last_epoch
 
--- there is such a segment, and no place for it beside itself
+-- there is such a segment, and no room for a second one
 pub record HasNoPlaceBeside (catalog : Catalog) : Type 0 where
   pub entry : Entry
   pub only : IsOnlyPlain catalog.layout catalog.entries entry
   pub none : place_beside entry catalog.entries ≡ None
 
--- why the only segment isn't written anew
+-- why the only segment isn't rewritten
 abbrev pub IsNotRewritten : Catalog → Refusal → Type 0
 IsNotRewritten catalog refusals.OutOfMemory = MayBeRewritten catalog
 IsNotRewritten catalog refusals.DiskFault = MayBeRewritten catalog
@@ -69,7 +70,7 @@ IsNotRewritten catalog refusals.Full = HasNoPlaceBeside catalog
 IsNotRewritten catalog refusals.CountSpent = HasOnlyPlain catalog × (catalog.epoch ≡ last_epoch)
 IsNotRewritten catalog _ = ⊥
 
--- what that answers, and the store after it: without such a segment nothing changes
+-- the result of rewriting, and the store after it: without such a segment nothing changes
 abbrev pub IsRewritingOf : {D : Type 0} → Result Bool Refusal → StoreValue D → StoreValue D → Type 0
 IsRewritingOf (Ok true) old new = IsRewritten old.catalog new.catalog × IsDone old new
 IsRewritingOf (Ok false) old new = (HasOnlyPlain old.catalog → ⊥) × (old.needs_reopen ≡ false)
@@ -77,15 +78,15 @@ IsRewritingOf (Ok false) old new = (HasOnlyPlain old.catalog → ⊥) × (old.ne
 IsRewritingOf (Err e) old new =
     IsRefusedFor (IsNotRewritten old.catalog) e old × IsRefused e old new
 
--- the bytes of these segments, and those of the slots
+-- the byte ranges of these segments and of the slots
 abbrev pub written_ranges : List Entry → List (ℕ × ℕ)
 written_ranges entries = map byte_range (extents_of entries) ++ slots_range ∷ []
 
--- the most bytes that it reads: those of the rows and two blocks for each, and a gate
+-- the most bytes that rewriting reads: those of the rows and two blocks for each, and a gate
 abbrev pub rewrite_cost : List Entry → ℕ
 rewrite_cost entries = sum_by (λ e. e.bytes + 8192 * e.rows) entries + 1
 
--- the most changing calls that it makes: a write for each thousand rows, a sync and the six of a
--- publication
+-- the most changing calls that rewriting makes: a write for each thousand rows, a sync, and the six
+-- of a publication
 abbrev pub rewrite_calls : List Entry → ℕ
 rewrite_calls entries = sum_by (λ e. div_ceil e.rows 1000) entries + 7

@@ -1,4 +1,4 @@
--- A store as clauses see it.
+-- The value of a store, as clauses see it.
 use Rattle.std.specs.Prelude.{◌≡◌, ℕ, [], Bool, false, List}
 use Rattle.disk_model.specs.View.{DiskView}
 use Rattle.disk_model.specs.Disk.{DiskState, Moments, EachImage}
@@ -13,8 +13,8 @@ use Rattle.lru.specs.LruCache.{LruCache, lru_cache}
 use Rattle.blocks.specs.Cache.{AgreesWith}
 use Rattle.history_store.specs.Catalog.{Catalog}
 
--- the device, the history, where its segments lie, whether a call failed so that the
--- store has to be opened again, and which blocks of the device are kept in memory
+-- the device, the history, the catalog, whether the store has to be opened again because a call
+-- failed, and the cached blocks of the device
 pub record StoreValue (D : Type 0) : Type 0 where
   pub disk : D
   pub history : History
@@ -26,21 +26,22 @@ pub record StoreValue (D : Type 0) : Type 0 where
 abbrev pub no_blocks : LruCache ℕ (List ℕ)
 no_blocks = lru_cache [] 1024
 
--- no call has failed, and whatever a stop leaves represents what the store holds
+-- no call has failed, and every image that a crash may leave represents what the store holds
 pub record IsAcknowledged {D : Type 0} (view : D → DiskView) (s : StoreValue D) : Type 0 where
   pub open_still : s.needs_reopen ≡ false
   pub each : EachImage (view s.disk).moments.state
       (λ c. Represents c s.history s.catalog.layout s.catalog.epoch s.catalog.entries)
 
--- What is kept in memory fits together: the directory may list segments of these rows. As long as
--- no call has failed, the disk has them, and what is kept of it is as a read gives it.
+-- The parts that are kept in memory are consistent: the directory may list segments of these rows.
+-- As long as no call has failed, the disk has these segments, and the cached blocks are what a read
+-- returns.
 pub record IsHeld (honest : Type 0) (state : DiskState) (cache : LruCache ℕ (List ℕ)) (slot : Slot)
     (d : DirectoryValue) (lists : List (List StampedRow)) (needs_reopen : Bool) : Type 0 where
   pub kept : IsKept d lists
   pub on_disk : honest → needs_reopen ≡ false → IsOnDisk state slot d lists
   pub agrees : honest → needs_reopen ≡ false → AgreesWith cache state.now
 
--- the greatest number of an import, and the greatest epoch
+-- the greatest import number, and the greatest epoch
 abbrev pub last_import : ℕ
 last_import = 4294967295
 

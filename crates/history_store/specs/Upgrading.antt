@@ -1,4 +1,4 @@
--- What an upgrade to version 3 of the layout answers.
+-- The result of upgrading a store to version 3 of the layout, and the store after it.
 use Rattle.std.specs.Prelude.{◌≡◌, ◌≢◌, ◌⊎◌, ℕ, ◌+◌, ◌<◌, Result, Ok, Err}
 use Rattle.directory.specs.declared.layout.Layout.{Layout}
 use Rattle.directory.specs.declared.layout.Layout.TheVariants as layouts
@@ -9,13 +9,13 @@ use Rattle.history_store.specs.StoreValue.{StoreValue, last_epoch}
 use Rattle.history_store.specs.Answers.{IsRefused, IsRefusedFor}
 use Rattle.history_store.specs.MergeAnswers.{IsDone}
 
--- the store isn't of version 3, and an epoch is left for that
+-- the store is below version 3, and there is a further epoch
 pub record MayBeUpgraded (catalog : Catalog) : Type 0 where
   pub older : catalog.layout ≢ layouts.Three
   pub epochs_left : catalog.epoch < last_epoch
 
--- in version 3 nothing changes; else the same segments are listed in version 3, at the next epoch,
--- and a merge goes on as it did
+-- a store of version 3 is unchanged; otherwise the same segments are listed in version 3 at the
+-- next epoch, and a merge stays in progress
 abbrev pub IsUpgraded : Catalog → Catalog → Type 0
 IsUpgraded catalog next = ((catalog.layout ≡ layouts.Three) × (next ≡ catalog))
     ⊎ (MayBeUpgraded catalog
@@ -29,7 +29,7 @@ IsNotUpgraded catalog refusals.CountSpent =
     (catalog.layout ≢ layouts.Three) × (catalog.epoch ≡ last_epoch)
 IsNotUpgraded catalog _ = ⊥
 
--- what an upgrade answers, and the store after it
+-- the result of an upgrade, and the store after it
 abbrev pub IsUpgradingOf : {D : Type 0} → Result (Unit {0}) Refusal → StoreValue D → StoreValue D
     → Type 0
 IsUpgradingOf (Ok done) old new = IsUpgraded old.catalog new.catalog × IsDone old new

@@ -1,4 +1,4 @@
--- Which bytes of the disk the calls of a store write.
+-- Which bytes of the disk a store's calls write.
 use Rattle.std.specs.Prelude.{◌≡◌, ℕ, ◌+◌, ◌-◌, min, List, [], ◌∷◌, ◌++◌, length, map, drop}
 use Rattle.std.specs.Prelude.{Some, slice_get, Result, MatchResult}
 use Rattle.std.specs.Option.{option_to_list}
@@ -16,25 +16,25 @@ use Rattle.store_image.specs.Kept.{IsSegmentOf}
 use Rattle.store_image.specs.Ahead.{BeginsWith}
 use Rattle.history_store.specs.Catalog.{Merge, Catalog, reserved_by}
 
--- the segments that a catalog lists behind those of another, and their bytes
+-- the segments that catalog `new` lists after those of `old`, and their byte ranges
 abbrev pub added_entries : Catalog → Catalog → List Entry
 added_entries old new = drop (length old.entries) new.entries
 
 abbrev pub added_ranges : Catalog → Catalog → List (ℕ × ℕ)
 added_ranges old new = map byte_range (extents_of (added_entries old new))
 
--- the bytes are what a stop may have left before, but for these ranges
+-- the bytes differ from an image that was possible before only in these ranges
 abbrev pub StemsWithinAll : DiskState → List (ℕ × ℕ) → List ℕ → Type 0
 StemsWithinAll s [] c = IsImage s c
 StemsWithinAll s (range ∷ ranges) c =
     (d : List ℕ) × StemsWithinAll s ranges d × SameBut range.0 range.1 d c
 
--- the bytes that the merge that goes on has reserved
+-- the byte range that the merge in progress reserved
 abbrev pub reserved_ranges : Catalog → List (ℕ × ℕ)
 reserved_ranges catalog = map byte_range (option_to_list (reserved_by catalog.merge))
 
--- the segment with this number in the directory, from 0 on, is of these rows: a read gives their
--- records there
+-- the segment with this number in the directory, from 0 on, consists of these rows, and a read
+-- returns their records there
 pub record HasRows (entries : List Entry) (number : ℕ) (rows : List StampedRow) (now : List ℕ)
     : Type 0 where
   pub entry : Entry
@@ -42,9 +42,9 @@ pub record HasRows (entries : List Entry) (number : ℕ) (rows : List StampedRow
   pub segment : IsSegmentOf entry rows
   pub stands : BeginsWith (extent_of entry) (segment_in entry.form rows) now
 
--- The rows that a merge takes next, up to n. Those that were taken before, these and
--- those that are left after them are the rows of its two segments, in key order.
--- The records of those that were taken before are what is written of the output.
+-- The rows that a merge takes next, up to `n`. The rows taken before, these, and those left after
+-- them are the rows of its two segments, in key order. The records of the rows taken before are
+-- what is written of the output.
 pub record AreNext (n : ℕ) (catalog : Catalog) (merge : Merge) (taken rows : List StampedRow)
     (now : List ℕ) : Type 0 where
   pub a : List StampedRow
@@ -58,14 +58,14 @@ pub record AreNext (n : ℕ) (catalog : Catalog) (merge : Merge) (taken rows : L
   pub count : length rows ≡ min n merge.left
   pub count_left : length left ≡ merge.left - n
 
--- the records of rows, written behind those of the rows that were taken before
+-- the state after the records of these rows are written after those of the rows taken before
 abbrev pub after_part : Merge → List StampedRow → List StampedRow → DiskState → DiskState
 after_part merge taken rows state =
     after_write state (start_of merge.output + length (segment_in merge.form taken))
     (segment_in merge.form rows)
 
--- One write puts the records of the next rows, which are rows of the history, behind those of
--- the rows that were taken before. After an error this write failed, or none was made.
+-- One write puts the records of the next rows, which are rows of the history, after those of the
+-- rows taken before. After an error this write failed, or none was made.
 pub record WritesNext {T E : Type 0} (result : Result T E) (n : ℕ) (catalog : Catalog) (h : History)
     (old new : Moments) : Type 0 where
   pub merge : Merge

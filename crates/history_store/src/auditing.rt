@@ -1,5 +1,5 @@
-//! The questions of an audit: what lies above and below a concept, what became of a component, and
-//! what changed. None of them changes what a store holds.
+//! The audit queries: what lies above and below a concept, what became of a component, and what
+//! changed. None of them changes the store's contents.
 
 ghost use Rattle.std.specs.Prelude.{◌≡◌, ◌≤◌};
 
@@ -18,7 +18,7 @@ impl<D: Disk> Store<D> {
     ghost use Rattle.history_store.specs.Queries.{IsRowsQuery, IsIndexQuery};
 
     /// All concepts below a concept, ascending: those that are reached from it by one or more
-    /// active relationships of the type "is a", each from a concept to a child. Nothing is read.
+    /// active "is a" relationships, each from a concept to a child. Reads no row.
     pub fn descendants(&mut self, id: Sctid, as_of: AsOf) -> Result<Vec<u64>, Refusal>
         requires { as_of.pin ≤ self.old.history.imports }
         ensures answer { IsIndexQuery result (λ ids rows. AreDescendants id as_of.date rows
@@ -38,8 +38,8 @@ impl<D: Disk> Store<D> {
     }
 
     /// All concepts above a concept, ascending: those that are reached from it by one or more
-    /// active relationships of the type "is a", each from a concept to a parent. The relationships
-    /// of the concept and of those that are found are read.
+    /// active "is a" relationships, each from a concept to a parent. Reads the relationships of the
+    /// concept and of the concepts found.
     pub fn ancestors(&mut self, id: Sctid, as_of: AsOf) -> Result<Vec<u64>, Refusal>
         requires { as_of.pin ≤ self.old.history.imports }
         ensures answer { IsAncestorsQuery result (λ ids. ids.items) id as_of.date as_of.pin
@@ -66,7 +66,7 @@ impl<D: Disk> Store<D> {
     }
 
     /// The active associations of which a component is the target, ascending by refset, referenced
-    /// component and member: those by which it stands in the place of other components.
+    /// component and member: those that name it as a replacement of other components.
     pub fn replaces(&mut self, id: Sctid, as_of: AsOf) -> Result<Vec<Row>, Refusal>
         requires { as_of.pin ≤ self.old.history.imports }
         ensures answer { IsRowsQuery result (λ rows. rows.items) (replaces id as_of.date) as_of.pin
@@ -92,8 +92,8 @@ impl<D: Disk> Store<D> {
         self.answered(read)
     }
 
-    /// Of each component of a kind that ever had an active row about a component, as `about` says:
-    /// all versions, ascending by id, then by time.
+    /// All versions of each component of a kind that ever had an active row about a component, as
+    /// `about` defines it, ascending by id, then by time.
     pub fn timeline(&mut self, kind: Kind, id: Sctid, pin: u32) -> Result<Vec<Row>, Refusal>
         requires { pin ≤ self.old.history.imports }
         ensures answer { IsRowsQuery result (λ rows. rows.items) (timeline kind id) pin
@@ -121,7 +121,7 @@ impl<D: Disk> Store<D> {
     }
 
     /// What changed from one date to another: the first rows of a kind at the date that are later
-    /// than `from`, at most `limit`, ascending by id from above `after` on.
+    /// than `from`, at most `limit`, ascending by id and with ids above `after`.
     pub fn delta(
         &mut self,
         kind: Kind,
@@ -150,8 +150,8 @@ impl<D: Disk> Store<D> {
         self.answered(read)
     }
 
-    /// The days that have rows, ascending: the distinct effective times of what the first `pin`
-    /// imports brought. Nothing is read.
+    /// The days that have rows, ascending: the distinct effective times of the rows that the first
+    /// `pin` imports brought. Reads no row.
     pub fn dates(&mut self, pin: u32) -> Result<Vec<EffectiveTime>, Refusal>
         requires { pin ≤ self.old.history.imports }
         ensures answer { IsIndexQuery result (λ times rows. times.items ≡ dates rows) pin

@@ -1,4 +1,4 @@
-//! The beginning of a merge: which two segments it takes, and where its output is to lie.
+//! The beginning of a merge: which two segments are merged, and where the output is placed.
 
 ghost use Rattle.std.specs.Prelude.{◌≡◌, ◌<◌, ◌≤◌, length, IfOk, IfErr, IfSome, IsNone, IsSome};
 ghost use Rattle.std.specs.Prelude.{nat_lt, Some, slice_get};
@@ -15,7 +15,7 @@ use directory::{Directory, Entry, first_fit};
 use segment_index::{IndexMerge, StoreIndex};
 use std::alloc::Global;
 
-/// Whether the segment with the one number has fewer rows than the one with the other.
+/// Whether segment `a` has fewer rows than segment `b`.
 fn has_fewer(entries: &[Entry], a: usize, b: usize) -> bool
     requires a { a < length entries.now }
     requires b { b < length entries.now }
@@ -24,7 +24,8 @@ fn has_fewer(entries: &[Entry], a: usize, b: usize) -> bool
     entries[a].rows < entries[b].rows
 }
 
-/// The numbers, from 0 on, of the two segments of fewest rows; of those with as many the first.
+/// The numbers, from 0 on, of the two segments with the fewest rows; ties go to the one listed
+/// first.
 fn fewest(entries: &[Entry]) -> Option<(usize, usize)>
     ensures found { IfSome result (λ numbers. AreFewest entries.now numbers.0 numbers.1) }
     ensures none { IsNone result → length entries.now < 2 }
@@ -54,7 +55,8 @@ fn fewest(entries: &[Entry]) -> Option<(usize, usize)>
     }
 }
 
-/// A merge of the two segments of fewest rows, of which nothing is taken yet. It takes no memory.
+/// A merge of the two segments with the fewest rows, none of which is merged yet. Allocates
+/// nothing.
 pub(crate) fn begin(
     alloc: Global,
     directory: &Directory,

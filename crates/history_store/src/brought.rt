@@ -1,4 +1,5 @@
-//! What an import was the first to bring, as the places in memory say.
+//! The receipt of an import: how many rows it was the first to bring, counted over the places in
+//! memory.
 
 ghost use Rattle.std.specs.Prelude.{◌^◌, ◌<◌, length};
 ghost use Rattle.history_model.specs.InOrder.{joined};
@@ -8,7 +9,7 @@ use crate::latest::later;
 use as_of_index::{Index, RowPlace};
 use history_model::ImportReceipt;
 
-/// What the import brought of the rows at these places.
+/// The receipt of an import, counted over these places.
 fn receipt_in(places: &[RowPlace], number: u32) -> ImportReceipt
     ensures { IsReceiptOf number places.now result }
 {
@@ -23,7 +24,7 @@ fn receipt_in(places: &[RowPlace], number: u32) -> ImportReceipt
     ImportReceipt { new, latest }
 }
 
-/// What the import brought of the rows at the places of all lists.
+/// The receipt of an import, counted over the places of all lists.
 pub(crate) fn receipt_of(index: &Index, number: u32) -> ImportReceipt
     requires { length (joined index.now) < 2 ^ 64 }
     ensures { IsReceiptOf number (joined index.now) result }

@@ -1,4 +1,4 @@
-//! Releases that are tried before they count: all that an import does before its first write.
+//! Checking a release: everything that an import does before its first write.
 
 ghost use Rattle.std.specs.Prelude.{◌≡◌, IfOk, true, false};
 
@@ -13,13 +13,13 @@ use import_check::Release;
 /// The directory that an import publishes next.
 #[derive(Drop)]
 pub(crate) enum Next {
-    /// No row is new: it lists the same segments.
+    /// No row is new: the next directory lists the same segments.
     WithoutSegment(Directory),
-    /// It lists the segment of the new rows, too.
+    /// The next directory also lists the segment of the new rows.
     WithSegment(Prepared),
 }
 
-/// What an import answers, and what it is about to publish.
+/// The receipt of an import, and what the import is about to publish.
 #[derive(Drop)]
 pub(crate) struct Ready {
     pub(crate) receipt: Receipt,
@@ -31,12 +31,12 @@ impl<D: Disk> Store<D> {
     ghost use Rattle.history_store.specs.StoreValue.{IsAcknowledged};
     ghost use Rattle.history_store.specs.Private.Ready.{IsMadeReady, checked};
 
-    /// Finds the new rows of a release, and makes in memory all that an import of it publishes.
+    /// Finds the new rows of a release, and makes in memory all that an import of it would publish.
     pub(crate) fn make_ready(&mut self, release: Release) -> Result<Ready, Refusal>
         ensures checking { IsChecking (checked result) release D.view self.old self.new }
         ensures ready { IfOk result
             (IsMadeReady (D.view self.old.disk).is_honest self.new release) }
-        // What the store held before the call, a stop before it would have left.
+        // A crash before the call would have left what the store held then.
         ensures stood { (D.view self.old.disk).is_honest → self.old.needs_reopen ≡ false
             → IsAcknowledged D.view self.old }
     {
@@ -65,9 +65,10 @@ impl<D: Disk> Store<D> {
         Ok(Ready { receipt, next })
     }
 
-    /// Tries a release, and leaves the store as it is: what an import of it would answer. All is
-    /// done that an import does before its first write, so that it takes as much memory. What an
-    /// import finds out only by writing isn't foreseen: that the disk is full, or refuses a write.
+    /// Checks a release without changing the store, and returns the receipt that an import of it
+    /// would return. Does everything that an import does before its first write, and so needs as
+    /// much memory. What shows only when an import writes isn't foreseen: that the disk is full, or
+    /// refuses a write.
     pub fn check(&mut self, release: Release) -> Result<Receipt, Refusal>
         ensures answer { IsChecking result release D.view self.old self.new }
     {

@@ -17,8 +17,8 @@ impl<D: Disk> Store<D> {
     ghost use Rattle.history_store.specs.StoreValue.{IsAcknowledged};
     ghost use Rattle.history_store.specs.Contradicting.{IsBroughtBy, IsListing};
 
-    /// What was read of a release, as the store answers it. Where
-    /// the device failed, the store has to be opened again.
+    /// Turns the result of reading a release into the result of the store's call. After a device
+    /// failure, the store has to be opened again.
     fn listed(
         &mut self,
         read: Result<Contradictions, ImportFault>,
@@ -45,8 +45,8 @@ impl<D: Disk> Store<D> {
     }
 
     /// The contradictions of a release, with what the store holds and within itself: the first of
-    /// them in the order of their keys, up to a limit, and how many more there are. Which import
-    /// brought a row that the store holds says `import_of`.
+    /// them in the order of their keys, up to a limit, and how many more there are. `import_of`
+    /// says which import brought a row that the store holds.
     pub fn contradictions(
         &mut self,
         release: Release,
@@ -75,8 +75,8 @@ impl<D: Disk> Store<D> {
         self.listed(read)
     }
 
-    /// The number of the import that brought the row with this key, if there is one.
-    /// It makes one bisection a segment in memory, and reads nothing.
+    /// The number of the import that brought the row with this key, if there is one. Makes one
+    /// binary search in memory for each segment, and reads no row.
     pub fn import_of(&self, key: Key) -> Option<u32>
         ensures { IsBroughtBy self.now.history.rows key result }
     {

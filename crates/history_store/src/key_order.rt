@@ -1,4 +1,4 @@
-//! All rows, one after the other, in the order of their keys.
+//! All rows in the order of their keys.
 
 ghost use Rattle.std.specs.Prelude.{◌≤◌};
 
@@ -12,8 +12,8 @@ impl<D: Disk> Store<D> {
     ghost use Rattle.history_model.specs.KeyOrder.{rows_after};
     ghost use Rattle.history_store.specs.Queries.{IsRowsQuery};
 
-    /// The first rows after a key, if one is given, in the order of their keys, whatever their
-    /// dates, of the rows that the first `pin` imports brought.
+    /// The first rows whose keys are greater than `after`, or the first of all where none is given,
+    /// in key order and of any date, among those that the first `pin` imports brought.
     pub fn rows_after(
         &mut self,
         after: Option<Key>,

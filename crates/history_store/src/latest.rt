@@ -1,4 +1,4 @@
-//! The greatest effective time of the rows.
+//! The greatest effective time of a store's rows.
 
 ghost use Rattle.std.specs.Prelude.{◌≡◌};
 ghost use Rattle.history_model.specs.InOrder.{joined};

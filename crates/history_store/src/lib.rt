@@ -1,8 +1,8 @@
 //! A store of the release history of a terminology, on a disk.
 //!
-//! No row stands in memory. On the disk each import that brings rows adds a segment of them, a
-//! merge makes one segment of two, and a directory lists the segments; in memory an index lists the
-//! place of each row. Rows are read where they are listed, through a cache of blocks.
+//! Rows aren't kept in memory. On the disk each import that brings rows adds a segment of them, a
+//! merge makes one segment of two, and a directory lists the segments. In memory an index keeps the
+//! place of each row. Rows are read from their places through a cache of blocks.
 #![tactic(auto)]
 
 mod auditing;

@@ -1,5 +1,5 @@
-//! The questions about members of reference sets, and by what a concept is called in a language.
-//! None of them changes what a store holds.
+//! The queries about members of reference sets, and about what a concept is called in a language.
+//! None of them changes the store's contents.
 
 ghost use Rattle.std.specs.Prelude.{◌≡◌, ◌≤◌};
 
@@ -16,7 +16,7 @@ impl<D: Disk> Store<D> {
     ghost use Rattle.history_store.specs.Queries.{IsRowsQuery};
 
     /// The first members of a reference set at a date, active or not, at most `limit`, ascending by
-    /// id from above `after` on.
+    /// id and with ids above `after`.
     pub fn members(
         &mut self,
         refset: Sctid,
@@ -86,9 +86,9 @@ impl<D: Disk> Store<D> {
         self.answered(read)
     }
 
-    /// By what a concept is called in a language at a date: the active descriptions about it, by
-    /// id, that have active members of the language's reference set, each followed by these
-    /// members.
+    /// What a concept is called in a language at a date: the active descriptions about it,
+    /// ascending by id, that have active members in the language's reference set, each followed by
+    /// these members.
     pub fn called(
         &mut self,
         concept: Sctid,

@@ -1,4 +1,4 @@
-//! Rows as the records of a segment, and its index.
+//! Encodes rows as the records of a segment, and builds its index.
 
 ghost use Rattle.std.specs.Prelude.{◌≡◌, ◌<◌, ◌≤◌, ◌^◌, length, IfOk};
 ghost use Rattle.std.specs.List.{AllByRecursion};
@@ -19,8 +19,8 @@ pub(crate) struct Placed {
     pub(crate) index: SegmentIndex,
 }
 
-/// The segment of rows that has so many bytes, and its index. Each row is dropped once its record
-/// is made: rows and records never stand all beside each other in memory.
+/// Encodes rows as a segment of `len` bytes, and builds its index. Each row is dropped once its
+/// record is made, so that not all rows and all records are in memory at the same time.
 pub(crate) fn place_all(
     alloc: Global,
     rows: Vec<StampedRow>,

@@ -1,4 +1,4 @@
-//! The questions to a store. None of them changes what it holds.
+//! The queries of a store. None of them changes its contents.
 
 ghost use Rattle.std.specs.Prelude.{◌≡◌, ◌≤◌, IfOk, IfErr, MatchResult, Ok, Err, true, false};
 
@@ -24,8 +24,8 @@ impl<D: Disk> Store<D> {
     ghost use Rattle.history_store.specs.StoreValue.{IsAcknowledged};
     ghost use Rattle.history_store.specs.declared.refusal.Refusal.TheVariants as refusals;
 
-    /// What was read of the rows, as the store answers it. Where
-    /// the device failed, the store has to be opened again.
+    /// Turns the result of reading rows into the result of the store's call. After a device
+    /// failure, the store has to be opened again.
     pub(crate) fn answered<T>(&mut self, read: Result<T, ReadFault>) -> Result<T, Refusal>
         requires still { self.old.needs_reopen ≡ false }
         ensures same { MatchResult read (λ found. result ≡ Ok found)
@@ -86,8 +86,8 @@ impl<D: Disk> Store<D> {
         self.answered(read)
     }
 
-    /// The first rows of a kind at the date, at most
-    /// `limit`, ascending by id from above `after` on.
+    /// The first rows of a kind at the date, at most `limit`, ascending by id and with ids above
+    /// `after`.
     pub fn page(
         &mut self,
         kind: Kind,
@@ -145,8 +145,8 @@ impl<D: Disk> Store<D> {
         self.answered(read)
     }
 
-    /// Active descriptions whose term begins with the prefix, whatever the case,
-    /// ascending by id from above `after` on, at most `limit`.
+    /// Active descriptions whose term begins with the prefix, ignoring case, ascending by id and
+    /// with ids above `after`, at most `limit`.
     pub fn search(
         &mut self,
         prefix: &str,
@@ -183,8 +183,8 @@ impl<D: Disk> Store<D> {
         self.answered(read)
     }
 
-    /// Active descriptions whose term begins with the prefix, whatever the case, ascending by id
-    /// from the first on, at most `limit`.
+    /// Active descriptions whose term begins with the prefix, ignoring case: the first `limit`,
+    /// ascending by id.
     pub fn terms(&mut self, prefix: &str, as_of: AsOf, limit: u32) -> Result<Vec<Row>, Refusal>
         requires { as_of.pin ≤ self.old.history.imports }
         ensures answer { IsRowsQuery result (λ rows. rows.items) (terms prefix.now as_of.date limit)
@@ -194,8 +194,7 @@ impl<D: Disk> Store<D> {
         self.search(prefix, as_of, None, limit)
     }
 
-    /// The sources of the active relationships of the type "is a" to a concept, ascending.
-    /// Nothing is read.
+    /// The sources of the active "is a" relationships to a concept, ascending. Reads no row.
     pub fn children(&mut self, id: Sctid, as_of: AsOf) -> Result<Vec<u64>, Refusal>
         requires { as_of.pin ≤ self.old.history.imports }
         ensures answer { IsIndexQuery result (λ ids rows. ids.items ≡ children id as_of.date rows)
@@ -214,7 +213,8 @@ impl<D: Disk> Store<D> {
         Ok(found)
     }
 
-    /// The active associations of a component, one step, ascending by refset, target and member.
+    /// The active associations whose referenced component is the given one, ascending by refset,
+    /// target and member. It takes one step: it doesn't follow a target further.
     pub fn replacements(&mut self, id: Sctid, as_of: AsOf) -> Result<Vec<Row>, Refusal>
         requires { as_of.pin ≤ self.old.history.imports }
         ensures answer { IsRowsQuery result (λ rows. rows.items) (replacements id as_of.date)
@@ -241,8 +241,8 @@ impl<D: Disk> Store<D> {
         self.answered(read)
     }
 
-    /// What an import was the first to bring, whatever was imported after it.
-    /// It goes over all places in memory, and reads nothing.
+    /// The receipt of an import: the rows that it was the first to bring, whatever was imported
+    /// later. Goes over all places in memory, and reads no row.
     pub fn receipt(&self, number: u32) -> Result<ImportReceipt, Refusal>
         requires first { 1 ≤ number }
         requires last { number ≤ self.now.history.imports }

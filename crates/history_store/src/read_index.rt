@@ -1,4 +1,4 @@
-//! The index of a segment that is read.
+//! Builds a segment's index while the segment is read.
 
 use history_model::StampedRow;
 use segment::RowPlace;
@@ -6,7 +6,7 @@ use segment_index::{IndexBuilder, SegmentIndex};
 use std::alloc::{AllocError, Global};
 use store_image::SegmentBuilder;
 
-/// Builds the index of a segment as its rows are read.
+/// Builds the index of a segment from its rows, as they are read.
 #[derive(Drop)]
 pub(crate) struct ReadIndex {
     index: IndexBuilder,

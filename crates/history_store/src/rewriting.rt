@@ -1,4 +1,4 @@
-//! The only segment of a store, written anew with checksums.
+//! Rewrites the only segment of a store with checksums.
 
 ghost use Rattle.std.specs.Prelude.{◌≡◌, ◌≢◌, ◌↔◌, ◌+◌, ◌*◌, ◌^◌, ◌<◌, ◌≤◌, ◌∷◌, []};
 ghost use Rattle.std.specs.Prelude.{List, length, take, None, IsNone, IfSome, IfOk, IfErr, OnOk};
@@ -44,7 +44,7 @@ use store_image::sync_and_publish;
 /// How many rows are read and written at a time.
 const ROWS: usize = 1000;
 
-/// The only segment of a store of version 3, where it has no checksums.
+/// The entry of the only segment, if the store is of version 3 and the segment has no checksums.
 fn only_plain(directory: &Directory) -> Option<Entry>
     ensures found { IfSome result (IsOnlyPlain directory.now.layout directory.now.entries) }
     ensures none { IsNone result → (entry : Entry)
@@ -61,7 +61,8 @@ fn only_plain(directory: &Directory) -> Option<Entry>
     }
 }
 
-/// The segment with checksums, at the first place that has room for it beside the one without.
+/// The entry for the rewritten segment, which has checksums, at the first extent with room for it
+/// beside the old one.
 fn place_anew(directory: &Directory, old: Entry) -> Result<Entry, Refusal>
     requires { IsOnlyPlain directory.now.layout directory.now.entries old }
     ensures placed { IfOk result (IsAnew directory.now) }
@@ -77,7 +78,7 @@ fn place_anew(directory: &Directory, old: Entry) -> Result<Entry, Refusal>
     })
 }
 
-/// The next directory, which lists the entry in the place of the only one.
+/// The next directory, which lists this entry instead of the only one.
 fn listing_only(alloc: Global, directory: &Directory, entry: Entry) -> Result<Directory, AllocError>
     requires { MayListAnew directory.now entry }
     ensures { IfOk result (λ d. d ≡ only_listing directory.now entry) }
@@ -89,7 +90,7 @@ fn listing_only(alloc: Global, directory: &Directory, entry: Entry) -> Result<Di
     Ok(next)
 }
 
-/// The first places, of up to a thousand rows, as those of a first list.
+/// The first thousand places, or all if there are fewer, as a merge takes them from its first list.
 fn next_taken(alloc: Global, places: &[RowPlace]) -> Result<Vec<Taken>, AllocError>
     ensures { IfOk result (λ taken. taken.items ≡ as_taken (take 1000 places.now)) }
 {
@@ -103,8 +104,8 @@ fn next_taken(alloc: Global, places: &[RowPlace]) -> Result<Vec<Taken>, AllocErr
     Ok(taken)
 }
 
-/// Writes the records of the only segment anew, in the form of the entry and into its extent. Each
-/// stands at the byte of the extent at which it stands in the segment: it is as long in both forms.
+/// Writes the records of the only segment, in the entry's form, into the entry's extent. Each
+/// record is at the same offset as before, since it is equally long in both forms.
 fn write_rows<D: Disk>(
     alloc: Global,
     disk: &mut D,
@@ -123,7 +124,7 @@ fn write_rows<D: Disk>(
         directory.now index.now false
         → IsHeld (D.view disk.new).is_honest (D.view disk.new).moments.state cache.new slot
         directory.now index.now (is_fault result) }
-    // A stop at any moment leaves the history that is listed.
+    // A crash at any moment leaves the listed history.
     ensures any_moment { (D.view disk.old).is_honest
         → LeavesOnly (D.view disk.old).moments (D.view disk.new).moments
         (RepresentsAs directory.now.layout (history_of directory.now index.now)) }
@@ -149,7 +150,7 @@ fn write_rows<D: Disk>(
     Ok(())
 }
 
-/// Writes the only segment anew, and publishes the directory that lists it.
+/// Rewrites the only segment, and publishes the directory that lists the new one.
 fn write_and_list<D: Disk>(
     alloc: Global,
     disk: &mut D,
@@ -198,20 +199,20 @@ impl<D: Disk> Store<D> {
     ghost use Rattle.history_store.specs.Rewriting.{IsRewritingOf, rewrite_cost, rewrite_calls};
     ghost use Rattle.history_store.specs.Rewriting.{written_ranges};
 
-    /// Writes the only segment of a store of version 3 anew, if it has no checksums, and answers
-    /// whether it did. The rows stay. It takes memory for a thousand rows at a time.
+    /// Rewrites the only segment of a store of version 3 if it has no checksums, and returns
+    /// whether it did. The rows are unchanged. Needs memory for a thousand rows at a time.
     pub fn rewrite(&mut self) -> Result<bool, Refusal>
         ensures answer { IsRewritingOf result self.old self.new }
         ensures history { self.new.history ≡ self.old.history }
         ensures undamaged { (D.view self.old.disk).is_honest
             → IfErr result (λ e. e ≢ refusals.Damaged) }
-        // A stop at any moment leaves the history.
+        // A crash at any moment leaves the history.
         ensures any_moment { (D.view self.old.disk).is_honest → self.old.needs_reopen ≡ false
             → LeavesOnly (D.view self.old.disk).moments (D.view self.new.disk).moments
             (RepresentsAs self.old.catalog.layout self.old.history) }
         ensures acknowledged { (D.view self.old.disk).is_honest → self.new.needs_reopen ≡ false
             → IsAcknowledged D.view self.new }
-        // After Ok a read gives the same outside the slots and the segment that is listed then.
+        // After `Ok` the disk is unchanged outside the slots and the segment that is listed then.
         ensures elsewhere { (D.view self.old.disk).is_honest → OnOk result
             (SameOutside (written_ranges self.new.catalog.entries)
             (D.view self.old.disk).moments.state.now (D.view self.new.disk).moments.state.now) }
@@ -219,8 +220,8 @@ impl<D: Disk> Store<D> {
         ensures calls { (D.view self.old.disk).is_honest → call_count (D.view self.new.disk).moments
             ≤ call_count (D.view self.old.disk).moments + rewrite_calls self.old.catalog.entries }
         ensures capacity { self.new.cache.cap ≡ self.old.cache.cap }
-        // On every disk, and whatever it answers, it reads no more than this, and makes no other
-        // call than reads and these.
+        // On every disk and whatever the result: reads no more bytes than this, and makes no other
+        // calls than reads and these.
         ensures meters { Calls (Counts result) (AtMost (rewrite_cost self.old.catalog.entries))
             (AtMost (rewrite_calls self.old.catalog.entries))
             (D.view self.old.disk) (D.view self.new.disk) }

@@ -1,4 +1,4 @@
-//! An empty store, and what a store keeps in memory beside its directory.
+//! An empty store, and what a store keeps in memory besides its directory.
 
 ghost use Rattle.std.specs.Prelude.{◌≡◌, ◌≢◌, ◌↔◌, ◌+◌, ◌≤◌, [], length, IfOk};
 ghost use Rattle.std.specs.Prelude.{IfErr, OnOk};
@@ -26,7 +26,7 @@ use segment_index::{SegmentIndex, StoreIndex};
 use std::alloc::{AllocError, Global};
 use store_image::{Made, check_empty, make};
 
-/// How many blocks of the disk are kept in memory: 4 MiB.
+/// The capacity of the block cache: 1,024 blocks, which are 4 MiB.
 const KEPT_BLOCKS: usize = 1024;
 
 /// An empty store.
@@ -38,7 +38,7 @@ pub(crate) struct Started {
     pub(crate) cache: BlockCache,
 }
 
-/// An index of segments that were read, and a cache that keeps no block.
+/// The index of segments that were read, and an empty block cache.
 pub(crate) fn index_segments(
     alloc: Global,
     segments: Vec<SegmentIndex>,
@@ -53,7 +53,7 @@ pub(crate) fn index_segments(
     Ok((index, cache))
 }
 
-/// Makes a store in this version on an empty disk.
+/// Makes a store with this layout version on an empty disk.
 pub(crate) fn start<D: Disk>(
     alloc: Global,
     disk: &mut D,

@@ -1,4 +1,4 @@
-//! The store: its calls.
+//! The type `Store`, and the calls that make, open, change and describe a store.
 
 ghost use Rattle.std.specs.Prelude.{◌≡◌, ◌≢◌, ◌⊎◌, ◌↔◌, ◌+◌, ◌≤◌, ◌∷◌, [], List, length};
 ghost use Rattle.std.specs.List.{sum_by};
@@ -36,9 +36,9 @@ pub struct Store<D: Disk> {
     pub(crate) cache: BlockCache,
     pub(crate) slot: Slot,
     pub(crate) directory: Directory,
-    /// What is kept of the rows of each segment, in the directory's order.
+    /// The places and postings of each segment's rows, in the directory's order.
     pub(crate) index: StoreIndex,
-    /// The merge that goes on.
+    /// The merge in progress, if there is one.
     pub(crate) merge: Option<MergeInProgress>,
     pub(crate) needs_reopen: bool,
 }
@@ -113,12 +113,13 @@ impl<D: Disk> Store<D> {
         Store::create_in(alloc, disk, Layout::Two)
     }
 
-    /// Makes a store of this version on an empty disk. The length of the disk is looked
-    /// at first, then all memory is taken, then the disk is written.
+    /// Makes a store with this layout version on an empty disk. First asks for the disk's length,
+    /// then allocates all memory, then writes.
     pub fn create_in(alloc: Global, disk: D, layout: Layout) -> Result<Store<D>, (Refusal, D)>
         ensures made { IsMaking layout result D.view disk }
-        // On every disk, and whatever it answers, nothing is read. The length is asked for twice,
-        // and nine calls are made; refused for any other reason than the device, none of the nine.
+        // On every disk and whatever the result: reads no bytes, asks for the length at most twice,
+        // and makes at most nine other calls; if it is refused for a reason other than a device
+        // failure, none of the nine.
         ensures bytes_read { (D.view (device_of result)).bytes_read ≡ (D.view disk).bytes_read }
         ensures other_calls { (D.view (device_of result)).other_calls
             ≤ (D.view disk).other_calls + 11 }
@@ -148,23 +149,23 @@ impl<D: Disk> Store<D> {
         }
     }
 
-    /// Opens the store that a disk represents. The disk is read,
-    /// after one sync, and is given back with every refusal.
+    /// Opens the store that a disk represents. Syncs the disk once and then reads it; every refusal
+    /// returns the disk.
     pub fn open(alloc: Global, disk: D) -> Result<Store<D>, (Refusal, D)>
         ensures opened { IsOpening result D.view disk }
-        // On every disk it reads the slots, and each byte of the listed segments once.
+        // On every disk it reads the slots, and each byte of the listed segments once, at most.
         ensures bytes_read { IfOk result (λ s. (D.view s.disk).bytes_read
             ≤ (D.view disk).bytes_read + slots_read + bytes_listed s.catalog.entries) }
-        // Beside its reads it makes one sync, and asks for the length once for the slots and once
-        // for each segment.
+        // Besides its reads it makes one sync, and asks for the length once for the slots and once
+        // for each segment, at most.
         ensures other_calls { IfOk result (λ s. (D.view s.disk).other_calls
             ≤ (D.view disk).other_calls + 2 + length s.catalog.entries) }
-        // Before it reads it makes one call, whatever it answers: a sync that failed isn't tried
+        // Whatever the result: makes one call before the first read. A sync that failed isn't tried
         // again.
         ensures synced_once { ((D.view (device_of result)).other_calls
             ≤ (D.view disk).other_calls + 1)
             ⊎ (raised_by (D.view disk).bytes_read 1 ≤ (D.view (device_of result)).bytes_read) }
-        // After an error it has asked for no more than up to the fault, on every disk.
+        // After an error it has read no further than the fault, on every disk.
         ensures stops { IfErr result
             (λ e. StopsIn e.0 (D.view disk).bytes_read (D.view e.1).bytes_read
             (D.view disk).other_calls (D.view e.1).other_calls) }
@@ -193,12 +194,12 @@ impl<D: Disk> Store<D> {
         }
     }
 
-    /// The rows of a release that aren't known.
+    /// The rows of a release whose keys the store doesn't have.
     pub(crate) fn find_new_rows(&mut self, release: Release) -> Result<NewRows, Refusal>
         requires still { self.old.needs_reopen ≡ false }
         ensures accepted { (D.view self.old.disk).is_honest
             → IfOk result (IsAcceptedAs (full self.old.history) release) }
-        // The new rows are those with new keys on every disk.
+        // On every disk the new rows are those with new keys.
         ensures brings { IfOk result (BringsByKey (full self.old.history) release) }
         ensures is_read { IfOk result (λ fresh. IsRead release) }
         ensures refused { IfErr result (λ e. IsNotFresh (D.view self.old.disk).is_honest e
@@ -330,59 +331,59 @@ impl<D: Disk> Store<D> {
         }
     }
 
-    /// Adds a release: all of its rows, or nothing. All memory is taken before the first write.
+    /// Imports a release: all of its rows, or none. All memory is allocated before the first write.
     pub fn import(&mut self, release: Release) -> Result<Receipt, Refusal>
         ensures answer { (D.view self.old.disk).is_honest
             → IsImportOf result self.old self.new release }
-        // What holds on every disk.
+        // What is promised on every disk.
         ensures kept { IsImportOnAnyDisk result self.old self.new release }
-        // A stop at any moment leaves the history from before, in the version
-        // from before, or that with the release, in the next.
+        // A crash at any moment leaves the history from before in the layout version from before,
+        // or the history with the release in the next version.
         ensures any_moment { (D.view self.old.disk).is_honest → self.old.needs_reopen ≡ false
             → LeavesOnly (D.view self.old.disk).moments (D.view self.new.disk).moments
             (IsBeforeOrAfter self.old.catalog.layout self.old.history release) }
-        // After Ok each stop leaves the new one.
+        // After `Ok` every crash leaves the new history.
         ensures acknowledged { (D.view self.old.disk).is_honest → self.new.needs_reopen ≡ false
             → IsAcknowledged D.view self.new }
-        // Refused for any other reason than the device,
-        // it leaves whatever a stop may leave as it was.
+        // If it is refused for a reason other than a device failure, the images that a crash may
+        // leave are unchanged.
         ensures refused { (D.view self.old.disk).is_honest
             → KeepsMoments D.view result self.old self.new }
-        // After Ok a read gives the same outside the slots and the segment that was added.
+        // After `Ok` the disk is unchanged outside the slots and the added segment.
         ensures elsewhere { (D.view self.old.disk).is_honest → OnOk result
             (SameOutside (slots_range ∷ added_ranges self.old.catalog self.new.catalog)
             (D.view self.old.disk).moments.state.now (D.view self.new.disk).moments.state.now) }
-        // Whatever it answers, a stop leaves what it might have left before,
-        // or that but for the slots and the place of the new segment.
+        // Whatever the result: a crash leaves an image that was possible before the call, or one
+        // that differs from such an image only in the slots and the extent of the new segment.
         ensures inside { (D.view self.old.disk).is_honest
             → LeavesOnly (D.view self.old.disk).moments (D.view self.new.disk).moments
             (λ c. IsImage (D.view self.old.disk).moments.state c
             ⊎ StemsWithinNew self.old.history self.old.catalog release
             (D.view self.old.disk).moments.state c) }
-        // A store that has to be opened again leaves everything as it is.
+        // A store that has to be opened again is left unchanged.
         ensures closed { self.old.needs_reopen ≡ true → self.new ≡ self.old }
-        // So does a store below version 3 to which a release with members of reference sets is
-        // given.
+        // So is a store below version 3, if the release has members of reference sets.
         ensures later { IsForLater self.old.catalog.layout release → self.new ≡ self.old }
-        // Eight calls that may change the disk where a row is new,
-        // and else six; where it is refused, no more.
+        // Makes eight changing calls if a row is new, and otherwise six; no more than that if it is
+        // refused.
         ensures calls { (D.view self.old.disk).is_honest → MakesImportCalls result
             (D.view self.old.disk).moments (D.view self.new.disk).moments }
-        // On every disk it makes no other call than reads and these; and none
-        // of these where it is refused for any other reason than the device.
+        // On every disk it makes no other calls than reads and these; if it is refused for a reason
+        // other than a device failure, none of these.
         ensures meters { Calls (Counts result) Unsaid (MakesNoOtherCalls result)
             (D.view self.old.disk) (D.view self.new.disk) }
-        // On every disk, and whatever it answers, it reads blocks of listed segments alone, through
-        // the blocks in memory, and the gate of a slot. It forgets what it wrote, and nothing else.
+        // On every disk and whatever the result: reads only blocks of listed segments, through the
+        // cache, and the gate of a slot. Drops from the cache the blocks that it wrote, and no
+        // others.
         ensures looked_up { ImportsThroughCache result D.view self.old self.new }
-        // It reads each row of the store whose key the release has once at most, no other row,
-        // and the gate. Where a file is no release file, nothing is read.
+        // Reads each stored row whose key is in the release at most once, no other row, and the
+        // gate. If a file isn't a valid release file, reads nothing.
         ensures bytes_read { (rows : List RowValue) → IsReleaseOf release rows
             → (D.view self.new.disk).bytes_read ≤ (D.view self.old.disk).bytes_read + 1
             + sum_by row_cost (already_known (full self.old.history) rows) }
         ensures bytes_unread { (IsRead release → ⊥)
             → (D.view self.new.disk).bytes_read ≤ (D.view self.old.disk).bytes_read }
-        // There is room for as many blocks in memory as before.
+        // The capacity of the cache is unchanged.
         ensures capacity { self.new.cache.cap ≡ self.old.cache.cap }
     {
         let Ready { receipt, next } = self.make_ready(release)?;
@@ -400,8 +401,8 @@ impl<D: Disk> Store<D> {
         self.directory.imports()
     }
 
-    /// The version of the layout on the disk: 1 for a store that was made with version 1 and has
-    /// published nothing since, 3 for one that was made in version 3 or upgraded, and else 2.
+    /// The layout version on the disk: 1 for a store that was made with version 1 and has published
+    /// nothing since, 3 for one that was made in version 3 or upgraded, and otherwise 2.
     pub fn version(&self) -> u32
         ensures { result ≡ number_of self.now.catalog.layout }
     {
@@ -423,7 +424,7 @@ impl<D: Disk> Store<D> {
     }
 
     /// How many blocks of the disk the store needs: those of the slots, which hold the directory,
-    /// and those of the segments that it lists. A merge that goes on isn't counted.
+    /// and those of the listed segments. Blocks reserved by a merge in progress aren't counted.
     pub fn blocks_in_use(&self) -> u64
         ensures { result ≡ blocks_in_use self.now.catalog.entries }
     {
@@ -437,8 +438,8 @@ impl<D: Disk> Store<D> {
         row_count(self.directory.entries())
     }
 
-    /// The greatest effective time of a row, of any kind; none where there is no row.
-    /// It goes over all places in memory, and reads nothing.
+    /// The greatest effective time of all rows, of any kind; none if there are no rows. Goes over
+    /// all places in memory, and reads no row.
     pub fn latest_time(&self) -> Option<EffectiveTime>
         ensures { IsLatestDay result self.now.history.rows }
     {
@@ -452,10 +453,10 @@ impl<D: Disk> Store<D> {
         self.needs_reopen
     }
 
-    /// Gives the disk back, without a call on it.
+    /// Returns the disk, without a call on it.
     pub fn close(self) -> D
         ensures disk { result ≡ self.disk }
-        // Whatever a stop leaves of it represents what the store held.
+        // Every image that a crash may leave represents what the store held.
         ensures stands { (D.view result).is_honest → self.needs_reopen ≡ false
             → EachImage (D.view result).moments.state
             (λ c. Represents c self.history self.catalog.layout self.catalog.epoch

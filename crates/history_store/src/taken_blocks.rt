@@ -1,4 +1,4 @@
-//! The blocks that no segment may be placed on.
+//! The blocks on which no new segment may be placed.
 
 ghost use Rattle.std.specs.Prelude.{◌≡◌, ◌^◌, ◌<◌};
 ghost use Rattle.directory.specs.Places.{taken};
@@ -21,8 +21,8 @@ pub(crate) fn reserved(merge: &Option<MergeInProgress>) -> Option<Extent>
     }
 }
 
-/// The first block behind all segments and the reserved
-/// extent, and at least the one behind the slots.
+/// The first block after all segments and the reserved extent; at least the first one after the
+/// slots.
 pub(crate) fn end_of(entries: &[Entry], reserved: Option<Extent>) -> u64
     ensures end { result ≡ end_of_taken (taken entries.now reserved) }
     ensures fits { result < 2 ^ 33 }

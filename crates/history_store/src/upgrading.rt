@@ -12,7 +12,7 @@ use crate::store::Store;
 use directory::Layout;
 use disk_model::Disk;
 
-/// Whether it is version 3.
+/// Whether the layout version is 3.
 pub(crate) fn is_three(layout: Layout) -> bool
     ensures three { result ≡ true → layout ≡ layouts.Three }
     ensures older { result ≡ false → layout ≢ layouts.Three }
@@ -34,48 +34,50 @@ impl<D: Disk> Store<D> {
     ghost use Rattle.history_store.specs.Upgrading.{IsUpgradingOf, upgrade_calls};
     ghost use Rattle.history_store.specs.declared.refusal.Refusal.TheVariants as refusals;
 
-    /// Publishes the directory in version 3, in which what is written has checksums. It lists the
-    /// same segments, and those have none until a merge takes them. A merge that goes on stays as
-    /// it was begun. All memory is taken before the first write.
+    /// Publishes the directory in version 3, in which new segments are written with checksums. It
+    /// lists the same segments, which have no checksums until they are merged. A merge in progress
+    /// keeps the form that it began with. All memory is allocated before the first write.
     pub fn upgrade(&mut self) -> Result<(), Refusal>
         ensures answer { IsUpgradingOf result self.old self.new }
         ensures history { self.new.history ≡ self.old.history }
-        // A stop at any moment leaves the history, in the version from before or in version 3.
+        // A crash at any moment leaves the history, in the layout version from before or in version
+        // 3.
         ensures any_moment { (D.view self.old.disk).is_honest → self.old.needs_reopen ≡ false
             → LeavesOnly (D.view self.old.disk).moments (D.view self.new.disk).moments
             (λ c. RepresentsAs self.old.catalog.layout self.old.history c
             ⊎ RepresentsAs layouts.Three self.old.history c) }
         ensures acknowledged { (D.view self.old.disk).is_honest → self.new.needs_reopen ≡ false
             → IsAcknowledged D.view self.new }
-        // A store of version 3 stays as it is, without a call on the disk.
+        // A store of version 3 is left unchanged, without a call on the disk.
         ensures idle { self.old.catalog.layout ≡ layouts.Three → self.new ≡ self.old }
-        // Refused for any other reason than the device,
-        // it leaves whatever a stop may leave as it was.
+        // If it is refused for a reason other than a device failure, the images that a crash may
+        // leave are unchanged.
         ensures refused { (D.view self.old.disk).is_honest
             → KeepsMoments D.view result self.old self.new }
-        // After Ok a read gives the same outside the slots.
+        // After `Ok` the disk is unchanged outside the slots.
         ensures elsewhere { (D.view self.old.disk).is_honest → OnOk result
             (SameOutside (slots_range ∷ [])
             (D.view self.old.disk).moments.state.now (D.view self.new.disk).moments.state.now) }
-        // Whatever it answers, a stop leaves what it might have left before, but for the slots.
+        // Whatever the result: a crash leaves an image that was possible before the call, changed
+        // in the slots at most.
         ensures inside { (D.view self.old.disk).is_honest
             → LeavesOnly (D.view self.old.disk).moments (D.view self.new.disk).moments
             (StemsWithin (D.view self.old.disk).moments.state slots_range) }
-        // No block in memory is forgotten but those of a slot, after Ok.
+        // After `Ok` at most the blocks of one slot are dropped from the cache.
         ensures forgets { OnOk result ((self.new.cache ≡ self.old.cache)
             ⊎ ForgetsWritten [] self.old.cache self.new.cache) }
         ensures keeps { OnErr result (self.new.cache ≡ self.old.cache) }
         ensures closed { self.old.needs_reopen ≡ true → self.new ≡ self.old }
-        // It makes the six changing calls of a publication, and no more where it is refused.
+        // Makes the six changing calls of a publication, and no more than that if it is refused.
         ensures calls { (D.view self.old.disk).is_honest
             → MakesCalls result (upgrade_calls self.old.catalog.layout)
             (D.view self.old.disk).moments (D.view self.new.disk).moments }
         ensures uncalled { IfErr result (λ e. e ≢ refusals.DiskFault
             → (D.view self.new.disk).other_calls ≡ (D.view self.old.disk).other_calls) }
         ensures capacity { self.new.cache.cap ≡ self.old.cache.cap }
-        // On every disk it looks at the gate of a slot, and reads nothing else.
-        // On every disk it makes no other call than that look and these; refused for any other
-        // reason than the device, none of these.
+        // On every disk it reads the gate of a slot, and nothing else.
+        // On every disk it makes no other calls than that read and these six; if it is refused for
+        // a reason other than a device failure, none of the six.
         ensures meters { Calls (Counts result) (AtMost 1) (AtMost 6)
             (D.view self.old.disk) (D.view self.new.disk) }
     {

@@ -1,5 +1,5 @@
--- The contradictions of a release: lines whose key has another row, one that is known or stands
--- before them.
+-- The contradictions of a release: lines for whose key a different row is known, or on an earlier
+-- line.
 use Rattle.std.specs.Prelude.{◌≡◌, ◌≢◌, ◌↔◌, ℕ, ◌-◌, List, [], ◌∷◌, ◌++◌, length, take}
 use Rattle.std.specs.Ordering.{nat_cmp, ordering_then}
 use Rattle.std.specs.declared.cmp.Ordering.{Ordering}
@@ -19,11 +19,11 @@ use Rattle.import_check.specs.Known.{IsUnknown}
 use Rattle.import_check.specs.Release.{SpellFiles, placed_lines, rows_of}
 use Rattle.import_check.specs.NewRows.{IsRefusal}
 
--- the order of lines by their places: by file, then by line
+-- the order of lines in the release: by file, then by line
 abbrev pub place_cmp : PlacedLine → PlacedLine → Ordering
 place_cmp a b = ordering_then (nat_cmp a.file b.file) (nat_cmp a.line b.line)
 
--- the order of lines by key, then by place
+-- the order of lines by key, then by file and line
 abbrev pub rank_cmp : PlacedLine → PlacedLine → Ordering
 rank_cmp a b = ordering_then (row_cmp a.row b.row) (place_cmp a b)
 
@@ -31,15 +31,15 @@ abbrev pub row_of : OtherRow → RowValue
 row_of (others.Known row) = row
 row_of (others.Line first) = first.row
 
--- The row counts for its key: it is known; or it stands on a line, and no row that is known or
--- stands before that line has its key.
+-- The row counts for its key: either it is known, or it is that of a line, and its key is neither
+-- known nor on an earlier line.
 abbrev pub CountsForKey : List RowValue → List PlacedLine → OtherRow → Type 0
 CountsForKey known lines (others.Known row) = Has known row
 CountsForKey known lines (others.Line first) = (before : List PlacedLine)
     × (after : List PlacedLine) × (lines ≡ before ++ first ∷ after)
     × IsUnknown (known ++ rows_of before) (key_of first.row)
 
--- the line has another row than the one that counts for its key
+-- the line's row differs from the one that counts for its key
 pub record IsContradiction (known : List RowValue) (lines : List PlacedLine)
     (c : ContradictingLine) : Type 0 where
   pub there : Has lines c.line
@@ -47,8 +47,8 @@ pub record IsContradiction (known : List RowValue) (lines : List PlacedLine)
   pub same_key : key_of (row_of c.other) ≡ key_of c.line.row
   pub differs : row_of c.other ≢ c.line.row
 
--- Each file is a release file. Of all contradictions of their lines, in the order of keys and
--- places, the first are listed, up to the limit, and the others counted.
+-- Each file is a valid release file. Of all contradictions of their lines, in the order of keys,
+-- files and lines, the first are listed, up to the limit, and the others are counted.
 pub record AreContradictionsOf (known : List RowValue) (release : Release) (limit : ℕ)
     (found : Contradictions) : Type 0 where
   pub lists : List (List RowValue)

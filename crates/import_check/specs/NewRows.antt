@@ -1,4 +1,4 @@
--- What a release brings, and what refuses it.
+-- What a release adds, and why it is refused.
 use Rattle.std.specs.Prelude.{◌≡◌, ◌≢◌, ℕ, ◌+◌, List, ◌++◌, length, ⊤}
 use Rattle.rf2_values.specs.Row.{RowValue}
 use Rattle.rf2_values.specs.Key.{key_of}
@@ -13,7 +13,7 @@ use Rattle.import_check.specs.Known.{IsUnknown}
 use Rattle.fault_counts.specs.Counting.{CountsDiskFault, CountsDamage}
 use Rattle.import_check.specs.Release.{SpellFiles, IsReleaseOf, IsFaultOfRelease, HasContradiction}
 
--- the rows that are not known, each once and in key order, and how many of the others there are
+-- the rows that are not known, each once and in key order, and how many other lines there are
 pub record AreNewRows (known rows fresh : List RowValue) (repeated : ℕ) : Type 0 where
   pub ascending : IsAscending row_cmp fresh
   pub from_release : (row : RowValue) → Has fresh row → Has rows row
@@ -21,8 +21,8 @@ pub record AreNewRows (known rows fresh : List RowValue) (repeated : ℕ) : Type
   pub each : (row : RowValue) → Has rows row → (Has known row → ⊥) → Has fresh row
   pub counted : length fresh + repeated ≡ length rows
 
--- the rows whose keys no known row has, each once and in key order, and how many of the others
--- there are
+-- the rows whose keys no known row has, each once and in key order, and how many other lines there
+-- are
 pub record AreNewByKey (known rows : List RowValue) (fresh : NewRows) : Type 0 where
   pub ascending : IsAscending row_cmp fresh.rows.items
   pub from_release : (row : RowValue) → Has fresh.rows.items row → Has rows row
@@ -31,31 +31,32 @@ pub record AreNewByKey (known rows : List RowValue) (fresh : NewRows) : Type 0 w
       → Has fresh.rows.items row
   pub counted : length fresh.rows.items + fresh.repeated ≡ length rows
 
--- a release that is taken: its rows and those that are known are consistent, and these rows are new
+-- a release that is accepted: its rows are consistent with the known ones, and these are the new
+-- ones
 pub record IsTaken (known : List RowValue) (rows : List RowValue) (fresh : NewRows) : Type 0 where
   pub consistent : IsConsistent (known ++ rows)
   pub fresh_is : AreNewRows known rows fresh.rows.items fresh.repeated
 
--- each file is a release file
+-- each file is a valid release file
 pub record IsRead (release : Release) : Type 0 where
   pub lists : List (List RowValue)
   pub spelled : SpellFiles release.files.items lists
 
--- the release is one of these rows, and it is taken
+-- the release has these rows, and is accepted
 pub record IsAcceptedAs (known : List RowValue) (release : Release) (fresh : NewRows) : Type 0 where
   pub rows : List RowValue
   pub rows_are : IsReleaseOf release rows
   pub taken : IsTaken known rows fresh
 
--- the release is one of these rows, of which these are new by their keys
+-- the release has these rows, of which these are new by their keys
 pub record BringsByKey (known : List RowValue) (release : Release) (fresh : NewRows) : Type 0 where
   pub rows : List RowValue
   pub rows_are : IsReleaseOf release rows
   pub new_by_key : AreNewByKey known rows fresh
 
--- Why a release is refused: a row has a fault, which is that of the release; or each file is a
--- release file, and a known row can't be had or a line contradicts. That memory ran out says
--- nothing.
+-- Why a release is refused: a row has a fault, which is the release's first; or each file is a
+-- valid release file, and a known row can't be read or a line contradicts. `OutOfMemory` is always
+-- possible.
 abbrev pub IsRefusal : (honest : Type 0) → List RowValue → Release → ImportFault → Type 0
 IsRefusal honest known release importfault.OutOfMemory = ⊤
 IsRefusal honest known release (importfault.Known fault) =
@@ -65,14 +66,16 @@ IsRefusal honest known release (importfault.Row file line fault) =
 IsRefusal honest known release (importfault.Contradiction file line key) =
     IsRead release × (honest → HasContradiction known release file line key)
 
--- the count of answers `DiskFault` of what is known goes up with that answer, and else stays
+-- the count of `DiskFault` errors from looking up known rows: it has risen if that is the error,
+-- and otherwise is unchanged
 abbrev pub CountsAnyDiskFault : ImportFault → ℕ → ℕ → Type 0
 CountsAnyDiskFault importfault.OutOfMemory old new = new ≡ old
 CountsAnyDiskFault (importfault.Known fault) old new = CountsDiskFault fault old new
 CountsAnyDiskFault (importfault.Row file line fault) old new = new ≡ old
 CountsAnyDiskFault (importfault.Contradiction file line key) old new = new ≡ old
 
--- the count of answers `Damaged` of what is known goes up with that answer, and else stays
+-- the count of `Damaged` errors from looking up known rows: it has risen if that is the error, and
+-- otherwise is unchanged
 abbrev pub CountsAnyDamage : ImportFault → ℕ → ℕ → Type 0
 CountsAnyDamage importfault.OutOfMemory old new = new ≡ old
 CountsAnyDamage (importfault.Known fault) old new = CountsDamage fault old new

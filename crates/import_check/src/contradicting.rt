@@ -25,28 +25,29 @@ use rf2_values::{Key, Row};
 use shrinking_list::ShrinkingList;
 use std::alloc::{AllocError, Global};
 
-/// The row that the lines with its key have to have.
+/// The row that all lines with its key have to have.
 #[derive(Drop)]
 pub enum OtherRow {
-    /// It is known.
+    /// A row that is known.
     Known(Row),
-    /// None with its key is known, and this is the first line that has the key.
+    /// The row of the first line with this key; no known row has the key.
     Line(PlacedLine),
 }
 
-/// A line that has another row than the one that counts for its key.
+/// A line whose row differs from the one that counts for its key.
 #[derive(Drop)]
 pub struct ContradictingLine {
     pub line: PlacedLine,
     pub other: OtherRow,
 }
 
-/// The contradictions of a release, as far as they are listed.
+/// The contradictions of a release, up to a limit.
 #[derive(Drop)]
 pub struct Contradictions {
-    /// In the order of their keys, and those with one key as they stand in the release.
+    /// The listed contradictions, in the order of their keys, and for one key in the order of the
+    /// release.
     pub listed: Vec<ContradictingLine>,
-    /// How many there are besides.
+    /// How many contradictions there are besides.
     pub further: u64,
 }
 
@@ -61,7 +62,7 @@ impl OtherRow {
         }
     }
 
-    /// An equal one.
+    /// A copy.
     fn try_clone(&self, alloc: Global) -> Result<OtherRow, AllocError>
         ensures { IfOk result (λ other. other ≡ self.now) }
     {
@@ -79,7 +80,7 @@ struct Counting {
     other: OtherRow,
 }
 
-/// The row that counted for the line before, if that had this key.
+/// The row that counted for the previous line, if that line had this key.
 fn kept(last: Option<Counting>, key: Key) -> Option<Counting>
     ensures { MatchOption result (IsSomeAnd last (λ c. c.key ≡ key) → ⊥)
         (λ c. (last ≡ Some c) × (c.key ≡ key)) }
@@ -90,7 +91,7 @@ fn kept(last: Option<Counting>, key: Key) -> Option<Counting>
     }
 }
 
-/// The row that counts for a line's key, where no line before it had the key.
+/// The row that counts for a line's key, if no line before it had the key.
 fn find<K: Known>(alloc: Global, line: &PlacedLine, known: &mut K) -> Result<OtherRow, ImportFault>
     ensures found { (K.view known.old).is_honest
         → IfOk result (IsFoundFor (K.view known.old).rows line.now) }
@@ -108,7 +109,7 @@ fn find<K: Known>(alloc: Global, line: &PlacedLine, known: &mut K) -> Result<Oth
     }
 }
 
-/// The row that counts for a line's key: that for the line before it, if it had the key.
+/// The row that counts for a line's key: the same as for the previous line, if that had the key.
 fn next<K: Known>(
     alloc: Global,
     last: Option<Counting>,
@@ -136,8 +137,8 @@ fn next<K: Known>(
     }
 }
 
-/// Lists the line if it has another row than this one. As soon
-/// as the limit is reached it is only counted.
+/// Lists the line if its row differs from `other`. Once the limit is reached, such a line is only
+/// counted.
 fn note(
     alloc: Global,
     found: &mut Contradictions,
@@ -161,7 +162,7 @@ fn note(
     Ok(())
 }
 
-/// Compares all lines, in key order. The room of those that are compared is given back on the way.
+/// Compares all lines, in key order. The memory of compared lines is freed on the way.
 fn compare_all<K: Known>(
     alloc: Global,
     lines: Vec<PlacedLine>,
@@ -191,11 +192,12 @@ fn compare_all<K: Known>(
     Ok(found)
 }
 
-/// The contradictions of a release: the first of them in the
-/// order of their keys, up to a limit, and how many more there are.
+/// The contradictions of a release: the first of them in key order, up to a limit, and how many
+/// more there are.
 ///
-/// All files are read first, as `new_rows` reads them. What is known is asked once for each key,
-/// in ascending order. A release that `new_rows` refuses because of a contradiction has one here.
+/// All files are read first, as `new_rows` reads them. Then each key is looked up once among the
+/// known rows, in ascending order. A release that `new_rows` refuses because of a contradiction has
+/// one here.
 pub fn find_contradictions<K: Known>(
     alloc: Global,
     release: Release,
@@ -206,8 +208,8 @@ pub fn find_contradictions<K: Known>(
         → IfOk result (AreContradictionsOf (K.view known.old).rows release limit) }
     ensures read { IfOk result (λ found. IsRead release) }
     ensures refused { IfErr result (IsNotListed (K.view known.old).is_honest release) }
-    // Whatever it answers, each known row whose key the release has is read once at most, and no
-    // other. Where a file is no release file, nothing is asked.
+    // Whatever the result: each known row whose key is in the release is read at most once, and no
+    // other row is read. If a file isn't a valid release file, none is read.
     ensures work { (K.view known.old).is_sound → (rows : List RowValue) → IsReleaseOf release rows
         → (K.view known.new).work
         ≤ (K.view known.old).work + sum_by K.cost (already_known (K.view known.old).rows rows) }

@@ -1,12 +1,12 @@
-//! What a release brings.
+//! What a release adds.
 
 use rf2_values::Row;
 
-/// The rows of an accepted release that were not known.
+/// The rows of an accepted release that weren't known.
 #[derive(Drop)]
 pub struct NewRows {
-    /// Each once, in key order.
+    /// The new rows, each once, in key order.
     pub rows: Vec<Row>,
-    /// How many lines hold a row that is known or that stands earlier in the release.
+    /// How many lines repeat a row that is known or on an earlier line.
     pub repeated: u64,
 }

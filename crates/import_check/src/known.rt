@@ -1,4 +1,4 @@
-//! What is known before a release.
+//! The rows that are known before a release is imported.
 
 ghost use Rattle.std.specs.Prelude.{◌≡◌, ◌≢◌, ◌↔◌, ◌+◌, ◌≤◌, ℕ, IfOk, IfErr, None};
 ghost use Rattle.fault_counts.specs.declared.fault.ReadFault.TheVariants as readfault;
@@ -13,7 +13,7 @@ use fault_counts::ReadFault;
 use rf2_values::{Key, Row};
 use std::alloc::Global;
 
-/// The rows that are known before a release, lent to be looked up. A call leaves them as they are.
+/// Looks up the rows that are known before a release is imported. No call changes these rows.
 pub trait Known {
     /// What it shows at one time.
     ghost view: { Self → KnownView };
@@ -21,20 +21,20 @@ pub trait Known {
     /// The most that reading a row takes, in the measure of its work.
     ghost cost: { RowValue → ℕ };
 
-    /// What its calls leave as it is.
+    /// A relation between the value before and after a call, for what calls leave unchanged.
     ghost stays: { Self → Self → Type 0 };
 
     /// The known row with this key.
     fn row(&mut self, alloc: Global, key: &Key) -> Result<Option<Row>, ReadFault>
         ensures found { (view self.old).is_honest
             → IfOk result (IsRowAt (view self.old).rows key.now) }
-        // If it is honest, only the device or memory keeps a row from being had.
+        // An honest one fails only because of the device or memory.
         ensures undamaged { (view self.old).is_honest → IfErr result (λ e. e ≢ readfault.Damaged) }
-        // It gives no row exactly where no row that is known has the key.
+        // It returns no row exactly if no known row has the key.
         ensures absent { (view self.old).is_sound
             → IfOk result (λ found. (found ≡ None) ↔ IsUnknown (view self.old).rows key.now) }
-        // Whatever it answers: no more is read than a known row with the
-        // key takes, and nothing where no row that is known has the key.
+        // Whatever the result: no more is read than a known row with the key costs, and nothing if
+        // no known row has the key.
         ensures work { (view self.old).is_sound → (row : RowValue) → Has (view self.old).rows row
             → key_of row ≡ key.now → (view self.new).work ≤ (view self.old).work + cost row }
         ensures work_unknown { (view self.old).is_sound → IsUnknown (view self.old).rows key.now
@@ -47,9 +47,9 @@ pub trait Known {
     ghost consistent: { (known : Self) → (view known).is_honest
         → IsConsistent (view known).rows };
 
-    /// What stays as it is includes what no call was made on.
+    /// `stays` holds if no call is made.
     ghost stays_still: { (known : Self) → stays known known };
 
-    /// What stays as it is in each of two calls stays as it is in both.
+    /// `stays` holds for two calls if it holds for each.
     ghost stays_on: { (a b c : Self) → stays a b → stays b c → stays a c };
 }

@@ -1,10 +1,10 @@
-//! How much of a package is read.
+//! Which parts of a package are read.
 
 /// Which files of a package are read.
 #[derive(Clone, Copy, Debug, PartialEq, Eq)]
 pub enum Scope {
-    /// Those of concepts, descriptions, relationships, associations and concrete values.
+    /// The files of concepts, descriptions, relationships, associations and concrete values.
     Basic,
-    /// Those, and those of text definitions and of the members of every other reference set.
+    /// The same, and the files of text definitions and of members of all other reference sets.
     Whole,
 }

@@ -1,4 +1,4 @@
-//! One pass over the lines of a release in key order.
+//! One pass over the lines of a release, in key order.
 
 ghost use Rattle.std.specs.Prelude.{◌≡◌, ◌+◌, ◌≤◌, ◌<◌, ◌⊎◌, ◌++◌, ◌↔◌, [], ◌∷◌, List, length};
 ghost use Rattle.std.specs.Prelude.{IsTrue, Some, IsSomeAnd, OnOk, IfOk, IfErr, MatchResult};
@@ -30,7 +30,7 @@ use rf2_values::{Key, Row};
 use shrinking_list::ShrinkingList;
 use std::alloc::Global;
 
-/// A line whose row differs from the one that stands for its key.
+/// A line whose row differs from the one that counts for its key.
 #[derive(Clone, Copy)]
 pub(crate) struct Contradiction {
     pub(crate) file: usize,
@@ -38,11 +38,11 @@ pub(crate) struct Contradiction {
     pub(crate) key: Key,
 }
 
-/// What a pass over lines in key order has found so far. For the key of the
-/// last line stands the row that is known, or else the last of the new rows.
+/// What a pass over lines in key order has found so far. The row that counts for the key of the
+/// last line is the known one, if there is one, and otherwise the last of the new rows.
 #[derive(Drop)]
 pub(crate) struct Sweep {
-    /// The key of the last line, for which what is known was asked.
+    /// The key of the last line, which was looked up among the known rows.
     pub(crate) key: Option<Key>,
     known_row: Option<Row>,
     pub(crate) fresh: Vec<Row>,
@@ -61,7 +61,7 @@ impl Contradiction {
     }
 }
 
-/// Whether a line stands by another or before it.
+/// Whether a line is the other one, or comes before it in the release.
 fn stands_by(file: usize, line: usize, other_file: usize, other_line: usize) -> bool
     ensures { IsTrue result ↔ StandsBy file line other_file other_line }
 {
@@ -72,7 +72,7 @@ fn stands_by(file: usize, line: usize, other_file: usize, other_line: usize) -> 
     }
 }
 
-/// The one that stands first.
+/// The contradiction that comes first in the release.
 fn earlier(first: Option<Contradiction>, found: Contradiction) -> Contradiction
     ensures { IsEarlierOf first found result }
 {
@@ -98,7 +98,7 @@ impl Sweep {
         }
     }
 
-    /// The row that stands for the key of the last line.
+    /// The row that counts for the key of the last line.
     fn standing(&self) -> Option<&Row>
         ensures { option_copied result ≡ standing_of self.now }
     {
@@ -118,7 +118,7 @@ impl Sweep {
         }
     }
 
-    /// Whether this is the row that stands.
+    /// Whether this is the row that counts.
     fn agrees(&self, row: &Row) -> bool
         ensures { IsTrue result ↔ (standing_of self.now ≡ Some row.now) }
     {
@@ -128,7 +128,7 @@ impl Sweep {
         }
     }
 
-    /// Notes the line if its row isn't the one that stands.
+    /// Records the line as a contradiction if its row isn't the one that counts.
     fn compare(&mut self, line: &PlacedLine)
         ensures kept { self.new ≡ record self.old { first = self.new.first } }
         ensures verdict { IsVerdict (standing_of self.old) self.old.first line.now self.new.first }
@@ -143,7 +143,7 @@ impl Sweep {
         }
     }
 
-    /// Turns to another key, of which this row is known.
+    /// Starts with a new key, for which this is the known row.
     fn turn_to(&mut self, key: Key, known_row: Option<Row>)
         ensures { self.new ≡ record self.old { key = Some key; known_row = known_row } }
     {
@@ -151,7 +151,7 @@ impl Sweep {
         self.known_row = known_row;
     }
 
-    /// Takes the next line. What is known is asked once for each key.
+    /// Takes the next line. Each key is looked up once among the known rows.
     pub(crate) fn take<K: Known>(
         &mut self,
         alloc: Global,
@@ -195,7 +195,7 @@ impl Sweep {
         }
     }
 
-    /// What is found after so many lines.
+    /// The result after `count` lines.
     fn finish(self, count: usize) -> Result<NewRows, ImportFault>
         requires { length self.fresh.items ≤ count }
         ensures { IsOutcome self count result }
@@ -219,7 +219,7 @@ impl Sweep {
     }
 }
 
-/// Takes all lines, in key order. The room of those that are taken is given back on the way.
+/// Takes all lines, in key order. The memory of lines that were taken is freed on the way.
 fn take_all<K: Known>(
     alloc: Global,
     lines: Vec<PlacedLine>,
@@ -247,8 +247,7 @@ fn take_all<K: Known>(
     Ok(sweep)
 }
 
-/// The new rows of lines that stand in the order of
-/// their places, or the first line that contradicts.
+/// The new rows of lines that are in the order of the release, or the first line that contradicts.
 pub(crate) fn unite<K: Known>(
     alloc: Global,
     mut lines: Vec<PlacedLine>,

@@ -1,4 +1,4 @@
--- What a private function looks for. No clause of a public function cites this word.
+-- What a private function searches for. No clause of a public function cites this definition.
 use Rattle.std.specs.Prelude.{Bool, ◌&&◌, ◌==◌}
 use Rattle.rf2_values.specs.declared.key.Key.{Key}
 use Rattle.rf2_values.specs.Row.{kind_of}

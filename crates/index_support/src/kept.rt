@@ -1,4 +1,4 @@
-//! Rows that stand in memory, as a reader.
+//! A reader of rows in memory.
 
 ghost use Rattle.std.specs.Prelude.{◌≡◌, ◌≤◌, length, map, vec_items, IfSome};
 ghost use Rattle.std.specs.List.{find};
@@ -19,11 +19,11 @@ use segment::RowPlace;
 use std::alloc::Global;
 use std::cmp::Ordering;
 
-/// Lists of rows in memory, lent to be read. A row is found by the key of its place.
+/// Reads rows from lists in memory. A row is found by the key of its place.
 #[derive(Drop)]
 pub struct KeptRows<'a> {
     pub lists: &'a [Vec<StampedRow>],
-    /// How many rows were asked for.
+    /// How many rows were requested.
     pub reads: u64,
     /// How often no row was found.
     pub damages: u64,
@@ -46,7 +46,7 @@ fn is_under(s: &StampedRow, key: &Key) -> bool
     }
 }
 
-/// The first row whose key isn't below a key.
+/// The position of the first row whose key isn't less than this key.
 fn place_of_key(rows: &[StampedRow], key: &Key) -> usize
     ensures within { result ≤ length rows.now }
     ensures split { IsAscending stamped_cmp rows.now
@@ -61,7 +61,7 @@ fn first_row<'a>(rows: &'a [StampedRow], key: &Key) -> Option<&'a StampedRow>
     rows.iter().find(|s| is_row_at(s, key))
 }
 
-/// The row with a key, by a bisection.
+/// The row with this key, found by a binary search.
 fn row_at<'a>(rows: &'a [StampedRow], key: &Key) -> Option<&'a StampedRow>
     ensures first { IsAscending stamped_cmp rows.now
         → option_copied result ≡ find (is_row_at key.now) rows.now }

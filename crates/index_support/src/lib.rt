@@ -1,5 +1,5 @@
-//! What tests and measurements share of an index: rows in memory as a reader, and whether places
-//! may be listed.
+//! Shared by tests and measurements of an index: a reader of rows in memory, and whether places may
+//! be listed.
 #![tactic(auto)]
 
 mod kept;

@@ -1,4 +1,4 @@
-//! Whether places may be listed, and a list be added to an index.
+//! Whether places may be listed, and whether a list may be added to an index.
 
 ghost use Rattle.std.specs.Prelude.{◌≡◌, ◌<◌, ◌++◌, ◌∷◌, [], ◌↔◌, length, IsTrue};
 ghost use Rattle.std.specs.Prelude.{slice_get};
@@ -25,7 +25,7 @@ fn is_under(p: &RowPlace, key: &Key) -> bool
     }
 }
 
-/// The first place whose key isn't below a key.
+/// The position of the first place whose key isn't less than this key.
 fn place_of_key(list: &[RowPlace], key: Key) -> usize
     ensures { IsAscending place_cmp list.now
         → SplitsAt (is_under (λ p. p.key) key) list.now result }
@@ -71,7 +71,7 @@ fn share_no_key(list: &[RowPlace], other: &[RowPlace]) -> bool
     true
 }
 
-/// Whether the last of some places in key order is below a place.
+/// Whether the place is greater than the last of some places in key order.
 fn comes_after(list: &[RowPlace], p: &RowPlace) -> bool
     requires { IsAscending place_cmp list.now }
     ensures { IsTrue result ↔ IsAscending place_cmp (list.now ++ p.now ∷ []) }
@@ -82,7 +82,7 @@ fn comes_after(list: &[RowPlace], p: &RowPlace) -> bool
     }
 }
 
-/// Whether places may be listed: each key is above the one before it.
+/// Whether places may be listed: each key is greater than the one before it.
 pub fn may_list(list: &[RowPlace]) -> bool
     ensures { IsTrue result ↔ IsAscending place_cmp list.now }
 {
@@ -94,7 +94,7 @@ pub fn may_list(list: &[RowPlace]) -> bool
     true
 }
 
-/// Whether no key of the list is in one of those of the index.
+/// Whether the list shares no key with those of the index.
 fn is_apart(index: &Index, list: &PlaceList) -> bool
     ensures apart { IsTrue result
         ↔ AllByRecursion (λ places. ShareNoKey places list.now) index.now }
@@ -109,7 +109,7 @@ fn is_apart(index: &Index, list: &PlaceList) -> bool
     true
 }
 
-/// Whether a list may be added: there is room, and none of its keys is listed already.
+/// Whether a list may be added: there is room for it, and none of its keys is listed already.
 pub fn may_add(index: &Index, list: &PlaceList) -> bool
     ensures { IsTrue result
         ↔ ((length index.now < max_lists) × ArePlaces (index.now ++ list.now ∷ [])) }

@@ -1,23 +1,23 @@
-//! What a stop leaves of a disk.
+//! What a crash leaves of a disk.
 
 use case_files::{Fault, number, two_words};
 use disk_model::{Choice, MemDisk};
 use std::alloc::AllocError;
 use test_support::image_before_end;
 
-/// Which of the images of a moment is wanted, and of which moments: with these numbers of the
-/// disk's changing calls still to come.
+/// Which image of a moment is chosen, and of which moments: those before the last `first` to `last`
+/// of the disk's changing calls.
 #[derive(Clone, Copy)]
 pub(crate) struct Stops<'a> {
     pub(crate) choice: Choice,
     pub(crate) first: u64,
     pub(crate) last: u64,
-    /// What stands behind the numbers.
+    /// The text after the numbers.
     pub(crate) rest: &'a str,
 }
 
 impl<'a> Stops<'a> {
-    /// The choice, the first and the last number that a text begins with.
+    /// Parses the choice, the first and the last number at the beginning of a text.
     pub(crate) fn of(text: &'a str) -> Result<Stops<'a>, Fault> {
         let (choice, rest) = two_words(text);
         let (first, rest) = two_words(rest);
@@ -35,7 +35,7 @@ impl<'a> Stops<'a> {
     }
 }
 
-/// What a stop leaves with so many changing calls still to come; with none, at the present moment.
+/// What a crash leaves before the last `left` changing calls; for 0, at the present moment.
 pub(crate) fn image_at(disk: &MemDisk, choice: Choice, left: u64) -> Result<Vec<u8>, AllocError> {
     if left == 0 {
         disk.image_now(choice)
@@ -44,7 +44,7 @@ pub(crate) fn image_at(disk: &MemDisk, choice: Choice, left: u64) -> Result<Vec<
     }
 }
 
-/// What is kept of what wasn't synced: all, nothing, or this byte in its place.
+/// What becomes of unsynced bytes: all are kept, all are lost, or each is replaced by this byte.
 pub(crate) fn choice_of(word: &str) -> Result<Choice, Fault> {
     match word {
         "kept" => Ok(Choice::Kept),

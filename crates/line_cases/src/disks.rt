@@ -7,7 +7,7 @@ use line_support::Server;
 use std::alloc::Global;
 use test_support::patch;
 
-/// The store of a case: open, or closed and its disk at hand.
+/// The store of a case: either open, or closed with its disk available.
 #[derive(Drop)]
 pub(crate) struct CaseStore {
     alloc: Global,
@@ -16,7 +16,7 @@ pub(crate) struct CaseStore {
 }
 
 impl CaseStore {
-    /// None.
+    /// No store.
     pub(crate) fn none(alloc: Global) -> CaseStore {
         CaseStore {
             alloc,
@@ -59,7 +59,7 @@ impl CaseStore {
         }
     }
 
-    /// Puts the store into version 3 of the layout.
+    /// Upgrades the store to version 3 of the layout.
     fn upgrade(&mut self) -> Result<(), Fault> {
         match &mut self.server {
             Some(server) => match server.upgrade() {
@@ -106,7 +106,7 @@ fn take_of_disk(
     }
 }
 
-/// Compares a number with the one that a text says.
+/// Compares a number with the one in a text.
 fn compare_number(
     alloc: Global,
     shown: &mut Shown,
@@ -117,7 +117,7 @@ fn compare_number(
     shown.compare(wanted.as_bytes(), got.as_bytes())
 }
 
-/// Compares the bytes from a place on with those that a text says, in base 16.
+/// Compares the bytes from an offset on with those in a text, in hexadecimal.
 fn compare_bytes(alloc: Global, shown: &mut Shown, rest: &str, bytes: &[u8]) -> Result<(), Fault> {
     let (place, wanted) = two_words(rest);
     let place = number(place)? as usize;
@@ -133,7 +133,7 @@ fn compare_bytes(alloc: Global, shown: &mut Shown, rest: &str, bytes: &[u8]) -> 
     shown.compare(wanted.as_bytes(), got.as_bytes())
 }
 
-/// Checks that all bytes from a place up to another one are 0.
+/// Checks that all bytes from an offset up to another one are 0.
 fn check_zeros(rest: &str, bytes: &[u8]) -> Result<(), Fault> {
     let (first, end) = two_words(rest);
     match bytes.get(number(first)? as usize..number(end)? as usize) {
@@ -142,7 +142,7 @@ fn check_zeros(rest: &str, bytes: &[u8]) -> Result<(), Fault> {
     }
 }
 
-/// Puts a byte at all places from one up to another.
+/// Writes a byte at all offsets from one up to another.
 fn change(alloc: Global, disk: &mut MemDisk, rest: &str) -> Result<(), Fault> {
     let (first, rest) = two_words(rest);
     let (end, byte) = two_words(rest);
@@ -155,7 +155,7 @@ fn change(alloc: Global, disk: &mut MemDisk, rest: &str) -> Result<(), Fault> {
     Ok(())
 }
 
-/// Puts the disk that a stop leaves in the place of this one.
+/// Replaces the disk by what a crash leaves of it.
 fn stop(alloc: Global, disk: &mut MemDisk, rest: &str) -> Result<(), Fault> {
     let (choice, left) = two_words(rest);
     let image = image_at(disk, choice_of(choice)?, number(left)?)?;

@@ -1,4 +1,4 @@
-//! The words of a case.
+//! Carries out the lines of a case.
 
 use crate::choices::{Stops, image_at};
 use crate::disks::CaseStore;
@@ -23,13 +23,13 @@ struct Part {
 pub(crate) struct Lines {
     alloc: Global,
     store: CaseStore,
-    /// The lines that aren't sent yet.
+    /// The lines that haven't been sent yet.
     turns: Turns,
     /// The parts of the file.
     parts: Vec<Part>,
-    /// The name of the part that isn't whole.
+    /// The name of the part that isn't complete yet.
     part: Option<String>,
-    /// Whether the case has sent anything, and whether it did so in ways of its own.
+    /// Whether the case has sent anything, and whether it did so by `way`.
     has_sent: bool,
     has_ways: bool,
     shown: Shown,
@@ -63,7 +63,7 @@ impl Lines {
         }
     }
 
-    /// Sends the lines to a new store in a way of reading and writing.
+    /// Sends the lines to a new store, read and written in a given way.
     fn send_in(&mut self, rest: &str) -> Result<(), Fault> {
         let way = Way::of(rest)?;
         (self.has_sent, self.has_ways) = (true, true);
@@ -89,7 +89,7 @@ impl Lines {
         }
     }
 
-    /// Notes that a part is asked for, and answers its place.
+    /// Marks a part as used, and returns its position.
     fn place_of(&mut self, name: &str) -> Result<usize, Fault> {
         for (place, part) in self.parts.iter_mut().enumerate() {
             if part.name.as_str() == name {
@@ -110,7 +110,7 @@ impl Lines {
         }
     }
 
-    /// Sends the lines of a part to the stores that stops leave.
+    /// Sends the lines of a part to the stores that crashes leave.
     fn ask_stopped(&mut self, rest: &str) -> Result<(), Fault> {
         let stops = Stops::of(rest)?;
         let place = self.place_of(stops.rest)?;
@@ -121,7 +121,7 @@ impl Lines {
         Ok(())
     }
 
-    /// Sends the lines of the part at a place to the store that a stop leaves.
+    /// Sends the lines of the part at a position to the store that a crash leaves.
     fn ask_after(&mut self, stops: Stops<'_>, left: u64, place: usize) -> Result<(), Fault> {
         let (Some(disk), Some(part)) = (&self.store.disk, self.parts.get(place)) else {
             return Err(Fault::Line("the store is open"));
@@ -133,7 +133,7 @@ impl Lines {
         }
     }
 
-    /// Carries out a word behind lines.
+    /// Carries out a word that comes after lines to send.
     fn take_behind(&mut self, word: &str, rest: &str) -> Result<(), Fault> {
         self.send()?;
         match word {

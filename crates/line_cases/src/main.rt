@@ -1,5 +1,5 @@
-//! Lines and their replies, as files under `data/cases` have them: each case has a store of its
-//! own in memory, which is sent lines, closed, opened, damaged and stopped.
+//! Lines and their replies, from the files under `data/cases`: each case has a store of its own in
+//! memory, to which lines are sent, and which is closed, opened, damaged and left by crashes.
 #![tactic(auto)]
 
 mod choices;

@@ -1,4 +1,4 @@
-//! What a server answers and writes, beside what it is to.
+//! What a server returns and writes, compared with what it should.
 
 use crate::turns::Turns;
 use crate::ways::Way;
@@ -7,7 +7,7 @@ use line_server::ServeFault;
 use line_support::{Narrow, Pieces, Server};
 use std::alloc::{AllocError, Global};
 
-/// Has a server answer lines, and compares its replies with those that are wanted.
+/// Lets a server answer lines, and compares its replies with the expected ones.
 pub(crate) fn says(
     alloc: Global,
     server: &mut Server,
@@ -21,7 +21,7 @@ pub(crate) fn says(
     says_in(alloc, server, turns, Way::ample(&gives), shown)
 }
 
-/// The same in a way of reading and writing.
+/// The same, read and written in a given way.
 pub(crate) fn says_in(
     alloc: Global,
     server: &mut Server,
@@ -35,7 +35,7 @@ pub(crate) fn says_in(
     shown.compare(wanted.as_slice(), got.as_slice())
 }
 
-/// A line of the answer, and what is written.
+/// The returned value as a line, followed by what was written.
 fn answer_and_output(alloc: Global, answer: &str, output: &[u8]) -> Result<Vec<u8>, AllocError> {
     let mut text = answer.as_bytes().to_vec(alloc)?;
     text.push(b'\n')?;
@@ -43,7 +43,7 @@ fn answer_and_output(alloc: Global, answer: &str, output: &[u8]) -> Result<Vec<u
     Ok(text)
 }
 
-/// What the server answers, and what it writes.
+/// What the server returns, and what it writes.
 fn said(
     alloc: Global,
     server: &mut Server,
@@ -60,7 +60,7 @@ fn said(
     answer_and_output(alloc, &answer, output.taken.as_slice())
 }
 
-/// Has the server answer the lines.
+/// Lets the server answer the lines.
 fn answer(
     server: &mut Server,
     turns: &Turns,

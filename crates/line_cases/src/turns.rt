@@ -1,4 +1,4 @@
-//! Lines that are sent, and the replies that are wanted.
+//! Lines that are sent, and the expected replies.
 
 use case_files::{Fault, number, two_words};
 use line_support::{SCRIPT, input_of, replies_of};
@@ -9,13 +9,13 @@ use test_support::line;
 #[derive(Drop)]
 pub(crate) struct Turns {
     alloc: Global,
-    /// The lines, each with its end if it has one.
+    /// The lines, each with its end, if it has one.
     pub(crate) sent: Vec<u8>,
-    /// The lines of the replies, each with an LF.
+    /// The lines of the replies, each followed by an LF.
     pub(crate) replies: Vec<u8>,
-    /// How many whole replies there are.
+    /// How many complete replies there are.
     pub(crate) count: u64,
-    /// Whether the reply to the last line isn't whole.
+    /// Whether the reply to the last line isn't complete yet.
     pub(crate) is_due: bool,
 }
 
@@ -31,7 +31,7 @@ impl Turns {
         }
     }
 
-    /// Takes a line of a file that says what is sent or replied. `None` if it says something else.
+    /// Adds a line of a file that says what is sent or replied; `None` if it says something else.
     pub(crate) fn take(&mut self, word: &str, rest: &str) -> Option<Result<(), Fault>> {
         match word {
             ">" => Some(self.send(rest, b"\n")),
@@ -45,12 +45,12 @@ impl Turns {
         }
     }
 
-    /// Whether nothing is sent.
+    /// Whether there is nothing to send.
     pub(crate) fn is_empty(&self) -> bool {
         self.sent.is_empty()
     }
 
-    /// Sends a line with this end.
+    /// Adds a line to send, with this end.
     fn send(&mut self, text: &str, end: &[u8]) -> Result<(), Fault> {
         if self.is_due {
             return Err(Fault::Line("the line before has no whole reply"));
@@ -61,7 +61,7 @@ impl Turns {
         Ok(())
     }
 
-    /// Wants a line of a reply, which `OK`, `END` or `ERR` ends.
+    /// Adds a line of the expected reply, which ends with `OK`, `END` or `ERR`.
     fn reply(&mut self, text: &str) -> Result<(), Fault> {
         if !self.is_due {
             return Err(Fault::Line("the reply stands behind no line"));
@@ -77,7 +77,7 @@ impl Turns {
         Ok(())
     }
 
-    /// Sends bytes, which are written with two digits of base 16 each.
+    /// Adds bytes to send, given by two hexadecimal digits each.
     fn send_bytes(&mut self, digits: &str) -> Result<(), Fault> {
         for word in digits.split(' ') {
             let Ok(byte) = u8::from_str_radix(word, 16) else {
@@ -88,7 +88,7 @@ impl Turns {
         Ok(())
     }
 
-    /// Sends a letter until all that is sent has so many bytes.
+    /// Adds a letter to send, until everything to send has this many bytes.
     fn fill(&mut self, rest: &str) -> Result<(), Fault> {
         let (length, letter) = two_words(rest);
         let length = number(length)? as usize;
@@ -98,7 +98,7 @@ impl Turns {
         }
     }
 
-    /// Sends so many lines of the script that tests share, and wants their replies.
+    /// Adds the first `count` lines of the script that tests share, and their replies.
     fn send_script(&mut self, count: &str) -> Result<(), Fault> {
         let count = number(count)?;
         let Some(turns) = SCRIPT.get(..count as usize) else {
@@ -112,7 +112,7 @@ impl Turns {
         Ok(())
     }
 
-    /// Sends an import of a new row for each year of some, and wants that each brings it.
+    /// Adds an import of a new row for each of these years, and the reply that each row is new.
     fn send_years(&mut self, rest: &str) -> Result<(), Fault> {
         let (first, last) = two_words(rest);
         let (first, last) = (number(first)?, number(last)?);
@@ -122,7 +122,7 @@ impl Turns {
         Ok(())
     }
 
-    /// Sends the import of this number, which brings the row of a year.
+    /// Adds the import with this number, which brings the row of a year.
     fn send_year(&mut self, year: u64, import: u64) -> Result<(), Fault> {
         let sent = format!(in self.alloc; "0 IMPORT new-in-{year}")?;
         self.send(&sent, b"\n")?;

@@ -1,11 +1,11 @@
-//! How lines come in and replies go out.
+//! How lines are read and replies are written.
 
 use case_files::{Fault, number};
 use std::io::ErrorKind;
 
-/// How many bytes a read gives at most, how the reader fails at its end if it does, how many reads
-/// are allowed, how many bytes a write takes at most, and how many all writes take; and what the
-/// server is to answer.
+/// The most bytes that a read returns, how the reader fails at its end if it does, how many reads
+/// are allowed, the most bytes that a write accepts, and that all writes accept together; and what
+/// the server should return.
 #[derive(Clone, Copy)]
 pub(crate) struct Way<'a> {
     pub(crate) pieces: usize,
@@ -17,7 +17,7 @@ pub(crate) struct Way<'a> {
 }
 
 impl<'a> Way<'a> {
-    /// With no limit that matters, to the answer.
+    /// Without limits that matter, and with this expected result.
     pub(crate) fn ample(gives: &'a str) -> Way<'a> {
         Way {
             pieces: 4_096,
@@ -29,7 +29,7 @@ impl<'a> Way<'a> {
         }
     }
 
-    /// The way that words say, of which each stands before its value.
+    /// Parses words, each of which comes before its value.
     pub(crate) fn of(words: &'a str) -> Result<Way<'a>, Fault> {
         let mut way = Way::ample("");
         let mut before = None;
@@ -45,7 +45,7 @@ impl<'a> Way<'a> {
         }
     }
 
-    /// Sets what a word says.
+    /// Sets the value of a word.
     fn set(&mut self, word: &str, value: &'a str) -> Result<(), Fault> {
         match word {
             "pieces" => self.pieces = number(value)? as usize,

@@ -6,10 +6,10 @@ use Rattle.line_commands.specs.Questions.{Question, word_of_question, SpellsQues
 
 pub data Command : Type 0 where
   Ask : (question : Question) → Command
-  -- the question, of the first so many imports
+  -- the question, about the first `number` imports
   At : (number : ℕ) (question : Question) → Command
   Import : (name : List ℕ) → Command
-  -- what an import of the release would be answered
+  -- what an import of the release would reply
   Check : (name : List ℕ) → Command
   Pin : (number : Option ℕ) → Command
   Unpin : Command
@@ -35,7 +35,8 @@ word_of Abandon = codes "ABANDON"
 word_of Trim = codes "TRIM"
 word_of Status = codes "STATUS"
 
--- How the arguments of a command are spelled. A question follows AT as it follows a session.
+-- How the arguments of a command are spelled. A question after AT is spelled like one after a
+-- session's number.
 abbrev pub SpellsArguments : Command → List (List ℕ) → Type 0
 SpellsArguments (Ask question) texts = SpellsQuestion question texts
 SpellsArguments (At number question) texts =

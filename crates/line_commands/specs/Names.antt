@@ -7,7 +7,7 @@ use Rattle.std.specs.Char.{IsAsciiAlphanumeric}
 abbrev pub IsNameByte : ℕ → Type 0
 IsNameByte b = IsAsciiAlphanumeric b ⊎ (b ≡ 95) ⊎ (b ≡ 45) ⊎ (b ≡ 46)
 
--- some such bytes, but neither `.` nor `..`
+-- at least one such byte, but neither `.` nor `..`
 pub record IsNamePart (part : List ℕ) : Type 0 where
   pub some : 1 ≤ length part
   pub plain : All IsNameByte part

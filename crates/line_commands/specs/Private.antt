@@ -1,4 +1,4 @@
--- Words that only this crate's private functions need of one another. No public clause cites them.
+-- Definitions for this crate's private functions. No public clause cites them.
 use Rattle.std.specs.Prelude.{◌≡◌, ◌≢◌, ℕ, List, [], ◌∷◌, ◌++◌, codes, Option, Some, None, All}
 use Rattle.line_commands.specs.declared.command.Command.{Command as RustCommand}
 use Rattle.line_commands.specs.declared.question.Question.{Question as RustQuestion}
@@ -14,7 +14,7 @@ use Rattle.line_commands.specs.Requests.{question_of, command_of, spaced}
 abbrev pub IsWord : List ℕ → Type 0
 IsWord text = All (λ b. b ≢ 32) text
 
--- a command that isn't a question alone
+-- a command other than a question about the session's imports
 abbrev pub IsOther : Command → Type 0
 IsOther (Ask question) = ⊥
 IsOther command = Unit {0}
@@ -54,12 +54,12 @@ text_of_word words.Abandon = codes "ABANDON"
 text_of_word words.Trim = codes "TRIM"
 text_of_word words.Status = codes "STATUS"
 
--- what stands behind the space after a word
+-- the text after the space that follows a word
 abbrev pub behind : List (List ℕ) → Option (List ℕ)
 behind [] = None
 behind (text ∷ texts) = Some (spaced (text ∷ texts))
 
--- the word and what stands behind it are the question's
+-- the word and the text after it spell the question
 pub record IsSpelledQuestion (word : List ℕ) (rest : Option (List ℕ)) (question : Question)
     : Type 0 where
   pub word_is : word_of_question question ≡ word
@@ -67,19 +67,19 @@ pub record IsSpelledQuestion (word : List ℕ) (rest : Option (List ℕ)) (quest
   pub spelled : SpellsQuestion question arguments
   pub rest_is : behind arguments ≡ rest
 
--- which question it was read as: one that it spells, and none only where it spells none
+-- the question that was parsed is one that they spell; and if none was, they spell none
 abbrev pub IsQuestionReadAs : List ℕ → Option (List ℕ) → Option RustQuestion → Type 0
 IsQuestionReadAs word rest (Some question) = IsSpelledQuestion word rest (question_of question)
 IsQuestionReadAs word rest None = (question : Question) → IsSpelledQuestion word rest question → ⊥
 
--- the word and what stands behind it are the command's
+-- the word and the text after it spell the command
 pub record IsSpelled (word : List ℕ) (rest : Option (List ℕ)) (command : Command) : Type 0 where
   pub word_is : word_of command ≡ word
   pub arguments : List (List ℕ)
   pub spelled : SpellsArguments command arguments
   pub rest_is : behind arguments ≡ rest
 
--- which command it was read as: one that it spells, and none only where it spells none
+-- the command that was parsed is one that they spell; and if none was, they spell none
 abbrev pub IsReadAs : List ℕ → Option (List ℕ) → Option RustCommand → Type 0
 IsReadAs word rest (Some command) = IsSpelled word rest (command_of command)
 IsReadAs word rest None = (command : Command) → IsSpelled word rest command → ⊥

@@ -7,8 +7,8 @@ use Rattle.rf2_values.specs.declared.row.Kind.TheVariants as kinds
 use Rattle.rf2_values.specs.Row.{IsIdOf, SpellsId, IsConcept, IsComponent}
 use Rattle.rf2_values.specs.Time.{IsTime}
 
--- What is asked of the imports that a session sees. A question changes nothing, and its answer
--- depends on what the session is pinned to.
+-- A question about the imports that a session sees. A question changes nothing, and its answer
+-- depends on the session's pin.
 pub data Question : Type 0 where
   Get : (kind : Kind) (id date : ℕ) → Question
   History : (kind : Kind) (id : ℕ) → Question
@@ -52,7 +52,7 @@ word_of_question Dates = codes "DATES"
 word_of_question Digest = codes "DIGEST"
 word_of_question (Receipt number) = codes "RECEIPT"
 
--- the most rows that one answer may be asked for
+-- the greatest number of rows that can be asked for
 abbrev pub most_rows : ℕ
 most_rows = 1000
 
@@ -65,8 +65,9 @@ letter kinds.Association = codes "A"
 letter kinds.Concrete = codes "V"
 letter kinds.Member = codes "M"
 
--- what a row of the kind can be about: any component where it is a member of a reference set, of
--- associations or of another one, and else a concept; a concept is about nothing
+-- the components that a row of the kind can be about: any component for a member of a reference
+-- set, of associations or another one; a concept for a description or a relationship; and none for
+-- a concept
 abbrev pub IsSubjectOf : Kind → ℕ → Type 0
 IsSubjectOf kinds.Concept id = ⊥
 IsSubjectOf kinds.Description id = IsConcept id
@@ -85,7 +86,7 @@ abbrev pub SpellsComponentAfter : Option ℕ → List ℕ → Type 0
 SpellsComponentAfter None text = text ≡ codes "-"
 SpellsComponentAfter (Some id) text = IsComponent id × (text ≡ decimal id)
 
--- How the arguments of a question are spelled. The last one of TERMS and SEARCH may hold spaces.
+-- How the arguments of a question are spelled. The last one of TERMS and SEARCH may contain spaces.
 abbrev pub SpellsQuestion : Question → List (List ℕ) → Type 0
 SpellsQuestion (Get kind id date) texts =
     (text : List ℕ) × IsIdOf kind id × SpellsId kind id text × IsTime date

@@ -1,5 +1,5 @@
-//! The arguments of each command. Each function says what stands
-//! behind its command's word, or none where it spells no such command.
+//! Parses the arguments of each command. Each function takes what follows its command's word, and
+//! returns none if that isn't such a command.
 
 ghost use Rattle.std.specs.Prelude.{Some, None, codes, option_map};
 ghost use Rattle.line_commands.specs.Private.{IsReadAs, text_of_question, text_of_word};
@@ -10,7 +10,7 @@ use crate::names::release_name;
 use crate::questions::question;
 use crate::words::{QuestionWord, Word, cut, first_word, question_word};
 
-/// The question with this word, and what stands behind it, as a command.
+/// The question with this word, and with the text after it, as a command.
 fn ask<'a>(word: QuestionWord, rest: Option<&'a [u8]>) -> Option<Command<'a>>
     ensures { IsReadAs (text_of_question word) (option_map (λ text. text.now) rest.entry) result }
 {
@@ -103,7 +103,7 @@ fn with_arguments(word: Word, text: &[u8]) -> Option<Command<'_>>
     }
 }
 
-/// The command with this word, and what stands behind it.
+/// The command with this word, and with the text after it.
 pub(crate) fn command<'a>(word: Word, rest: Option<&'a [u8]>) -> Option<Command<'a>>
     ensures { IsReadAs (text_of_word word) (option_map (λ text. text.now) rest.entry) result }
 {

@@ -1,5 +1,4 @@
-//! Single arguments: each function gives the one value
-//! that a text spells, or none where it spells none.
+//! Parses single arguments: each function returns the one value that a text spells, or none.
 
 ghost use Rattle.std.specs.Prelude.{◌≡◌, ◌≢◌, ◌≤◌, ◌<◌, ◌^◌, ℕ, Option, MatchOption, decimal};
 ghost use Rattle.std.specs.Prelude.{length};
@@ -40,7 +39,7 @@ pub(crate) fn kind(text: &[u8]) -> Option<Kind>
     }
 }
 
-/// A number from 1 to a greatest one.
+/// A number from 1 to `most`.
 pub(crate) fn limit(text: &[u8], most: u32) -> Option<u32>
     ensures { MatchOption result ((n : ℕ) → 1 ≤ n → n ≤ most → text.now ≢ decimal n)
         (λ n. (1 ≤ n) × (n ≤ most) × (text.now ≡ decimal n)) }
@@ -51,7 +50,7 @@ pub(crate) fn limit(text: &[u8], most: u32) -> Option<u32>
     }
 }
 
-/// The number of an import, given or not.
+/// A number below 2^32: that of an import, or a number of imports.
 pub(crate) fn import_number(text: &[u8]) -> Option<u32>
     ensures { MatchOption result ((n : ℕ) → n < 2 ^ 32 → text.now ≢ decimal n)
         (λ n. (n < 2 ^ 32) × (text.now ≡ decimal n)) }
@@ -92,7 +91,7 @@ fn member(text: &[u8]) -> Option<u128>
     }
 }
 
-/// A date, as the column effectiveTime has it.
+/// A date, in the form of the column `effectiveTime`.
 pub(crate) fn date(text: &[u8]) -> Option<EffectiveTime>
     ensures { MatchOption result ((t : ℕ) → IsTime t → text.now ≢ decimal t)
         (λ t. IsTime t × (text.now ≡ decimal t)) }
@@ -118,7 +117,7 @@ pub(crate) fn identifier(kind: Kind, text: &[u8]) -> Option<u128>
     }
 }
 
-/// The identifier of what a row of a kind can be about.
+/// The identifier of a component that a row of the kind can be about.
 pub(crate) fn subject(kind: Kind, text: &[u8]) -> Option<Sctid>
     ensures { MatchOption result ((n : ℕ) → IsSubjectOf kind n → text.now ≢ decimal n)
         (λ n. IsSubjectOf kind n × (text.now ≡ decimal n)) }
@@ -130,7 +129,7 @@ pub(crate) fn subject(kind: Kind, text: &[u8]) -> Option<Sctid>
     }
 }
 
-/// What a term may begin with: a text in UTF-8 that isn't empty.
+/// The beginning of a term: a text in UTF-8 that isn't empty.
 pub(crate) fn prefix(text: &[u8]) -> Option<&str>
     ensures { MatchOption result (1 ≤ length text.now → IsUtf8 text.now → ⊥)
         (λ p. (1 ≤ length p.now) × IsUtf8 p.now × (p.now ≡ text.now)) }

@@ -2,17 +2,17 @@
 
 ghost use Rattle.line_commands.specs.Laws.{OneReading, AskedIsRead, OneRefusal};
 
-/// A line asks one thing.
+/// A line spells at most one request.
 pub fn one_reading()
     ensures { OneReading }
 {}
 
-/// A line that asks something isn't refused.
+/// A line that spells a request isn't refused.
 pub fn asked_is_read()
     ensures { AskedIsRead }
 {}
 
-/// A line that asks nothing has one first reason.
+/// A line that spells no request has one first reason for that.
 pub fn one_refusal()
     ensures { OneRefusal }
 {}

@@ -1,5 +1,5 @@
-//! What a line of the protocol asks: a session's number, a
-//! command's word and its arguments, parted by single spaces.
+//! The requests of the protocol: a line has a session's number, a command's word and its arguments,
+//! separated by single spaces.
 #![tactic(auto)]
 
 mod arguments;

@@ -12,7 +12,7 @@ fn is_plain(part: &[u8]) -> bool
     part.iter().all(|b| b.is_ascii_alphanumeric() || *b == b'_' || *b == b'-' || *b == b'.')
 }
 
-/// Whether a text may stand between the slashes of a name.
+/// Whether a text is allowed between the slashes of a name.
 fn is_name_part(part: &[u8]) -> bool
     ensures { IsTrue result ↔ IsNamePart part.now }
 {
@@ -35,7 +35,7 @@ fn is_name(text: &[u8]) -> bool
     text.split(|b| *b == b'/').all(|part| is_name_part(part))
 }
 
-/// The name of a release that the text is.
+/// The text as the name of a release, if it is one.
 pub(crate) fn release_name(text: &[u8]) -> Option<&str>
     ensures { MatchOption result (IsName text.now → ⊥)
         (λ name. IsName name.now × (name.now ≡ text.now)) }

@@ -1,4 +1,4 @@
-//! Lines: what they ask, or why they ask nothing.
+//! Parses lines as requests, or says why they are none.
 
 ghost use Rattle.std.specs.Prelude.{◌≡◌, ◌+◌, ◌≤◌, length};
 ghost use Rattle.line_commands.specs.Requests.{IsReading, request_limit, import_line, check_line};
@@ -9,8 +9,8 @@ use crate::unread::Unread;
 use crate::words::{Word, command_word, first_word};
 use crate::{arguments, columns};
 
-/// What the line asks, or the first reason why it asks nothing. The line is given without its end;
-/// nothing more is taken off.
+/// The request that the line spells, or the first reason why it spells none. The line is given
+/// without its end; nothing else is removed.
 pub fn parse(line: &[u8]) -> Result<Request<'_>, Unread>
     ensures { IsReading line.now result }
 {
@@ -34,8 +34,8 @@ pub fn parse(line: &[u8]) -> Result<Request<'_>, Unread>
     }
 }
 
-/// What session 0 asks by the line that has a command's word and the name of a release. So many
-/// bytes stand before the name.
+/// The request in session 0 of a line with a command's word and the name of a release. `before` is
+/// the number of bytes before the name.
 fn named_request<'a>(word: Word, before: usize, name: &'a str) -> Result<Request<'a>, Unread>
     requires before { before ≡ 3 + length (text_of_word word) }
     requires short { before ≤ request_limit }
@@ -53,14 +53,14 @@ fn named_request<'a>(word: Word, before: usize, name: &'a str) -> Result<Request
     }
 }
 
-/// What session 0 asks by the line that imports the release under a name.
+/// The request in session 0 of the line that imports the release of this name.
 pub fn import_request(name: &str) -> Result<Request<'_>, Unread>
     ensures { IsReading (import_line name.now) result }
 {
     named_request(Word::Import, "0 IMPORT ".len(), name)
 }
 
-/// What session 0 asks by the line that checks the release under a name.
+/// The request in session 0 of the line that checks the release of this name.
 pub fn check_request(name: &str) -> Result<Request<'_>, Unread>
     ensures { IsReading (check_line name.now) result }
 {

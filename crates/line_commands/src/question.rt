@@ -1,12 +1,12 @@
-//! Questions, as a line asks them.
+//! The questions that lines spell.
 
 use rf2_values::{EffectiveTime, Kind, Sctid};
 
-/// What a line asks of the imports that its session sees. A question changes nothing,
-/// and its answer depends on what the session is pinned to.
+/// A question about the imports that a session sees. A question changes nothing, and its answer
+/// depends on the session's pin.
 #[derive(Clone, Copy, Debug, PartialEq, Eq)]
 pub enum Question<'a> {
-    /// What a component looked like on a date.
+    /// The row of a component on a date.
     Get {
         kind: Kind,
         id: u128,
@@ -22,12 +22,12 @@ pub enum Question<'a> {
         concept: Sctid,
         date: EffectiveTime,
     },
-    /// The concepts that one or more "is a" relationships lead to from a concept on a date.
+    /// The concepts that are reached from a concept by one or more "is a" relationships on a date.
     Ancestors {
         concept: Sctid,
         date: EffectiveTime,
     },
-    /// The concepts from which one or more "is a" relationships lead to a concept on a date.
+    /// The concepts from which a concept is reached by one or more "is a" relationships on a date.
     Descendants {
         concept: Sctid,
         date: EffectiveTime,
@@ -38,15 +38,16 @@ pub enum Question<'a> {
         date: EffectiveTime,
         limit: u32,
     },
-    /// The descriptions whose terms begin with a prefix on a date, by identifier,
-    /// from the one after `after`.
+    /// The descriptions whose terms begin with a prefix on a date, in the order of their
+    /// identifiers, from after `after` on.
     Search {
         prefix: &'a str,
         date: EffectiveTime,
         after: Option<u128>,
         limit: u32,
     },
-    /// The active associations of a component on a date: what replaces it, or may replace it.
+    /// The active associations on a date that refer to a component: what replaces it, or may
+    /// replace it.
     Replaced {
         id: Sctid,
         date: EffectiveTime,
@@ -68,16 +69,16 @@ pub enum Question<'a> {
         kind: Kind,
         id: Sctid,
     },
-    /// What the components of a kind looked like on a date, by identifier, from the one after
-    /// `after`.
+    /// The rows of the components of a kind on a date, in the order of their identifiers, from
+    /// after `after` on.
     Page {
         kind: Kind,
         date: EffectiveTime,
         after: Option<u128>,
         limit: u32,
     },
-    /// What the components of a kind looked like on a date that had changed since another one, by
-    /// identifier, from the one after `after`.
+    /// The rows on a date of the components of a kind that had changed since another date, in the
+    /// order of their identifiers, from after `after` on.
     Delta {
         kind: Kind,
         from: EffectiveTime,
@@ -85,16 +86,16 @@ pub enum Question<'a> {
         after: Option<u128>,
         limit: u32,
     },
-    /// The members of a reference set on a date, active or not, by identifier, from the one after
-    /// `after`.
+    /// The members of a reference set on a date, active or not, in the order of their identifiers,
+    /// from after `after` on.
     Members {
         refset: Sctid,
         date: EffectiveTime,
         after: Option<u128>,
         limit: u32,
     },
-    /// The active members of a reference set on a date, by the component that they refer to, from
-    /// the component after `after`.
+    /// The active members of a reference set on a date, in the order of the components that they
+    /// refer to, from after the component `after` on.
     Values {
         refset: Sctid,
         date: EffectiveTime,

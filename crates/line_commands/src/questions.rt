@@ -1,5 +1,5 @@
-//! The arguments of each question. Each function says what stands
-//! behind its question's word, or none where it spells no such question.
+//! Parses the arguments of each question. Each function takes what follows its question's word, and
+//! returns none if that isn't such a question.
 
 ghost use Rattle.std.specs.Prelude.{◌≡◌, ◌≢◌, ◌++◌, ◌∷◌, ℕ, MatchOption, Some, None, codes};
 ghost use Rattle.std.specs.Prelude.{decimal, option_map};
@@ -14,7 +14,7 @@ use crate::question::Question;
 use crate::words::{QuestionWord, cut, cut_thrice, cut_twice};
 use rf2_values::{Class, EffectiveTime, Kind, Sctid};
 
-/// The most rows that one answer may be asked for.
+/// The greatest number of rows that can be asked for.
 const MOST_ROWS: u32 = 1000;
 
 /// A concept and a date.
@@ -273,7 +273,7 @@ fn with_arguments(word: QuestionWord, text: &[u8]) -> Option<Question<'_>>
     }
 }
 
-/// The question with this word, and what stands behind it.
+/// The question with this word, and with the text after it.
 pub(crate) fn question<'a>(word: QuestionWord, rest: Option<&'a [u8]>) -> Option<Question<'a>>
     ensures { IsQuestionReadAs (text_of_question word) (option_map (λ text. text.now) rest.entry)
         result }

@@ -1,4 +1,4 @@
-//! Words, parted by single spaces.
+//! Words, separated by single spaces.
 
 ghost use Rattle.std.specs.Prelude.{◌≡◌, ◌≢◌, ◌++◌, ◌∷◌, List, ℕ, MatchOption, option_map};
 ghost use Rattle.line_commands.specs.Questions.{Question as Asked, word_of_question};
@@ -49,7 +49,7 @@ pub(crate) enum Word {
     Status,
 }
 
-/// What stands before the first space, and what stands behind it, if there is one.
+/// The text before the first space, and the text after it, if there is a space.
 pub(crate) fn first_word(text: &[u8]) -> (&[u8], Option<&[u8]>)
     ensures word { IsWord result.0.now }
     ensures whole { text.now ≡ with_rest result.0.now (option_map (λ rest. rest.now) result.1) }
@@ -60,7 +60,7 @@ pub(crate) fn first_word(text: &[u8]) -> (&[u8], Option<&[u8]>)
     }
 }
 
-/// The word before the first space, and what stands behind it.
+/// The word before the first space, and the text after it.
 pub(crate) fn cut(text: &[u8]) -> Option<(&[u8], &[u8])>
     ensures { MatchOption result (IsWord text.now)
         (λ x. IsWord x.0.now × (text.now ≡ x.0.now ++ 32 ∷ x.1.now)) }
@@ -69,7 +69,7 @@ pub(crate) fn cut(text: &[u8]) -> Option<(&[u8], &[u8])>
     Some((&text[..at], &text[at + 1..]))
 }
 
-/// Two words, and what stands behind the spaces after them.
+/// Two words, and the text after the spaces that follow them.
 pub(crate) fn cut_twice(text: &[u8]) -> Option<(&[u8], &[u8], &[u8])>
     ensures { MatchOption result
         ((a b x : List ℕ) → IsWord a → IsWord b → text.now ≢ a ++ 32 ∷ (b ++ 32 ∷ x))
@@ -81,7 +81,7 @@ pub(crate) fn cut_twice(text: &[u8]) -> Option<(&[u8], &[u8], &[u8])>
     Some((first, second, rest))
 }
 
-/// Three words, and what stands behind the spaces after them.
+/// Three words, and the text after the spaces that follow them.
 pub(crate) fn cut_thrice(text: &[u8]) -> Option<(&[u8], &[u8], &[u8], &[u8])>
     ensures { MatchOption result ((a b c x : List ℕ) → IsWord a → IsWord b → IsWord c
         → text.now ≢ a ++ 32 ∷ (b ++ 32 ∷ (c ++ 32 ∷ x)))

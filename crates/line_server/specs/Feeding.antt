@@ -1,4 +1,4 @@
--- What taking a piece of the input does.
+-- What feeding a piece of the input to the server does.
 use Rattle.std.specs.Prelude.{◌≡◌, ◌⊎◌, ◌==◌, ◌^◌, ◌-◌, false, ℕ, List, [], ◌∷◌, ◌++◌, length, min}
 use Rattle.std.specs.Prelude.{All, Option, Result, Ok, Err, IfOk, OnOk}
 use Rattle.disk_model.specs.View.{DiskView}
@@ -11,7 +11,7 @@ use Rattle.line_server.specs.Turns.{Turn, Run, lines_asked, replies}
 use Rattle.line_server.specs.Streams.{ends_in, AppendsSome}
 use Rattle.line_server.specs.Steps.{kept}
 
--- the first list is a front part of the second
+-- the first list is a prefix of the second
 abbrev pub IsFront : {X : Type 0} → List X → List X → Type 0
 IsFront {X} front whole = (rest : List X) × (whole ≡ front ++ rest)
 
@@ -19,7 +19,7 @@ IsFront {X} front whole = (rest : List X) × (whole ≡ front ++ rest)
 abbrev pub IsUnended : List ℕ → Type 0
 IsUnended part = All (λ b. (b == 10) ≡ false) part
 
--- the bytes are these lines, each with its end, and then what has come of the next one
+-- the bytes are these lines, each with its end, and then the beginning of the next one
 pub record AreCut (bytes : List ℕ) (lines : List (List ℕ)) (part : List ℕ) : Type 0 where
   pub ended : List ℕ
   pub whole : bytes ≡ ended ++ part
@@ -27,20 +27,20 @@ pub record AreCut (bytes : List ℕ) (lines : List (List ℕ)) (part : List ℕ)
   pub lines_are : lines ≡ lines_in ended
   pub free : IsUnended part
 
--- each reply but the last was written, and of that one a front part alone, or nothing
+-- each reply but the last was written, and of that one a proper prefix at most
 abbrev pub LacksLastReply : Option (List ℕ) → Option (List ℕ) → List Turn → Type 0
 LacksLastReply old new turns =
     (done : List Turn) × (last : Turn) × (mid : Option (List ℕ)) × (turns ≡ done ++ last ∷ [])
     × Appends old mid (replies done) × AppendsSome mid new (bytes_of (reply_value last.outcome))
 
--- each reply was written, or the writer failed in the last one
+-- each reply was written; or the writer failed in the last one
 abbrev pub AreReplied : {T E : Type 0} → Result T E → Option (List ℕ) → Option (List ℕ) → List Turn
     → Type 0
 AreReplied (Ok x) old new turns = Appends old new (replies turns)
 AreReplied (Err e) old new turns = LacksLastReply old new turns
 
--- What a piece of the input does: the part of a line that had come before, the piece, what is kept
--- of the next line after it, and the bytes of the output before and after, where they are known.
+-- A piece of the input: the part of a line that came before it, the piece itself, what the buffer
+-- has of the next line after it, and the output's bytes before and after, if they are known.
 pub record Intake : Type 0 where
   pub part : List ℕ
   pub piece : List ℕ
@@ -52,14 +52,14 @@ abbrev pub intake : List ℕ → List ℕ → List ℕ → Option (List ℕ) →
 intake part piece buffer old new =
     record { part = part; piece = piece; buffer = buffer; old = old; new = new }
 
--- A piece of the input came behind a part of a line. Each line that ended in the piece was
--- answered, in order, and its reply was written; what has come of the next line is kept. After a
--- fault of the writer that is so of the piece up to the end of the line whose reply wasn't written.
+-- A piece of the input was taken after a part of a line. Each line that ended in the piece was
+-- answered, in order, and its reply written; the beginning of the next line is kept. After a fault
+-- of the writer this holds of the piece up to the end of the line whose reply wasn't written.
 pub record IsFed {D E : Type 0} (result : Result ℕ E) (source : SourceView) (view : D → DiskView)
     (intake : Intake) (before after : Server D) : Type 0 where
   pub turns : List Turn
   pub run : Run source view before turns after
-  -- how far the piece was taken, and what has come of the next line there
+  -- how much of the piece was taken, and the beginning of the next line there
   pub taken : List ℕ
   pub rest : List ℕ
   pub front : IsFront taken intake.piece

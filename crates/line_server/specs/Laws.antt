@@ -1,4 +1,4 @@
--- What holds of every run of lines, on an honest disk.
+-- Laws of every run of lines, on an honest disk.
 use Rattle.std.specs.Prelude.{◌≡◌, ◌≢◌, ℕ, false, ◌≤◌, List, [], map, Option, Some, None}
 use Rattle.std.specs.Prelude.{Result, Ok, Err, slice_index_or}
 use Rattle.disk_model.specs.View.{DiskView}
@@ -25,14 +25,15 @@ use Rattle.store_life.specs.Laws.{AgreeUpTo, BroughtAlike}
 use Rattle.line_server.specs.Turns.{Turn, IsTurn, Run}
 use Rattle.line_server.specs.Pinning.{IsPinnedTo, LeavesPin, StaysPinned}
 
--- the outcome is neither that memory ran out nor that the device failed
+-- the outcome says neither that memory ran out nor that the device failed
 abbrev pub IsSure : Result Answer LineRefusal → Type 0
 IsSure (Err (refusals.Store store.OutOfMemory)) = ⊥
 IsSure (Err (refusals.Store store.DiskFault)) = ⊥
 IsSure _ = Unit {0}
 
--- A question is answered alike in two states in which it is asked of one number of imports, and the
--- histories agree up to it. So behind AT it is answered as a session is that is pinned to them.
+-- A question is answered alike in two states in which it is asked about the same number of imports,
+-- and the histories agree up to it. So a question after AT is answered as in a session that is
+-- pinned to these imports.
 abbrev pub PinnedIsUndisturbed : (D : Type 0) → (D → DiskView) → Type 0
 PinnedIsUndisturbed D view = (releases others : Releases) (a b after next : Server D)
     (line text : List ℕ) (session other pin : ℕ) (command also : Command) (question : Question)
@@ -47,8 +48,8 @@ PinnedIsUndisturbed D view = (releases others : Releases) (a b after next : Serv
     → Replies (view b.store.disk).is_honest others text two b next
     → IsSure one → IsSure two → one ≡ two
 
--- A RECEIPT is answered alike in two states in which it is asked of one number of imports, and the
--- import brought the same rows.
+-- A RECEIPT is answered alike in two states in which it is asked about the same number of imports,
+-- and the import brought the same rows.
 abbrev pub PinnedReceiptIsUndisturbed : (D : Type 0) → (D → DiskView) → Type 0
 PinnedReceiptIsUndisturbed D view = (releases others : Releases) (a b after next : Server D)
     (line text : List ℕ) (session other pin number : ℕ) (command also : Command)
@@ -61,17 +62,17 @@ PinnedReceiptIsUndisturbed D view = (releases others : Releases) (a b after next
     → Replies (view a.store.disk).is_honest releases line one a after
     → Replies (view b.store.disk).is_honest others text two b next → one ≡ two
 
--- lines that are answered are calls on the store, one after the other
+-- answered lines are calls on the store, one after the other
 abbrev pub LinesAreCalls : {D : Type 0} → SourceView → (D → DiskView) → Type 0
 LinesAreCalls {D} source view = (old new : Server D) (turns : List Turn)
     → Run source view old turns new
     → IsLife view old.store (map (λ turn. Called turn.call) turns) new.store
 
--- the servers are alike, but perhaps for the devices of their stores
+-- the servers are equal, except perhaps for the devices of their stores
 abbrev pub AreAlike : {D : Type 0} → Server D → Server D → Type 0
 AreAlike a b = Same a b × (b.met_damage ≡ a.met_damage)
 
--- A line has one reply at states that are alike, and leaves states that are alike.
+-- A line has one reply in states that are equal in this sense, and leaves states that are so too.
 abbrev pub OneReply : (D : Type 0) → (D → DiskView) → Type 0
 OneReply D view = (releases : Releases) (line : List ℕ) (one two : Result Answer LineRefusal)
     (a b after next : Server D)
@@ -81,7 +82,7 @@ OneReply D view = (releases : Releases) (line : List ℕ) (one two : Result Answ
     → (one ≡ two) × AreAlike after next
 
 -- Once a line was answered 8, each later one that would import, check, merge or publish is answered
--- 8 too and changes nothing, whatever the disk does and whatever the source has.
+-- 8 too and changes nothing, whatever the disk does and whatever releases the source has.
 abbrev pub DamageHoldsBack : (D : Type 0) → (D → DiskView) → Type 0
 DamageHoldsBack D view =
     (has : Releases) (before mid late after : Server D) (first turn : Turn) (turns : List Turn)
@@ -93,14 +94,14 @@ DamageHoldsBack D view =
     → Asks turn.line session command → IsHeldBack command
     → (turn.outcome ≡ Err (refusals.Store store.Damaged)) × (after ≡ late)
 
--- on an honest disk no damage is met, so that no line is held back there
+-- on an honest disk no damage is found, and so no line is held back there
 abbrev pub HonestMeetsNoDamage : (D : Type 0) → (D → DiskView) → Type 0
 HonestMeetsNoDamage D view = (has : Releases) (old new : Server D) (turns : List Turn)
     → (view old.store.disk).is_honest → old.met_damage ≡ false
     → Run (source_view ⊥ has) view old turns new → new.met_damage ≡ false
 
--- What CHECK answers an IMPORT of the same name answers next, on an honest disk and where the
--- source has the same releases still.
+-- An IMPORT gets the reply that a CHECK of the same name just got, on an honest disk and if the
+-- source still has the same releases.
 abbrev pub CheckForetells : (D : Type 0) → (D → DiskView) → Type 0
 CheckForetells D view = (releases : Releases) (line text : List ℕ) (session other : ℕ)
     (name : List ℕ) (one two : Result Answer LineRefusal) (old checked new : Server D)
@@ -110,7 +111,7 @@ CheckForetells D view = (releases : Releases) (line text : List ℕ) (session ot
     → Replies (view checked.store.disk).is_honest releases text two checked new
     → IsSure one → IsSure two → two ≡ one
 
--- no release has members where the basic files are asked for
+-- no release has members of reference sets when the basic files are asked for
 abbrev pub GivesNoMembers : Releases → Type 0
 GivesNoMembers releases = (name : List ℕ) (release : Release)
     → releases scopes.Basic name ≡ Some (files_of release) → HasMembers release → ⊥
@@ -122,7 +123,7 @@ NoneIsLater D view = (releases : Releases) (line : List ℕ) (outcome : Result A
     → GivesNoMembers releases → Replies (view old.store.disk).is_honest releases line outcome old new
     → outcome ≢ Err (refusals.Store store.LaterVersion)
 
--- an import that was answered OK is the one that its turn imported
+-- an import that was answered OK is the one that its turn records
 abbrev pub OkIsImported : (D : Type 0) → (D → DiskView) → Type 0
 OkIsImported D view =
     (has : Releases) (old new : Server D) (turn : Turn) (session : ℕ) (name : List ℕ)
@@ -148,16 +149,16 @@ ImportedIsOk D view =
     → (session : ℕ) × (name : List ℕ) × (answer : Answer) × Asks turn.line session (Import name)
     × (turn.outcome ≡ Ok answer)
 
--- what is said of a run where its source is honest holds without a word on the source
+-- whatever holds of a run if its source is honest also holds without knowing anything about the
+-- source
 abbrev pub RunNeedsNoSource : {D : Type 0} → SourceView → (D → DiskView) → Type 0
 RunNeedsNoSource {D} source view =
     (has : Releases) (old new : Server D) (turns : List Turn)
     → Run source view old turns new
     → Run (source_view ⊥ has) view old turns new
 
--- A session stays pinned while lines are answered none of which pins it or
--- unpins it, and the history stays as it was up to the pin:
--- the rows that the pin shows, and which of these each import brought.
+-- A session stays pinned while lines are answered that neither pin it nor unpin it, and the history
+-- is unchanged up to the pin: the rows that the pin shows, and which of these each import brought.
 abbrev pub RunKeepsPin : (D : Type 0) → (D → DiskView) → Type 0
 RunKeepsPin D view =
     (has : Releases) (old new : Server D) (turns : List Turn) (session pin : ℕ)
@@ -168,8 +169,8 @@ RunKeepsPin D view =
     × AgreeUpTo pin new.store.history old.store.history
     × ((number : ℕ) → number ≤ pin → BroughtAlike number new.store.history old.store.history)
 
--- As long as a session stays pinned, each of its queries is answered by what the pin showed in the
--- beginning.
+-- As long as a session stays pinned, each of its questions is answered from what the pin showed in
+-- the beginning.
 abbrev pub PinnedSeesItsImports : (D : Type 0) → (D → DiskView) → Type 0
 PinnedSeesItsImports D view =
     (has : Releases) (session pin : ℕ) (start : Server D) (turns : List Turn) (turn : Turn)
@@ -190,8 +191,8 @@ PinnedSeesItsReceipts D view =
     → ImportReceiptOf start.store.history number brought latest
     → turn.outcome ≡ Ok (Done (receipt_of number brought latest))
 
--- In any two runs from histories that agree up to its pin, a session is answered alike, whatever
--- the other sessions do.
+-- In any two runs from histories that agree up to its pin, a session gets the same answers,
+-- whatever the other sessions do.
 abbrev pub PinnedRunsAreUndisturbed : (D : Type 0) → (D → DiskView)
     → Type 0
 PinnedRunsAreUndisturbed D view =
@@ -204,7 +205,7 @@ PinnedRunsAreUndisturbed D view =
     → IsFound question (rows_at pin a.store.history.rows) query
     → IsSure one.outcome → IsSure two.outcome → one.outcome ≡ two.outcome
 
--- In any two runs a RECEIPT of a pinned session is answered alike, where the import brought the
+-- In any two runs a RECEIPT of a pinned session gets the same answer, if the import brought the
 -- same rows to both histories.
 abbrev pub PinnedReceiptsAreUndisturbed : (D : Type 0) → (D → DiskView)
     → Type 0

@@ -1,4 +1,4 @@
--- When a line has which answer, and what the server is afterwards.
+-- Which answer a line gets, and the server after it.
 use Rattle.std.specs.Prelude.{◌≡◌, ◌≢◌, ℕ, ◌≤◌, ◌<◌, ◌⊎◌, Bool, true, false, List, [], ◌∷◌, length}
 use Rattle.std.specs.Prelude.{codes}
 use Rattle.std.specs.Prelude.{decimal, slice_set, option_map, Option, Some, None, Result, Ok, Err}
@@ -37,8 +37,8 @@ use Rattle.line_server.specs.StateValue.{StateValue, HoldsBack, met_after}
 use Rattle.line_server.specs.Sources.{Releases, scope_of}
 use Rattle.line_server.specs.ReplyValue.{Answer, Rows, Ids, Dates, Done, digits_of}
 
--- what a reply rests on: what sessions are pinned to, the store, and whether a call of it has
--- answered 8 since it was opened
+-- what a reply depends on: the pins of the sessions, the store, and whether a call of the store has
+-- returned refusal 8 since it was opened
 pub record Server (D : Type 0) : Type 0 where
   pub pins : List (Option ℕ)
   pub store : StoreValue D
@@ -51,24 +51,24 @@ server state store = record {
   met_damage = state.met_damage;
 }
 
--- the store is as before, but perhaps for its device
+-- the store is unchanged, except perhaps its device
 pub record SameStore {D : Type 0} (old new : StoreValue D) : Type 0 where
   pub history : new.history ≡ old.history
   pub catalog : new.catalog ≡ old.catalog
   pub needs_reopen : new.needs_reopen ≡ old.needs_reopen
 
--- sessions are pinned as before, and the store is as before, but perhaps for its device
+-- pins and store are unchanged, except perhaps the store's device
 pub record Same {D : Type 0} (old new : Server D) : Type 0 where
   pub pins : new.pins ≡ old.pins
   pub store : SameStore old.store new.store
 
--- ---- what is answered
+-- ---- answers
 
 -- how many imports a session sees
 abbrev pub imports_seen : {D : Type 0} → Server D → ℕ → ℕ
 imports_seen server session = pin_of server.pins session server.store.history.imports
 
--- What a question finds in the rows that are shown. A receipt isn't found in them.
+-- What a question finds in the rows shown by a pin. A receipt isn't found in them.
 abbrev pub IsFound : Question → List RowValue → Answer → Type 0
 IsFound (Get kind id date) rows answer = answer ≡ Rows (option_to_list (get kind id date rows))
 IsFound (History kind id) rows answer = answer ≡ Rows (versions kind id rows)
@@ -96,9 +96,9 @@ IsFound AskDates rows answer = answer ≡ Dates (dates rows)
 IsFound Digest rows answer = answer ≡ digits_of (digest_of rows)
 IsFound (AskReceipt number) rows answer = ⊥
 
--- The answer is what is found: on every disk where the index alone finds it, and else, where rows
--- are read, on an honest disk. What is answered on any disk are rows, of ANCESTORS identifiers, and
--- of DIGEST the digits of 32 bytes.
+-- The answer is what the question finds: on every disk if the index alone finds it, and otherwise,
+-- when rows are read, on an honest disk. On every disk the answer consists of rows; for ANCESTORS
+-- of identifiers, and for DIGEST of the digits of 32 bytes.
 abbrev pub IsFinding : Type 0 → Question → List RowValue → Answer → Type 0
 IsFinding honest (Children concept date) rows answer =
     IsFound (Children concept date) rows answer
@@ -113,12 +113,12 @@ IsFinding honest Digest rows answer = (digest : List ℕ) × (length digest ≡ 
 IsFinding honest question rows answer =
     (given : List RowValue) × (answer ≡ Rows given) × (honest → IsFound question rows answer)
 
--- a session is pinned, or unpinned; the store and its disk are as before
+-- the session's pin is set or removed; the store and its disk are unchanged
 abbrev pub IsPinned : {D : Type 0} → Server D → Server D → ℕ → Option ℕ → Type 0
 IsPinned old new session pin = new ≡ record old { pins = slice_set old.pins session pin }
 
--- An import answered this, for the release under the name in the scope of the store's version: on
--- every disk as far as files and counts go, and on an honest disk altogether.
+-- An import of the release of this name, in the scope of the store's version, had this result: on
+-- every disk as far as files and counts go, and on an honest disk in every respect.
 pub record IsImported {D : Type 0} (honest : Type 0) (releases : Releases) (name : List ℕ)
     (result : Result Receipt Refusal) (old new : Server D) : Type 0 where
   pub release : Release
@@ -127,8 +127,8 @@ pub record IsImported {D : Type 0} (honest : Type 0) (releases : Releases) (name
   pub imported : honest → IsImportOf result old.store new.store release
   pub pins : new.pins ≡ old.pins
 
--- A check answered this, for the release under the name in the scope of the store's version: the
--- same as of an import. Nothing is imported by it.
+-- A check of the release of this name, in the scope of the store's version, had this result: the
+-- same as for an import, but nothing is imported.
 pub record IsChecked {D : Type 0} (honest : Type 0) (releases : Releases) (name : List ℕ)
     (result : Result Receipt Refusal) (old new : Server D) : Type 0 where
   pub release : Release
@@ -137,8 +137,8 @@ pub record IsChecked {D : Type 0} (honest : Type 0) (releases : Releases) (name 
   pub checked : honest → IsCheckingOf result old.store new.store release
   pub pins : new.pins ≡ old.pins
 
--- what is said of an import that is made, or would be: its number, and how many rows are new and
--- how many are repeated
+-- the words of a reply to an import or a check: its number, how many rows are new, and how many are
+-- repeated
 abbrev pub import_words : Receipt → List (List ℕ)
 import_words receipt =
     decimal receipt.number ∷ decimal receipt.new ∷ decimal receipt.repeated ∷ []
@@ -147,22 +147,23 @@ abbrev pub number_or_none : Option ℕ → List ℕ
 number_or_none None = codes "-"
 number_or_none (Some n) = decimal n
 
--- how many rows are left to the merge that goes on
+-- how many rows are left to the merge in progress
 abbrev pub left_of : Option CatalogMerge → List ℕ
 left_of merge = number_or_none (option_map (λ m. m.left) merge)
 
--- the number of imports, of rows and of segments, and what is left to a merge
+-- the words of a reply to STATUS: the numbers of imports, rows and segments, and how many rows are
+-- left to a merge
 abbrev pub status_of : {D : Type 0} → StoreValue D → List (List ℕ)
 status_of s = decimal s.history.imports ∷ decimal (length s.history.rows)
     ∷ decimal (length s.catalog.entries) ∷ left_of s.catalog.merge ∷ []
 
--- what is said of an import: its number, how many rows it brought,
--- and their greatest effective time, if it brought any
+-- the words of a reply to RECEIPT: the import's number, how many rows it brought, and their
+-- greatest effective time if it brought any
 abbrev pub receipt_of : ℕ → ℕ → Option ℕ → List (List ℕ)
 receipt_of number brought latest =
     decimal number ∷ decimal brought ∷ number_or_none latest ∷ []
 
--- An import among the first `seen` brought so many rows; nothing changes.
+-- An import among the first `seen` brought this many rows; nothing changes.
 pub record IsReceived {D : Type 0} (seen number : ℕ) (answer : Answer) (old new : Server D)
     : Type 0 where
   pub open_still : old.store.needs_reopen ≡ false
@@ -173,15 +174,16 @@ pub record IsReceived {D : Type 0} (seen number : ℕ) (answer : Answer) (old ne
   pub answer_is : answer ≡ Done (receipt_of number brought latest)
   pub unchanged : new ≡ old
 
--- when a question is answered that is asked of the first `seen` imports; nothing changes by it
+-- the answer to a question about the first `seen` imports; it changes nothing
 abbrev pub IsAnswerAt : {D : Type 0} → Type 0 → ℕ → Question → Answer → Server D → Server D → Type 0
 IsAnswerAt honest seen (AskReceipt number) answer old new = IsReceived seen number answer old new
 IsAnswerAt honest seen question answer old new =
     (old.store.needs_reopen ≡ false) × Same old new
     × IsFinding honest question (rows_at seen old.store.history.rows) answer
 
--- When a command is answered, and what comes after. A question is asked of the imports that its
--- session sees, or behind AT of the first so many: as a session is answered that is pinned to them.
+-- The answer to a command, and the server after it. A question is asked about the imports that its
+-- session sees, or after AT about the first `number`: then it is answered as in a session that is
+-- pinned to them.
 abbrev pub IsAnswer : {D : Type 0} → Type 0 → Releases → ℕ → Command → Answer → Server D → Server D
     → Type 0
 IsAnswer honest releases session (Ask question) answer old new =
@@ -219,7 +221,7 @@ IsAnswer honest releases session Trim answer old new =
 IsAnswer honest releases session Status answer old new =
     (old.store.needs_reopen ≡ false) × (new ≡ old) × (answer ≡ Done (status_of old.store))
 
--- ---- what is refused
+-- ---- refusals
 
 -- the store has to be opened again
 abbrev pub IsClosed : {D : Type 0} → Refusal → Server D → Server D → Type 0
@@ -231,8 +233,8 @@ abbrev pub IsLacking : {D : Type 0} → Refusal → Server D → Server D → Ty
 IsLacking refusal old new =
     (refusal ≡ store.OutOfMemory) × (old.store.needs_reopen ≡ false) × Same old new
 
--- A query is refused as a call of the store is that only reads. On an honest disk nothing is
--- damaged.
+-- A question is refused as a call of the store that only reads. On an honest disk nothing is
+-- reported as damaged.
 pub record IsUnfound {D : Type 0} (honest : Type 0) (refusal : Refusal)
     (old new : Server D) : Type 0 where
   pub cause : IsReadRefusal refusal old.store
@@ -240,7 +242,7 @@ pub record IsUnfound {D : Type 0} (honest : Type 0) (refusal : Refusal)
   pub undamaged : honest → refusal ≢ store.Damaged
   pub pins : new.pins ≡ old.pins
 
--- when a question that is asked of the first `seen` imports is refused as the store refuses
+-- the store's refusal of a question about the first `seen` imports
 abbrev pub IsRefusalAt : {D : Type 0} → Type 0 → ℕ → Question → Refusal → Server D → Server D
     → Type 0
 IsRefusalAt honest seen (AskReceipt number) refusal old new =
@@ -253,8 +255,8 @@ IsRefusalAt honest seen AskDates refusal old new =
     IsClosed refusal old new ⊎ IsLacking refusal old new
 IsRefusalAt honest seen question refusal old new = IsUnfound honest refusal old new
 
--- When a command is refused as the store refuses. Of an import or a check the source is asked
--- first, and memory may run out there too. On an honest disk no step of a merge finds damage.
+-- The store's refusal of a command. For an import or a check the source is asked first, and memory
+-- may run out there too. On an honest disk no step of a merge finds damage.
 abbrev pub IsStoreRefusal : {D : Type 0} → Type 0 → Releases → ℕ → Command → Refusal → Server D
     → Server D → Type 0
 IsStoreRefusal honest releases session (Ask question) refusal old new =
@@ -282,13 +284,13 @@ IsStoreRefusal honest releases session Trim refusal old new =
     IsTrimmingOf (Err refusal) old.store new.store × (new.pins ≡ old.pins)
 IsStoreRefusal honest releases session Status refusal old new = IsClosed refusal old new
 
--- the question asks for the receipt of an import behind the first `seen`
+-- the question asks for the receipt of an import after the first `seen`
 abbrev pub IsUnseen : ℕ → Question → Type 0
 IsUnseen seen (AskReceipt number) = seen < number
 IsUnseen seen question = ⊥
 
--- No import has the number: the store has fewer than are to be pinned, or than AT names,
--- or fewer are seen than the one whose receipt is asked.
+-- No import has the number: the store has fewer imports than PIN or AT names, or the session sees
+-- fewer than the one whose receipt is asked for.
 abbrev pub IsOutOfRange : {D : Type 0} → ℕ → Command → Server D → Type 0
 IsOutOfRange session (Pin (Some number)) old = old.store.history.imports < number
 IsOutOfRange session (Ask question) old = IsUnseen (imports_seen old session) question
@@ -296,13 +298,13 @@ IsOutOfRange session (At number question) old =
     (old.store.history.imports < number) ⊎ IsUnseen number question
 IsOutOfRange session command old = ⊥
 
--- the release under the name is one that the command asks the source for
+-- the command asks the source for the release of this name
 abbrev pub NamesRelease : Command → List ℕ → Type 0
 NamesRelease (Import name) other = other ≡ name
 NamesRelease (Check name) other = other ≡ name
 NamesRelease command other = ⊥
 
--- when a command is refused, and what comes after
+-- the refusal of a command, and the server after it
 abbrev pub IsRefusal : {D : Type 0} → Type 0 → Releases → ℕ → Command → LineRefusal → Server D
     → Server D → Type 0
 IsRefusal honest releases session command (refusals.Unread reason) old new = ⊥
@@ -314,8 +316,8 @@ IsRefusal honest releases session command refusals.NoFolder old new =
 IsRefusal honest releases session command (refusals.Store refusal) old new =
     IsStoreRefusal honest releases session command refusal old new
 
--- The command, carried out, has this outcome. `ERR 1` and `ERR 2` show that memory ran out or the
--- device failed; where neither is said, there is one outcome on an honest disk.
+-- The command, carried out, has this outcome. `ERR 1` and `ERR 2` say that memory ran out or the
+-- device failed; if it is neither, there is only one possible outcome on an honest disk.
 abbrev pub IsOutcome : {D : Type 0} → Type 0 → Releases → ℕ → Command → Result Answer LineRefusal
     → Server D → Server D → Type 0
 IsOutcome honest releases session command (Ok answer) old new =
@@ -323,22 +325,24 @@ IsOutcome honest releases session command (Ok answer) old new =
 IsOutcome honest releases session command (Err refusal) old new =
     IsRefusal honest releases session command refusal old new
 
--- Damage was met, for which the command is held back: it is refused by 8, and nothing changes.
+-- Damage was found before, and so the command is held back: it is refused with 8, and nothing
+-- changes.
 pub record IsRefusedForDamage {D : Type 0} (command : Command) (outcome : Result Answer LineRefusal)
     (old new : Server D) : Type 0 where
   pub held_back : HoldsBack old.met_damage command
   pub refused : outcome ≡ Err (refusals.Store store.Damaged)
   pub unchanged : new ≡ old
 
--- The command isn't held back. It has this outcome, by which it is known whether damage was met.
+-- The command isn't held back. It has this outcome, which decides whether damage is recorded.
 pub record IsPerformed {D : Type 0} (honest : Type 0) (releases : Releases) (session : ℕ)
     (command : Command) (outcome : Result Answer LineRefusal) (old new : Server D) : Type 0 where
   pub free : HoldsBack old.met_damage command → ⊥
   pub comes_out : IsOutcome honest releases session command outcome old new
   pub damage : new.met_damage ≡ met_after outcome old.met_damage
 
--- A line that asks something is answered by the outcome of its command, or is refused because
--- damage was met. Of any other the first reason is said why it asks nothing, and nothing changes.
+-- A line that spells a request is answered by the outcome of its command, or refused because damage
+-- was found. Any other line is refused with the first reason why it is no request, and nothing
+-- changes.
 abbrev pub Replies : {D : Type 0} → Type 0 → Releases → List ℕ → Result Answer LineRefusal
     → Server D → Server D → Type 0
 Replies honest releases text outcome old new =
@@ -349,7 +353,7 @@ Replies honest releases text outcome old new =
     ((reason : Unread) × IsUnread text reason × (outcome ≡ Err (refusals.Unread reason))
     × (new ≡ old))
 
--- the session's command asks the question of the first `pin` imports
+-- the session's command asks the question about the first `pin` imports
 abbrev pub IsAskedOf : {D : Type 0} → Server D → ℕ → Command → Question → ℕ → Type 0
 IsAskedOf server session command question pin =
     ((command ≡ Ask question) × (imports_seen server session ≡ pin))

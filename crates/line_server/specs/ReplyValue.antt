@@ -1,4 +1,4 @@
--- What is written for a line.
+-- The reply to a line.
 use Rattle.std.specs.Prelude.{ℕ, List, [], ◌∷◌, ◌++◌, length, codes, decimal, Option, Some, None}
 use Rattle.std.specs.Prelude.{Result, Ok, Err}
 use Rattle.std.specs.List.{flat_map}
@@ -10,7 +10,7 @@ use Rattle.line_commands.specs.Requests.{spaced, unread_sign}
 use Rattle.line_server.specs.declared.refusal.LineRefusal.{LineRefusal}
 use Rattle.line_server.specs.declared.refusal.LineRefusal.TheVariants as refusals
 
--- what is answered where nothing is refused
+-- the answer to a line that isn't refused
 pub data Answer : Type 0 where
   Rows : List RowValue → Answer
   Ids : List ℕ → Answer
@@ -18,7 +18,7 @@ pub data Answer : Type 0 where
   -- the words after `OK`
   Done : List (List ℕ) → Answer
 
--- the digits of a digest, two in base 16 for each of its bytes
+-- the answer with the digits of a digest: two hexadecimal digits for each byte
 abbrev pub digits_of : List ℕ → Answer
 digits_of digest = Done (encode_lower digest ∷ [])
 
@@ -37,7 +37,7 @@ sign_of refusals.PinRange = (44, codes "PinRange")
 sign_of refusals.NoFolder = (45, codes "NoFolder")
 sign_of (refusals.Store refusal) = refusal_sign refusal
 
--- the file and the line at which a release is refused
+-- the file and the line of a release at which it was refused
 abbrev pub place_of : LineRefusal → List (List ℕ)
 place_of (refusals.Store (store.Line file number fault)) = decimal file ∷ decimal number ∷ []
 place_of (refusals.Store (store.Contradiction file number)) = decimal file ∷ decimal number ∷ []
@@ -64,7 +64,7 @@ body_of (Ok (Dates dates)) = flat_map date_line dates
 body_of (Ok (Done words)) = []
 body_of (Err refusal) = []
 
--- the number of these lines, what was done, or a refusal: its number, its name and its place
+-- the number of these lines; or `OK` and its words; or a refusal's number, name, file and line
 abbrev pub last_of : Result Answer LineRefusal → List ℕ
 last_of (Ok (Rows rows)) = line (codes "END" ∷ decimal (length rows) ∷ [])
 last_of (Ok (Ids ids)) = line (codes "END" ∷ decimal (length ids) ∷ [])
@@ -76,6 +76,6 @@ last_of (Err refusal) =
 abbrev pub reply_value : Result Answer LineRefusal → ReplyValue
 reply_value outcome = record { body = body_of outcome; last = last_of outcome }
 
--- the bytes that are written
+-- the bytes of the whole reply
 abbrev pub bytes_of : ReplyValue → List ℕ
 bytes_of reply = reply.body ++ reply.last

@@ -1,4 +1,4 @@
--- Where releases come from.
+-- Sources of releases.
 use Rattle.std.specs.Prelude.{◌≡◌, ⊤, ℕ, List, Option, Some, None, Result, Ok, Err}
 use Rattle.rf2_values.specs.declared.row.Kind.{Kind}
 use Rattle.directory.specs.declared.layout.Layout.{Layout}
@@ -13,17 +13,19 @@ use Rattle.line_server.specs.declared.refusal.LineRefusal.TheVariants as refusal
 use Rattle.line_server.specs.declared.source.SourceFault.{SourceFault}
 use Rattle.line_server.specs.declared.source.SourceFault.TheVariants as faults
 
--- the files of the release under each name that has one: those that a scope asks for
+-- the files of the release of each name, if there is one: those that a scope includes
 abbrev pub Releases : Type 0
 Releases = Scope → List ℕ → Option (List (Kind × List ℕ))
 
--- the scope of a version: members of reference sets and text definitions are kept from version 3 on
+-- the scope of a layout version: members of reference sets and text definitions are stored from
+-- version 3 on
 abbrev pub scope_of : Layout → Scope
 scope_of layouts.One = scopes.Basic
 scope_of layouts.Two = scopes.Basic
 scope_of layouts.Three = scopes.Whole
 
--- a source as clauses see it: whether it has the releases that it says it has, and these
+-- a source as clauses see it: whether it is honest, that is, returns the releases that it has; and
+-- these releases
 pub record SourceView : Type 1 where
   pub is_honest : Type 0
   pub releases : Releases
@@ -31,17 +33,17 @@ pub record SourceView : Type 1 where
 abbrev pub source_view : Type 0 → Releases → SourceView
 source_view is_honest releases = record { is_honest = is_honest; releases = releases }
 
--- a source that has no release, and says so
+-- an honest source that has no releases
 abbrev pub no_releases : SourceView
 no_releases = source_view ⊤ (λ _ _. None)
 
--- the release under the name was given, or there is none; memory may run out
+-- the release of the name was returned, or there is none; memory may run out
 abbrev pub IsGiven : Result Release SourceFault → Option (List (Kind × List ℕ)) → Type 0
 IsGiven (Ok release) files = files ≡ Some (files_of release)
 IsGiven (Err faults.NoFolder) files = files ≡ None
 IsGiven (Err faults.OutOfMemory) files = Unit {0}
 
--- why a line is refused for which no release was had
+-- the refusal of a line whose release the source didn't return
 abbrev pub of_source : SourceFault → LineRefusal
 of_source faults.OutOfMemory = refusals.Store store.OutOfMemory
 of_source faults.NoFolder = refusals.NoFolder

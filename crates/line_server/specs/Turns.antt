@@ -26,63 +26,65 @@ use Rattle.line_server.specs.ReplyValue.{Answer, Rows, Ids, ReplyValue, reply_va
 use Rattle.line_server.specs.Replies.{Server, Replies, imports_seen}
 use Rattle.store_life.specs.Life.{Call, Imported, Failed, Other, IsCall}
 
--- a line, how it is answered, and what that did to the store's history
+-- a line, its outcome, and how it changed the store's history
 pub record Turn : Type 0 where
   pub line : List ℕ
   pub outcome : Result Answer LineRefusal
   pub call : Call
 
--- the release is the one that the line asks to import, in this scope
+-- the line asks to import this release, in this scope
 abbrev pub IsAskedFor : Releases → Scope → List ℕ → Release → Type 0
 IsAskedFor releases scope line release =
     (session : ℕ) × (name : List ℕ) × Asks line session (Import name)
     × (releases scope name ≡ Some (files_of release))
 
--- the release that was imported, or in whose import the device failed, is the one that is asked for
+-- the release that was imported, or in whose import the device failed, is the one that the line
+-- asks for
 abbrev pub IsOfAsked : Releases → Scope → List ℕ → Call → Type 0
 IsOfAsked releases scope line (Imported release) = IsAskedFor releases scope line release
 IsOfAsked releases scope line (Failed release) = IsAskedFor releases scope line release
 IsOfAsked releases scope line Other = Unit {0}
 
--- the turn is one of a server whose source has these releases, and is asked for what the store's
--- version keeps of them
+-- the turn's outcome is that of a server whose source has these releases, and which asks it for the
+-- files that the store's version keeps
 pub record GoesBy {D : Type 0} (honest : Type 0) (releases : Releases) (old : Server D)
     (turn : Turn) (new : Server D) : Type 0 where
   pub replies : Replies honest releases turn.line turn.outcome old new
   pub asked : IsOfAsked releases (scope_of old.store.catalog.layout) turn.line turn.call
 
--- the count of the device's failures: risen where `ERR 2` is said, and else as before
+-- the count of the device's failures: it has risen if the outcome is `ERR 2`, and otherwise is
+-- unchanged
 abbrev pub CountsOutcome : Result Answer LineRefusal → ℕ → ℕ → Type 0
 CountsOutcome (Err (refusals.Store refusal)) old new = CountsRefusal refusal old new
 CountsOutcome _ old new = new ≡ old
 
--- the fact holds after every refusal but `ERR 2`
+-- the fact holds after every refusal except `ERR 2`
 abbrev pub IfRefused : Result Answer LineRefusal → Type 0 → Type 0
 IfRefused (Ok answer) so = Unit {0}
 IfRefused (Err (refusals.Store store.DiskFault)) so = Unit {0}
 IfRefused (Err refusal) so = so
 
--- An answer of rows took no more reading than these rows.
+-- An answer with rows read no more than these rows take.
 abbrev pub ReadsFor : Result Answer LineRefusal → ℕ → ℕ → Type 0
 ReadsFor (Ok (Rows rows)) old new = new ≤ old + sum_by row_cost rows
 ReadsFor _ old new = Unit {0}
 
--- The ancestors of a concept took no more reading than the active relationships do of which it or
--- one of them is the source.
+-- Finding the ancestors of a concept read no more than the active relationships take whose source
+-- is the concept or one of them.
 abbrev pub ReadsAbove : ℕ → ℕ → List RowValue → Result Answer LineRefusal → ℕ → ℕ → Type 0
 ReadsAbove concept date rows (Ok (Ids ids)) old new =
     new ≤ old + relationships_cost date rows (concept ∷ ids)
 ReadsAbove concept date rows _ old new = Unit {0}
 
--- What is read through the cache leaves what a stop may leave of an honest disk as it was. On
--- every disk blocks of listed segments alone are read, and none that is kept in memory.
+-- Reading through the cache doesn't change what a crash may leave of an honest disk. On every disk
+-- only blocks of listed segments are read, and none that is cached.
 abbrev pub LeavesQueried : {D : Type 0} → (D → DiskView) → StoreValue D → StoreValue D → Type 0
 LeavesQueried view old new =
     ((view old.disk).is_honest → (view new.disk).moments ≡ (view old.disk).moments)
     × ReadsThroughCache view old new
 
--- what a question of the first `seen` imports leaves of the disk: the device as it was, where the
--- index alone answers
+-- what a question about the first `seen` imports leaves of the disk: the device is unchanged if the
+-- index alone answers it
 abbrev pub LeavesAsked : {D : Type 0} → (D → DiskView) → ℕ → Question → Result Answer LineRefusal
     → StoreValue D → StoreValue D → Type 0
 LeavesAsked view seen (Children concept date) outcome old new = new.disk ≡ old.disk
@@ -100,12 +102,12 @@ LeavesAsked view seen question outcome old new =
     × ReadsFor outcome (view old.disk).bytes_read (view new.disk).bytes_read
 
 -- What a command leaves of the disk. On an honest one IMPORT, STEP and PUBLISH may change what a
--- stop leaves, but not where they are refused for another reason than the device. After TRIM a read
--- gives what it gave before, up to the last block that is listed or reserved, and nothing behind
--- that. CHECK and STEP look blocks up as a query does, and STEP may then forget those that the
--- merge has reserved; PUBLISH reads one byte at most, and TRIM none. A question of a session that
--- sees `seen` imports leaves what is said above, and every other command leaves the device as it
--- was.
+-- crash leaves, but not if they are refused for a reason other than a device failure. After TRIM a
+-- read returns what it returned before, up to the last block that is listed or reserved, and
+-- nothing after it. CHECK and STEP look up blocks as a question does, and STEP may then drop those
+-- from the cache that the merge reserved; PUBLISH reads one byte at most, and TRIM none. A question
+-- in a session that sees `seen` imports leaves the disk as `LeavesAsked` says, and every other
+-- command leaves the device unchanged.
 abbrev pub LeavesDisk : {D : Type 0} → (D → DiskView) → ℕ → Command → Result Answer LineRefusal
     → StoreValue D → StoreValue D → Type 0
 LeavesDisk view seen (Ask question) outcome old new = LeavesAsked view seen question outcome old new
@@ -128,8 +130,8 @@ LeavesDisk view seen Trim outcome old new =
     × ((view new.disk).bytes_read ≡ (view old.disk).bytes_read)
 LeavesDisk view seen command outcome old new = new.disk ≡ old.disk
 
--- One line was answered: as if the source had certain releases, and where it is honest, as its own
--- releases say.
+-- One line was answered, as a server answers it whose source has some releases; if the source is
+-- honest, these are its own.
 pub record IsTurn {D : Type 0} (source : SourceView) (view : D → DiskView) (old : Server D)
     (turn : Turn) (new : Server D) : Type 0 where
   pub releases : Releases
@@ -147,7 +149,7 @@ abbrev pub HasTurn : {D : Type 0} → SourceView → (D → DiskView) → List �
 HasTurn source view line old new holds =
     (turn : Turn) × (turn.line ≡ line) × IsTurn source view old turn new × holds turn
 
--- the reply says what came out; or it was refused, and the refusal comes back
+-- the reply has the outcome's text; or the line was refused, and the refusal is returned
 abbrev pub IsToldBy : Result ReplyValue LineRefusal → Result Answer LineRefusal → Type 0
 IsToldBy (Ok reply) (Ok answer) = reply ≡ reply_value (Ok answer)
 IsToldBy (Err refusal) (Err reason) = reason ≡ refusal

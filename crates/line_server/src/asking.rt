@@ -1,4 +1,4 @@
-//! Questions: their answers, of so many imports.
+//! Answers questions about the first imports, up to a pin.
 
 ghost use Rattle.std.specs.Prelude.{◌≤◌, ℕ, List, Option};
 ghost use Rattle.line_commands.specs.Commands.{At};
@@ -21,7 +21,7 @@ use history_store::{AsOf, Store};
 use line_commands::Question;
 use std::alloc::Global;
 
-/// Answers a question of the first `pin` imports.
+/// Answers a question about the first `pin` imports.
 pub(crate) fn ask<D: Disk>(
     alloc: Global,
     question: &Question<'_>,
@@ -97,7 +97,7 @@ pub(crate) fn ask<D: Disk>(
     }
 }
 
-/// Answers a question as a session is answered that is pinned to the first `number` imports.
+/// Answers a question as it is answered in a session that is pinned to the first `number` imports.
 pub(crate) fn ask_at<D: Disk>(
     alloc: Global,
     number: u32,

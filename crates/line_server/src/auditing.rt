@@ -1,4 +1,4 @@
-//! The questions of an audit: what the store finds, as a reply.
+//! The audit questions: replies with what the store returns.
 
 ghost use Rattle.std.specs.Prelude.{◌≤◌};
 ghost use Rattle.line_commands.specs.Questions.{Ancestors, Descendants, Replaces, Timeline, Delta};
@@ -44,7 +44,7 @@ pub(crate) fn answer_descendants<D: Disk>(
     Ok(reply_ids(alloc, &found)?)
 }
 
-/// The active associations on a date of which a component is the target.
+/// The active associations on a date that have a component as their target.
 pub(crate) fn answer_replaces<D: Disk>(
     alloc: Global,
     id: Sctid,
@@ -74,7 +74,7 @@ pub(crate) fn answer_timeline<D: Disk>(
     Ok(reply_rows(alloc, &found)?)
 }
 
-/// What changed from one date to another, by identifier.
+/// What changed from one date to another, in the order of the identifiers.
 pub(crate) fn answer_delta<D: Disk>(
     alloc: Global,
     kind: Kind,

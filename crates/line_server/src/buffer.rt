@@ -1,4 +1,4 @@
-//! The line that is coming in.
+//! The buffer for the current line of the input.
 
 ghost use Rattle.std.specs.Prelude.{◌≡◌, ◌++◌, [], ◌∷◌, IfOk};
 ghost use Rattle.bstr.specs.Text.{no_cr};
@@ -8,11 +8,11 @@ use line_commands::REQUEST_LIMIT;
 use std::alloc::{AllocError, Global};
 use std::marker::Model;
 
-/// How many bytes of a line are kept: as many as tell
-/// the longest line and a CR from a longer one.
+/// How many bytes of a line are kept: enough to distinguish the longest line, with a CR at its end,
+/// from a longer one.
 const ROOM: usize = REQUEST_LIMIT + 2;
 
-/// The first bytes of the line that is coming in.
+/// The first bytes of the current line of the input.
 #[derive(Drop)]
 pub struct LineBuffer {
     bytes: Vec<u8>,
@@ -30,7 +30,7 @@ impl Model for LineBuffer {
 }
 
 impl LineBuffer {
-    /// An empty line. All memory is taken here.
+    /// An empty line. Allocates all its memory.
     pub fn new(alloc: Global) -> Result<LineBuffer, AllocError>
         ensures { IfOk result (λ line. line ≡ []) }
     {
@@ -38,7 +38,7 @@ impl LineBuffer {
         Ok(LineBuffer { bytes })
     }
 
-    /// Takes the next byte of the line, and passes over what is past the room.
+    /// Appends the next byte of the line; a byte beyond the capacity is dropped.
     pub(crate) fn push(&mut self, byte: u8)
         ensures { self.new ≡ kept (self.old ++ byte ∷ []) }
     {
@@ -49,15 +49,15 @@ impl LineBuffer {
         }
     }
 
-    /// What has come of the line: its first bytes, as many as tell the
-    /// longest line and a CR from a longer one.
+    /// The first bytes of the line: enough of them to distinguish the longest line, with a CR at
+    /// its end, from a longer one.
     pub fn as_bytes(&self) -> &[u8]
         ensures { result.now ≡ self.now }
     {
         &self.bytes
     }
 
-    /// The line, where LF ends it: one CR before that is no part of it.
+    /// The line once an LF has ended it: without the CR that may be before the LF.
     pub(crate) fn ended(&self) -> &[u8]
         ensures { result.now ≡ no_cr self.now }
     {

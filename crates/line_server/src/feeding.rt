@@ -1,4 +1,4 @@
-//! Pieces of the input.
+//! Takes the input piece by piece.
 
 ghost use Rattle.std.specs.Prelude.{◌≡◌, ℕ, List};
 ghost use Rattle.line_server.specs.Sources.{source_view};
@@ -44,9 +44,9 @@ pub(crate) fn answer_line<W: Write, S: Source, D: Disk>(
 }
 
 /// Takes a piece of the input. Before it returns, each line that ended in the piece is answered and
-/// its reply written, so that who waits for a reply before the next line has it. It answers the
-/// number of these lines. What has come of the next line waits in the buffer; where the input ends
-/// there, that is the last line. After a fault of the writer the buffer is empty.
+/// its reply written, so that a client which waits for a reply before its next line gets it.
+/// Returns the number of these lines. The beginning of the next line stays in the buffer; if the
+/// input ends there, that is the last line. After a fault of the writer the buffer is empty.
 pub fn feed<W: Write, S: Source, D: Disk>(
     alloc: Global,
     piece: &[u8],
@@ -58,7 +58,7 @@ pub fn feed<W: Write, S: Source, D: Disk>(
 ) -> Result<u64, WriteFault>
     requires { AreWithin store.old.history.imports state.old.pins }
     ensures pins { AreWithin store.new.history.imports state.new.pins }
-    // It holds whatever had come of a line before, of which the buffer keeps the first bytes.
+    // This holds whatever part of a line came before the piece; the buffer has its first bytes.
     ensures fed { (part : List ℕ) → IsUnended part → line.old ≡ kept part → IsFed result
         (source_view (S.is_honest source.old) (S.releases source.old)) D.view
         (intake part piece.now line.new (W.contents writer.old) (W.contents writer.new))

@@ -13,19 +13,18 @@ ghost use Rattle.line_server.specs.Laws.{PinnedRunsAreUndisturbed, PinnedReceipt
 use crate::source::Source;
 use disk_model::Disk;
 
-/// A question is answered alike where it is asked of the same
-/// imports, whether a session is pinned to them or AT names them.
+/// A question about the same imports is answered alike, whether the session is pinned to them or AT
+/// names them.
 pub fn pinned_is_undisturbed<D: Disk>()
     ensures { PinnedIsUndisturbed D D.view }
 {}
 
-/// A RECEIPT is answered alike where it is asked of the same
-/// imports, and the import brought the same rows.
+/// A RECEIPT asked of the same imports is answered alike, if the import brought the same rows.
 pub fn pinned_receipt_is_undisturbed<D: Disk>()
     ensures { PinnedReceiptIsUndisturbed D D.view }
 {}
 
-/// Lines are calls on the store, of which the laws of a store's life speak.
+/// Answered lines are calls on the store, to which the laws of a store's life apply.
 pub fn lines_are_calls<S: Source, D: Disk>()
     ensures { (source : S) → LinesAreCalls (source_view (S.is_honest source) (S.releases source))
         D.view }
@@ -36,8 +35,8 @@ pub fn one_reply<D: Disk>()
     ensures { OneReply D D.view }
 {}
 
-/// What CHECK answers an IMPORT of the same release answers next, unless memory runs out or the
-/// device fails.
+/// An IMPORT gets the reply that a CHECK of the same release just got, unless memory runs out or
+/// the device fails.
 pub fn check_foretells<D: Disk>()
     ensures { CheckForetells D D.view }
 {}
@@ -47,12 +46,13 @@ pub fn damage_holds_back<D: Disk>()
     ensures { DamageHoldsBack D D.view }
 {}
 
-/// On an honest disk no damage is met.
+/// On an honest disk no damage is found.
 pub fn honest_meets_no_damage<D: Disk>()
     ensures { HonestMeetsNoDamage D D.view }
 {}
 
-/// No line is answered 14 where the source gives no members while the basic files are asked for.
+/// No line is answered 14 if the source gives no members of reference sets when it is asked for the
+/// basic files.
 pub fn none_is_later<D: Disk>()
     ensures { NoneIsLater D D.view }
 {}
@@ -67,39 +67,39 @@ pub fn refused_is_not_imported<D: Disk>()
     ensures { RefusedIsNotImported D D.view }
 {}
 
-/// A release that a line imported is one that it asked to import, and it was answered OK.
+/// A release that a line imported is one that it asked to import, and the reply was OK.
 pub fn imported_is_ok<D: Disk>()
     ensures { ImportedIsOk D D.view }
 {}
 
-/// What serving says of its run, where the source is honest,
-/// is what the laws of runs ask for, whatever the releases are.
+/// The laws about runs assume nothing about the source's releases: what serving promises of a run
+/// with an honest source is all that they need.
 pub fn run_needs_no_source<S: Source, D: Disk>()
     ensures { (source : S) → RunNeedsNoSource (source_view (S.is_honest source) (S.releases source))
         D.view }
 {}
 
-/// Lines of other sessions leave a session its pin, and the history up to it.
+/// Lines of other sessions change neither a session's pin nor the history up to it.
 pub fn run_keeps_pin<D: Disk>()
     ensures { RunKeepsPin D D.view }
 {}
 
-/// A pinned session sees what its pin showed at first, whatever lines were answered since.
+/// A pinned session sees what its pin showed at first, whatever lines were answered since then.
 pub fn pinned_sees_its_imports<D: Disk>()
     ensures { PinnedSeesItsImports D D.view }
 {}
 
-/// A RECEIPT of a pinned session says what was so of the import when the session was pinned.
+/// A RECEIPT in a pinned session says what it would have said when the session was pinned.
 pub fn pinned_sees_its_receipts<D: Disk>()
     ensures { PinnedSeesItsReceipts D D.view }
 {}
 
-/// A pinned session is answered alike in any two runs, whatever the others do.
+/// A pinned session gets the same answers in any two runs, whatever the other sessions do.
 pub fn pinned_runs_are_undisturbed<D: Disk>()
     ensures { PinnedRunsAreUndisturbed D D.view }
 {}
 
-/// A RECEIPT of a pinned session is answered alike in any two runs, where the import brought the
+/// A RECEIPT in a pinned session gets the same answer in any two runs, if the import brought the
 /// same rows.
 pub fn pinned_receipts_are_undisturbed<D: Disk>()
     ensures { PinnedReceiptsAreUndisturbed D D.view }

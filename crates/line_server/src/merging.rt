@@ -1,4 +1,4 @@
-//! The commands of a merge, and trimming: what the store says, as a reply.
+//! The commands of a merge, and TRIM: replies with what the store returns.
 
 ghost use Rattle.line_commands.specs.Commands.{Merge, Step, Publish, Abandon, Trim};
 ghost use Rattle.line_server.specs.Private.{IsCarriedOut};
@@ -10,7 +10,7 @@ use disk_model::Disk;
 use history_store::Store;
 use std::alloc::Global;
 
-/// Begins a merge, and says how many rows are left to it.
+/// Begins a merge, and replies how many rows it has to merge.
 pub(crate) fn answer_merge<D: Disk>(
     alloc: Global,
     store: &mut Store<D>,
@@ -22,7 +22,7 @@ pub(crate) fn answer_merge<D: Disk>(
     Ok(reply_number(alloc, left))
 }
 
-/// Merges up to so many rows more, and says how many are left.
+/// Merges up to `rows` more rows, and replies how many are left.
 pub(crate) fn answer_step<D: Disk>(
     alloc: Global,
     rows: u32,
@@ -35,7 +35,7 @@ pub(crate) fn answer_step<D: Disk>(
     Ok(reply_number(alloc, left))
 }
 
-/// Puts the merged segment in the place of the two.
+/// Publishes the merged segment in place of the two.
 pub(crate) fn answer_publish<D: Disk>(
     alloc: Global,
     store: &mut Store<D>,
@@ -47,7 +47,7 @@ pub(crate) fn answer_publish<D: Disk>(
     Ok(reply_done(alloc))
 }
 
-/// Gives the merge up.
+/// Abandons the merge.
 pub(crate) fn answer_abandon<D: Disk>(
     alloc: Global,
     store: &mut Store<D>,
@@ -59,7 +59,7 @@ pub(crate) fn answer_abandon<D: Disk>(
     Ok(reply_done(alloc))
 }
 
-/// Cuts off what nothing uses at the end of the disk.
+/// Truncates the disk after the blocks in use.
 pub(crate) fn answer_trim<D: Disk>(
     alloc: Global,
     store: &mut Store<D>,

@@ -1,4 +1,4 @@
-//! Queries: what the store finds, as a reply.
+//! The questions: replies with what the store returns.
 
 ghost use Rattle.std.specs.Prelude.{◌≤◌};
 ghost use Rattle.line_commands.specs.Questions.{Get, History, Children, Terms, Search, Replaced};
@@ -13,7 +13,7 @@ use history_store::{AsOf, Store};
 use rf2_rows::{Kind, Sctid};
 use std::alloc::Global;
 
-/// What a component looked like on a date.
+/// The row of a component on a date.
 pub(crate) fn answer_get<D: Disk>(
     alloc: Global,
     kind: Kind,
@@ -77,7 +77,7 @@ pub(crate) fn answer_terms<D: Disk>(
     Ok(reply_rows(alloc, &found)?)
 }
 
-/// The descriptions whose terms begin with a prefix on a date, by identifier.
+/// The descriptions whose terms begin with a prefix on a date, in the order of their identifiers.
 pub(crate) fn answer_search<D: Disk>(
     alloc: Global,
     prefix: &str,
@@ -94,7 +94,7 @@ pub(crate) fn answer_search<D: Disk>(
     Ok(reply_rows(alloc, &found)?)
 }
 
-/// The active associations of a component on a date.
+/// The active associations on a date that have a component as their referenced component.
 pub(crate) fn answer_replaced<D: Disk>(
     alloc: Global,
     id: Sctid,
@@ -127,7 +127,7 @@ pub(crate) fn answer_about<D: Disk>(
     Ok(reply_rows(alloc, &found)?)
 }
 
-/// What the components of a kind looked like on a date, by identifier.
+/// The rows of the components of a kind on a date, in the order of their identifiers.
 pub(crate) fn answer_page<D: Disk>(
     alloc: Global,
     kind: Kind,
@@ -144,7 +144,7 @@ pub(crate) fn answer_page<D: Disk>(
     Ok(reply_rows(alloc, &found)?)
 }
 
-/// What an import brought, unless the session sees fewer imports.
+/// The receipt of an import, unless the session doesn't see that import.
 pub(crate) fn answer_receipt<D: Disk>(
     alloc: Global,
     number: u32,

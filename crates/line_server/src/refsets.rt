@@ -1,4 +1,4 @@
-//! The questions of reference sets: what the store finds, as a reply.
+//! The questions about reference sets: replies with what the store returns.
 
 ghost use Rattle.std.specs.Prelude.{◌≤◌};
 ghost use Rattle.line_commands.specs.Questions.{Members, Values, Called};
@@ -12,7 +12,7 @@ use history_store::{AsOf, Store};
 use rf2_rows::Sctid;
 use std::alloc::Global;
 
-/// The members of a reference set on a date, by identifier.
+/// The members of a reference set on a date, in the order of their identifiers.
 pub(crate) fn answer_members<D: Disk>(
     alloc: Global,
     refset: Sctid,
@@ -29,7 +29,8 @@ pub(crate) fn answer_members<D: Disk>(
     Ok(reply_rows(alloc, &found)?)
 }
 
-/// The active members of a reference set on a date, by the component that they refer to.
+/// The active members of a reference set on a date, in the order of the components that they refer
+/// to.
 pub(crate) fn answer_values<D: Disk>(
     alloc: Global,
     refset: Sctid,
@@ -46,7 +47,7 @@ pub(crate) fn answer_values<D: Disk>(
     Ok(reply_rows(alloc, &found)?)
 }
 
-/// By what a concept was called on a date in the language of a reference set.
+/// What a concept was called on a date in the language of a reference set.
 pub(crate) fn answer_called<D: Disk>(
     alloc: Global,
     concept: Sctid,

@@ -11,7 +11,7 @@ use thiserror::Error;
 /// Why a line was refused.
 #[derive(Clone, Copy, Debug, PartialEq, Eq, Error)]
 pub enum LineRefusal {
-    /// The line asks nothing.
+    /// The line is no request.
     #[error("{0}")]
     Unread(Unread),
     #[error("no import has this number")]
@@ -63,7 +63,7 @@ impl LineRefusal {
     ghost use Rattle.std.specs.Prelude.{◌≡◌, ◌≤◌, length};
     ghost use Rattle.line_server.specs.ReplyValue.{sign_of, place_of, place_words};
 
-    /// The number by which the protocol knows the refusal.
+    /// The number of the refusal in the protocol.
     pub fn code(self) -> u8
         ensures { result ≡ (sign_of self).0 }
     {
@@ -75,7 +75,7 @@ impl LineRefusal {
         }
     }
 
-    /// The name that stands behind the number.
+    /// The name of the refusal, which the protocol writes after the number.
     pub fn name(self) -> &'static str
         ensures name { result.now ≡ (sign_of self).1 }
         ensures short { length result.now ≤ 20 }
@@ -88,7 +88,7 @@ impl LineRefusal {
         }
     }
 
-    /// The file and the line at which a release is refused.
+    /// The file and the line of a release at which it was refused.
     pub fn place(self) -> Option<(usize, usize)>
         ensures { place_words result ≡ place_of self }
     {

@@ -1,4 +1,4 @@
-//! What is written for a line.
+//! The reply to a line.
 
 ghost use Rattle.std.specs.Prelude.{◌≡◌, ◌≤◌, length, IfSome};
 ghost use Rattle.line_server.specs.ReplyValue.{bytes_of};
@@ -9,11 +9,11 @@ use arrayvec::{ArrayString, ArrayVec};
 use std::io::Write;
 use std::marker::Model;
 
-/// How many bytes a reply has at most that is written in one piece.
+/// A reply of up to this many bytes is written in one piece.
 const SHORT: usize = 1024;
 
-/// The lines that are written for a line, each with its LF: those
-/// of rows or identifiers, and a last one, which takes no memory.
+/// The lines of a reply, each with its LF: those of rows, identifiers or dates, and a last one,
+/// which needs no heap memory.
 #[derive(Drop)]
 pub struct Reply {
     body: Vec<u8>,
@@ -35,7 +35,7 @@ impl Reply {
         Reply { body, last }
     }
 
-    /// The lines before the last one. After a refusal there is none.
+    /// The lines before the last one. A refusal has none.
     pub fn body(&self) -> &[u8]
         ensures { result.now ≡ self.now.body }
     {
@@ -50,7 +50,7 @@ impl Reply {
         self.last.as_str().as_bytes()
     }
 
-    /// All that it writes, if that is short.
+    /// The whole reply, if it is short.
     fn short(&self) -> Option<ArrayVec<u8, SHORT>>
         ensures { IfSome result (λ bytes. bytes.items ≡ bytes_of self.now) }
     {
@@ -60,8 +60,8 @@ impl Reply {
         Some(bytes)
     }
 
-    /// Writes its lines, in as many writes as the writer wants: a short reply in one, if the writer
-    /// takes it whole. A write that takes no byte is a fault.
+    /// Writes the reply, in as many writes as the writer needs: a short reply in one, if the writer
+    /// accepts it whole. A write that accepts no byte is a fault.
     pub fn write_to<W: Write>(&self, writer: &mut W) -> Result<(), WriteFault>
         ensures { IsPut result (W.contents writer.old) (W.contents writer.new)
             (bytes_of self.now) }

@@ -1,4 +1,4 @@
-//! Lines in, replies out.
+//! Serves an input: reads lines and writes replies.
 
 ghost use Rattle.std.specs.Prelude.{◌≡◌, IsErrOf};
 ghost use Rattle.line_server.specs.Sources.{source_view};
@@ -17,27 +17,27 @@ use std::alloc::Global;
 use std::io::Write;
 use thiserror::Error;
 
-/// Why not all of the input was served.
+/// Why the input was not served to its end.
 #[derive(Clone, Copy, Debug, PartialEq, Eq, Error)]
 pub enum ServeFault {
-    /// Memory ran out for the one buffer; nothing was read.
+    /// There was no memory for the only buffer; nothing was read.
     #[error("out of memory")]
     OutOfMemory,
-    /// The reader failed. An interruption is a failure too.
+    /// The reader failed. An interrupted read is a failure too.
     #[error("the input can't be read")]
     Read,
-    /// The writer failed, or took no byte.
+    /// The writer failed, or accepted no byte.
     #[error("the output can't be written")]
     Write,
-    /// One read more would pass the number that is allowed.
+    /// One more read would exceed the allowed number.
     #[error("too many reads")]
     Reads,
 }
 
 /// Answers the lines of the input in order, writes the reply to each before it answers the next,
-/// and returns how many were answered. It makes at most `max_reads` reads, of up to 4,096 bytes
-/// each, and keeps up to 4,098 bytes of a line that is coming in. What a read gave is fed (`feed`)
-/// before the next read, and none is made once one gave the end of the input or failed.
+/// and returns how many were answered. Makes at most `max_reads` reads, of up to 4,096 bytes each,
+/// and keeps up to 4,098 bytes of the current line. The bytes of a read are passed to `feed` before
+/// the next read, and no read is made after one that returned the end of the input or failed.
 pub fn serve<R: PieceReader, W: Write, S: Source, D: Disk>(
     alloc: Global,
     reader: &mut R,
@@ -51,7 +51,7 @@ pub fn serve<R: PieceReader, W: Write, S: Source, D: Disk>(
         (with_reads (streams (R.remaining reader.old) (R.remaining reader.new)
         (W.contents writer.old) (W.contents writer.new)) (R.reads reader.old) (R.reads reader.new))
         store.old store.new }
-    // The buffer is made before anything else is done.
+    // The buffer is allocated before anything else is done.
     ensures memory { IsErrOf result OutOfMemory
         → (reader.new ≡ reader.old) × (writer.new ≡ writer.old)
         × (source.new ≡ source.old) × (store.new ≡ store.old) }

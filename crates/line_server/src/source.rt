@@ -1,4 +1,4 @@
-//! Where releases come from.
+//! Sources of releases.
 
 ghost use Rattle.std.specs.Prelude.{◌≡◌, ℕ, List, Option};
 ghost use Rattle.rf2_values.specs.declared.row.Kind.{Kind};
@@ -10,7 +10,7 @@ use import_check::{Release, Scope};
 use std::alloc::Global;
 use thiserror::Error;
 
-/// Why no release was had.
+/// Why a source didn't return a release.
 #[derive(Clone, Copy, Debug, PartialEq, Eq, Error)]
 pub enum SourceFault {
     #[error("out of memory")]
@@ -19,28 +19,28 @@ pub enum SourceFault {
     NoFolder,
 }
 
-/// Where releases are found by their names.
+/// A source of releases, which it finds by their names.
 pub trait Source {
-    /// It has the releases that it says it has, and they stay.
+    /// The source returns the releases that `releases` names, and these don't change.
     ghost is_honest: { Self → Type 0 };
-    /// The release under a name: its files that a scope asks for, by their kinds and bytes.
+    /// The release of each name: the kinds and bytes of those of its files that a scope includes.
     ghost releases: { Self → Releases };
 
-    /// The release under a name, as far as the scope asks for its files.
+    /// Returns the release of this name, with the files that the scope includes.
     fn release(&mut self, alloc: Global, name: &str, scope: Scope) -> Result<Release, SourceFault>
         ensures honesty { is_honest self.old → is_honest self.new }
         ensures stays { is_honest self.old → releases self.new ≡ releases self.old }
         ensures given { is_honest self.old → IsGiven result (releases self.old scope name.now) };
 
-    /// The store has refused the release under a name that was had in this scope, for an import or
-    /// a check. It was had from here and is no longer in memory: whoever has people to tell may
-    /// read it once more to tell them why.
+    /// Tells the source that the store refused, in an import or a check, the release that `release`
+    /// returned for this name and scope. That release is no longer in memory: a source that reports
+    /// to people may read it again to say why it was refused.
     fn note_refusal(&mut self, alloc: Global, name: &str, scope: Scope, refusal: Refusal)
         ensures honesty { is_honest self.old → is_honest self.new }
         ensures stays { is_honest self.old → releases self.new ≡ releases self.old };
 }
 
-/// The scope in which releases are had for a store: what its version keeps.
+/// The scope of the releases for a store: the files that its version keeps.
 pub fn scope_for<D: Disk>(store: &Store<D>) -> Scope
     ensures { result ≡ scope_of store.now.catalog.layout }
 {

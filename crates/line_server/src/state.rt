@@ -1,4 +1,4 @@
-//! What a server keeps from line to line, beside its store.
+//! The state that a server keeps between lines, besides its store.
 
 ghost use Rattle.std.specs.Prelude.{◌≡◌, ◌<◌, ℕ, IsTrue, ◌↔◌, slice_set};
 ghost use Rattle.line_commands.specs.Requests.{command_of, sessions};
@@ -10,8 +10,8 @@ use history_store::Refusal;
 use line_commands::{Command, SESSIONS};
 use std::marker::Model;
 
-/// What each of the sessions is pinned to, if anything, and whether damage was met. It stands for
-/// one opening of a store: who opens the store again makes a new one.
+/// The pin of each session, if it has one, and whether damage was found. It is valid for one
+/// opening of a store: whoever opens the store again makes a new one.
 #[derive(Drop)]
 pub struct ServerState {
     pins: [Option<u32>; SESSIONS],
@@ -31,7 +31,7 @@ impl Model for ServerState {
 }
 
 impl ServerState {
-    /// No session is pinned, and no damage was met.
+    /// The initial state: no session is pinned, and no damage was found.
     pub fn new() -> ServerState
         ensures value { result ≡ fresh }
         ensures within { (imports : ℕ) → AreWithin imports result.pins }
@@ -42,7 +42,7 @@ impl ServerState {
         }
     }
 
-    /// The number of imports that a session looks at: its pin, or else all.
+    /// The number of imports that a session sees: its pin, or all imports if it has none.
     pub fn pin_of(&self, session: u16, imports: u32) -> u32
         requires { session < sessions }
         ensures { result ≡ pin_of self.now.pins session imports }
@@ -61,7 +61,7 @@ impl ServerState {
         self.pins[session as usize] = pin;
     }
 
-    /// Whether the command is refused without a call of the store, because damage was met.
+    /// Whether the command is refused without calling the store, because damage was found.
     pub(crate) fn holds_back(&self, command: &Command<'_>) -> bool
         ensures { IsTrue result ↔ HoldsBack self.now.met_damage (command_of command.now) }
     {
@@ -75,7 +75,7 @@ impl ServerState {
         }
     }
 
-    /// Takes note of why a line was refused.
+    /// Records whether a line was refused because of damage.
     pub(crate) fn note(&mut self, refusal: LineRefusal)
         ensures { self.new ≡ record self.old { met_damage = met_by refusal self.old.met_damage } }
     {

@@ -1,4 +1,4 @@
-//! The words of replies.
+//! Builds the text of replies.
 
 ghost use Rattle.std.specs.Prelude.{◌≡◌, ◌≤◌, ◌<◌, ◌+◌, ◌++◌, ◌∷◌, [], ℕ, List, Option, Ok, Err};
 ghost use Rattle.std.specs.Prelude.{decimal, IfOk, length, codes};
@@ -15,7 +15,7 @@ use itoa::Buffer;
 use rf2_rows::{EffectiveTime, Row, write_row};
 use std::alloc::{AllocError, Global};
 
-/// A last line that begins with this word.
+/// A last line that begins with this word, to be continued.
 fn begin_line(word: &str) -> ArrayString<128>
     requires { length word.now ≤ 3 }
     ensures bytes { result.bytes ≡ word.now }
@@ -46,7 +46,7 @@ fn put_number(last: &mut ArrayString<128>, number: u64)
     last.push_str(Buffer::new().format(number));
 }
 
-/// Appends a space and a number, or `-` where there is none.
+/// Appends a space and a number, or `-` if there is none.
 fn put_number_or_none(last: &mut ArrayString<128>, number: Option<u64>)
     requires { array_string_len last.old + 21 ≤ 128 }
     ensures bytes { last.new.bytes ≡ last.old.bytes ++ 32 ∷ number_or_none number }
@@ -58,7 +58,7 @@ fn put_number_or_none(last: &mut ArrayString<128>, number: Option<u64>)
     }
 }
 
-/// The reply of these lines, and a last one, which gets its LF.
+/// The reply of these lines and a last one, to which its LF is added.
 fn reply(body: Vec<u8>, text: ArrayString<128>) -> Reply
     requires { array_string_len text < 128 }
     ensures { result ≡ record { body = body.items; last = text.bytes ++ 10 ∷ [] } }
@@ -68,14 +68,14 @@ fn reply(body: Vec<u8>, text: ArrayString<128>) -> Reply
     Reply::new(body, last)
 }
 
-/// The reply where all is done and nothing is to be told: `OK`. It takes no memory.
+/// The reply `OK` without more words. Allocates nothing.
 pub fn reply_done(alloc: Global) -> Reply
     ensures { result ≡ reply_value (Ok (Done [])) }
 {
     reply(Vec::new(alloc), begin_line("OK"))
 }
 
-/// The reply that says a number.
+/// The reply `OK` with a number.
 pub(crate) fn reply_number(alloc: Global, number: u64) -> Reply
     ensures { result ≡ reply_value (Ok (Done (decimal number ∷ []))) }
 {
@@ -84,7 +84,7 @@ pub(crate) fn reply_number(alloc: Global, number: u64) -> Reply
     reply(Vec::new(alloc), last)
 }
 
-/// A date's number, as it is spelled.
+/// The number of a date, such as 20200131.
 fn number_of_date(date: Option<EffectiveTime>) -> Option<u64>
     ensures { result ≡ date }
 {
@@ -135,7 +135,8 @@ pub(crate) fn reply_status(
     reply(Vec::new(alloc), last)
 }
 
-/// The reply to what is refused: `ERR`, the number, the name and the place. It takes no memory.
+/// The reply to a refused line: `ERR`, the number, the name, and the file and line if there are
+/// any. Allocates nothing.
 pub fn reply_refusal(alloc: Global, refusal: LineRefusal) -> Reply
     ensures { result ≡ reply_value (Err refusal) }
 {
@@ -188,7 +189,7 @@ pub(crate) fn reply_ids(alloc: Global, ids: &[u64]) -> Result<Reply, AllocError>
     Ok(reply(body, end(ids.len())))
 }
 
-/// The reply that says a digest.
+/// The reply with a digest, in lower-case hexadecimal digits.
 pub(crate) fn reply_digest(alloc: Global, digest: [u8; 32]) -> Result<Reply, AllocError>
     ensures reply { IfOk result (λ reply. reply ≡ reply_value (Ok (digits_of digest))) }
     ensures bytes { length digest ≡ 32 }

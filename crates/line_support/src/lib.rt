@@ -1,5 +1,5 @@
-//! What the tests of lines share: the script and its replies, the example releases,
-//! a store whose lines are served, and streams. Nothing here has a clause.
+//! Shared by the tests of lines: the script and its replies, the example releases, a store that
+//! serves lines, and streams. Nothing here has a contract.
 #![tactic(auto)]
 
 mod refsets;

@@ -1,4 +1,4 @@
-//! Releases of several files, some of them of members of reference sets.
+//! Releases of several files, some with members of reference sets.
 
 use import_check::{Release, ReleaseFile, Scope};
 use rf2_rows::{Kind, column_names};
@@ -9,14 +9,14 @@ use test_support::line;
 #[derive(Clone, Copy)]
 struct Part {
     kind: Kind,
-    /// What stands behind the column names of the kind.
+    /// The text after the column names of the kind.
     further_names: &'static str,
-    /// The lines below the column names.
+    /// The lines after the column names.
     rows: &'static [&'static str],
 }
 
-/// What two concepts are called in two languages. A description isn't active, nor is a member, and
-/// a description has two members of one language.
+/// What two concepts are called in two languages. One description isn't active, one member isn't,
+/// and one description has two members of one language.
 const TONGUES: &[Part] = &[
     Part {
         kind: Kind::Description,
@@ -51,8 +51,8 @@ const TONGUES: &[Part] = &[
     },
 ];
 
-/// What becomes of them: a term changes, a member is retired, another one is active from now on, one
-/// says something else, and one is new.
+/// Later versions of these: a term changes, a member is retired, another becomes active, one says
+/// something else, and one is new.
 const TONGUES_LATER: &[Part] = &[
     Part {
         kind: Kind::Description,
@@ -90,8 +90,8 @@ const WARDS: &[Part] = &[Part {
     ],
 }];
 
-/// What becomes of it: a member is retired, one goes over
-/// to another reference set, and one is active from now on.
+/// Later versions of these: a member is retired, one moves to another reference set, and one
+/// becomes active.
 const WARDS_LATER: &[Part] = &[Part {
     kind: Kind::Member,
     further_names: "",
@@ -102,7 +102,7 @@ const WARDS_LATER: &[Part] = &[Part {
     ],
 }];
 
-/// A map with two further columns, of which one or both are empty.
+/// A map with two further columns, one or both of which are empty.
 const MAPPED: &[Part] = &[Part {
     kind: Kind::Member,
     further_names: "|mapTarget|mapAdvice",
@@ -113,7 +113,7 @@ const MAPPED: &[Part] = &[Part {
     ],
 }];
 
-/// One member of a language reference set, of the description that the first sample has.
+/// One member of a language reference set, for the description in the first sample.
 const PREFERRED: &[Part] = &[Part {
     kind: Kind::Member,
     further_names: "|acceptabilityId",
@@ -123,7 +123,7 @@ const PREFERRED: &[Part] = &[Part {
     ],
 }];
 
-/// A member with a seventh column below six column names.
+/// A member with a seventh column under six column names.
 const SEVENTH_COLUMN: &[Part] = &[Part {
     kind: Kind::Member,
     further_names: "",
@@ -133,7 +133,7 @@ const SEVENTH_COLUMN: &[Part] = &[Part {
     ],
 }];
 
-/// The files of a release by the release's name.
+/// The files of the release with this name.
 fn parts_of(name: &str) -> Option<&'static [Part]> {
     match name {
         "tongues" => Some(TONGUES),
@@ -147,7 +147,7 @@ fn parts_of(name: &str) -> Option<&'static [Part]> {
     }
 }
 
-/// A file: the column names and the lines, each with CR LF.
+/// A file: the column names and the lines, each followed by CR LF.
 fn file_of(alloc: Global, part: Part) -> Result<ReleaseFile, AllocError> {
     let mut bytes = column_names(part.kind).to_vec(alloc)?;
     let further_names = line(alloc, part.further_names)?;
@@ -165,8 +165,8 @@ fn file_of(alloc: Global, part: Part) -> Result<ReleaseFile, AllocError> {
     })
 }
 
-/// The release of several files under a name, if there is one: in the scope of
-/// a store below version 3 without members, but where they come unasked.
+/// The release of several files with this name, if there is one. For a store below version 3 it has
+/// no members, unless it is one that has them unasked.
 pub(crate) fn refsets_of(
     alloc: Global,
     name: &str,

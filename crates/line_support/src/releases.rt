@@ -1,4 +1,4 @@
-//! The releases that lines import by their names.
+//! The releases that lines import, by name.
 
 use crate::refsets::refsets_of;
 use history_store::Refusal;
@@ -9,7 +9,7 @@ use samples::sample;
 use std::alloc::{AllocError, Global};
 use test_support::{of_bytes, one_file};
 
-/// The lines below the column names of a Concept file, by the release's name.
+/// The lines after the column names of a Concept file, for the release with this name.
 fn concepts_of(name: &str) -> Option<&'static [&'static str]> {
     let rows: &[&str] = match name {
         "names" => &[],
@@ -33,11 +33,11 @@ fn concepts_of(name: &str) -> Option<&'static [&'static str]> {
     Some(rows)
 }
 
-/// The kind of a release's one file, and its lines below the column names.
+/// The kind of a release's only file, and its lines after the column names.
 type File = (Kind, &'static [&'static str]);
 
-/// The file of relationships with concrete values, or
-/// else of concepts, of a release by the release's name.
+/// The file of the release with this name: of relationships with concrete values, or else of
+/// concepts.
 fn values_of(name: &str) -> Option<File> {
     let rows: &[&str] = match name {
         "strength" => &["1000027|20210731|1|CORE|1000004|#5|0|3000005|INF|MOD"],
@@ -49,8 +49,8 @@ fn values_of(name: &str) -> Option<File> {
     Some((Kind::Concrete, rows))
 }
 
-/// Descriptions of two concepts: one is retired later, one was
-/// never active, and one is moved from the first to the second.
+/// Descriptions of two concepts: one is retired later, one was never active, and one moves from the
+/// first concept to the second.
 const STREETS: &[&str] = &[
     "2000017|20210731|1|CORE|1000004|de|SYN|Strassenbahn|ECI",
     "2000017|20220131|0|CORE|1000004|de|SYN|Strassenbahn|ECI",
@@ -61,8 +61,8 @@ const STREETS: &[&str] = &[
     "6000019|20220131|1|CORE|2000001|de|SYN|Weg|ECI",
 ];
 
-/// Relationships of type "is a", two ways up from one concept, three concepts in a ring with one
-/// below it, a relationship that isn't active, and one of another type.
+/// "Is a" relationships: two ways up from one concept, and a ring of three concepts with one below
+/// it; and a relationship that isn't active, and one of another type.
 const HIERARCHY: &[&str] = &[
     "3000022|20210731|1|CORE|1000004|138875005|0|116680003|INF|MOD",
     "4000028|20210731|1|CORE|2000001|1000004|0|116680003|INF|MOD",
@@ -78,7 +78,7 @@ const HIERARCHY: &[&str] = &[
     "14000028|20210731|1|CORE|4000000|5000008|0|363698007|INF|MOD",
 ];
 
-/// What becomes of them: one of the two ways is cut at both ends, and the ring is opened.
+/// Later versions of these: one of the two ways is cut at both ends, and the ring is opened.
 const HIERARCHY_LATER: &[&str] = &[
     "5000020|20220131|0|CORE|3000005|1000004|0|116680003|INF|MOD",
     "6000026|20220131|0|CORE|4000000|2000001|0|116680003|INF|MOD",
@@ -96,7 +96,7 @@ const REPLACEMENTS: &[&str] = &[
     "0b6a0c2e-5d0f-4c53-9f6e-8d9d2a7b1c04|20220131|1|CORE|900000000000527005|1000004|2000001",
 ];
 
-/// The file of a release for questions of an audit, or another one, by the release's name.
+/// The file of the release with this name, for audit questions, or else another one.
 fn audited_of(name: &str) -> Option<File> {
     match name {
         "hierarchy" => Some((Kind::Relationship, HIERARCHY)),
@@ -106,7 +106,7 @@ fn audited_of(name: &str) -> Option<File> {
     }
 }
 
-/// The file of a release by the release's name.
+/// The file of the release with this name.
 fn file_of(name: &str) -> Option<File> {
     let file: File = match name {
         "group-00" => (
@@ -134,8 +134,8 @@ fn file_of(name: &str) -> Option<File> {
     Some(file)
 }
 
-/// What stands before and behind the column names of a
-/// Concept file without rows, by the release's name.
+/// The text before and after the column names of a Concept file without rows, for the release with
+/// this name.
 fn ends_of(name: &str) -> Option<(&'static str, &'static str)> {
     match name {
         "names-without-an-end" => Some(("", "")),
@@ -145,7 +145,7 @@ fn ends_of(name: &str) -> Option<(&'static str, &'static str)> {
     }
 }
 
-/// A Concept file of its column names between these.
+/// A release of a Concept file with the column names between these texts.
 fn names_between(alloc: Global, front: &str, end: &str) -> Result<Release, AllocError> {
     let mut text = front.as_bytes().to_vec(alloc)?;
     text.extend_from_slice(column_names(Kind::Concept))?;
@@ -153,8 +153,8 @@ fn names_between(alloc: Global, front: &str, end: &str) -> Result<Release, Alloc
     of_bytes(alloc, Kind::Concept, text.as_slice())
 }
 
-/// By how many bytes the first sample's Concept file is cut short. Its last
-/// line ends in two columns of 18 digits, each behind a TAB, and CR LF.
+/// How many bytes the first sample's Concept file is cut short by. Its last line ends with two
+/// columns of 18 digits, each after a TAB, and CR LF.
 fn cut_of(name: &str) -> Option<usize> {
     match name {
         "cut-in-a-row" => Some(40),
@@ -164,7 +164,7 @@ fn cut_of(name: &str) -> Option<usize> {
     }
 }
 
-/// The Concept file of the first sample without so many bytes at its end.
+/// The Concept file of the first sample without its last `bytes` bytes.
 fn cut_short(alloc: Global, bytes: usize) -> Result<Option<Release>, AllocError> {
     let Some(mut release) = sample(alloc, "r1")? else {
         return Ok(None);
@@ -183,7 +183,7 @@ fn new_in(alloc: Global, year: &str) -> Result<Release, AllocError> {
     one_file(alloc, Kind::Concept, &[row.as_str()])
 }
 
-/// The example or the sample under a name, if there is one.
+/// The example or the sample with this name, if there is one.
 fn example(alloc: Global, name: &str, scope: Scope) -> Result<Option<Release>, AllocError> {
     if let Some(release) = refsets_of(alloc, name, scope)? {
         return Ok(Some(release));
@@ -206,7 +206,7 @@ fn example(alloc: Global, name: &str, scope: Scope) -> Result<Option<Release>, A
     }
 }
 
-/// Has the example releases and the samples.
+/// A source with the example releases and the samples.
 #[derive(Clone, Copy)]
 pub struct Examples;
 

@@ -3,14 +3,13 @@
 use std::alloc::{AllocError, Global};
 use test_support::lines;
 
-/// A line and the lines of its reply, in which a bar stands
-/// for a TAB and a name in capitals for an identifier.
+/// A line and the lines of its reply, in which a bar stands for a TAB, and a name in capitals for
+/// an identifier.
 pub type Turn = (&'static str, &'static [&'static str]);
 
-/// Imports of three releases, one of them while a merge goes on; what two
-/// sessions, of which one is pinned, are then told; lines that are refused;
-/// what is told about a concept, by a search and of an import;
-/// the questions of an audit; a check and a digest.
+/// Imports of three releases, one of them during a merge; the answers to two sessions, one of which
+/// is pinned; lines that are refused; answers about a concept, to a search and about an import; the
+/// audit questions; a check and a digest.
 pub const SCRIPT: [Turn; 40] = [
     ("0 STATUS", &["OK 0 0 0 -"]),
     ("0 GET C 138875005 20230131", &["END 0"]),
@@ -133,12 +132,12 @@ pub const SCRIPT: [Turn; 40] = [
     ),
 ];
 
-/// The turns of the program's demonstration, `sctd demo`.
+/// The lines and replies of the program's demonstration, `sctd demo`.
 pub fn demonstration() -> &'static [Turn] {
     &SCRIPT[..20]
 }
 
-/// The lines, each with an LF.
+/// The lines, each followed by an LF.
 pub fn input_of(alloc: Global, turns: &[Turn]) -> Result<Vec<u8>, AllocError> {
     let mut input = Vec::new(alloc);
     for (line, _) in turns {

@@ -1,4 +1,4 @@
-//! A store whose lines are served. Its calls have no clauses.
+//! A store that serves lines: a wrapper without contracts.
 
 use crate::releases::Examples;
 use crate::script::{Turn, input_of, replies_of};
@@ -8,11 +8,11 @@ use line_server::{ServeFault, serve};
 use std::alloc::{AllocError, Global};
 use std::io::{Read, Write};
 
-/// The most reads that a run may make, where no other number is given.
+/// The most reads of a run, unless another number is given.
 const READS: u32 = 1_000_000;
 
-/// A store on a disk in memory that serves streams of lines. It is boxed, so
-/// that a test which lets it go is proved without what a store is made of.
+/// A store on a disk in memory that serves streams of lines. It is boxed, so that a test which
+/// drops it is proved without looking at the fields of a store.
 #[derive(Drop)]
 pub struct Server {
     alloc: Global,
@@ -20,7 +20,7 @@ pub struct Server {
 }
 
 impl Server {
-    /// The store in its box.
+    /// Puts the store in a box.
     fn put_in_box(alloc: Global, store: Store<MemDisk>) -> Result<Server, Refusal> {
         match Box::new(alloc, store) {
             Ok(store) => Ok(Server { alloc, store }),
@@ -39,7 +39,7 @@ impl Server {
         }
     }
 
-    /// The store that a disk represents.
+    /// Opens the store that a disk represents.
     pub fn opened(alloc: Global, disk: MemDisk) -> Result<Server, Refusal> {
         match Store::open(alloc, disk) {
             Ok(store) => Server::put_in_box(alloc, store),
@@ -47,12 +47,12 @@ impl Server {
         }
     }
 
-    /// The store that a disk of these bytes represents.
+    /// Opens the store that a disk of these bytes represents.
     pub fn of_bytes(alloc: Global, bytes: &[u8]) -> Result<Server, Refusal> {
         Server::opened(alloc, MemDisk::from_bytes(alloc, bytes.to_vec(alloc)?))
     }
 
-    /// Serves the lines of the input with at most so many reads.
+    /// Serves the lines of the input with at most `reads` reads.
     pub fn serve_within<R: Read, W: Write>(
         &mut self,
         reads: u32,
@@ -78,14 +78,14 @@ impl Server {
         self.serve_within(READS, input, output)
     }
 
-    /// What is written for the lines of the input.
+    /// Serves the lines of the input, and returns what is written for them.
     pub fn served(&mut self, mut input: &[u8]) -> Result<Vec<u8>, ServeFault> {
         let mut output = Vec::new(self.alloc);
         self.serve(&mut input, &mut output)?;
         Ok(output)
     }
 
-    /// Serves the lines, and tells if their replies are these and nothing else is written.
+    /// Serves the lines, and returns whether exactly these replies are written.
     pub fn says(&mut self, turns: &[Turn]) -> Result<bool, AllocError> {
         let input = input_of(self.alloc, turns)?;
         let want = replies_of(self.alloc, turns)?;
@@ -94,18 +94,18 @@ impl Server {
         Ok(served == Ok(turns.len() as u64) && output == want)
     }
 
-    /// Puts the store into version 3 of the layout.
+    /// Upgrades the store to version 3 of the layout.
     pub fn upgrade(&mut self) -> Result<(), Refusal> {
         self.store.upgrade()
     }
 
-    /// Gives the disk back.
+    /// Returns the disk.
     pub fn close(self) -> MemDisk {
         Box::into_inner(self.store).close()
     }
 }
 
-/// A new store that served these lines, where their replies are these.
+/// A new store after serving these lines; none if their replies are not these.
 pub fn after(alloc: Global, turns: &[Turn]) -> Result<Option<Server>, Refusal> {
     let mut server = Server::new(alloc)?;
     if server.says(turns)? {

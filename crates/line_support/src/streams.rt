@@ -1,9 +1,9 @@
-//! Streams that give and take bytes bit by bit, and fail.
+//! Streams that read and write bytes in small pieces, and fail.
 
 use std::io;
 use std::io::{Read, Write};
 
-/// Gives its bytes in pieces of one length, and then ends, or fails if a failure is named.
+/// Returns its bytes in pieces of one length, and then the end, or a failure if one is given.
 #[derive(Drop)]
 pub struct Pieces<'a> {
     pub rest: &'a [u8],
@@ -26,7 +26,7 @@ impl Read for Pieces<'_> {
     }
 }
 
-/// Takes so many bytes at a time, as long as there is room.
+/// Accepts `width` bytes at a time, as long as there is room.
 #[derive(Drop)]
 pub struct Narrow {
     pub taken: Vec<u8>,

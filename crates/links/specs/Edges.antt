@@ -1,5 +1,5 @@
--- What is posted of rows: links of relationships, references and targets of associations, what any
--- but a concept is about, and memberships of reference sets.
+-- The postings of rows: links of relationships, references and targets of associations, what rows
+-- other than concepts are about, and memberships in reference sets.
 use Rattle.std.specs.Prelude.{ℕ, ◌+◌, ◌*◌, ◌==◌, min, Bool, List, [], ◌∷◌, ◌++◌, length}
 use Rattle.std.specs.Prelude.{if◌then◌else◌}
 use Rattle.std.specs.Prelude.{Option, Some, None}
@@ -34,8 +34,7 @@ abbrev pub no_edges : Edges
 no_edges =
     record { links = []; references = []; targets = []; subjects = []; memberships = [] }
 
--- the links, references, targets, subjects and memberships of one, each followed by those of the
--- other
+-- the postings of one, each kind followed by those of the other
 abbrev pub joined_edges : Edges → Edges → Edges
 joined_edges a b =
     record {
@@ -64,7 +63,7 @@ count_of e =
       memberships = length e.memberships;
     }
 
--- the same links, references, targets, subjects and memberships, in whatever order
+-- the same links, references, targets, subjects and memberships, in any order
 pub record AreSameEdges (a b : Edges) : Type 0 where
   pub links : IsPermutation a.links b.links
   pub references : IsPermutation a.references b.references
@@ -72,20 +71,20 @@ pub record AreSameEdges (a b : Edges) : Type 0 where
   pub subjects : IsPermutation a.subjects b.subjects
   pub memberships : IsPermutation a.memberships b.memberships
 
--- the place of a component's rows of a kind in the order of subjects: by the component, and then by
--- the kind, of which there are six
+-- the rank of rows of a kind that are about a component, by which subjects are sorted: by the
+-- component, and then by the kind, of which there are six
 abbrev pub subject_rank : ℕ → Kind → ℕ
 subject_rank id kind = 6 * id + kind_place kind
 
--- the place of a reference set's members of a component in the order of memberships: by the
--- reference set, and then by the component, whose number has 64 bits
+-- the rank of a reference set's members that refer to a component, by which memberships are sorted:
+-- by the reference set, and then by the component, whose number has 64 bits
 abbrev pub membership_rank : ℕ → ℕ → ℕ
 membership_rank refset referenced =
     18446744073709551616 * refset + min referenced 18446744073709551615
 
--- the links ascend by destination, the references by what they refer to, the targets by themselves,
--- the subjects by what the rows are about, and then by kind, and the memberships by the reference
--- set, and then by the component
+-- the postings are sorted: links by destination, references by referenced component, targets by
+-- target, subjects by what the rows are about and then by kind, and memberships by the reference
+-- set and then by the component
 pub record IsSealed (e : Edges) : Type 0 where
   pub by_destination : IsNonDecreasingBy (λ l. l.destination) e.links
   pub by_referenced : IsNonDecreasingBy (λ r. r.referenced) e.references
@@ -109,7 +108,7 @@ abbrev pub membership : RefsetMember → Bool → ℕ → Membership
 membership m active i =
     record { refset = m.refset; referenced = m.referenced; row = i; active = active }
 
--- what the body of row i says: a relationship of the type "is a" is a link
+-- the link of row `i`, if its body is an "is a" relationship
 abbrev pub link_of_body : Body → ℕ → List Link
 link_of_body (body.Concept c) i = []
 link_of_body (body.Description d) i = []
@@ -118,7 +117,7 @@ link_of_body (body.Association a) i = []
 link_of_body (body.Concrete c) i = []
 link_of_body (body.Member m) i = []
 
--- what the body of row i says: an association is a reference
+-- the reference of row `i`, if its body is an association
 abbrev pub reference_of_body : Body → ℕ → List Reference
 reference_of_body (body.Concept c) i = []
 reference_of_body (body.Description d) i = []
@@ -127,7 +126,7 @@ reference_of_body (body.Association a) i = reference a i ∷ []
 reference_of_body (body.Concrete c) i = []
 reference_of_body (body.Member m) i = []
 
--- what the body of row i says: an association has a target
+-- the target of row `i`, if its body is an association
 abbrev pub target_of_body : Body → ℕ → List Target
 target_of_body (body.Concept c) i = []
 target_of_body (body.Description d) i = []
@@ -136,12 +135,12 @@ target_of_body (body.Association a) i = target_at a i ∷ []
 target_of_body (body.Concrete c) i = []
 target_of_body (body.Member m) i = []
 
--- what row i is about, if it is about something, with its kind
+-- the subject of row `i`, if it is about something, with its kind
 abbrev pub subject_at : Option ℕ → Kind → ℕ → List Subject
 subject_at None kind i = []
 subject_at (Some id) kind i = record { subject = id; kind = kind; row = i } ∷ []
 
--- what the body of row i says: a member is a membership, whether it is active or not
+-- the membership of row `i`, if its body is a member, whether it is active or not
 abbrev pub membership_of_body : Bool → Body → ℕ → List Membership
 membership_of_body active (body.Concept c) i = []
 membership_of_body active (body.Description d) i = []
@@ -150,8 +149,8 @@ membership_of_body active (body.Association a) i = []
 membership_of_body active (body.Concrete c) i = []
 membership_of_body active (body.Member m) i = membership m active i ∷ []
 
--- what is posted of row i: what an active one says, and what it is about; and the membership of a
--- member, active or not
+-- the postings of row `i`: if it is active, its link, its reference, its target and its subject;
+-- and if it is a member, active or not, its membership
 abbrev pub posted_link : RowValue → ℕ → List Link
 posted_link row i = if row.active then link_of_body row.body i else []
 
@@ -177,7 +176,7 @@ edges_of row i =
       memberships = posted_membership row i;
     }
 
--- what is posted of rows, each with its number from 0 on
+-- the postings of rows, each with its row's number, counted from 0
 abbrev pub posted_edges : List StampedRow → Edges
 posted_edges rows =
     record {

@@ -1,4 +1,4 @@
--- Postings of two segments' rows that are merged in turns.
+-- Merging the postings of two segments' rows, in steps.
 use Rattle.std.specs.Prelude.{◌≤◌, ◌-◌, ℕ, List, [], ◌∷◌, length}
 use Rattle.history_model.specs.declared.stamped.StampedRow.{StampedRow}
 use Rattle.history_model.specs.Lists.{AreLists, union}
@@ -14,8 +14,7 @@ use Rattle.links.specs.declared.membership.Membership.{Membership}
 use Rattle.links.specs.Edges.{Edges, EdgeCount, no_edges, count_of, subject_rank, membership_rank}
 use Rattle.links.specs.Laws.{ArePostingsOf}
 
--- links by destination, references by what they refer to, targets by themselves, subjects by what
--- the rows are about and then by kind, and memberships by reference set and then by component
+-- the kinds of postings, sorted as `IsSealed` says
 abbrev pub link_kind : PostingKind Link
 link_kind =
     record {
@@ -59,8 +58,7 @@ membership_kind =
           { refset = m.refset; referenced = m.referenced; row = n; active = m.active };
     }
 
--- what is merged so far, and how many links, references, targets, subjects and memberships of each
--- of two segments it has
+-- the postings merged so far, and how many of each kind were taken from each of two segments
 pub record MergedEdges : Type 0 where
   pub edges : Edges
   pub links : TakenCount
@@ -84,8 +82,8 @@ nothing_merged =
       memberships = none_taken;
     }
 
--- of the postings of two segments so many are merged, with the numbers of their rows among the rows
--- of both segments
+-- this many of the postings of two segments are merged, with the numbers of their rows among the
+-- rows of both segments
 pub record IsMergeOf (lists : TwoLists) (a b : Edges) (m : MergedEdges) : Type 0 where
   pub links : IsMerged link_kind lists a.links b.links m.links m.edges.links
   pub references :
@@ -95,7 +93,7 @@ pub record IsMergeOf (lists : TwoLists) (a b : Edges) (m : MergedEdges) : Type 0
   pub memberships :
       IsMerged membership_kind lists a.memberships b.memberships m.memberships m.edges.memberships
 
--- how many postings aren't merged yet
+-- how many postings of each kind aren't merged yet
 abbrev pub edges_left : Edges → Edges → MergedEdges → EdgeCount
 edges_left a b m =
     record {
@@ -106,7 +104,7 @@ edges_left a b m =
       memberships = count_left a.memberships b.memberships m.memberships;
     }
 
--- of each n less, or none
+-- each count reduced by `n`, or 0
 abbrev pub less_each : EdgeCount → ℕ → EdgeCount
 less_each count n =
     record {
@@ -117,7 +115,7 @@ less_each count n =
       memberships = count.memberships - n;
     }
 
--- of each there are n at most
+-- each count is at most `n`
 pub record AtMostEach (n : ℕ) (count : EdgeCount) : Type 0 where
   pub links : count.links ≤ n
   pub references : count.references ≤ n
@@ -125,18 +123,17 @@ pub record AtMostEach (n : ℕ) (count : EdgeCount) : Type 0 where
   pub subjects : count.subjects ≤ n
   pub memberships : count.memberships ≤ n
 
--- where nothing is merged yet, a merge of any postings is so far
+-- a merge of any postings may begin with nothing merged
 abbrev pub AnyMergeBegins : Type 0
 AnyMergeBegins = (lists : TwoLists) (a b : Edges) → IsMergeOf lists a b nothing_merged
 
--- of rows there are no more links than rows, and no more references, targets, subjects and
--- memberships
+-- rows have at most as many links as there are rows, and so it is for the other kinds of postings
 abbrev pub PostingsAreFew : Type 0
 PostingsAreFew = (rows : List StampedRow) (e : Edges)
     → ArePostingsOf rows e → AtMostEach (length rows) (count_of e)
 
--- where none of the postings of two segments' rows is left, the merged ones are the postings of the
--- rows of both segments in key order
+-- if no posting of two segments' rows is left, the merged ones are the postings of the rows of both
+-- segments in key order
 abbrev pub MergedArePosted : Type 0
 MergedArePosted = (a_rows b_rows : List StampedRow) (a b : Edges) (m : MergedEdges)
     → AreLists (a_rows ∷ b_rows ∷ []) → ArePostingsOf a_rows a → ArePostingsOf b_rows b

@@ -1,5 +1,5 @@
--- Words that private functions and proofs need, of this crate or of one above it.
--- No public clause cites them.
+-- Definitions for private functions and proofs, of this crate or of one above it. No public clause
+-- cites them.
 pub mod Memberships
 use Rattle.std.specs.Prelude.{◌≡◌, ◌≢◌, ◌≤◌, ◌⊎◌, ◌==◌, ℕ, Bool, true, false, nat_eq}
 use Rattle.std.specs.Prelude.{List, [], ◌∷◌, map}
@@ -41,22 +41,22 @@ targets_in lists = map (λ e. e.targets) lists
 abbrev pub subjects_in : List Edges → List (List Subject)
 subjects_in lists = map (λ e. e.subjects) lists
 
--- the new list has what the old one had and what the postings give, and nothing else
+-- the new list has the items of the old one and those that the postings give, and no others
 pub record Takes {X Y : Type 0} (Gives : X → Y → Type 0) (xs : List X) (old new : List Y)
     : Type 0 where
   pub kept : (y : Y) → Has old y → Has new y
   pub taken : (x : X) (y : Y) → Has xs x → Gives x y → Has new y
   pub only : (y : Y) → Has new y → Has old y ⊎ ((x : X) × Has xs x × Gives x y)
 
--- the list has what those of the postings give that are of component d, and nothing else; with each
--- posting is the number of its list
+-- the list has the items that the postings of component `d` give, and no others; each posting comes
+-- with the number of its list
 pub record AreTaken {X Y : Type 0} (Gives : ℕ → X → Y → Type 0) (of : X → ℕ) (d : ℕ)
     (xs : List (ℕ × X)) (ys : List Y) : Type 0 where
   pub taken : (x : ℕ × X) (y : Y) → Has xs x → of x.1 ≡ d → Gives x.0 x.1 y → Has ys y
   pub only : (y : Y) → Has ys y
       → (x : ℕ × X) × Has xs x × (of x.1 ≡ d) × Gives x.0 x.1 y
 
--- a posting of list n whose row is current gives its answer, which its place tells
+-- a posting of list `n` whose row is current gives an item, which is made from the row's place
 pub record GivesAnswer {X Y : Type 0} (row : X → ℕ) (answer : ℕ → X → RowPlace → Y)
     (lists : List (List StampedRow)) (as_of : AsOf) (n : ℕ) (x : X) (y : Y) : Type 0 where
   pub at : RowPlace
@@ -74,8 +74,8 @@ abbrev pub AreSources : List (List StampedRow) → AsOf → ℕ → List (ℕ ×
 AreSources lists as_of d xs ids =
     (all : List ℕ) × AreSourcesTaken lists as_of d xs all × AreOnce nat_cmp all ids
 
--- what is to be read for a reference of list n: its place, with refset and target, by which the
--- answer is ordered
+-- the row to read for a reference of list `n`: its place, with refset and target, by which the
+-- result is sorted
 abbrev pub ranked : ℕ → Reference → RowPlace → Chosen
 ranked n r at = record { segment = n; at = at; refset = r.refset; target = r.target }
 
@@ -91,8 +91,8 @@ abbrev pub AreRanked : List (List StampedRow) → AsOf → ℕ → List (ℕ × 
 AreRanked lists as_of d xs kept =
     (all : List Chosen) × AreRankedTaken lists as_of d xs all × AreOnce ranked_cmp all kept
 
--- what is to be read for a target of list n: its place, with refset and what the association refers
--- to, by which the answer is ordered
+-- the row to read for a target of list `n`: its place, with refset and referenced component, by
+-- which the result is sorted
 abbrev pub ranked_back : ℕ → Target → RowPlace → Chosen
 ranked_back n t at = record { segment = n; at = at; refset = t.refset; target = t.referenced }
 
@@ -109,7 +109,7 @@ AreReplaced lists as_of target xs kept =
     (all : List Chosen) × AreReplacedTaken lists as_of target xs all
     × AreOnce ranked_cmp all kept
 
--- a subject whose row is current gives what is to be read
+-- a subject whose row is current gives a row to read
 abbrev pub GivesRow : List (List StampedRow) → AsOf → ℕ → Subject → Chosen → Type 0
 GivesRow = GivesAnswer (λ x. x.row) (λ n x at. chosen n at)
 
@@ -140,12 +140,12 @@ abbrev pub AreIds : List (List StampedRow) → Kind → ℕ → ℕ → List (�
 AreIds lists kind pin d xs ids =
     (all : List ℕ) × AreIdsTaken lists kind pin d xs all × AreOnce nat_cmp all ids
 
--- none is there twice
+-- no number is in the list twice
 abbrev pub AreDistinct : List ℕ → Type 0
 AreDistinct [] = Unit {0}
 AreDistinct (x ∷ xs) = (Has xs x → ⊥) × AreDistinct xs
 
--- the set has what the list has, which has nothing twice
+-- the set and the list have the same items, and the list has no duplicates
 pub record AreSeen {S : Type 0} (seen : HashSet ℕ S) (found : List ℕ) : Type 0 where
   pub listed : (x : ℕ) → contains nat_eq seen x ≡ true → Has found x
   pub seen_is : (x : ℕ) → Has found x → contains nat_eq seen x ≡ true
@@ -164,7 +164,7 @@ is_link (body.Member m) = false
 abbrev pub parents_told : List RowValue → List ℕ
 parents_told rows = map (λ row. destination_of row.body) (filter (λ row. is_link row.body) rows)
 
--- the lack of memory
+-- memory ran out
 abbrev pub IsMemory : ReadFault → Type 0
 IsMemory readfault.OutOfMemory = Unit {0}
 IsMemory readfault.DiskFault = ⊥

@@ -1,4 +1,4 @@
-//! Which concepts are below a concept.
+//! Finds the concepts below a concept.
 
 ghost use Rattle.std.specs.Prelude.{◌≡◌, List, IfOk, IfErr};
 ghost use Rattle.history_model.specs.declared.stamped.StampedRow.{StampedRow};
@@ -15,7 +15,7 @@ use as_of_index::{AsOf, Index, ReadFault};
 use rf2_values::Sctid;
 use std::alloc::Global;
 
-/// From each concept to its children, at a date and a pin.
+/// The steps from a concept to its children, at a date and a pin.
 #[derive(Drop)]
 struct Downwards<'a> {
     links: &'a Links,
@@ -62,9 +62,9 @@ impl Steps for Downwards<'_> {
     }
 }
 
-/// The concepts that are reached from the concept from child to child at the date, ascending, of
-/// the rows that the pin shows. It reads no row. Each of them takes two bisections a list, and each
-/// posted link to it one more a list.
+/// The concepts that are reached from the concept by one or more steps from parent to child at the
+/// date, ascending, among the rows that the pin shows. Reads no row. For each of them it makes two
+/// binary searches in each list, and for each posted link to it one more in each list.
 pub fn descendants(
     alloc: Global,
     links: &Links,

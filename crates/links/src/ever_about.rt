@@ -1,4 +1,4 @@
-//! What was ever about a component, as the posted subjects say.
+//! Finds what was ever about a component, by the postings of subjects.
 
 ghost use Rattle.std.specs.Prelude.{◌≡◌, ◌≢◌, List, flat_map, IfOk, IfErr};
 ghost use Rattle.std.specs.Prelude.{OnOk};
@@ -48,7 +48,7 @@ fn add_ids(
     Ok(())
 }
 
-/// Sorts the ids, and keeps each once. It takes no memory.
+/// Sorts the ids, and removes duplicates. Allocates nothing.
 fn sort_once(ids: &mut Vec<u128>)
     ensures { AreOnce nat_cmp ids.old.items ids.new.items }
 {
@@ -56,8 +56,8 @@ fn sort_once(ids: &mut Vec<u128>)
     ids.dedup();
 }
 
-/// The ids of the components of a kind of which some version that the pin shows is posted as about
-/// the component, ascending.
+/// The ids, ascending, of the components of a kind that have a version which the pin shows and
+/// which is posted as being about the component.
 fn ids_of(
     alloc: Global,
     links: &[Sealed],
@@ -100,9 +100,9 @@ fn versions_of<R: RowReader>(
     Ok(rows)
 }
 
-/// Of each component of a kind that ever had an active row about the component: all its versions
-/// that the pin shows, by id, then by time. It makes two bisections a list, and for each version
-/// that it answers one more a list.
+/// All versions that the pin shows, by id and then by time, of each component of a kind that ever
+/// had an active row about the component. Makes two binary searches in each list, and for each
+/// returned version one more in each list.
 pub fn timeline<R: RowReader>(
     alloc: Global,
     links: &Links,
@@ -120,7 +120,7 @@ pub fn timeline<R: RowReader>(
         → IfErr result (λ e. e ≢ readfault.Damaged) }
     ensures stays { R.stays reader.old reader.new }
 {
-    // Its contract says that no key is listed twice.
+    // The contract of `lists` says that no key is listed twice.
     let _listed = index.lists();
     let ids = ids_of(alloc, links.as_slice(), index, kind, id.value(), pin)?;
     versions_of(alloc, index, reader, kind, ids.as_slice(), pin)

@@ -1,4 +1,4 @@
-//! The children that the posted links say.
+//! Finds the children of a concept, by the postings of links.
 
 ghost use Rattle.std.specs.Prelude.{◌≡◌, ◌↔◌, List, IfOk, OnOk};
 ghost use Rattle.std.specs.List.Sorted.{IsNonDecreasingBy};
@@ -49,7 +49,7 @@ fn add_sources(
     Ok(())
 }
 
-/// Sorts the numbers, and keeps each once. It takes no memory.
+/// Sorts the numbers, and removes duplicates. Allocates nothing.
 pub(crate) fn sort_once(ids: &mut Vec<u64>)
     ensures { AreOnce nat_cmp ids.old.items ids.new.items }
 {
@@ -77,7 +77,7 @@ fn sources(
     Ok(ids)
 }
 
-/// The children of the concept with a number, as `children` says.
+/// The children of the concept with this SCTID, as `children` defines them.
 pub(crate) fn children_of(
     alloc: Global,
     links: &Links,
@@ -89,14 +89,14 @@ pub(crate) fn children_of(
         → EachPosted lists links.now
         → ids.items ≡ children concept as_of.now.date (rows_seen as_of.now lists)) }
 {
-    // Its contract says that no key is listed twice.
+    // The contract of `lists` says that no key is listed twice.
     let _listed = index.lists();
     sources(alloc, links.as_slice(), index, concept, as_of)
 }
 
-/// The distinct sources of active "is a" relationships to the concept at the date, ascending, of
-/// the rows that the pin shows. It reads no row: each posted link to the concept costs a bisection
-/// a list, and those that count are sorted at the end.
+/// The distinct sources of active "is a" relationships to the concept at the date, ascending, among
+/// the rows that the pin shows. Reads no row: for each posted link to the concept it makes a binary
+/// search in each list, and at the end it sorts those that count.
 pub fn children(
     alloc: Global,
     links: &Links,
@@ -104,8 +104,8 @@ pub fn children(
     concept: Sctid,
     as_of: AsOf,
 ) -> Result<Vec<u64>, AllocError>
-    // Whatever lists of rows they are that the index lists the places of, and the links are the
-    // postings of.
+    // This holds for all lists of rows whose places the index lists, and whose postings the links
+    // are.
     ensures found { IfOk result (λ ids. (lists : List (List StampedRow)) → Lists index.now lists
         → EachPosted lists links.now
         → ids.items ≡ children concept as_of.date (rows_seen as_of lists)) }

@@ -1,4 +1,4 @@
-//! By what a concept is called in a language.
+//! Finds what a concept is called in a language.
 
 ghost use Rattle.std.specs.Prelude.{◌≡◌, ◌+◌, ◌++◌, List, IfOk};
 ghost use Rattle.std.specs.Prelude.{OnOk};
@@ -20,7 +20,7 @@ use as_of_index::{AsOf, Chosen, Index, ReadFault, RowReader, read_all};
 use rf2_values::{Kind, Row, Sctid};
 use std::alloc::{AllocError, Global};
 
-/// Adds a place and others behind it, if there are any of these.
+/// Adds a place followed by the others, if there are any others; otherwise nothing.
 fn push_with(kept: &mut Vec<Chosen>, k: Chosen, others: &[Chosen]) -> Result<(), AllocError>
     ensures { OnOk result (kept.new.items ≡ kept.old.items ++ with_members k others.now) }
 {
@@ -32,8 +32,8 @@ fn push_with(kept: &mut Vec<Chosen>, k: Chosen, others: &[Chosen]) -> Result<(),
     Ok(())
 }
 
-/// Of the descriptions at these places those that have current active members of the reference set,
-/// each with these members behind it, by id.
+/// Those of the descriptions at these places that have current active members of the reference set,
+/// each followed by these members, by id.
 fn named(
     alloc: Global,
     links: &[Sealed],
@@ -59,11 +59,11 @@ fn named(
     Ok(kept)
 }
 
-/// By what the concept is called in a language at the date: of the active descriptions about it, by
-/// id, those that have active members of the language's reference set, each with these members
-/// behind it, by id, of the rows that the pin shows. It makes two bisections a list for the concept
-/// and for each of its descriptions, and one a list for each posted description of the concept and
-/// each posted active member of a description.
+/// What the concept is called in a language at the date, among the rows that the pin shows: those
+/// of the active descriptions about it, by id, that have active members in the language's reference
+/// set, each followed by these members, by id. Makes two binary searches in each list for the
+/// concept and for each of its descriptions, and one in each list for each posted description of
+/// the concept and each posted active member of a description.
 pub fn called<R: RowReader>(
     alloc: Global,
     links: &Links,
@@ -79,7 +79,7 @@ pub fn called<R: RowReader>(
         (R.view reader.new) }
     ensures stays { R.stays reader.old reader.new }
 {
-    // Its contract says that no key is listed twice.
+    // The contract of `lists` says that no key is listed twice.
     let _listed = index.lists();
     let links = links.as_slice();
     let concept = concept.value();

@@ -3,32 +3,32 @@
 ghost use Rattle.links.specs.Laws.{PushedOneByOne, EdgesMore, EdgesMerged};
 ghost use Rattle.links.specs.MergedEdges.{AnyMergeBegins, PostingsAreFew, MergedArePosted};
 
-/// What is pushed row by row is what is posted of the rows.
+/// Pushing rows one by one gives the postings of the rows.
 pub fn pushed_one_by_one()
     ensures { PushedOneByOne }
 {}
 
-/// The lists are postings of their rows still after a list is added.
+/// The lists are still the postings of their rows after a list is added.
 pub fn edges_more()
     ensures { EdgesMore }
 {}
 
-/// The lists are postings of their rows still after one is put in the place of two.
+/// The lists are still the postings of their rows after one replaces two.
 pub fn edges_merged()
     ensures { EdgesMerged }
 {}
 
-/// Where nothing is merged yet, a merge of any postings is so far.
+/// A merge of any postings may begin with nothing merged.
 pub fn any_merge_begins()
     ensures { AnyMergeBegins }
 {}
 
-/// Of rows there are no more postings of a kind than rows.
+/// Rows have at most as many postings of a kind as there are rows.
 pub fn postings_are_few()
     ensures { PostingsAreFew }
 {}
 
-/// Once no posting of two segments is left, the merged ones are the postings of the rows of both.
+/// Once no posting of two segments is left, the merged postings are those of the rows of both.
 pub fn merged_are_posted()
     ensures { MergedArePosted }
 {}

@@ -1,10 +1,10 @@
-//! Which concepts are children of a concept, what stands in the place of a component, what is about
-//! one, and which members reference sets have, at a date and a pin.
+//! Finds the children of a concept, what replaces a component, what is about a component, and the
+//! members of reference sets, at a date and a pin.
 //!
-//! Active relationships and associations are posted as rows are written, what each active row is
-//! about, and each member of a reference set, each with the number of its row in the segment. A
-//! posting is a candidate: it counts only where the index picks that very version at the date and
-//! the pin.
+//! As rows are written, postings are made, each with the number of its row in the segment: of
+//! active relationships and associations, of what each active row is about, and of each member of a
+//! reference set. A posting is a candidate: it counts only if its row is the version of its
+//! component at the date and the pin.
 #![tactic(auto)]
 
 mod downwards;

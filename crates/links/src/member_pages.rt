@@ -20,7 +20,7 @@ use as_of_index::{AsOf, Chosen, Index, ReadFault, RowReader, read_all};
 use rf2_values::{Row, Sctid};
 use std::alloc::{AllocError, Global};
 
-/// The places of the current members that are asked for, by id.
+/// The places of the wanted current members, by id.
 pub(crate) fn members_by_id(
     alloc: Global,
     links: &[Sealed],
@@ -36,8 +36,9 @@ pub(crate) fn members_by_id(
     Ok(kept)
 }
 
-/// The ids above `after`, if that is given, of the posted members of a reference set, ascending.
-/// Which of them are answered is no matter: an id is only one up to which members are looked for.
+/// The ids of the posted members of a reference set, ascending, that are greater than `after`, if
+/// that is given. The result of a query doesn't depend on which these are: they are only used as
+/// upper limits of a search.
 fn posted_ids(
     alloc: Global,
     links: &[Sealed],
@@ -59,9 +60,9 @@ fn posted_ids(
     Ok(ids)
 }
 
-/// The places of the current members with an id above `after`, if that is given, by id: of all, or
-/// of those up to some id that are at least so many. So it is seldom asked of a member behind the
-/// first so many whether it is current, which costs most.
+/// The places of the current members with ids greater than `after`, if that is given, by id: either
+/// of all of them, or of those up to some id, at least `limit` many. In this way it is rarely
+/// tested whether a member after the first `limit` is current, which is the most expensive part.
 fn enough_by_id(
     alloc: Global,
     links: &[Sealed],
@@ -100,10 +101,11 @@ fn enough_by_id(
     members_by_id(alloc, links, index, &all)
 }
 
-/// The members of the reference set at the date, active or not, with an id above `after` if that is
-/// given, the first so many by id, of the rows that the pin shows. It looks at the id of each posted
-/// member of the reference set, and takes memory for those above `after`. For the first so many of
-/// these it makes a bisection a list, and for four times as many as long as too few are current.
+/// The first `limit` members of the reference set at the date, by id, active or not, with ids
+/// greater than `after`, if that is given, among the rows that the pin shows. Looks up the id of
+/// each posted member of the reference set, and allocates memory for those greater than `after`.
+/// For the first `limit` of these it makes a binary search in each list; if too few are current, it
+/// tries again with four times as many, and so on.
 pub fn members<R: RowReader>(
     alloc: Global,
     links: &Links,
@@ -120,7 +122,7 @@ pub fn members<R: RowReader>(
         (R.view reader.new) }
     ensures stays { R.stays reader.old reader.new }
 {
-    // Its contract says that no key is listed twice.
+    // The contract of `lists` says that no key is listed twice.
     let _listed = index.lists();
     let links = links.as_slice();
     let mut kept = enough_by_id(alloc, links, index, refset.value(), &as_of, after, limit)?;

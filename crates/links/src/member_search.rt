@@ -1,4 +1,4 @@
-//! Which members of a reference set are asked for, and where their rows stand.
+//! Finds the members of a reference set that a query wants, and the places of their rows.
 
 ghost use Rattle.std.specs.Prelude.{◌≡◌, ◌↔◌, ◌≤◌, true, List, IfOk, OnOk, Some};
 ghost use Rattle.std.specs.List.Sorted.{IsNonDecreasingBy};
@@ -21,14 +21,14 @@ use as_of_index::{AsOf, Chosen, Index};
 use segment::RowPlace;
 use std::alloc::{AllocError, Global};
 
-/// Which members of a reference set are asked for.
+/// Which members of a reference set are wanted.
 #[derive(Clone, Copy)]
 pub(crate) enum Wanted {
-    /// All, active or not, with an id above the first, if it is given, and up to the second, if it
-    /// is given.
+    /// All, active or not, with ids greater than the first number and at most the second, if these
+    /// are given.
     Above(Option<u128>, Option<u128>),
-    /// The active ones that refer to a component above the first, if it is given, and up to the
-    /// second, if it is given.
+    /// The active ones that refer to a component greater than the first number and at most the
+    /// second, if these are given.
     Values(Option<u64>, Option<u64>),
     /// The active ones that refer to this component.
     About(u128),
@@ -42,7 +42,7 @@ pub(crate) struct Asked {
     pub(crate) as_of: AsOf,
 }
 
-/// Whether a number is above another, if one is given.
+/// Whether a number is greater than `after`, if that is given.
 pub(crate) fn is_above(after: Option<u128>, number: u128) -> bool
     ensures { result ≡ is_above after number }
 {
@@ -52,7 +52,7 @@ pub(crate) fn is_above(after: Option<u128>, number: u128) -> bool
     }
 }
 
-/// Whether a number isn't above another, if one is given.
+/// Whether a number is at most `last`, if that is given.
 fn is_up_to(last: Option<u128>, number: u128) -> bool
     ensures { result ≡ is_up_to last number }
 {
@@ -71,14 +71,15 @@ fn widened(number: Option<u64>) -> Option<u128>
     }
 }
 
-/// Whether a number is above the first, if it is given, and not above the last, if it is given.
+/// Whether a number is greater than `after`, if that is given, and at most `last`, if that is
+/// given.
 fn is_between(after: Option<u128>, last: Option<u128>, number: u128) -> bool
     ensures { result ≡ is_between after last number }
 {
     is_above(after, number) && is_up_to(last, number)
 }
 
-/// Whether the membership of a member with this id is asked for.
+/// Whether the membership of a member with this id is wanted.
 fn is_wanted(asked: &Asked, m: &Membership, id: u128) -> bool
     ensures { result ≡ is_wanted asked.now.refset asked.now.wanted m.now id }
 {
@@ -95,7 +96,7 @@ fn is_wanted(asked: &Asked, m: &Membership, id: u128) -> bool
     }
 }
 
-/// Where those that are asked for begin in the order of memberships.
+/// The lowest rank of wanted memberships.
 pub(crate) fn low_rank(asked: &Asked) -> u128
     ensures { result ≡ low_rank asked.now.refset asked.now.wanted }
 {
@@ -106,7 +107,7 @@ pub(crate) fn low_rank(asked: &Asked) -> u128
     }
 }
 
-/// The last place in the order of memberships that those may have that are asked for.
+/// The highest rank that a wanted membership may have.
 pub(crate) fn high_rank(asked: &Asked) -> u128
     ensures { result ≡ high_rank asked.now.refset asked.now.wanted }
 {
@@ -119,7 +120,7 @@ pub(crate) fn high_rank(asked: &Asked) -> u128
     }
 }
 
-/// The memberships from one place in their order up to another.
+/// The memberships with ranks from `low` to `high`.
 pub(crate) fn between(list: &[Membership], low: u128, high: u128) -> &[Membership]
     ensures { IsNonDecreasingBy (λ m. membership_rank m.refset m.referenced) list.now →
         (m : _) → Has result.now m ↔ (Has list.now m × (low ≤ membership_rank m.refset m.referenced)
@@ -131,7 +132,7 @@ pub(crate) fn between(list: &[Membership], low: u128, high: u128) -> &[Membershi
     &rest[..count]
 }
 
-/// Where the row of the membership stands, if it is asked for and current.
+/// The place of the membership's row, if it is wanted and current.
 fn wanted_at(m: &Membership, segment: usize, index: &Index, asked: &Asked) -> Option<RowPlace>
     ensures { (lists : List (List StampedRow)) → Lists index.now lists → (at : RowPlace)
         → (result ≡ Some at) ↔ (IsPlaceOfRow lists segment m.now.row at
@@ -147,7 +148,8 @@ fn wanted_at(m: &Membership, segment: usize, index: &Index, asked: &Asked) -> Op
     index.current_at(segment, m.row, asked.as_of)
 }
 
-/// What is to be read: its place, with the reference set and the component that it refers to.
+/// The row to read for a membership: its place, with the reference set and the component that it
+/// refers to.
 fn chosen(segment: usize, m: &Membership, at: RowPlace) -> Chosen
     ensures { result ≡ member_place segment m.now at }
 {
@@ -159,7 +161,7 @@ fn chosen(segment: usize, m: &Membership, at: RowPlace) -> Chosen
     }
 }
 
-/// Adds what is to be read for those of the memberships that are asked for and current.
+/// Adds the rows to read for those of the memberships that are wanted and current.
 fn add_wanted(
     kept: &mut Vec<Chosen>,
     memberships: &[Membership],
@@ -179,7 +181,7 @@ fn add_wanted(
     Ok(())
 }
 
-/// The places of the current members that are asked for, in whatever order.
+/// The places of the wanted current members, in any order.
 pub(crate) fn find_members(
     alloc: Global,
     links: &[Sealed],

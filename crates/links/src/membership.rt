@@ -12,7 +12,7 @@ use rf2_values::{Body, RefsetMember};
 pub struct Membership {
     /// The reference set: the SCTID of a concept.
     pub refset: u64,
-    /// The component that the member refers to, by its SCTID.
+    /// The component that the member refers to, as an SCTID.
     pub referenced: u64,
     /// The row's number in its segment, from 0 on.
     pub row: u32,
@@ -31,7 +31,7 @@ fn membership_of(member: &RefsetMember, active: bool, row: u32) -> Membership
     }
 }
 
-/// Adds the row's membership, if it is a member, active or not. It takes no memory.
+/// Adds the row's membership, if the row is a member, active or not. Allocates nothing.
 pub(crate) fn push_membership(memberships: &mut Vec<Membership>, row: &StampedRow, number: u32)
     requires { length memberships.old.items < vec_capacity memberships.old }
     ensures { memberships.new.items ≡ memberships.old.items ++ posted_membership row.now.row number }
@@ -46,7 +46,8 @@ pub(crate) fn push_membership(memberships: &mut Vec<Membership>, row: &StampedRo
     }
 }
 
-/// The place in the order of memberships: by the reference set, and then by the component.
+/// The rank of memberships, by which they are sorted: by the reference set, and then by the
+/// component.
 pub(crate) fn rank(refset: u64, referenced: u128) -> u128
     ensures { result ≡ membership_rank refset referenced }
 {

@@ -1,4 +1,4 @@
-//! The postings of two segments' rows, merged in turns.
+//! Merges the postings of two segments' rows, in steps.
 
 ghost use Rattle.std.specs.Prelude.{◌≡◌, [], OnOk, OnErr};
 ghost use Rattle.std.proofs.Common.{refl};
@@ -106,7 +106,7 @@ impl Posting for Membership {
     }
 }
 
-/// The postings of two segments' rows that are merged so far, each with the number that its row has
+/// The postings of two segments' rows that have been merged so far, each with the number of its row
 /// among the rows of both.
 #[derive(Drop)]
 pub struct Merging {
@@ -147,7 +147,7 @@ impl Model for Merging {
     }) };
 }
 
-/// Nothing is merged yet. It takes no memory.
+/// A list with nothing merged yet. Allocates nothing.
 fn none_of<T: Posting>(alloc: Global) -> MergedList<T>
     ensures taken { result.taken ≡ none_taken }
     ensures out { result.out.items ≡ [] }
@@ -162,7 +162,7 @@ fn none_of<T: Posting>(alloc: Global) -> MergedList<T>
 }
 
 impl Merging {
-    /// The beginning of a merge. It takes no memory; later calls take theirs from `alloc`.
+    /// The beginning of a merge. Allocates nothing; later calls allocate from `alloc`.
     pub fn new(alloc: Global) -> Merging
         ensures { result ≡ nothing_merged }
     {
@@ -175,8 +175,8 @@ impl Merging {
         }
     }
 
-    /// Merges up to so many links, references, targets, subjects and memberships more. The first call
-    /// takes the memory for all of them. An `Err` changes nothing.
+    /// Merges up to `n` more links, references, targets, subjects and memberships each. The first
+    /// call allocates the memory for all of them. An `Err` changes nothing.
     pub fn advance(
         &mut self,
         a: &Sealed,
@@ -215,7 +215,7 @@ impl Merging {
         Ok(())
     }
 
-    /// What is merged: the postings of the rows of both segments, once none is left.
+    /// The merged postings: those of the rows of both segments, once none is left.
     pub fn seal(self) -> Sealed
         ensures { result ≡ self.edges }
     {

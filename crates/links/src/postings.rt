@@ -1,5 +1,5 @@
-//! Postings of rows: of relationships, of associations, of what rows are about, and of members of
-//! reference sets. They are in the order in which rows were pushed, and sealed.
+//! The postings of rows: for relationships, for associations, for what rows are about, and for
+//! members of reference sets; in the order in which rows were pushed, or sealed, that is, sorted.
 
 ghost use Rattle.std.specs.Prelude.{◌≡◌, ◌<◌, ◌++◌, length, vec_capacity, OnOk, OnErr};
 ghost use Rattle.std.specs.List.Sorted.{IsNonDecreasingBy, IsPermutation};
@@ -16,8 +16,7 @@ use std::alloc::{AllocError, Global};
 use std::cmp::Ordering;
 use std::marker::Model;
 
-/// An active relationship that says that its source is a kind of its destination, and the number of
-/// its row.
+/// An active "is a" relationship, and the number of its row.
 #[derive(Clone, Copy)]
 pub struct Link {
     /// The parent: the SCTID of a concept.
@@ -31,34 +30,33 @@ pub struct Link {
 /// An active association, and the number of its row.
 #[derive(Clone, Copy)]
 pub struct Reference {
-    /// The component that it refers to, by its SCTID.
+    /// The referenced component, as an SCTID.
     pub referenced: u64,
     /// The reference set, which says what the association means: the SCTID of a concept.
     pub refset: u64,
-    /// The component that it leads to, by its SCTID.
+    /// The target component, as an SCTID.
     pub target: u64,
     /// The row's number in its segment, from 0 on.
     pub row: u32,
 }
 
-/// An active association by the component that it leads to, and the number of its row.
+/// An active association, posted by its target, and the number of its row.
 #[derive(Clone, Copy)]
 pub struct Target {
-    /// The component that it leads to, by its SCTID.
+    /// The target component, as an SCTID.
     pub target: u64,
     /// The reference set: the SCTID of a concept.
     pub refset: u64,
-    /// The component that it refers to, by its SCTID.
+    /// The referenced component, as an SCTID.
     pub referenced: u64,
     /// The row's number in its segment, from 0 on.
     pub row: u32,
 }
 
-/// What an active row is about, of which kind it is, and its number. There is one of nearly each
-/// row.
+/// What an active row is about, its kind, and its number. Nearly every active row has one.
 #[derive(Clone, Copy)]
 pub struct Subject {
-    /// The component that the row is about, by its SCTID.
+    /// The component that the row is about, as an SCTID.
     pub subject: u64,
     /// The row's kind.
     pub kind: Kind,
@@ -91,9 +89,9 @@ impl Model for Postings {
     } };
 }
 
-/// The links of a segment, ascending by destination, its references, ascending by what they refer
-/// to, its targets and its subjects, which ascend, those of one component by kind, and its
-/// memberships, ascending by reference set, those of one by the component.
+/// The postings of a segment, sorted: links by destination, references by the referenced component,
+/// targets by the target, subjects by the component and then by kind, and memberships by the
+/// reference set and then by the component.
 #[derive(Drop)]
 pub struct Sealed {
     links: Vec<Link>,
@@ -182,7 +180,7 @@ fn push_edge(
     }
 }
 
-/// Adds the row's target, if it is active and has one. It takes no memory.
+/// Adds the row's target, if it is active and has one. Allocates nothing.
 fn push_target(targets: &mut Vec<Target>, row: &StampedRow, number: u32)
     requires { length targets.old.items < vec_capacity targets.old }
     ensures { targets.new.items ≡ targets.old.items ++ posted_target row.now.row number }
@@ -197,7 +195,7 @@ fn push_target(targets: &mut Vec<Target>, row: &StampedRow, number: u32)
     }
 }
 
-/// Adds what the row is about, if it is active. It takes no memory.
+/// Adds what the row is about, if it is active. Allocates nothing.
 fn push_subject(subjects: &mut Vec<Subject>, row: &StampedRow, number: u32)
     requires { length subjects.old.items < vec_capacity subjects.old }
     ensures { subjects.new.items ≡ subjects.old.items ++ posted_subject row.now.row number }
@@ -237,7 +235,7 @@ fn sort_targets(targets: &mut Vec<Target>)
     targets.sort_unstable_by(|a, b| a.target.cmp(&b.target));
 }
 
-/// The order of subjects: by what the rows are about, and then by kind.
+/// The order of subjects: by the component that the rows are about, and then by kind.
 pub(crate) fn compare(a: &Subject, b: &Subject) -> Ordering
     ensures { result ≡ nat_cmp (subject_rank a.now.subject a.now.kind)
         (subject_rank b.now.subject b.now.kind) }
@@ -255,7 +253,7 @@ fn sort_subjects(subjects: &mut Vec<Subject>)
 }
 
 impl Postings {
-    /// No postings. It takes no memory; later calls take theirs from `alloc`.
+    /// No postings. Allocates nothing; later calls allocate from `alloc`.
     pub fn new(alloc: Global) -> Postings
         ensures { result ≡ no_edges }
     {
@@ -268,9 +266,9 @@ impl Postings {
         }
     }
 
-    /// Adds the link, or the reference and the target, of the row with this number, and what the row
-    /// is about, if it is active and has them, and the membership of a member, active or not. An `Err`
-    /// changes nothing.
+    /// Adds the postings of the row with this number: if it is active, its link, or its reference
+    /// and its target, and what it is about; and if it is a member, active or not, its membership.
+    /// An `Err` changes nothing.
     pub fn push(&mut self, row: &StampedRow, number: u32) -> Result<(), AllocError>
         ensures ok { OnOk result (self.new ≡ joined_edges self.old (edges_of row.now.row number)) }
         ensures err { OnErr result (self.new ≡ self.old) }
@@ -285,7 +283,7 @@ impl Postings {
         Ok(())
     }
 
-    /// The links, references, targets, subjects and memberships, each in order. It takes no memory.
+    /// The links, references, targets, subjects and memberships, each sorted. Allocates nothing.
     pub fn seal(self) -> Sealed
         ensures same { AreSameEdges self result }
         ensures rising { IsSealed result }

@@ -1,4 +1,4 @@
-//! All that is reached from a concept, step by step.
+//! Finds all concepts that can be reached from a concept, step by step.
 
 ghost use Rattle.std.specs.Prelude.{◌≡◌, ◌+◌, ◌≤◌, ◌∷◌, ℕ, List, IfOk, IfErr, OnOk};
 ghost use Rattle.std.specs.List.{sum_by};
@@ -14,27 +14,27 @@ use as_of_index::ReadFault;
 use std::alloc::{AllocError, Global};
 use std::collections::HashSet;
 
-/// Tells which concepts are one step from a concept.
+/// The steps from a concept to others.
 pub trait Steps {
-    /// What it tells of each concept: the next ones.
+    /// Which concepts are one step from each concept.
     ghost leads: { Self → (ℕ → List ℕ) → Type 0 };
 
-    /// What its calls leave as it is.
+    /// A relation between the value before and after a call, for what calls leave unchanged.
     ghost stays: { Self → Self → Type 0 };
 
-    /// How it may fail.
+    /// The errors that calls may return.
     ghost fails: { Self → ReadFault → Type 0 };
 
-    /// How much it has read, in a measure of its own.
+    /// How much has been read, in a measure that the implementation chooses.
     ghost work: { Self → ℕ };
 
-    /// What asking for the next ones of each concept takes at most.
+    /// The most that asking for the next concepts of each concept costs, in this measure.
     ghost costs: { Self → (ℕ → ℕ) → Type 0 };
 
-    /// How often it answered `DiskFault`.
+    /// How often a call failed with `DiskFault`.
     ghost disk_faults: { Self → ℕ };
 
-    /// How often it answered `Damaged`.
+    /// How often a call failed with `Damaged`.
     ghost damages: { Self → ℕ };
 
     /// The concepts one step from a concept.
@@ -59,7 +59,7 @@ pub trait Steps {
     ghost fails_by_memory: { (r : Self) → fails r readfault.OutOfMemory };
 }
 
-/// Adds those identifiers that weren't seen.
+/// Adds those of the identifiers that haven't been seen.
 fn add_new(found: &mut Vec<u64>, seen: &mut HashSet<u64>, ids: &[u64]) -> Result<(), AllocError>
     requires { AreSeen seen.old found.old.items }
     ensures added { OnOk result (Adds ids.now found.old.items found.new.items) }
@@ -73,16 +73,17 @@ fn add_new(found: &mut Vec<u64>, seen: &mut HashSet<u64>, ids: &[u64]) -> Result
     Ok(())
 }
 
-/// All that is reached from a concept by one step or more, ascending. Each concept that is reached
-/// is asked for its next ones once.
+/// All concepts that are reached from a concept by one or more steps, ascending. `next` is called
+/// once for each of them, and for the first concept.
 pub fn reached<S: Steps>(alloc: Global, steps: &mut S, from: u64) -> Result<Vec<u64>, ReadFault>
     ensures found { (next : ℕ → List ℕ) → S.leads steps.old next
         → IfOk result (λ ids. AreReached next from ids.items) }
     ensures leads { (next : ℕ → List ℕ) → S.leads steps.old next → S.leads steps.new next }
-    // It asks for the next ones of this concept, and of each that is reached, once.
+    // It calls `next` once for this concept and for each that is reached, at most.
     ensures work { (cost : ℕ → ℕ) → S.costs steps.old cost → IfOk result (λ ids.
         S.work steps.new ≤ S.work steps.old + sum_by cost (from ∷ ids.items)) }
-    // Whatever it answers: no more than asking this concept, and each that is reached, once takes.
+    // Whatever the result: no more is read than calling `next` once for this concept, and for each
+    // that is reached, costs.
     ensures work_always { (cost : ℕ → ℕ) → S.costs steps.old cost → (next : ℕ → List ℕ)
         → S.leads steps.old next → (ids : List ℕ) → AreReached next from ids
         → S.work steps.new ≤ S.work steps.old + sum_by cost (from ∷ ids) }

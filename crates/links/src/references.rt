@@ -1,4 +1,4 @@
-//! What stands in the place of a component, as the posted associations say.
+//! Finds what replaces a component, by the postings of associations.
 
 ghost use Rattle.std.specs.Prelude.{◌≡◌, ◌↔◌, List, IfOk, OnOk};
 ghost use Rattle.std.specs.List.Sorted.{IsNonDecreasingBy};
@@ -45,7 +45,7 @@ fn chosen(segment: usize, r: &Reference, at: RowPlace) -> Chosen
     }
 }
 
-/// The order of the answer: by refset, then by target, then by member.
+/// The order of the result: by refset, then by target, then by member.
 fn rank(a: &Chosen, b: &Chosen) -> Ordering
     ensures { result ≡ ranked_cmp a.now b.now }
 {
@@ -58,7 +58,7 @@ fn is_same_rank(a: &Chosen, b: &Chosen) -> bool
     rank(a, b).is_eq()
 }
 
-/// Sorts the rows in this order, and keeps one of those that tie. It takes no memory.
+/// Sorts the rows in this order, and removes duplicates. Allocates nothing.
 pub(crate) fn sort_once(kept: &mut Vec<Chosen>)
     ensures { AreOnce ranked_cmp kept.old.items kept.new.items }
 {
@@ -66,7 +66,7 @@ pub(crate) fn sort_once(kept: &mut Vec<Chosen>)
     kept.dedup_by(|a, b| is_same_rank(a, b));
 }
 
-/// Adds what is to be read for those of the references that are current.
+/// Adds the rows to read for those of the references that are current.
 fn add_references(
     kept: &mut Vec<Chosen>,
     references: &[Reference],
@@ -86,7 +86,7 @@ fn add_references(
     Ok(())
 }
 
-/// The places of the current associations of a component, in the order of the answer.
+/// The places of the current associations of a component, in the order of the result.
 fn chosen_all(
     alloc: Global,
     links: &[Sealed],
@@ -106,8 +106,8 @@ fn chosen_all(
     Ok(kept)
 }
 
-/// The active associations of the component at the date, by refset, target and member, of the rows
-/// that the pin shows.
+/// The active associations whose referenced component is this one at the date, by refset, target
+/// and member, among the rows that the pin shows.
 pub fn replacements<R: RowReader>(
     alloc: Global,
     links: &Links,
@@ -122,7 +122,7 @@ pub fn replacements<R: RowReader>(
         (R.view reader.new) }
     ensures stays { R.stays reader.old reader.new }
 {
-    // Its contract says that no key is listed twice.
+    // The contract of `lists` says that no key is listed twice.
     let _listed = index.lists();
     let kept = chosen_all(alloc, links.as_slice(), index, component.value(), &as_of)?;
     read_all(alloc, reader, kept.as_slice())

@@ -1,4 +1,4 @@
-//! What a component stands in the place of, as the posted associations say.
+//! Finds what a component replaces, by the postings of associations.
 
 ghost use Rattle.std.specs.Prelude.{◌≡◌, ◌↔◌, List, IfOk, OnOk};
 ghost use Rattle.std.specs.List.Sorted.{IsNonDecreasingBy};
@@ -20,7 +20,7 @@ use rf2_values::{Row, Sctid};
 use segment::RowPlace;
 use std::alloc::{AllocError, Global};
 
-/// The targets that are this component.
+/// The postings with this target.
 fn targets_to(list: &[Target], target: u64) -> &[Target]
     ensures { IsNonDecreasingBy (λ t. t.target) list.now →
         (t : _) → Has result.now t ↔ (Has list.now t × (t.target ≡ target)) }
@@ -31,7 +31,8 @@ fn targets_to(list: &[Target], target: u64) -> &[Target]
     &rest[..count]
 }
 
-/// What is to be read, by refset, then by what the association refers to, then by member.
+/// The row to read, with what the result is sorted by: the refset, then the referenced component,
+/// then the member.
 fn chosen(segment: usize, t: &Target, at: RowPlace) -> Chosen
     ensures { result ≡ ranked_back segment t.now at }
 {
@@ -43,7 +44,7 @@ fn chosen(segment: usize, t: &Target, at: RowPlace) -> Chosen
     }
 }
 
-/// Adds what is to be read for those of the targets whose rows are current.
+/// Adds the rows to read for those of the targets whose rows are current.
 fn add_replaced(
     kept: &mut Vec<Chosen>,
     targets: &[Target],
@@ -63,7 +64,7 @@ fn add_replaced(
     Ok(())
 }
 
-/// The places of the current associations with the target, in the order of the answer.
+/// The places of the current associations with the target, in the order of the result.
 fn chosen_all(
     alloc: Global,
     links: &[Sealed],
@@ -83,9 +84,9 @@ fn chosen_all(
     Ok(kept)
 }
 
-/// The active associations at the date of which the component is the target, by refset, by the
-/// component that they refer to, by member, of the rows that the pin shows. It makes two bisections
-/// a list, and one a list for each posted association with this target.
+/// The active associations at the date whose target is the component, by refset, by referenced
+/// component and by member, among the rows that the pin shows. Makes two binary searches in each
+/// list, and one in each list for each posted association with this target.
 pub fn replaces<R: RowReader>(
     alloc: Global,
     links: &Links,
@@ -100,7 +101,7 @@ pub fn replaces<R: RowReader>(
         (R.view reader.new) }
     ensures stays { R.stays reader.old reader.new }
 {
-    // Its contract says that no key is listed twice.
+    // The contract of `lists` says that no key is listed twice.
     let _listed = index.lists();
     let kept = chosen_all(alloc, links.as_slice(), index, component.value(), &as_of)?;
     read_all(alloc, reader, kept.as_slice())

@@ -1,4 +1,4 @@
-//! What is about a component, as the posted subjects say.
+//! Finds what is about a component, by the postings of subjects.
 
 ghost use Rattle.std.specs.Prelude.{◌≡◌, ◌↔◌, List, Some, nat_lt, nat_le, IfOk};
 ghost use Rattle.std.specs.Prelude.{OnOk};
@@ -25,21 +25,21 @@ use segment::RowPlace;
 use std::alloc::{AllocError, Global};
 use std::cmp::Ordering;
 
-/// Whether it stands before those of the component and kind.
+/// Whether the subject is sorted before those of the component and kind.
 fn is_before(x: &Subject, id: u64, kind: Kind) -> bool
     ensures { result ≡ nat_lt (subject_rank x.now.subject x.now.kind) (subject_rank id kind) }
 {
     x.subject < id || x.subject == id && (x.kind as u8) < kind as u8
 }
 
-/// Whether it doesn't stand behind those of the component and kind.
+/// Whether the subject isn't sorted after those of the component and kind.
 fn is_up_to(x: &Subject, id: u64, kind: Kind) -> bool
     ensures { result ≡ nat_le (subject_rank x.now.subject x.now.kind) (subject_rank id kind) }
 {
     x.subject < id || x.subject == id && x.kind as u8 <= kind as u8
 }
 
-/// The subjects that are a component, of rows of a kind.
+/// The subjects of rows of a kind that are about a component.
 pub(crate) fn subjects_of(list: &[Subject], id: u64, kind: Kind) -> &[Subject]
     ensures { IsNonDecreasingBy (λ x. subject_rank x.subject x.kind) list.now → (x : _)
         → Has result.now x
@@ -62,7 +62,7 @@ fn chosen(segment: usize, at: RowPlace) -> Chosen
     }
 }
 
-/// The order of the answer: by id.
+/// The order of the result: by id.
 fn compare(a: &Chosen, b: &Chosen) -> Ordering
     ensures { result ≡ chosen_cmp a.now b.now }
 {
@@ -75,7 +75,7 @@ fn is_same_id(a: &Chosen, b: &Chosen) -> bool
     compare(a, b).is_eq()
 }
 
-/// Sorts the rows by id, and keeps one of each id. It takes no memory.
+/// Sorts the rows by id, and keeps one of each id. Allocates nothing.
 pub(crate) fn sort_once(kept: &mut Vec<Chosen>)
     ensures { AreOnce chosen_cmp kept.old.items kept.new.items }
 {
@@ -83,7 +83,7 @@ pub(crate) fn sort_once(kept: &mut Vec<Chosen>)
     kept.dedup_by(|a, b| is_same_id(a, b));
 }
 
-/// Adds what is to be read for those of the subjects whose rows are current.
+/// Adds the rows to read for those of the subjects whose rows are current.
 fn add_current(
     kept: &mut Vec<Chosen>,
     subjects: &[Subject],
@@ -123,7 +123,7 @@ pub(crate) fn chosen_all(
     Ok(kept)
 }
 
-/// What is about the component with a number, as `about` says.
+/// What is about the component with this SCTID, as `about` defines it.
 pub(crate) fn about_of<R: RowReader>(
     alloc: Global,
     links: &Links,
@@ -145,9 +145,9 @@ pub(crate) fn about_of<R: RowReader>(
     read_all(alloc, reader, kept.as_slice())
 }
 
-/// The active rows of a kind at the date that are about the component, ascending by id, of the rows
-/// that the pin shows. It makes two bisections a list, and for each posted row of the component and
-/// kind one more a list.
+/// The active rows of a kind at the date that are about the component, ascending by id, among the
+/// rows that the pin shows. Makes two binary searches in each list, and for each posted row of the
+/// component and kind one more in each list.
 pub fn about<R: RowReader>(
     alloc: Global,
     links: &Links,

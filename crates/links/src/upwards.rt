@@ -1,4 +1,4 @@
-//! Which concepts are above a concept.
+//! Finds the concepts above a concept.
 
 ghost use Rattle.std.specs.Prelude.{◌≡◌, ◌≢◌, ◌+◌, ◌≤◌, ◌∷◌, ℕ, List, true, false};
 ghost use Rattle.std.specs.Prelude.{IfOk, IfErr, MatchOption};
@@ -22,7 +22,7 @@ use history_model::IS_A;
 use rf2_values::{Body, Kind, Row, Sctid};
 use std::alloc::{AllocError, Global};
 
-/// The destination of an "is a" relationship.
+/// The destination, if the row is an "is a" relationship.
 fn parent_in(row: &Row) -> Option<u64>
     ensures { MatchOption result (is_link row.now.body ≡ false)
         (λ parent. (is_link row.now.body ≡ true) × (parent ≡ destination_of row.now.body)) }
@@ -46,8 +46,8 @@ fn parents_in(alloc: Global, rows: &[Row]) -> Result<Vec<u64>, AllocError>
     Ok(ids)
 }
 
-/// The destinations of the concept's active "is a" relationships at the date, ascending. It reads
-/// all active relationships of which the concept is the source.
+/// The destinations of the concept's active "is a" relationships at the date, ascending. Reads all
+/// active relationships whose source is the concept.
 fn parents_of<R: RowReader>(
     alloc: Global,
     links: &Links,
@@ -86,7 +86,7 @@ fn parents_of<R: RowReader>(
     Ok(ids)
 }
 
-/// From each concept to its parents, at a date and a pin.
+/// The steps from a concept to its parents, at a date and a pin.
 #[derive(Drop)]
 struct Upwards<'a, R: RowReader> {
     links: &'a Links,
@@ -156,9 +156,9 @@ impl<R: RowReader> Steps for Upwards<'_, R> {
     }
 }
 
-/// The concepts that are reached from the concept from parent to parent at the date, ascending, of
-/// the rows that the pin shows. It reads the active relationships of which the concept, or one that
-/// is reached, is the source.
+/// The concepts that are reached from the concept by one or more steps from child to parent at the
+/// date, ascending, among the rows that the pin shows. Reads the active relationships whose source
+/// is the concept or one that is reached.
 pub fn ancestors<R: RowReader>(
     alloc: Global,
     links: &Links,
@@ -174,15 +174,15 @@ pub fn ancestors<R: RowReader>(
     ensures undamaged { (R.view reader.old).is_honest → Lists index.now (R.view reader.old).lists
         → EachPosted (R.view reader.old).lists links.now
         → IfErr result (λ e. e ≢ readfault.Damaged) }
-    // No more is read than the relationships take of which the concept is the source, or one that
-    // is answered.
+    // No more is read than the relationships take whose source is the concept or one that is
+    // returned.
     ensures work { Lists index.now (R.view reader.old).lists
         → EachPosted (R.view reader.old).lists links.now → IfOk result (λ ids.
         (R.view reader.new).work ≤ (R.view reader.old).work + sum_by (λ c. sum_by R.cost
         (about kinds.Relationship c as_of.date (rows_seen as_of (R.view reader.old).lists)))
         (concept ∷ ids.items)) }
-    // Whatever it answers, an honest reader has read no more than the relationships take of which
-    // the concept is the source, or one that is to be found.
+    // Whatever the result, an honest reader has read no more than the relationships take whose
+    // source is the concept or one of its ancestors.
     ensures work_always { (R.view reader.old).is_honest → Lists index.now (R.view reader.old).lists
         → EachPosted (R.view reader.old).lists links.now → (ids : List ℕ)
         → AreAncestors concept as_of.date (rows_seen as_of (R.view reader.old).lists) ids

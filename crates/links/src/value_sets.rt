@@ -22,7 +22,7 @@ use as_of_index::{AsOf, Chosen, Index, ReadFault, RowReader, read_all};
 use rf2_values::{Row, Sctid};
 use std::alloc::{AllocError, Global};
 
-/// The places of the current members that are asked for, by the component that they refer to.
+/// The places of the wanted current members, by the component that they refer to.
 fn members_by_component(
     alloc: Global,
     links: &[Sealed],
@@ -38,9 +38,9 @@ fn members_by_component(
     Ok(kept)
 }
 
-/// A component so far on that, in the list that comes to it first, so many posted members of the
-/// reference set are asked for up to it, or none if no list has more. Which one it is, is no matter:
-/// it is only one up to which members are looked for.
+/// Of each list the component of the wanted membership with the number `count`, from 0 on; of these
+/// the smallest; none if no list has that many. The result of a query doesn't depend on which
+/// component it is: it is only used as the upper limit of a search.
 fn component_behind(links: &[Sealed], asked: &Asked, count: usize) -> Option<u64> {
     let mut first = None;
     for list in links {
@@ -55,9 +55,10 @@ fn component_behind(links: &[Sealed], asked: &Asked, count: usize) -> Option<u64
     first
 }
 
-/// The places of the current active members that refer to a component above `after`, if that is
-/// given, by the component: of all, or of those up to some component that are at least so many. So
-/// it is seldom asked of a member behind the first so many whether it is current, which costs most.
+/// The places of the current active members that refer to a component greater than `after`, if that
+/// is given, by the component: either of all of them, or of those up to some component, at least
+/// `limit` many. In this way it is rarely tested whether a member after the first `limit` is
+/// current, which is the most expensive part.
 fn enough_by_component(
     alloc: Global,
     links: &[Sealed],
@@ -95,8 +96,8 @@ fn enough_by_component(
     members_by_component(alloc, links, index, &all)
 }
 
-/// How many of the places the first so many are, and with the last of them all that refer to the
-/// same component.
+/// How many places there are up to the one with the number `limit`, counted from 1, together with
+/// all that refer to the same component as that one.
 fn count_with_ties(kept: &[Chosen], limit: u32) -> usize
     ensures { IsNonDecreasingBy (λ k. k.target) kept.now
         → IsCutAt limit (map {B = ℕ} (λ k. k.target) kept.now) result }
@@ -112,11 +113,11 @@ fn count_with_ties(kept: &[Chosen], limit: u32) -> usize
     kept.partition_point(|k| k.target <= last)
 }
 
-/// The active members of the reference set at the date that refer to a component above `after`, if
-/// that is given, by the component, those of one by id, of the rows that the pin shows: the first so
-/// many, and with the last of them all that refer to the same component. It makes some bisections a
-/// list, and one a list for each of the first so many posted members behind `after` of each list, and
-/// for four times as many as long as too few are current.
+/// The first `limit` active members of the reference set at the date that refer to a component
+/// greater than `after`, if that is given, by the component and then by id, among the rows that the
+/// pin shows; and with the last of them all that refer to the same component. Makes a few binary
+/// searches in each list, and one in each list for each of the first `limit` posted members after
+/// `after` of each list; if too few are current, it tries again with four times as many, and so on.
 pub fn values<R: RowReader>(
     alloc: Global,
     links: &Links,
@@ -133,7 +134,7 @@ pub fn values<R: RowReader>(
         (R.view reader.new) }
     ensures stays { R.stays reader.old reader.new }
 {
-    // Its contract says that no key is listed twice.
+    // The contract of `lists` says that no key is listed twice.
     let _listed = index.lists();
     let links = links.as_slice();
     let refset = refset.value();

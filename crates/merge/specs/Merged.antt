@@ -1,4 +1,4 @@
--- Two lists that are merged in turns.
+-- Two lists that are merged in steps.
 use Rattle.std.specs.Prelude.{◌≡◌, ℕ, ◌+◌, ◌-◌, List, [], ◌∷◌, length, drop, map, not}
 use Rattle.std.specs.Prelude.{if◌then◌else◌}
 use Rattle.std.specs.List.{filter}
@@ -9,7 +9,7 @@ use Rattle.segment.specs.Standing.{StandsAt}
 use Rattle.merge.specs.declared.MergeProgress.{MergeProgress}
 use Rattle.merge.specs.declared.Taken.{Taken}
 
--- the merge is of lists of these lengths, and nothing is taken yet
+-- the merge is of lists of these lengths, and nothing was taken yet
 pub record IsNew (m : MergeProgress) (a_len b_len : ℕ) : Type 0 where
   pub a_len_is : m.a_len ≡ a_len
   pub b_len_is : m.b_len ≡ b_len
@@ -27,13 +27,13 @@ count_left m = (m.a_len - m.a_place) + (m.b_len - m.b_place)
 abbrev pub rows_left : MergeProgress → List StampedRow → List StampedRow → List StampedRow
 rows_left m a b = union (drop m.a_place a) (drop m.b_place b)
 
--- the places that were taken of the first list, and those of the second
+-- the places that were taken from the first list, and those from the second
 abbrev pub taken_of_a : List Taken → List RowPlace
 taken_of_a taken = map (λ t. t.place) (filter (λ t. not t.second) taken)
 
 abbrev pub taken_of_b : List Taken → List RowPlace
 taken_of_b taken = map (λ t. t.place) (filter (λ t. t.second) taken)
 
--- the row stands at the place, in the list that it was taken from
+-- the row is at the place, in the list from which the place was taken
 abbrev pub StandsTaken : List StampedRow → List StampedRow → Taken → StampedRow → Type 0
 StandsTaken a b t s = StandsAt (a ∷ b ∷ []) (if t.second then 1 else 0) t.place s

@@ -1,5 +1,5 @@
--- Which of two lists the next place comes from: words
--- of a private function, which no public clause cites.
+-- Which of two lists the next place comes from: definitions for a private function. No public
+-- clause cites them.
 use Rattle.std.specs.Prelude.{List, [], ◌∷◌, Option, Some, None, true, false, if◌then◌else◌}
 use Rattle.std.specs.Ordering.{is_lt}
 use Rattle.rf2_values.specs.Key.{key_cmp}
@@ -12,7 +12,7 @@ of_a p = record { second = false; place = p }
 abbrev pub of_b : RowPlace → Taken
 of_b p = record { second = true; place = p }
 
--- the next place of what is left of two lists, in key order
+-- the next place of the rests of two lists, in key order
 abbrev pub next_place : List RowPlace → List RowPlace → Option Taken
 next_place [] [] = None
 next_place (p ∷ a) [] = Some (of_a p)

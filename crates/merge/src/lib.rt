@@ -1,4 +1,4 @@
-//! The merge of two lists of places into one, in turns.
+//! Merges two lists of places into one, in steps.
 #![tactic(auto)]
 
 ghost use Rattle.std.specs.Prelude.{◌≡◌, ◌+◌, ◌-◌, ◌<◌, ◌≤◌, ◌^◌, ◌↔◌, ◌++◌, ◌∷◌, [], List, IsTrue};
@@ -8,16 +8,16 @@ ghost use Rattle.merge.specs.Private.{next_place};
 use segment::RowPlace;
 use std::alloc::{AllocError, Global};
 
-/// A place that was taken, and whether it is one of the second list.
+/// A place that was taken from one of the two lists.
 #[derive(Clone, Copy)]
 pub struct Taken {
-    /// Whether it is one of the second list.
+    /// Whether it is from the second list.
     pub second: bool,
-    /// The place, as that list has it.
+    /// The place, as it is in that list.
     pub place: RowPlace,
 }
 
-/// How far a merge of two lists is: how many places of each are taken, and how many each has.
+/// The progress of a merge of two lists: how many places of each were taken, and how many each has.
 #[derive(Clone, Copy)]
 pub struct MergeProgress {
     a_place: usize,
@@ -37,7 +37,7 @@ impl MergeProgress {
     ghost use Rattle.merge.specs.Merged.{count_left, rows_left, taken_of_a, taken_of_b, IsNew};
     ghost use Rattle.merge.specs.Merged.{IsOf, StandsTaken};
 
-    /// The merge of two lists of these lengths, of which nothing is taken yet.
+    /// A merge of two lists of these lengths, of which nothing was taken yet.
     pub fn new(a_len: usize, b_len: usize) -> MergeProgress
         requires { a_len + b_len < 2 ^ 64 }
         ensures { IsNew result a_len b_len }
@@ -64,8 +64,9 @@ impl MergeProgress {
         self.a_place == self.a_len && self.b_place == self.b_len
     }
 
-    /// The next places of the two lists, up to `n`, in key order, and how far the merge then is.
-    /// The lists have the lengths that `new` was given. Each place taken costs one step.
+    /// Takes up to `n` more places of the two lists, in key order, and returns them with the
+    /// progress after that. The lists have the lengths that `new` was given. Takes one step for
+    /// each place.
     pub fn take(
         self,
         alloc: Global,
@@ -82,7 +83,8 @@ impl MergeProgress {
             (λ r. taken_of_a r.0.items ++ drop r.1.a_place a.now ≡ drop self.a_place a.now) }
         ensures b_front { IfOk result
             (λ r. taken_of_b r.0.items ++ drop r.1.b_place b.now ≡ drop self.b_place b.now) }
-        // Where they are the places of rows, the first rows that were left stand at those taken.
+        // If they are the places of rows, the first rows that were left are those at the taken
+        // places.
         ensures in_order { (xs ys : List StampedRow) → AreLists (xs ∷ ys ∷ [])
             → a.now ≡ places_of xs → b.now ≡ places_of ys
             → IfOk result (λ r. AllZip (StandsTaken xs ys) r.0.items
@@ -117,7 +119,7 @@ impl MergeProgress {
     }
 }
 
-/// The next place of what is left of two lists, in key order.
+/// The next place of the rests of two lists, in key order.
 fn next_place(a: &[RowPlace], b: &[RowPlace]) -> Option<Taken>
     ensures { result ≡ next_place a.now b.now }
 {

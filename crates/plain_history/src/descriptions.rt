@@ -24,7 +24,7 @@ fn fold(alloc: Global, text: &[u8]) -> Result<String, AllocError>
     }
 }
 
-/// Whether the row is an active description of which the folded term begins with the folded prefix.
+/// Whether the row is an active description whose folded term begins with the folded prefix.
 fn is_term(alloc: Global, row: &Row, prefix: &str) -> Result<bool, AllocError>
     ensures { IfOk result (λ answer. answer ≡ is_term prefix.now row.now) }
 {
@@ -55,8 +55,8 @@ fn is_term_at(
     }
 }
 
-/// The first `limit` active descriptions at the date of
-/// which the folded term begins with the folded prefix.
+/// The first `limit` active descriptions at the date whose folded term begins with the folded
+/// prefix.
 pub fn terms<'a>(
     alloc: Global,
     rows: &'a [Row],
@@ -77,7 +77,7 @@ pub fn terms<'a>(
     Ok(matching)
 }
 
-/// Whether the row is a term, with an id above `after` if that is given.
+/// Whether the row is such a description, with an id greater than `after`, if that is given.
 fn is_term_above(
     alloc: Global,
     row: &Row,
@@ -108,8 +108,8 @@ fn is_term_above_at(
     }
 }
 
-/// The active descriptions at the date of which the folded term begins
-/// with the folded prefix, with an id above `after` if that is given.
+/// The active descriptions at the date whose folded term begins with the folded prefix, with ids
+/// greater than `after`, if that is given.
 fn terms_above<'a>(
     alloc: Global,
     rows: &'a [Row],
@@ -129,8 +129,8 @@ fn terms_above<'a>(
     Ok(found)
 }
 
-/// The first `limit` active descriptions at the date of which the folded term begins with the
-/// folded prefix, with an id above `after` if that is given.
+/// The first `limit` active descriptions at the date whose folded term begins with the folded
+/// prefix, with ids greater than `after`, if that is given.
 #[tactic(auto, using(crate::proofs::Listed::map_take), unfolding(history_model::specs::Queries::search_terms))]
 pub fn search_terms<'a>(
     alloc: Global,

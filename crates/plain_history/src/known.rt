@@ -1,4 +1,4 @@
-//! Rows in memory, as what is known before a release.
+//! Rows in memory, as those that are known before a release.
 
 ghost use Rattle.std.specs.Prelude.{◌≡◌, ◌↔◌, IsTrue, map};
 ghost use Rattle.std.specs.Option.{option_copied, option_map};
@@ -12,7 +12,7 @@ use import_check::Known;
 use rf2_values::{Key, Row};
 use std::alloc::Global;
 
-/// Rows in memory, lent to be looked up. Each key is looked for in all of them.
+/// Looks up rows in memory, by searching all of them for each key.
 #[derive(Drop)]
 pub struct KnownRows<'a> {
     pub rows: &'a [StampedRow],

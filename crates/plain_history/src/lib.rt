@@ -1,6 +1,7 @@
-//! The definitions of `history_model` computed in the plainest way, by going over all rows.
+//! The definitions of `history_model` computed in the simplest way, by visiting all rows.
 //!
-//! These functions serve to compare others with. They may take time that is quadratic in the rows.
+//! Other functions are compared with these. They may take time that is quadratic in the number of
+//! rows.
 #![tactic(auto)]
 
 mod audit;

@@ -1,4 +1,4 @@
-//! Members of reference sets, and what a concept is called, computed in the plainest way.
+//! Members of reference sets, and what a concept is called, computed in the simplest way.
 
 ghost use Rattle.std.specs.Prelude.{◌≡◌, ◌&&◌, ◌++◌, nat_lt, length, map, IfOk, OnOk};
 ghost use Rattle.std.specs.List.{filter};
@@ -27,7 +27,8 @@ fn is_member_of(row: &Row, refset: Sctid) -> bool
     }
 }
 
-/// Whether the row is a member of the reference set, with an id above `after` if that is given.
+/// Whether the row is a member of the reference set, with an id greater than `after`, if that is
+/// given.
 fn is_member_above(row: &Row, refset: Sctid, after: Option<u128>) -> bool
     ensures { result ≡ is_member_above refset after row.now }
 {
@@ -46,7 +47,7 @@ fn is_member_above_at(
     is_current(rows, date, row) && is_member_above(row, refset, after)
 }
 
-/// The members of the reference set at the date, with an id above `after` if that is given.
+/// The members of the reference set at the date, with ids greater than `after`, if that is given.
 #[tactic(auto, unfolding(history_model::specs::Queries::snapshot, history_model::specs::Queries::members_above))]
 fn members_above(
     alloc: Global,
@@ -67,8 +68,8 @@ fn members_above(
     Ok(found)
 }
 
-/// The first `limit` members of the reference set at the
-/// date, with an id above `after` if that is given.
+/// The first `limit` members of the reference set at the date, with ids greater than `after`, if
+/// that is given.
 #[tactic(auto, using(crate::proofs::Listed::map_take), unfolding(history_model::specs::Queries::members))]
 pub fn members(
     alloc: Global,
@@ -105,7 +106,7 @@ fn is_component_above(row: &Row, after: Option<u64>) -> bool
     }
 }
 
-/// Whether the row is an active member of the reference set that refers to a component above
+/// Whether the row is an active member of the reference set that refers to a component greater than
 /// `after`, if that is given.
 fn is_value_above(row: &Row, refset: Sctid, after: Option<u64>) -> bool
     ensures { result ≡ is_value_above refset after row.now }
@@ -125,14 +126,15 @@ fn is_value_above_at(
     is_current(rows, date, row) && is_value_above(row, refset, after)
 }
 
-/// The order by what members refer to, by member.
+/// The order by the component that members refer to, then by member.
 fn value_order(a: &Row, b: &Row) -> Ordering
     ensures { result ≡ value_cmp a.now b.now }
 {
     (component_of(a), a.id).cmp(&(component_of(b), b.id))
 }
 
-/// Where a member that ties with this one is, or else the place at which this one is to be inserted.
+/// The position of a member that ties with this one, or otherwise the one at which this one is to
+/// be inserted.
 fn place_for_value(rows: &[&Row], row: &Row) -> Result<usize, usize>
     ensures { IsPlace value_cmp row.now (map (λ r. r.now) rows.now) result }
 {
@@ -156,8 +158,8 @@ fn put_value<'a>(rows: &mut Vec<&'a Row>, row: &'a Row) -> Result<(), AllocError
     Ok(())
 }
 
-/// The active members of the reference set at the date that refer to a component above `after`, if
-/// that is given, by what they refer to, by member.
+/// The active members of the reference set at the date that refer to a component greater than
+/// `after`, if that is given, by that component, then by member.
 #[tactic(auto, unfolding(history_model::specs::Queries::snapshot, history_model::specs::Queries::values_above))]
 fn values_above(
     alloc: Global,
@@ -178,7 +180,7 @@ fn values_above(
     Ok(found)
 }
 
-/// How many of the rows refer to a component below.
+/// How many of the rows refer to a smaller component.
 fn count_below(rows: &[&Row], component: u64) -> usize
     ensures { result ≡ length (filter (λ r. nat_lt (component_of r.now) component) rows.now) }
 {
@@ -188,14 +190,14 @@ fn count_below(rows: &[&Row], component: u64) -> usize
         .count()
 }
 
-/// Whether fewer than `limit` of the rows refer to a component before the row's.
+/// Whether fewer than `limit` of the rows refer to a smaller component than the row does.
 fn is_among_first(rows: &[&Row], row: &Row, limit: u32) -> bool
     ensures { result ≡ is_among_first limit (map (λ r. r.now) rows.now) row.now }
 {
     count_below(rows, component_of(row)) < limit as usize
 }
 
-/// The rows before whose components fewer than `limit` stand.
+/// The rows for which fewer than `limit` rows refer to a smaller component.
 fn first_with_ties<'a>(
     alloc: Global,
     rows: &[&'a Row],
@@ -211,7 +213,8 @@ fn first_with_ties<'a>(
 }
 
 /// The first `limit` active members of the reference set at the date that refer to a component
-/// above `after`, if that is given, and with them all that refer to the last one's component.
+/// greater than `after`, if that is given, and all others that refer to the same component as the
+/// last one.
 pub fn values(
     alloc: Global,
     rows: &[Row],
@@ -266,7 +269,7 @@ fn members_about(
     Ok(found)
 }
 
-/// Adds a row and the others behind it, if there are any.
+/// Adds a row followed by the others, if there are any others.
 fn push_with_others<'a>(
     found: &mut Vec<&'a Row>,
     row: &'a Row,
@@ -282,8 +285,8 @@ fn push_with_others<'a>(
     Ok(())
 }
 
-/// The active descriptions about the concept at the date that have active members
-/// of the reference set, each with these members behind it.
+/// The active descriptions about the concept at the date that have active members of the reference
+/// set, each followed by these members.
 pub fn called(
     alloc: Global,
     rows: &[Row],

@@ -28,14 +28,14 @@ pub fn rows_at(alloc: Global, pin: u32, rows: &[StampedRow]) -> Result<Vec<Row>,
     Ok(shown)
 }
 
-/// Whether the two rows are equal where their keys are.
+/// Whether the two rows are equal if their keys are.
 fn agree(a: &Row, b: &Row) -> bool
     ensures { IsTrue result ↔ Agree a.now b.now }
 {
     a.key() != b.key() || a.is_same(b)
 }
 
-/// Whether the row agrees with each that is known.
+/// Whether the row agrees with all known rows.
 #[tactic(auto, unfolding(crate::specs::Private::AgreesWithKnown))]
 fn agrees_with_known(rows: &[StampedRow], row: &Row) -> bool
     ensures { IsTrue result ↔ AgreesWithKnown rows.now row.now }
@@ -43,14 +43,14 @@ fn agrees_with_known(rows: &[StampedRow], row: &Row) -> bool
     rows.iter().all(|s| agree(row, &s.row))
 }
 
-/// Whether any two known rows agree.
+/// Whether all known rows agree with each other.
 fn each_known_agrees(rows: &[StampedRow]) -> bool
     ensures { IsTrue result ↔ All (λ s. AgreesWithKnown rows.now s.row) rows.now }
 {
     rows.iter().all(|s| agrees_with_known(rows, &s.row))
 }
 
-/// Whether the row agrees with each that is known and with each of its release.
+/// Whether the row agrees with all known rows and all rows of its release.
 #[tactic(auto, unfolding(crate::specs::Private::AgreesWithEach))]
 fn agrees_with_each(rows: &[StampedRow], release: &[Row], row: &Row) -> bool
     ensures { IsTrue result ↔ AgreesWithEach rows.now release.now row.now }
@@ -58,7 +58,7 @@ fn agrees_with_each(rows: &[StampedRow], release: &[Row], row: &Row) -> bool
     agrees_with_known(rows, row) && release.iter().all(|other| agree(row, other))
 }
 
-/// Whether each row of a release agrees with each that is known and with each of the release.
+/// Whether each row of a release agrees with all known rows and all rows of the release.
 fn each_agrees(rows: &[StampedRow], release: &[Row]) -> bool
     ensures { IsTrue result ↔ All (AgreesWithEach rows.now release.now) release.now }
 {
@@ -67,14 +67,14 @@ fn each_agrees(rows: &[StampedRow], release: &[Row]) -> bool
         .all(|row| agrees_with_each(rows, release, row))
 }
 
-/// Whether the rows of a release and those that are known are consistent.
+/// Whether the rows of a release and the known ones are consistent.
 pub fn accepts(rows: &[StampedRow], release: &[Row]) -> bool
     ensures { IsTrue result ↔ IsConsistent (map (λ s. s.row) rows.now ++ release.now) }
 {
     each_known_agrees(rows) && each_agrees(rows, release)
 }
 
-/// Where a row with its key is, or else the place at which the row is to be inserted.
+/// The position of a row with its key, or otherwise the one at which the row is to be inserted.
 fn place_for(rows: &[StampedRow], row: &StampedRow) -> Result<usize, usize>
     ensures { IsPlace stamped_cmp row.now rows.now result }
 {
@@ -90,7 +90,7 @@ fn place_for(rows: &[StampedRow], row: &StampedRow) -> Result<usize, usize>
     Err(rows.len())
 }
 
-/// Puts a row at its place, unless one with its key is there.
+/// Inserts a row at its place, unless there is one with its key.
 fn put(rows: &mut Vec<StampedRow>, row: StampedRow) -> Result<(), AllocError>
     ensures { OnOk result (rows.new.items ≡ put stamped_cmp row rows.old.items) }
 {
@@ -130,7 +130,7 @@ pub fn after_release(
     Ok(after)
 }
 
-/// The receipt of a release that is accepted after so many imports.
+/// The receipt of a release that is accepted after this many imports.
 pub fn receipt(
     alloc: Global,
     imports: u32,

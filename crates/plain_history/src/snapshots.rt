@@ -38,7 +38,7 @@ fn has_later_version(rows: &[Row], date: EffectiveTime, row: &Row) -> bool
     rows.iter().any(|other| is_later_version(date, row, other))
 }
 
-/// Whether the row holds at the date.
+/// Whether the row is its component's version at the date.
 #[tactic(auto, unfolding(history_model::specs::Queries::is_current))]
 pub(crate) fn is_current(rows: &[Row], date: EffectiveTime, row: &Row) -> bool
     ensures { result ≡ is_current rows.now date row.now }
@@ -46,7 +46,7 @@ pub(crate) fn is_current(rows: &[Row], date: EffectiveTime, row: &Row) -> bool
     row.time <= date && !has_later_version(rows, date, row)
 }
 
-/// The rows that hold at the date.
+/// The Snapshot at the date: of each component the version at the date.
 #[tactic(auto, unfolding(history_model::specs::Queries::snapshot))]
 pub fn snapshot(alloc: Global, rows: &[Row], date: EffectiveTime) -> Result<Vec<&Row>, AllocError>
     ensures { IfOk result (λ found. map (λ row. row.now) found.items ≡ snapshot rows.now date) }
@@ -103,7 +103,7 @@ fn is_above_at(
     is_current(rows, date, row) && is_kind_above(row, kind, after)
 }
 
-/// The rows of a kind at the date, with an id above `after` if that is given.
+/// The rows of a kind at the date, with ids greater than `after`, if that is given.
 #[tactic(auto, unfolding(history_model::specs::Queries::snapshot, history_model::specs::Queries::all_above))]
 fn all_above(
     alloc: Global,
@@ -124,7 +124,7 @@ fn all_above(
     Ok(found)
 }
 
-/// The first `limit` rows of a kind at the date, with an id above `after` if that is given.
+/// The first `limit` rows of a kind at the date, with ids greater than `after`, if that is given.
 #[tactic(auto, using(crate::proofs::Listed::map_take), unfolding(history_model::specs::Queries::page))]
 pub fn page(
     alloc: Global,

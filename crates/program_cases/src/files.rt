@@ -1,4 +1,4 @@
-//! Files and folders that a case begins with.
+//! Files and folders that a case creates.
 
 use case_files::{Fault, number, two_words};
 use samples::sample;
@@ -19,14 +19,14 @@ pub(crate) fn write_sample(rt: &HostRuntime, rest: &str) -> Result<(), Fault> {
     Ok(())
 }
 
-/// Writes a file into a folder, which is made if need be.
+/// Writes a file into a folder, which is created if necessary.
 fn write_into(rt: &HostRuntime, folder: &str, name: &str, bytes: &[u8]) -> io::Result<()> {
     fs::create_dir_all(rt, folder)?;
     let path = format!(in rt.alloc(); "{folder}/{name}")?;
     fs::write(rt, path.as_str(), bytes)
 }
 
-/// Writes a file: its length, and its first byte in base 16. All others are 0.
+/// Writes a file, given as its length and its first byte in hexadecimal. All other bytes are 0.
 pub(crate) fn write_file(rt: &HostRuntime, rest: &str) -> Result<(), Fault> {
     let (name, rest) = two_words(rest);
     let (length, byte) = two_words(rest);

@@ -1,5 +1,5 @@
-//! Command lines of the program, and what it writes and ends with, as files under `data/cases`
-//! have them. Stores and releases lie in the folder that this runs in.
+//! Command lines of the program, with the output and the exit status that they have to give, as
+//! files under `data/cases`. Stores and releases are in the folder in which this runs.
 #![tactic(auto)]
 
 mod files;

@@ -1,4 +1,4 @@
-//! A run of the program: what it is given, what is wanted of it, and what came.
+//! A run of the program: its input, what is expected of it, and its result.
 
 use crate::words::words_of;
 use case_files::{Fault, Shown, number};
@@ -7,7 +7,7 @@ use std::alloc::{AllocError, Global};
 use std::io::{self, ErrorKind, Write};
 use std::rt::HostRuntime;
 
-/// Output that takes so many bytes, and goes out or doesn't.
+/// Output that accepts this many bytes, and whose flush succeeds or fails.
 #[derive(Drop)]
 struct Narrow {
     taken: Vec<u8>,
@@ -32,7 +32,7 @@ impl Write for Narrow {
     }
 }
 
-/// How a run ends, and what it writes to each stream.
+/// The exit status of a run, and what it writes to each stream.
 #[derive(Drop)]
 pub(crate) struct Outcome {
     pub(crate) status: u64,
@@ -41,7 +41,7 @@ pub(crate) struct Outcome {
 }
 
 impl Outcome {
-    /// A run that ends well and writes nothing.
+    /// A run that succeeds and writes nothing.
     fn silent(alloc: Global) -> Outcome {
         Outcome {
             status: 0,
@@ -50,7 +50,7 @@ impl Outcome {
         }
     }
 
-    /// All of it as a text.
+    /// All of it as one text.
     fn text(&self, alloc: Global) -> Result<Vec<u8>, AllocError> {
         let status = format!(in alloc; "status {}\n", self.status)?;
         let mut text = status.as_bytes().to_vec(alloc)?;
@@ -61,24 +61,24 @@ impl Outcome {
     }
 }
 
-/// A run that is carried out once it is known what it is given.
+/// A run, which is carried out once its input is complete.
 #[derive(Drop)]
 pub(crate) struct Run {
     words: Vec<String>,
     input: Vec<u8>,
-    /// How the input fails at its end, if it does.
+    /// The error at the end of the input, if it fails there.
     failure: Option<ErrorKind>,
-    /// How many bytes of output there is room for, and whether it goes out.
+    /// How many bytes the output accepts, and whether its flush succeeds.
     room: usize,
     goes_out: bool,
     wanted: Outcome,
-    /// Whether the output is only to begin as is wanted.
+    /// Whether the output only has to begin with the expected one.
     begins: bool,
     pub(crate) came: Option<Outcome>,
 }
 
 impl Run {
-    /// A run with these words.
+    /// A run of this command line.
     pub(crate) fn new(rt: &HostRuntime, line: &str) -> Result<Run, Fault> {
         let Ok(words) = words_of(rt, line) else {
             return Err(Fault::Line("its words can't be told"));
@@ -95,7 +95,8 @@ impl Run {
         })
     }
 
-    /// Takes a line that says what the run is given. `None` if it says something else.
+    /// Takes a line that describes the input or the output's limits. Returns `None` for any other
+    /// line.
     pub(crate) fn take_given(&mut self, word: &str, rest: &str) -> Option<Result<(), Fault>> {
         match word {
             ">" | ">-" | "fails" | "stays" | "room" if self.came.is_some() => {
@@ -116,13 +117,13 @@ impl Run {
         }
     }
 
-    /// Sets how many bytes of output there is room for.
+    /// Sets how many bytes the output accepts.
     fn set_room(&mut self, word: &str) -> Result<(), Fault> {
         self.room = number(word)? as usize;
         Ok(())
     }
 
-    /// Takes a line that says what is wanted of it.
+    /// Takes a line that says what is expected of the run.
     pub(crate) fn take_wanted(&mut self, word: &str, rest: &str) -> Result<(), Fault> {
         match word {
             "<" => add(&mut self.wanted.output, rest, b"\n"),
@@ -139,7 +140,7 @@ impl Run {
         }
     }
 
-    /// Carries it out, if that isn't done.
+    /// Carries out the run, unless that is done already.
     pub(crate) fn carry_out(&mut self, rt: &HostRuntime) {
         if self.came.is_none() {
             let mut input = Pieces {
@@ -170,8 +171,8 @@ impl Run {
         }
     }
 
-    /// Carries it out, if that isn't done, and compares what came with what is wanted: standard
-    /// error too, unless it was looked at otherwise.
+    /// Carries out the run, unless that is done already, and compares its result with the expected
+    /// one. Standard error is compared too, unless the case has checked it otherwise.
     pub(crate) fn finish(
         mut self,
         rt: &HostRuntime,
@@ -195,7 +196,7 @@ impl Run {
     }
 }
 
-/// Adds a line with this end to a text.
+/// Appends a line with this end to a text.
 fn add(text: &mut Vec<u8>, line: &str, end: &[u8]) -> Result<(), Fault> {
     text.extend_from_slice(line.as_bytes())?;
     text.extend_from_slice(end)?;

@@ -1,4 +1,4 @@
-//! The words of a case.
+//! The lines of a case.
 
 use crate::files::{write_file, write_sample};
 use crate::run::Run;
@@ -6,13 +6,13 @@ use crate::told::check_told;
 use case_files::{Block, Fault, Shown, Subject};
 use std::rt::HostRuntime;
 
-/// A case, up to one of its lines.
+/// A case, up to the line that is being carried out.
 #[derive(Drop)]
 pub(crate) struct Runs<'a> {
     rt: &'a HostRuntime,
-    /// The run that isn't compared yet.
+    /// The run whose result isn't compared yet.
     run: Option<Run>,
-    /// Whether its standard error was looked at.
+    /// Whether a line has checked its standard error.
     is_told: bool,
     /// Whether the case had a run.
     has_run: bool,
@@ -31,7 +31,7 @@ impl<'a> Runs<'a> {
         }
     }
 
-    /// Compares what came of the run with what is wanted.
+    /// Compares the result of the run with the expected one.
     fn finish(&mut self) -> Result<(), Fault> {
         match self.run.take() {
             Some(run) => run.finish(self.rt, self.is_told, &mut self.shown),

@@ -1,8 +1,8 @@
-//! What standard error tells.
+//! Checks of what the program writes to standard error.
 
 use case_files::{Fault, Shown};
 
-/// Checks what people are told, as a line says it.
+/// Checks the text on standard error, as a line of a case says.
 pub(crate) fn check_told(
     shown: &mut Shown,
     word: &str,

@@ -3,11 +3,11 @@
 use std::rt::HostRuntime;
 use std::{env, io};
 
-/// As many letters of a name that a line with it is over 4,096 bytes.
+/// The length of a name for which a line with it has more than 4,096 bytes.
 const LONG: usize = 4_088;
 
-/// The words of a command line: `LONG` stands for a name that is too long,
-/// and `HERE` in front of a path for the folder that this runs in.
+/// The words of a command line, in which `LONG` stands for a name that is too long, and `HERE` at
+/// the beginning of a path for the folder in which this runs.
 pub(crate) fn words_of(rt: &HostRuntime, line: &str) -> io::Result<Vec<String>> {
     let mut words = Vec::new(rt.alloc());
     for word in line.split(' ') {
@@ -16,7 +16,7 @@ pub(crate) fn words_of(rt: &HostRuntime, line: &str) -> io::Result<Vec<String>> 
     Ok(words)
 }
 
-/// What a word stands for.
+/// The text that a word stands for.
 fn spelled(rt: &HostRuntime, word: &str) -> io::Result<String> {
     if word == "LONG" {
         return Ok("n".repeat(rt.alloc(), LONG)?);

@@ -1,4 +1,4 @@
--- What a failure of the system says of a folder.
+-- How an error of the system is classified.
 use Rattle.std.specs.Prelude.{◌≡◌, ◌≢◌, ◌⊎◌}
 use Rattle.std.specs.IoError.{error_kind}
 use Rattle.std.specs.declared.io.Error.{Error}
@@ -8,13 +8,13 @@ use Rattle.release_folder.specs.declared.fault.FolderFault.TheVariants as faults
 use Rattle.release_folder.specs.declared.obstacle.ReadFault.{ReadFault}
 use Rattle.release_folder.specs.declared.obstacle.ReadFault.TheVariants as reading
 
--- out of memory is named as that, and whatever else fails is no folder
+-- the system's "out of memory" is `OutOfMemory`, and every other error is `NoFolder`
 abbrev pub IsFaultOf : Error → FolderFault → Type 0
 IsFaultOf error fault =
     ((error_kind error ≡ kinds.OutOfMemory) × (fault ≡ faults.OutOfMemory))
     ⊎ ((error_kind error ≢ kinds.OutOfMemory) × (fault ≡ faults.NoFolder))
 
--- what programs are told where a release wasn't read
+-- the fault without details
 abbrev pub folder_fault : ReadFault → FolderFault
 folder_fault reading.OutOfMemory = faults.OutOfMemory
 folder_fault (reading.Met path obstacle) = faults.NoFolder

@@ -14,24 +14,24 @@ use Rattle.rf2_values.specs.declared.row.Kind.{Kind}
 use Rattle.rf2_values.specs.declared.row.Kind.TheVariants as kind
 use Rattle.release_folder.specs.declared.part.Part.{Part}
 
--- the letter of a column of a reference set: `c` for a component,
--- `i` for an integer, `s` for a text
+-- a letter for a column of a reference set: `c` for a component, `i` for an integer, `s` for a
+-- string
 abbrev pub IsColumnLetter : ℕ → Type 0
 IsColumnLetter byte = (byte ≡ 99) ⊎ (byte ≡ 105) ⊎ (byte ≡ 115)
 
--- letters of columns, as many as there are, and then `Refset_`
+-- any number of column letters, and then `Refset_`
 pub record BeginsAsRefset (name : List ℕ) : Type 0 where
   pub columns : ℕ
   pub letters : All IsColumnLetter (take columns name)
   pub refset : OccursAt (drop columns name) (codes "Refset_") 0
 
--- the name of a file of a reference set begins so, and it isn't one of associations
+-- the name is that of a file of a reference set, and not of associations
 pub record IsMemberName (name : List ℕ) : Type 0 where
   pub begins : OccursAt name (codes "der2_") 0 ⊎ OccursAt name (codes "sct2_") 0
   pub refset : BeginsAsRefset (drop 5 name)
   pub other : OccursAt name (codes "der2_cRefset_Association") 0 → ⊥
 
--- the name of a file of the kind begins so, where the scope has files of the kind
+-- the name begins like that of a file of this kind, and the scope includes the kind
 abbrev pub Begins : Scope → Kind → List ℕ → Type 0
 Begins scope kind.Concept name = OccursAt name (codes "sct2_Concept_") 0
 Begins scope kind.Relationship name = OccursAt name (codes "sct2_Relationship_") 0
@@ -43,14 +43,15 @@ Begins scopes.Whole kind.Description name =
     OccursAt name (codes "sct2_Description_") 0 ⊎ OccursAt name (codes "sct2_TextDefinition_") 0
 Begins scopes.Whole kind.Member name = IsMemberName name
 
--- the name of a file of the kind that is taken: of a Delta or a Full release, and of a text
+-- the name of a release file of this kind: it belongs to a Delta or a Full release, and to a text
+-- file
 pub record IsTaken (scope : Scope) (kind : Kind) (name : List ℕ) : Type 0 where
   pub begins : Begins scope kind name
   pub holds : Contains name (codes "Delta") ⊎ Contains name (codes "Full")
   pub ends : (length (codes ".txt") ≤ length name)
       × OccursAt name (codes ".txt") (length name - length (codes ".txt"))
 
--- a file of concepts of a Full release, by its kind and its name
+-- a file of concepts of a Full release, judged by its kind and its name
 pub record IsFullOfConcepts (file : ReleaseFile) : Type 0 where
   pub of_concepts : file.kind ≡ kind.Concept
   pub full : Contains (string_bytes file.name) (codes "Full")
@@ -60,8 +61,8 @@ pub record Lacks (files : List ReleaseFile) (missing : Kind) : Type 0 where
   pub concepts : Any IsFullOfConcepts files
   pub none : All (λ file. file.kind ≢ missing) files
 
--- a file whose name says that it is one to take, of its
--- kind, and of no more bytes than a count of 32 bits can say
+-- a release file, judged by its name, of the kind that its name says, and with a length of 32 bits
+-- at most
 pub record IsTakenFile (scope : Scope) (file : ReleaseFile) : Type 0 where
   pub named : IsTaken scope file.kind (string_bytes file.name)
   pub small : length file.bytes.items ≤ 4294967295
@@ -74,12 +75,12 @@ has_lesser_name a b = is_lt (string_cmp a.name b.name)
 abbrev pub has_lesser_folder : Part → Part → Bool
 has_lesser_folder a b = is_lt (string_cmp a.folder b.folder)
 
--- so many folders of Refset have files that are read, at most
+-- a possible number of folders below `Refset` that are read
 abbrev pub AreFolders : Scope → ℕ → Type 0
 AreFolders scopes.Basic n = n ≤ 1
 AreFolders scopes.Whole n = Unit {0}
 
--- the files of one part and then those of others, each in the order of names
+-- the files of one folder and then those of others, each in the order of names
 pub record AreInOrder (scope : Scope) (files : List ReleaseFile) : Type 0 where
   pub first : List ReleaseFile
   pub others : List (List ReleaseFile)
@@ -99,8 +100,8 @@ pub record AreOfFolders (folders : List Part) (files : List ReleaseFile) : Type 
   pub each : AllZip (λ part list. AreSorted part.files.items list) folders lists
   pub files_are : files ≡ joined lists
 
--- The files of Terminology, and then those of the folders of Refset in the order of the folders'
--- names, each in the order of names.
+-- The files of `Terminology`, and then those of the folders of `Refset` in the order of the
+-- folders' names, each in the order of the files' names.
 pub record AreOfParts (terminology : List ReleaseFile) (refset : List Part)
     (files : List ReleaseFile) : Type 0 where
   pub first : List ReleaseFile

@@ -1,4 +1,4 @@
-//! Why a folder could not be read.
+//! Why a folder can't be read as a release.
 
 ghost use Rattle.std.specs.Prelude.{◌≡◌};
 ghost use Rattle.release_folder.specs.declared.fault.FolderFault.TheVariants.{OutOfMemory};
@@ -7,14 +7,14 @@ use std::alloc::{AllocError, AllocFailed};
 use std::io::{self, ErrorKind};
 use thiserror::Error;
 
-/// Why a folder gives no release.
+/// Why a folder can't be read as a release.
 #[derive(Clone, Copy, Debug, PartialEq, Eq, Error)]
 pub enum FolderFault {
     #[error("out of memory")]
     OutOfMemory,
-    /// It isn't a folder, or something in it could not be listed or read, or is too large, or it
-    /// holds no release file; or a name in one of the folders that are read isn't UTF-8, be it a
-    /// file to take or not.
+    /// It isn't a folder, or something in it can't be listed or read, or is too large, or it has no
+    /// release files; or a name in one of the folders that are read isn't UTF-8, whether it is that
+    /// of a release file or not.
     #[error("there is no release in the folder")]
     NoFolder,
 }

@@ -1,4 +1,4 @@
-//! Reading a folder.
+//! Reads a release from a folder.
 
 ghost use Rattle.std.specs.Prelude.{◌≡◌, ◌≢◌, ◌≤◌, ◌↔◌, [], length, All, IfOk, OnOk, IsErr};
 ghost use Rattle.std.specs.Prelude.{IsErrOf};
@@ -23,11 +23,12 @@ use std::alloc::{AllocError, Global};
 use std::fs::{self, File, Files};
 use std::io::{self, ErrorKind, Read};
 
-/// The release in the folder `name` below `dir`: the files of the folder Terminology and then those
-/// of Refset/Content, the names of each in byte order, as far as their names are those of concept,
-/// description, relationship, association or concrete value files of a Delta or a Full release. Of
-/// the whole of a package, the files of each folder of Refset, in the byte order of the folders'
-/// names, and those of text definitions and of the members of every other reference set too.
+/// Reads the release in the folder `name` below `dir`: the files of the folder `Terminology`, and
+/// then those of `Refset/Content`, each folder in the byte order of the files' names. Only files
+/// are read whose names are those of concept, description, relationship, association or concrete
+/// value files of a Delta or a Full release. If the scope is the whole package, the files of each
+/// folder of `Refset` are read, in the byte order of the folders' names, and also those of text
+/// definitions and of members of all other reference sets.
 pub fn read_folder<R: Files<File = File> + AllocGlobal + Clone + Drop>(
     rt: &R,
     alloc: Global,
@@ -35,12 +36,12 @@ pub fn read_folder<R: Files<File = File> + AllocGlobal + Clone + Drop>(
     name: &str,
     scope: Scope,
 ) -> Result<Release, FolderFault>
-    // Each file has a name to take and isn't too large, and there is one.
-    // What a folder holds no clause can say.
+    // Each file has the name of a release file and isn't too large, and there is at least one. No
+    // clause can say what a folder contains.
     ensures taken { IfOk result (λ release. All (IsTakenFile scope) release.files.items) }
     ensures some { IfOk result (λ release. release.files.items ≢ []) }
-    // The files of one folder stand before those of the others, each part
-    // in the byte order of names; `release_of` says which come first.
+    // The files of one folder come before those of the others, each folder in the byte order of
+    // names; `release_of` says which come first.
     ensures in_order { IfOk result (λ release. AreInOrder scope release.files.items) }
 {
     match read_release(rt, alloc, dir, name, scope, &mut Unwatched) {
@@ -49,9 +50,9 @@ pub fn read_folder<R: Files<File = File> + AllocGlobal + Clone + Drop>(
     }
 }
 
-/// The release that `read_folder` reads, or what stood in its way. Nothing is opened that isn't a
-/// folder or a regular file. The watcher is told first which files aren't read, in whichever folder
-/// of the release they stand, and then of each one that is read.
+/// Reads the release like `read_folder`, but returns in detail why it can't be read. Opens nothing
+/// that isn't a folder or a regular file. First reports to the watcher the files that aren't read,
+/// in any folder of the release, and then each file before it is read.
 pub fn read_release<R: Files<File = File> + AllocGlobal + Clone + Drop, W: Watcher>(
     rt: &R,
     alloc: Global,
@@ -78,14 +79,14 @@ pub fn read_release<R: Files<File = File> + AllocGlobal + Clone + Drop, W: Watch
     }
 }
 
-/// The release of the files of its folders: those of Terminology and then those of the folders of
-/// Refset in the byte order of the folders' names, each in the byte order of their names. With no
-/// file there is no release.
+/// The release of the files of its folders: those of `Terminology`, and then those of the folders
+/// of `Refset` in the byte order of the folders' names, each folder in the byte order of the files'
+/// names. Without a file there is no release.
 pub fn release_of(terminology: Vec<ReleaseFile>, refset: Vec<Part>) -> Result<Release, FolderFault>
     ensures in_order { IfOk result
         (λ release. AreOfParts terminology.items refset.items release.files.items) }
     ensures some { IfOk result (λ release. release.files.items ≢ []) }
-    // Without a file the answer is never that memory ran out.
+    // If there is no file, the result is never `OutOfMemory`.
     ensures none { IsErrOf result NoFolder
         ↔ ((terminology.items ≡ []) × All (λ part. part.files.items ≡ []) refset.items) }
 {
@@ -100,7 +101,7 @@ pub fn release_of(terminology: Vec<ReleaseFile>, refset: Vec<Part>) -> Result<Re
     Ok(Release { files })
 }
 
-/// Adds the files of folders, one folder after the other, each in the byte order of their names.
+/// Appends the files of folders, one folder after the other, each in the byte order of names.
 fn add_folders(folders: Vec<Part>, files: &mut Vec<ReleaseFile>) -> Result<(), AllocError>
     ensures ok { OnOk result (AddFolders folders.items files.old.items files.new.items) }
     ensures some { IsErr result → All (λ part. part.files.items ≡ []) folders.items → ⊥ }
@@ -111,7 +112,7 @@ fn add_folders(folders: Vec<Part>, files: &mut Vec<ReleaseFile>) -> Result<(), A
     Ok(())
 }
 
-/// Adds the files of one folder in the byte order of their names.
+/// Appends the files of one folder, in the byte order of names.
 fn add_sorted(later: Vec<ReleaseFile>, files: &mut Vec<ReleaseFile>) -> Result<(), AllocError>
     ensures ok { OnOk result (AddSorted later.items files.old.items files.new.items) }
     ensures some { IsErr result → later.items ≢ [] }
@@ -124,7 +125,7 @@ fn add_sorted(later: Vec<ReleaseFile>, files: &mut Vec<ReleaseFile>) -> Result<(
     files.append(&mut later)
 }
 
-/// The names of the folders of a release's Refset that are read, in byte order.
+/// The names of the folders below `Refset` that are read, in byte order.
 fn refset_folders<R: Files<File = File> + AllocGlobal + Clone + Drop>(
     rt: &R,
     alloc: Global,
@@ -139,8 +140,8 @@ fn refset_folders<R: Files<File = File> + AllocGlobal + Clone + Drop>(
     }
 }
 
-/// The names of all folders of a release's Refset, in byte order. What is no folder isn't one of
-/// them, but for what is called Content.
+/// The names of all folders below `Refset`, in byte order. Anything else is left out, except an
+/// entry named `Content`.
 fn all_refset_folders<R: Files<File = File> + AllocGlobal + Clone + Drop>(
     rt: &R,
     alloc: Global,
@@ -157,7 +158,7 @@ fn all_refset_folders<R: Files<File = File> + AllocGlobal + Clone + Drop>(
     Ok(folders)
 }
 
-/// The release files of some folders of a release's Refset.
+/// Reads the release files of some folders below `Refset`.
 fn parts_of<R: Files<File = File> + AllocGlobal + Clone + Drop, W: Watcher>(
     rt: &R,
     alloc: Global,
@@ -178,7 +179,7 @@ fn parts_of<R: Files<File = File> + AllocGlobal + Clone + Drop, W: Watcher>(
     Ok(parts)
 }
 
-/// The release files of one folder of a release.
+/// Reads the release files of one folder of a release.
 fn files_of<R: Files<File = File> + AllocGlobal + Clone + Drop, W: Watcher>(
     rt: &R,
     alloc: Global,
@@ -195,7 +196,7 @@ fn files_of<R: Files<File = File> + AllocGlobal + Clone + Drop, W: Watcher>(
     Ok(files)
 }
 
-/// Sorts files by their names, byte by byte.
+/// Sorts files by name, in byte order.
 fn sort_by_name(files: &mut Vec<ReleaseFile>)
     ensures permutation { IsPermutation files.old.items files.new.items }
     ensures sorted { IsSortedBy has_lesser_name files.new.items }
@@ -203,7 +204,7 @@ fn sort_by_name(files: &mut Vec<ReleaseFile>)
     files.sort_unstable_by(|a, b| a.name.cmp(&b.name));
 }
 
-/// Sorts folders by their names, byte by byte.
+/// Sorts folders by name, in byte order.
 fn sort_by_folder(folders: &mut Vec<Part>)
     ensures permutation { IsPermutation folders.old.items folders.new.items }
     ensures sorted { IsSortedBy has_lesser_folder folders.new.items }
@@ -211,7 +212,7 @@ fn sort_by_folder(folders: &mut Vec<Part>)
     folders.sort_unstable_by(|a, b| a.folder.cmp(&b.folder));
 }
 
-/// Adds the release files of one folder. An absent folder has none.
+/// Adds the release files of one folder. A folder that doesn't exist has none.
 fn add_files<R: Files<File = File> + AllocGlobal + Clone + Drop, W: Watcher>(
     rt: &R,
     alloc: Global,
@@ -234,7 +235,7 @@ fn add_files<R: Files<File = File> + AllocGlobal + Clone + Drop, W: Watcher>(
     Ok(())
 }
 
-/// The names in a folder, in byte order. An absent folder has none.
+/// The names in a folder, in byte order. A folder that doesn't exist has none.
 fn names_in<R: Files<File = File> + AllocGlobal + Clone + Drop>(
     rt: &R,
     alloc: Global,
@@ -257,7 +258,7 @@ fn names_in<R: Files<File = File> + AllocGlobal + Clone + Drop>(
     Ok(names)
 }
 
-/// All bytes of a file that isn't too large.
+/// Reads all bytes of a file that isn't too large.
 fn whole_file<R: Files<File = File>>(
     rt: &R,
     alloc: Global,
@@ -276,7 +277,7 @@ fn whole_file<R: Files<File = File>>(
     Ok(bytes)
 }
 
-/// Reads a file, up to so many bytes of it.
+/// Reads up to `most` bytes of a file.
 fn read_up_to<R: Files<File = File>>(
     rt: &R,
     path: &str,

@@ -1,5 +1,5 @@
-//! What is looked at before it is opened: a FIFO or a device never ends,
-//! and a link that leads nowhere is no absent folder.
+//! Checks paths before they are opened: reading a FIFO or a device may never end, and a link to
+//! nothing doesn't count as a missing folder.
 
 ghost use Rattle.std.specs.Prelude.{◌≡◌};
 ghost use Rattle.release_folder.specs.Faults.{folder_fault};
@@ -12,23 +12,22 @@ use std::alloc::{AllocError, Global};
 use std::fs::{self, File, Files, Metadata};
 use std::io::{self, ErrorKind};
 
-/// The most bytes that a release file has.
+/// The greatest length of a release file, in bytes.
 pub(crate) const LARGEST: u64 = 4_294_967_295;
 
-/// The folder of a release that holds its concepts, descriptions and relationships.
+/// The folder of a release with its concepts, descriptions and relationships.
 pub(crate) const TERMINOLOGY: &str = "Terminology";
 
-/// The folder of a release that holds its association reference sets.
+/// The folder of a release with its association reference sets.
 pub(crate) const CONTENT: &str = "Refset/Content";
 
-/// The folder that holds `Content`, and the folders of the other reference sets.
+/// The folder with `Content`, and with the folders of other reference sets.
 pub(crate) const REFSET: &str = "Refset";
 
-/// The name of the folder of association reference sets in it.
+/// The name, in `REFSET`, of the folder of association reference sets.
 pub(crate) const INNER: &str = "Content";
 
-/// What is at a path, if anything is. A link that leads nowhere is refused, and not taken for
-/// nothing.
+/// The metadata of what is at a path; none if nothing is there. A link to nothing is refused.
 fn look<R: Files<File = File>>(
     rt: &R,
     alloc: Global,
@@ -45,7 +44,7 @@ fn look<R: Files<File = File>>(
     }
 }
 
-/// Refuses a release's folder that is no folder.
+/// Refuses a release whose path isn't that of a folder.
 pub(crate) fn check_folder<R: Files<File = File>>(
     rt: &R,
     alloc: Global,
@@ -58,7 +57,7 @@ pub(crate) fn check_folder<R: Files<File = File>>(
     }
 }
 
-/// Refuses a release of which a part is a link that leads nowhere. A part may be absent.
+/// Refuses a release if one of its parts is a link to nothing. A part may be missing.
 pub(crate) fn check_parts<R: Files<File = File>>(
     rt: &R,
     alloc: Global,
@@ -71,7 +70,7 @@ pub(crate) fn check_parts<R: Files<File = File>>(
     Ok(())
 }
 
-/// Whether a folder is at a path. A link that leads nowhere is refused.
+/// Whether there is a folder at a path. A link to nothing is refused.
 pub(crate) fn is_folder<R: Files<File = File>>(
     rt: &R,
     alloc: Global,
@@ -104,7 +103,7 @@ pub(crate) fn check_file<R: Files<File = File>>(
     }
 }
 
-/// What the system said while it listed a folder.
+/// The fault for an error of the system while a folder was listed.
 pub(crate) fn unlisted<R: Files<File = File>>(
     rt: &R,
     alloc: Global,
@@ -117,7 +116,7 @@ pub(crate) fn unlisted<R: Files<File = File>>(
     }
 }
 
-/// Tells which name in a folder isn't UTF-8.
+/// The fault for a name in a folder that isn't UTF-8, with that name.
 fn misnamed<R: Files<File = File>>(rt: &R, alloc: Global, folder: &str) -> ReadFault {
     let Ok(Some(name)) = misnamed_in(rt, alloc, folder) else {
         return ReadFault::met(alloc, folder, Obstacle::NotUtf8);
@@ -128,7 +127,7 @@ fn misnamed<R: Files<File = File>>(rt: &R, alloc: Global, folder: &str) -> ReadF
     }
 }
 
-/// Whether a folder stands in another one.
+/// Whether a folder has an entry that is a folder.
 fn has_folder<R: Files<File = File>>(
     rt: &R,
     alloc: Global,
@@ -142,7 +141,7 @@ fn has_folder<R: Files<File = File>>(
     }
 }
 
-/// Where the reference sets of a release stand that are read.
+/// The folder of a release whose reference sets are read.
 fn refset_in(scope: Scope) -> &'static str {
     match scope {
         Scope::Basic => CONTENT,
@@ -150,7 +149,7 @@ fn refset_in(scope: Scope) -> &'static str {
     }
 }
 
-/// Why there is no file to take in a release's folder.
+/// Why a release's folder has no release files.
 fn lack_of<R: Files<File = File>>(
     rt: &R,
     alloc: Global,
@@ -169,7 +168,7 @@ fn lack_of<R: Files<File = File>>(
     Ok(Obstacle::NoParts { refset })
 }
 
-/// Tells why there is no file to take.
+/// The fault for a folder without release files.
 pub(crate) fn nothing_in<R: Files<File = File>>(
     rt: &R,
     alloc: Global,

@@ -1,4 +1,4 @@
-//! What is missing in a Full release.
+//! Finds out which files are missing in a Full release.
 
 ghost use Rattle.std.specs.Prelude.{◌≡◌, ◌↔◌, IsTrue, Any};
 ghost use Rattle.release_folder.specs.Names.{IsFullOfConcepts, Lacks};

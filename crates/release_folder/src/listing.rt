@@ -1,16 +1,16 @@
-//! The names in a folder, as the system gives them: some of them may not be UTF-8.
+//! The names in a folder, as the system returns them: some may not be UTF-8.
 
 use std::alloc::{AllocError, Global};
 use std::fs::Files;
 use std::io::{self, Read};
 
-/// How many bytes of names are asked for at once.
+/// How many bytes of names are requested at a time.
 const PIECE: usize = 4096;
 
-/// How often the system is asked for names of one folder at most.
+/// How often names of one folder are requested, at most.
 const MOST_PIECES: u32 = 4_294_967_295;
 
-/// The names in a folder, in byte order, but for those of the folder itself and of the one above.
+/// The names in a folder, in byte order, except `.` and `..`.
 pub(crate) fn names_of<R: Files>(rt: &R, alloc: Global, folder: &str) -> io::Result<Vec<Vec<u8>>> {
     let listed = listed_in(rt, alloc, folder)?;
     let mut names = Vec::new(alloc);
@@ -23,13 +23,12 @@ pub(crate) fn names_of<R: Files>(rt: &R, alloc: Global, folder: &str) -> io::Res
     Ok(names)
 }
 
-/// Whether it is the name of the folder itself or of the one above, or what
-/// stands behind the last name.
+/// Whether it is `.` or `..`, or the empty part after the last name.
 fn is_no_entry(name: &[u8]) -> bool {
     matches!(name, [] | [b'.'] | [b'.', b'.'])
 }
 
-/// The bytes that the system lists of a folder: each name with a NUL behind it.
+/// The bytes that the system returns for a folder: each name, followed by a NUL.
 fn listed_in<R: Files>(rt: &R, alloc: Global, folder: &str) -> io::Result<Vec<u8>> {
     let mut listed = Vec::new(alloc);
     let mut piece = vec![in alloc; 0; PIECE]?;
@@ -44,7 +43,7 @@ fn listed_in<R: Files>(rt: &R, alloc: Global, folder: &str) -> io::Result<Vec<u8
     Ok(listed)
 }
 
-/// The first name in a folder that isn't UTF-8, if there is one and it can be had.
+/// The first name in a folder that isn't UTF-8, if there is one and it can be read.
 pub(crate) fn misnamed_in<R: Files>(
     rt: &R,
     alloc: Global,

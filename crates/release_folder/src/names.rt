@@ -1,4 +1,4 @@
-//! Which files are taken, by their names.
+//! Which files are release files, by their names.
 
 ghost use Rattle.std.specs.Prelude.{◌≡◌, ◌↔◌, ◌⊎◌, IsTrue, IfOk, MatchOption, codes};
 ghost use Rattle.std.specs.Prelude.{string_bytes, encode_utf8_all};
@@ -16,20 +16,20 @@ use rf2_values::Kind;
 use shown_names::Shown;
 use std::alloc::{AllocError, Global};
 
-/// What the name of a file of associations begins with.
+/// The beginning of the name of a file of associations.
 const ASSOCIATION: &[u8] = b"der2_cRefset_Association";
 
-/// How many bytes stand before the letters of a reference set's columns.
+/// The number of bytes before the letters of a reference set's columns.
 const BEFORE_LETTERS: usize = 5;
 
-/// Whether it is the letter of a column of a reference set.
+/// Whether the byte is a letter for a column of a reference set.
 pub(crate) fn is_column_letter(byte: u8) -> bool
     ensures { IsTrue result ↔ IsColumnLetter byte }
 {
     byte == b'c' || byte == b'i' || byte == b's'
 }
 
-/// Whether letters of columns stand first, as many as there are, and then `Refset_`.
+/// Whether the name begins with any number of column letters and then `Refset_`.
 fn begins_as_refset(name: &[u8]) -> bool
     ensures { IsTrue result ↔ BeginsAsRefset name.now }
 {
@@ -42,7 +42,7 @@ fn begins_as_refset(name: &[u8]) -> bool
     false
 }
 
-/// Whether it is the name of a file of a reference set that isn't one of associations.
+/// Whether it is the name of a file of a reference set that isn't an association reference set.
 fn is_member_name(name: &[u8]) -> bool
     ensures { IsTrue result ↔ IsMemberName name.now }
 {
@@ -52,7 +52,7 @@ fn is_member_name(name: &[u8]) -> bool
     !name.starts_with_str(ASSOCIATION) && begins_as_refset(&name[BEFORE_LETTERS..])
 }
 
-/// Whether what stands before the letters of a reference set's columns stands first.
+/// Whether the name begins with what comes before the column letters of a reference set.
 fn has_prefix(name: &[u8]) -> bool
     ensures { IsTrue result
         ↔ (OccursAt name.now (codes "der2_") 0 ⊎ OccursAt name.now (codes "sct2_") 0) }
@@ -60,7 +60,8 @@ fn has_prefix(name: &[u8]) -> bool
     name.starts_with_str(b"der2_") || name.starts_with_str(b"sct2_")
 }
 
-/// Whether the name of a file of the kind begins so, of those that each scope has.
+/// Whether the name begins like that of a file of this kind, among the files that belong to every
+/// scope.
 fn begins_basic(kind: Kind, name: &[u8]) -> bool
     ensures { IsTrue result ↔ Begins scopes.Basic kind name.now }
 {
@@ -74,7 +75,7 @@ fn begins_basic(kind: Kind, name: &[u8]) -> bool
     }
 }
 
-/// Whether the name of a file of the kind begins so.
+/// Whether the name begins like that of a file of this kind.
 fn begins(scope: Scope, kind: Kind, name: &[u8]) -> bool
     ensures { IsTrue result ↔ Begins scope kind name.now }
 {
@@ -87,7 +88,7 @@ fn begins(scope: Scope, kind: Kind, name: &[u8]) -> bool
     }
 }
 
-/// Whether the name is that of a file of the kind to take.
+/// Whether the name is that of a release file of this kind.
 fn is_taken(scope: Scope, kind: Kind, name: &[u8]) -> bool
     ensures { IsTrue result ↔ IsTaken scope kind name.now }
 {
@@ -97,8 +98,8 @@ fn is_taken(scope: Scope, kind: Kind, name: &[u8]) -> bool
     begins && holds && ends
 }
 
-/// The kind of the file with this name, if it is one to take in the scope: a text of a Delta or a
-/// Full release. Names are compared byte by byte.
+/// The kind of the file with this name, if it is a release file in this scope: a text file of a
+/// Delta or a Full release. Names are compared byte by byte.
 pub fn kind_to_take(name: &[u8], scope: Scope) -> Option<Kind>
     ensures { MatchOption result
         ((kind : Kind) → IsTaken scope kind name.now → ⊥)
@@ -121,7 +122,7 @@ pub fn kind_to_take(name: &[u8], scope: Scope) -> Option<Kind>
     }
 }
 
-/// What people are shown of a name or a path: a text without control characters.
+/// A name or a path as it is shown to people: without control characters.
 pub(crate) fn shown_name(alloc: Global, name: &[u8]) -> Result<String, AllocError>
     ensures shown { IfOk result (λ text. string_bytes text ≡ encode_utf8_all (shown name.now)) }
     ensures printable { IfOk result (λ text. AllByRecursion IsPrintable (string_bytes text)) }

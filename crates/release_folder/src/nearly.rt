@@ -1,9 +1,9 @@
-//! Names that people may take for those of release files.
+//! Names that people may mistake for those of release files.
 
 use crate::names::{is_column_letter, kind_to_take};
 use import_check::Scope;
 
-/// What the names of files begin with, in each scope.
+/// The beginnings of the names of release files that belong to every scope.
 const BEGINNINGS: [&str; 5] = [
     "sct2_Concept_",
     "sct2_Description_",
@@ -12,7 +12,7 @@ const BEGINNINGS: [&str; 5] = [
     "sct2_RelationshipConcreteValues_",
 ];
 
-/// Whether the name begins so, whatever the case of its letters.
+/// Whether the name begins like this, ignoring case.
 fn begins_with(name: &[u8], beginning: &[u8]) -> bool {
     match name.split_at_checked(beginning.len()) {
         Some((front, _)) => front.eq_ignore_ascii_case(beginning),
@@ -20,7 +20,7 @@ fn begins_with(name: &[u8], beginning: &[u8]) -> bool {
     }
 }
 
-/// Whether the name ends so, whatever the case of its letters.
+/// Whether the name ends like this, ignoring case.
 fn ends_with(name: &[u8], ending: &[u8]) -> bool {
     match name.split_at_checked(name.len().saturating_sub(ending.len())) {
         Some((_, back)) => back.eq_ignore_ascii_case(ending),
@@ -28,9 +28,9 @@ fn ends_with(name: &[u8], ending: &[u8]) -> bool {
     }
 }
 
-/// Whether the name at the end of a path isn't one to take in the scope, but would be if case
-/// didn't count, and if an `x`, as packages set before the names of files of a beta release,
-/// weren't there.
+/// Whether the last part of a path isn't the name of a release file in this scope, but would be if
+/// case were ignored and an `x` at its beginning were removed, as the file names of beta releases
+/// have it.
 pub fn is_nearly_to_take(path: &[u8], scope: Scope) -> bool {
     let name = match path.iter().rposition(|byte| *byte == b'/') {
         Some(at) => path.get(at.saturating_add(1)..).unwrap_or(path),
@@ -39,7 +39,7 @@ pub fn is_nearly_to_take(path: &[u8], scope: Scope) -> bool {
     kind_to_take(name, scope).is_none() && is_alike(name, scope)
 }
 
-/// Whether the name is like one to take.
+/// Whether the name is similar to that of a release file.
 fn is_alike(name: &[u8], scope: Scope) -> bool {
     let rest = match name {
         [b'x' | b'X', rest @ ..] => rest,
@@ -54,7 +54,7 @@ fn is_alike(name: &[u8], scope: Scope) -> bool {
     begins_alike(rest, scope) && holds && ends_with(rest, b".txt")
 }
 
-/// Whether a name begins like one to take.
+/// Whether a name begins similarly to that of a release file.
 fn begins_alike(name: &[u8], scope: Scope) -> bool {
     let begins = BEGINNINGS
         .iter()
@@ -66,7 +66,7 @@ fn begins_alike(name: &[u8], scope: Scope) -> bool {
         }
 }
 
-/// Whether a name begins like that of a file of a reference set.
+/// Whether a name begins similarly to that of a file of a reference set.
 fn is_like_member(name: &[u8]) -> bool {
     if !begins_with(name, b"der2_") && !begins_with(name, b"sct2_") {
         return false;

@@ -1,4 +1,4 @@
-//! What stands in the way of a release.
+//! Why a release can't be read, in detail.
 
 ghost use Rattle.std.specs.Prelude.{◌≡◌};
 ghost use Rattle.release_folder.specs.declared.obstacle.ReadFault.TheVariants.{OutOfMemory};
@@ -10,7 +10,7 @@ use std::fmt::{self, Display, Formatter};
 use std::io;
 use thiserror::Error;
 
-/// What is wrong with a folder or a file, for people.
+/// What is wrong with a folder or a file, to be shown to people.
 #[derive(Clone, Copy, Debug, Error)]
 pub enum Obstacle {
     #[error("{0}")]
@@ -28,12 +28,12 @@ pub enum Obstacle {
     TooLarge,
     #[error("the name of a file in it isn't UTF-8")]
     NotUtf8,
-    /// Neither a folder of the terminology is in it, nor the one of its reference sets.
+    /// The folder has neither the folder of the terminology nor that of the reference sets.
     #[error("no folder Terminology or {refset} in it")]
     NoParts {
         refset: &'static str,
     },
-    /// A package of several releases was named, and this is the folder of one of them.
+    /// A package of several releases was named; `inner` is the folder of one of them.
     #[error("no folder Terminology or {refset} in it; its folder {inner} is the one to name")]
     Package {
         refset: &'static str,
@@ -49,7 +49,7 @@ pub enum Obstacle {
 #[derive(Debug, Drop)]
 pub enum ReadFault {
     OutOfMemory,
-    /// The path is empty where memory ran out for it.
+    /// The path is empty if there was no memory for it.
     Met { path: String, obstacle: Obstacle },
     /// A name in this folder isn't UTF-8.
     Misnamed { folder: String, name: Vec<u8> },
@@ -59,7 +59,7 @@ impl ReadFault {
     ghost use Rattle.release_folder.specs.Faults.{IsFaultOf, folder_fault};
     ghost use Rattle.release_folder.specs.declared.fault.FolderFault.TheVariants.{NoFolder};
 
-    /// What is wrong with what stands at a path.
+    /// The fault for what is at a path.
     pub(crate) fn met(alloc: Global, path: &str, obstacle: Obstacle) -> ReadFault
         ensures { folder_fault result ≡ NoFolder }
     {
@@ -70,7 +70,7 @@ impl ReadFault {
         ReadFault::Met { path, obstacle }
     }
 
-    /// What the system said of what stands at a path.
+    /// The fault for an error of the system about a path.
     pub(crate) fn said(alloc: Global, path: &str, error: io::Error) -> ReadFault
         ensures { IsFaultOf error (folder_fault result) }
     {
@@ -80,7 +80,7 @@ impl ReadFault {
         }
     }
 
-    /// What programs are told.
+    /// The fault without details.
     pub fn fault(&self) -> FolderFault
         ensures { result ≡ folder_fault self.now }
     {

@@ -1,11 +1,11 @@
-//! The folders of a release that hold its reference sets.
+//! The folders of a release that contain its reference sets.
 
 use import_check::ReleaseFile;
 
 /// A folder of a release's `Refset`.
 #[derive(Drop)]
 pub struct Part {
-    /// Its name, as `Content`.
+    /// Its name, such as `Content`.
     pub folder: String,
     /// Its release files.
     pub files: Vec<ReleaseFile>,

@@ -1,4 +1,4 @@
-//! The files of a release's folder that aren't read, in whichever folder they stand.
+//! Finds the files below a release's folder that aren't read.
 
 ghost use Rattle.std.specs.Prelude.{◌≡◌, ◌↔◌, ◌++◌, IsTrue, IfOk};
 ghost use Rattle.release_folder.specs.Private.{IsInRefset, IsReadRefset, IsReadFolder};
@@ -14,11 +14,11 @@ use import_check::Scope;
 use std::alloc::{AllocError, Global};
 use std::fs::{self, File, Files};
 
-/// How many folders of a release are looked into at most.
+/// How many folders of a release are visited, at most.
 const MOST_FOLDERS: u32 = 10_000;
 
-/// The folders of a release that are still to be looked into, and the files that were passed over.
-/// Each is named by its path below the release's folder.
+/// The folders of a release that are still to be visited, and the files that aren't read. Each is
+/// named by its path below the release's folder.
 #[derive(Drop)]
 struct Walk {
     folders: Vec<String>,
@@ -26,8 +26,9 @@ struct Walk {
 }
 
 /// Tells the watcher which files below a release's folder aren't read, in the order of their paths.
-/// A folder that can't be listed is told as a file is, with a slash at its end. Links aren't
-/// followed, but for those in the place of the folders that are read.
+/// A folder that can't be listed, or isn't visited because there are too many, is named like a
+/// file, with a slash at its end. Links aren't followed, except where the folders that are read
+/// have to be.
 pub(crate) fn tell_passed_over<R: Files<File = File>, W: Watcher>(
     rt: &R,
     alloc: Global,
@@ -49,7 +50,7 @@ pub(crate) fn tell_passed_over<R: Files<File = File>, W: Watcher>(
     tell_all(alloc, walk, watcher)
 }
 
-/// Tells the files that were passed over, and the folders that are still to be looked into.
+/// Tells the watcher of the files that aren't read, and of the folders that weren't visited.
 fn tell_all<W: Watcher>(alloc: Global, walk: Walk, watcher: &mut W) -> Result<(), AllocError> {
     let mut passed = walk.passed;
     for folder in walk.folders {
@@ -62,7 +63,7 @@ fn tell_all<W: Watcher>(alloc: Global, walk: Walk, watcher: &mut W) -> Result<()
     Ok(())
 }
 
-/// Notes what stands in a folder: the folders in it, and the files that aren't read.
+/// Lists a folder: adds the folders in it, and the files that aren't read.
 fn look_into<R: Files<File = File>>(
     rt: &R,
     alloc: Global,
@@ -87,7 +88,7 @@ fn look_into<R: Files<File = File>>(
     Ok(())
 }
 
-/// The path of a folder of this name that stands in another one, if it is a folder to look into.
+/// The path of a folder's entry with this name, if that is a folder to visit.
 fn folder_named<R: Files<File = File>>(
     rt: &R,
     alloc: Global,
@@ -112,7 +113,7 @@ fn folder_named<R: Files<File = File>>(
     }
 }
 
-/// Whether a link in this place of a release is followed, as it is where the release is read.
+/// Whether a link at this path of a release is followed, because it is when the release is read.
 fn is_followed(path: &str, scope: Scope) -> bool {
     path == TERMINOLOGY
         || path == REFSET
@@ -122,7 +123,7 @@ fn is_followed(path: &str, scope: Scope) -> bool {
         }
 }
 
-/// Whether it is the path of what stands in Refset.
+/// Whether it is the path of an entry of `Refset`.
 fn is_below_refset(path: &str) -> bool {
     match path.rsplit_once('/') {
         Some((above, _)) => above == REFSET,
@@ -137,7 +138,7 @@ fn is_read(folder: &str, scope: Scope) -> bool
     folder == "Terminology/" || is_read_refset(folder, scope)
 }
 
-/// Whether it is a folder of Refset whose files are read.
+/// Whether it is a folder below `Refset` whose files are read.
 fn is_read_refset(folder: &str, scope: Scope) -> bool
     ensures { IsTrue result ↔ IsReadRefset scope folder.now }
 {
@@ -147,7 +148,7 @@ fn is_read_refset(folder: &str, scope: Scope) -> bool
     }
 }
 
-/// Whether it is the path of a folder that stands in Refset.
+/// Whether it is the path of a folder directly below `Refset`.
 fn is_in_refset(folder: &[u8]) -> bool
     ensures { IsTrue result ↔ IsInRefset folder.now }
 {
@@ -172,7 +173,7 @@ fn slashes_in(path: &[u8]) -> usize
     count
 }
 
-/// Whether a file of this name isn't read in this folder of a release.
+/// Whether a file of this name in this folder of a release isn't read.
 fn is_passed_over(folder: &str, name: &[u8], scope: Scope) -> bool
     ensures { IsTrue result ↔ IsPassedOver scope folder.now name.now }
 {

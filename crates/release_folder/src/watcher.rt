@@ -1,17 +1,17 @@
-//! What may be told while a release is read.
+//! What can be reported while a release is read.
 
-/// Is told what is done with each file of a release. Names and paths are given as people are shown
-/// them: on one line, with escapes for what a terminal would obey.
+/// Receives reports of what is done with each file of a release. Names and paths are in the form
+/// shown to people: on one line, with control characters escaped.
 pub trait Watcher {
-    /// The file has a name to take, and is read next.
+    /// The file is a release file, and is read next.
     fn reads(&mut self, name: &str);
 
     /// The file isn't read. It is named by its path below the release's folder. A path that ends
-    /// with a slash is that of a folder of which it isn't known what it holds.
+    /// with a slash is that of a folder whose contents aren't known.
     fn passes_over(&mut self, path: &str);
 }
 
-/// A watcher that passes nothing on.
+/// A watcher that does nothing.
 #[derive(Clone, Copy)]
 pub struct Unwatched;
 

@@ -1,4 +1,4 @@
--- What a release file is, and what is wrong with a file that is none.
+-- What a release file is, and what is wrong with a file that isn't one.
 use Rattle.std.specs.Prelude.{◌≡◌, ◌≢◌, ℕ, ◌+◌, ◌-◌, ◌≤◌, ◌<◌, ◌⊎◌, List, [], ◌∷◌, ◌++◌, length, map}
 use Rattle.std.specs.Prelude.{drop, nat_eq, slice_index, if◌then◌else◌}
 use Rattle.std.specs.List.{AllZip, starts_with}
@@ -15,7 +15,8 @@ use Rattle.rf2_values.specs.Row.{RowValue, Spells, line_limit}
 use Rattle.rf2_rows.specs.declared.shape.Shape.{Shape}
 use Rattle.rf2_rows.specs.Line.{header, HasShape, IsFaultOf}
 
--- what may end a line of this text: CR LF, or LF alone where the text itself doesn't end in CR
+-- the possible ends of a line with this text: CR LF, or LF alone if the text itself doesn't end
+-- with CR
 abbrev pub IsLineEnd : List ℕ → List ℕ → Type 0
 IsLineEnd text end =
     ((end ≡ 10 ∷ []) × (slice_index text (length text - 1) ≢ 13)) ⊎ (end ≡ 13 ∷ 10 ∷ [])
@@ -32,8 +33,8 @@ InLines (t ∷ u ∷ us) bytes =
 abbrev pub mark : List ℕ
 mark = 0xef ∷ 0xbb ∷ 0xbf ∷ []
 
--- the text is the column names of a file of the kind that has so many further columns, whose names
--- may be any
+-- the text has the column names of a file of the kind that has `n` further columns, whose names may
+-- be any
 abbrev pub IsHeader : Kind → ℕ → List ℕ → Type 0
 IsHeader kind.Concept n text = (n ≡ 0) × (text ≡ header kind.Concept)
 IsHeader kind.Description n text = (n ≡ 0) × (text ≡ header kind.Description)
@@ -44,15 +45,15 @@ IsHeader kind.Member n text =
     (names : List ℕ) × IsFurther names × (n ≡ length (further_columns names))
     × (text ≡ header kind.Member ++ names) × (length text ≤ line_limit)
 
--- each text spells the row of its place, which has the shape
+-- each text spells the row at the same position, which has this shape
 abbrev pub SpellsEach : Shape → List RowValue → List (List ℕ) → Type 0
 SpellsEach shape rows texts = AllZip (λ v text. HasShape shape v × Spells v text) rows texts
 
--- the shape of rows of the kind with so many further columns
+-- the shape of rows of the kind with `n` further columns
 abbrev pub shape_with : Kind → ℕ → Shape
 shape_with kind n = record { kind = kind; further = n }
 
--- An optional mark, the column names, and then one line for each row in order. Each line has as
+-- An optional mark, the column names, and then one line for each row, in order. Each line has as
 -- many columns as there are names.
 pub record IsReleaseFile (kind : Kind) (rows : List RowValue) (bytes : List ℕ) : Type 0 where
   pub front : List ℕ
@@ -72,7 +73,7 @@ pub record IsReleaseFile (kind : Kind) (rows : List RowValue) (bytes : List ℕ)
 abbrev pub without_mark : List ℕ → List ℕ
 without_mark bytes = if starts_with nat_eq bytes mark then drop 3 bytes else bytes
 
--- the lines of the bytes: a CR is no part of a line only where LF follows it
+-- the lines of the bytes: a CR doesn't belong to a line if LF follows it
 abbrev pub lines_in : List ℕ → List (List ℕ)
 lines_in bytes = map without_terminator (lines_of bytes)
 
@@ -84,16 +85,16 @@ IsFirstLineFault kind text f =
     × ((¬ (IsUtf8 text) × (f ≡ fault.NotUtf8))
     ⊎ (IsUtf8 text × ((n : ℕ) → ¬ (IsHeader kind n text)) × (f ≡ fault.Header))))
 
--- Of the lines from line 2 on, line n is the first that has a fault, and f is its fault:
--- those before it spell rows.
+-- Of the lines from line 2 on, line `n` is the first with a fault, which is `f`: the lines before
+-- it spell rows.
 abbrev pub IsFaultOfRows : Shape → List (List ℕ) → ℕ → LineFault → Type 0
 IsFaultOfRows shape lines n f =
     (rows : List RowValue) × (before : List (List ℕ)) × (text : List ℕ) × (after : List (List ℕ))
     × (lines ≡ before ++ text ∷ after) × SpellsEach shape rows before × IsFaultOf shape text f
     × (n ≡ length before + 2)
 
--- Line n, counted from 1, is the first that has a fault, and f is its fault.
--- No line at all is a first line that isn't the header.
+-- Line `n`, counted from 1, is the first with a fault, which is `f`. A file without lines counts as
+-- one whose first line isn't the header.
 abbrev pub IsFaultOfLines : Kind → List (List ℕ) → ℕ → LineFault → Type 0
 IsFaultOfLines kind [] n f = (n ≡ 1) × (f ≡ fault.Header)
 IsFaultOfLines kind (first ∷ others) n f =
@@ -104,7 +105,7 @@ IsFaultOfLines kind (first ∷ others) n f =
 abbrev pub IsFaultOfFile : Kind → List ℕ → ℕ → LineFault → Type 0
 IsFaultOfFile kind bytes n f = IsFaultOfLines kind (lines_in (without_mark bytes)) n f
 
--- a fault that reading gives is the one meant, where memory lasts
+-- a fault of reading is this one, unless memory ran out
 abbrev pub IsFaultThat : (ℕ → LineFault → Type 0) → FileFault → Type 0
 IsFaultThat P filefault.OutOfMemory = Unit {0}
 IsFaultThat P (filefault.Row n f) = P n f

@@ -1,4 +1,4 @@
--- What holds of every row, line and file. Each is proved by the function of its name in `laws`.
+-- Laws of all rows, lines and files. Each is proved by the function of its name in `laws`.
 use Rattle.std.specs.Prelude.{◌≡◌, ◌≢◌, ◌↔◌, ◌⊎◌, ℕ, ◌<◌, List, [], ◌∷◌, ◌++◌, length, decimal}
 use Rattle.std.specs.List.{All, AllByRecursion}
 use Rattle.rf2_values.specs.declared.row.Kind.{Kind}
@@ -22,8 +22,8 @@ SpellsOneRow =
 abbrev pub CanonicalSpells : Type 0
 CanonicalSpells = (v : RowValue) → IsVersion v → Spells v (canonical v)
 
--- The line of a member of a reference set is its six columns of a known meaning, and behind them
--- its further ones as they were.
+-- The line of a member of a reference set consists of its six columns with a known meaning,
+-- followed by its further columns, unchanged.
 abbrev pub MemberKeepsItsBytes : Type 0
 MemberKeepsItsBytes =
     (v : RowValue) (m : RefsetMember) → IsVersion v → v.body ≡ body.Member m
@@ -81,7 +81,7 @@ FileOrFault =
 
 -- ---- the lines of bytes
 
--- a text that a line may have: some bytes without LF
+-- the text of a line: at least one byte, and no LF
 pub record IsLineText (text : List ℕ) : Type 0 where
   pub some : 0 < length text
   pub no_lf : All (λ b. b ≢ 10) text
@@ -90,8 +90,8 @@ pub record IsLineText (text : List ℕ) : Type 0 where
 abbrev pub BytesAreTheirLines : Type 0
 BytesAreTheirLines = (bytes : List ℕ) → InLines (lines_in bytes) bytes
 
--- Bytes have these lines exactly where they are these texts in
--- order, each with a line end, which the last one may lack.
+-- Bytes have these lines exactly if they are these texts in order, each with a line end, which the
+-- last one may lack.
 abbrev pub LinesAreFound : Type 0
 LinesAreFound =
     (texts : List (List ℕ)) (bytes : List ℕ)

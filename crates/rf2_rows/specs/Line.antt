@@ -22,7 +22,7 @@ use Rattle.rf2_values.specs.Row.{kind_of, body_columns, line_limit, line_of}
 abbrev pub columns_of : List ℕ → List (List ℕ)
 columns_of text = slice_split (λ b. b == 9) text
 
--- what a column is for
+-- the contents of a column
 pub data Column : Type 0 where
   Identifier : Kind → Column
   Time : Column
@@ -42,7 +42,7 @@ common_layout kind =
     ∷ (codes "moduleId", ConceptReference)
     ∷ []
 
--- the columns of its own that a kind has after these
+-- the further columns that only this kind has
 abbrev pub own_layout : Kind → List (List ℕ × Column)
 own_layout kind.Concept = (codes "definitionStatusId", ConceptReference) ∷ []
 own_layout kind.Description =
@@ -78,7 +78,7 @@ own_layout kind.Member =
     ∷ (codes "referencedComponentId", ComponentReference)
     ∷ []
 
--- the columns behind these: members have as many as it is said, the other kinds have none
+-- the columns after these: `n` for members, and none for other kinds
 abbrev pub further_layout : Kind → ℕ → List Column
 further_layout kind.Concept n = []
 further_layout kind.Description n = []
@@ -90,7 +90,7 @@ further_layout kind.Member n = replicate n Any
 abbrev pub columns_in : List (List ℕ × Column) → List Column
 columns_in layout = map (λ c. c.1) layout
 
--- the columns that lines of the shape have of their own
+-- the columns of lines of the shape, besides the common ones
 abbrev pub own_columns : Shape → List Column
 own_columns shape =
     columns_in (own_layout shape.kind) ++ further_layout shape.kind shape.further
@@ -103,15 +103,15 @@ abbrev pub HasShape : Shape → RowValue → Type 0
 HasShape shape v =
     (kind_of v ≡ shape.kind) × (length (body_columns v.body) ≡ length (own_columns shape))
 
--- the names of the columns that each file of the kind has
+-- the column names of each file of the kind
 abbrev pub header : Kind → List ℕ
 header kind = line_of (map (λ c. c.0) (common_layout kind ++ own_layout kind))
 
--- the text spells a number with the property
+-- the text spells a number with this property
 abbrev pub SpellsSome : (ℕ → Type 0) → List ℕ → Type 0
 SpellsSome P text = (n : ℕ) × P n × (text ≡ decimal n)
 
--- the text may stand in the column
+-- the text is allowed in the column
 abbrev pub MayStand : Column → List ℕ → Type 0
 MayStand (Identifier kind) text = (n : ℕ) × IsIdOf kind n × SpellsId kind n text
 MayStand Time text = SpellsSome IsTime text
@@ -122,13 +122,13 @@ MayStand Number text = SpellsSome (λ n. n < 2 ^ 32) text
 MayStand Text text = IsText text
 MayStand Any text = IsColumn text
 
--- the fault of a text that is no SCTID of the class
+-- the fault of a text that isn't an SCTID of the class
 abbrev pub HasClassFault : Class → List ℕ → LineFault → Type 0
 HasClassFault c text f =
     (¬ (SpellsSome IsSctid text) × (f ≡ fault.Id))
     ⊎ (SpellsSome IsSctid text × ¬ (SpellsSome (IsOfClass c) text) × (f ≡ fault.Partition))
 
--- the fault of a text that is no identifier of the kind
+-- the fault of a text that isn't an identifier of the kind
 abbrev pub HasIdFault : Kind → List ℕ → LineFault → Type 0
 HasIdFault kind.Concept text f = HasClassFault class.Concept text f
 HasIdFault kind.Description text f = HasClassFault class.Description text f
@@ -139,7 +139,7 @@ HasIdFault kind.Concrete text f = HasClassFault class.Relationship text f
 HasIdFault kind.Member text f =
     ¬ (MayStand (Identifier kind.Member) text) × (f ≡ fault.MemberId)
 
--- the fault of a text that may not stand in the column
+-- the fault of a text that isn't allowed in the column
 abbrev pub HasFault : Column → List ℕ → LineFault → Type 0
 HasFault (Identifier kind) text f = HasIdFault kind text f
 HasFault Time text f = ¬ (MayStand Time text) × (f ≡ fault.Time)
@@ -150,7 +150,7 @@ HasFault Number text f = ¬ (MayStand Number text) × (f ≡ fault.Number)
 HasFault Text text f = ¬ (MayStand Text text) × (f ≡ fault.EmptyText)
 HasFault Any text f = ¬ (MayStand Any text) × (f ≡ fault.EmptyText)
 
--- the fault of the first text, from the left, that may not stand in its column
+-- the fault of the first text, from the left, that isn't allowed in its column
 unfoldable pub FirstFault : List Column → List (List ℕ) → LineFault → Type 0
 FirstFault [] texts f = ⊥
 FirstFault (c ∷ cs) [] f = ⊥
@@ -170,7 +170,7 @@ IsFaultOf shape text f =
     × ((¬ (IsUtf8 text) × (f ≡ fault.NotUtf8))
     ⊎ (IsUtf8 text × IsFaultOfColumns shape (columns_of text) f)))
 
--- a fault that reading gives is the one meant, where memory lasts
+-- a fault of reading is this one, unless memory ran out
 abbrev pub IsLineFaultThat : (LineFault → Type 0) → RowFault → Type 0
 IsLineFaultThat P rowfault.OutOfMemory = Unit {0}
 IsLineFaultThat P (rowfault.Line f) = P f

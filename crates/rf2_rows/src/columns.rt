@@ -17,7 +17,7 @@ use bstr::ByteSlice;
 use rf2_values::{Class, EffectiveTime, Further, Kind, Member, Sctid, Text, number};
 use std::alloc::{AllocError, Global};
 
-/// Puts the texts between the TABs into the vector, in place of what it held.
+/// Replaces the items of the vector by the texts between the TABs.
 pub(crate) fn put_columns<'a>(columns: &mut Vec<&'a [u8]>, text: &'a [u8]) -> Result<(), AllocError>
     ensures { OnOk result (texts columns.new.items ≡ columns_of text.now) }
 {
@@ -72,14 +72,14 @@ pub(crate) fn identifier(kind: Kind, text: &[u8]) -> Result<u128, LineFault>
     }
 }
 
-/// The day from which a row holds.
+/// The column `effectiveTime`.
 pub(crate) fn effective_time(text: &[u8]) -> Result<EffectiveTime, LineFault>
     ensures { MatchResult result (λ t. IsTime t × (text.now ≡ decimal t)) (HasFault Time text.now) }
 {
     EffectiveTime::parse(text).ok_or(LineFault::Time)
 }
 
-/// Whether a row is active.
+/// The column `active`.
 pub(crate) fn active(text: &[u8]) -> Result<bool, LineFault>
     ensures { MatchResult result (λ b. text.now ≡ flag b) (HasFault Active text.now) }
 {
@@ -129,7 +129,7 @@ pub(crate) fn group(text: &[u8]) -> Result<u32, LineFault>
     }
 }
 
-/// A text that isn't empty.
+/// A text that isn't empty, as the column requires.
 pub(crate) fn some_text(alloc: Global, text: &[u8]) -> Result<Text, RowFault>
     ensures { MatchResult result
         (λ t. IsText t × (t ≡ text.now))
@@ -141,7 +141,7 @@ pub(crate) fn some_text(alloc: Global, text: &[u8]) -> Result<Text, RowFault>
     }
 }
 
-/// The columns, each after a TAB.
+/// Joins the columns, with a TAB before each.
 #[tactic(auto, using(crate::proofs::Texts::joined_more))]
 fn join(alloc: Global, columns: &[&[u8]]) -> Result<Vec<u8>, AllocError>
     ensures { IfOk result (λ bytes. bytes.items ≡ tabbed (texts columns.now)) }
@@ -154,7 +154,7 @@ fn join(alloc: Global, columns: &[&[u8]]) -> Result<Vec<u8>, AllocError>
     Ok(bytes)
 }
 
-/// The columns behind those of a known meaning.
+/// The columns after those with a known meaning.
 pub(crate) fn further(alloc: Global, columns: &[&[u8]]) -> Result<Further, RowFault>
     requires { HaveNoTab (texts columns.now) }
     ensures { MatchResult result

@@ -1,4 +1,4 @@
-//! Why a line or a file could not be read.
+//! Why a line or a file couldn't be read.
 
 ghost use Rattle.std.specs.Prelude.{◌≡◌};
 ghost use Rattle.rf2_rows.specs.declared.fault.RowFault.TheVariants.{OutOfMemory, Line};
@@ -7,49 +7,49 @@ ghost use Rattle.rf2_rows.specs.declared.fault.FileFault.TheVariants as filefaul
 use std::alloc::{AllocError, AllocFailed};
 use thiserror::Error;
 
-/// What is wrong with a line: its first fault. Length, UTF-8, the header (of the first line) and
-/// the number of columns come first, in this order; then the columns from the left, each with the
-/// fault of its own.
+/// What is wrong with a line: its first fault. The length, UTF-8, the header (of the first line)
+/// and the number of columns are checked first, in this order; then the columns from the left, each
+/// of which has its own fault.
 #[derive(Clone, Copy, Debug, PartialEq, Eq, Error)]
 pub enum LineFault {
-    /// Counted without its line end.
+    /// The line is too long, not counting its end.
     #[error("the line is over 65,535 bytes")]
     LineLength,
     #[error("the line isn't UTF-8")]
     NotUtf8,
-    /// Only of a file's first line, or of a file without any.
+    /// Only for a file's first line, or for a file without lines.
     #[error("the first line isn't the column names")]
     Header,
     #[error("another number of columns")]
     Columns,
-    /// No SCTID: other characters, a leading zero, too few or
-    /// too many digits, or another check digit than Verhoeff's.
+    /// No SCTID: other characters, a leading zero, too few or too many digits, or a wrong check
+    /// digit.
     #[error("the id isn't an SCTID")]
     Id,
-    /// An SCTID whose partition is not that of the file's kind.
+    /// An SCTID whose partition isn't that of the file's kind.
     #[error("the id is of another kind")]
     Partition,
-    /// Not eight digits of a year from 1000, a month up to 12 and a day up to 31.
+    /// Not eight digits of a year from 1000 on, a month from 1 to 12 and a day from 1 to 31.
     #[error("the effective time isn't a date")]
     Time,
     #[error("the flag is neither 0 nor 1")]
     Active,
-    /// No SCTID, or one of a partition that may not stand in the column.
+    /// No SCTID, or one of a partition that isn't allowed in the column.
     #[error("a reference isn't an SCTID that may stand there")]
     Reference,
     /// In the column `relationshipGroup`.
     #[error("the number isn't one of 32 bits")]
     Number,
-    /// In the column `id` of a reference set file, whatever its pattern.
+    /// In the column `id` of a file of a reference set, whatever its pattern.
     #[error("the member id isn't a UUID of 36 bytes")]
     MemberId,
-    /// In the columns `languageCode`, `term` and `value`. Also a text with an LF, here or in a
-    /// further column of a member, which only a line handed over by itself can hold.
+    /// In the columns `languageCode`, `term` and `value`. Also for a text with an LF, here or in a
+    /// further column of a member, which is only possible in a line that is parsed by itself.
     #[error("the text is empty")]
     EmptyText,
 }
 
-/// Why a line gave no row: memory ran out, or the line is faulty.
+/// Why a line couldn't be read as a row: memory ran out, or the line is faulty.
 #[derive(Clone, Copy, Debug, PartialEq, Eq, Error)]
 pub enum RowFault {
     #[error("out of memory")]
@@ -74,14 +74,14 @@ impl From<AllocError> for RowFault {
     }
 }
 
-/// Why a file gave no rows: memory ran out, or a line is faulty.
+/// Why a file couldn't be read as rows: memory ran out, or a line is faulty.
 #[derive(Clone, Copy, Debug, PartialEq, Eq, Error)]
 pub enum FileFault {
     #[error("out of memory")]
     OutOfMemory,
     #[error("line {line}: {fault}")]
     Row {
-        /// The first faulty line, counted from 1. Line 1 holds the column names.
+        /// The first faulty line, counted from 1. Line 1 has the column names.
         line: usize,
         fault: LineFault,
     },
@@ -99,7 +99,7 @@ impl RowFault {
     ghost use Rattle.std.specs.Prelude.{◌≡◌};
     ghost use Rattle.rf2_rows.specs.Private.{at_line_of};
 
-    /// The fault of a file whose line it is.
+    /// The fault of a file in which this line is the faulty one.
     pub(crate) fn at_line(self, line: usize) -> FileFault
         ensures { result ≡ at_line_of line self }
     {

@@ -1,4 +1,4 @@
-//! Files: reading rows.
+//! Reads rows from files.
 
 ghost use Rattle.std.specs.Prelude.{◌≡◌, ℕ, ◌≤◌, ◌⊎◌, List, length, MatchResult, MatchOption};
 ghost use Rattle.std.specs.Prelude.{IfOk, IfErr};
@@ -39,12 +39,12 @@ const CONCRETE_HEADER: &[u8] =
     b"id\teffectiveTime\tactive\tmoduleId\tsourceId\tvalue\trelationshipGroup\ttypeId\t\
       characteristicTypeId\tmodifierId";
 
-/// The column names that each file of members of reference sets begins with.
+/// The column names with which each file of members of reference sets begins.
 const MEMBER_HEADER: &[u8] =
     b"id\teffectiveTime\tactive\tmoduleId\trefsetId\treferencedComponentId";
 
-/// The first line of a file of the kind, without its line end: the column names, joined by TAB.
-/// In a file of members of reference sets any further names may follow.
+/// The first line of a file of the kind, without its end: the column names, joined by TAB. In a
+/// file of members of reference sets any further names may follow.
 pub fn column_names(kind: Kind) -> &'static [u8]
     ensures { result.now ≡ header kind }
 {
@@ -58,7 +58,8 @@ pub fn column_names(kind: Kind) -> &'static [u8]
     }
 }
 
-/// The bytes after a byte order mark, where one leads. A second one stays.
+/// The bytes without the byte order mark at their beginning, if there is one. A second one isn't
+/// removed.
 fn without_mark(bytes: &[u8]) -> &[u8]
     ensures { result.now ≡ bytes_without_mark bytes.now }
 {
@@ -68,8 +69,8 @@ fn without_mark(bytes: &[u8]) -> &[u8]
     }
 }
 
-/// How many further columns a file of the kind has below these column names, which fit a line;
-/// nothing where they are none of such a file.
+/// How many further columns a file of the kind has with these column names, which are no longer
+/// than a line may be; none if they aren't the column names of such a file.
 fn further_names(kind: Kind, names: &[u8]) -> Option<usize>
     requires { length names.now ≤ line_limit }
     ensures { MatchOption result ((n : ℕ) → ¬ (IsHeader kind n names.now))
@@ -85,7 +86,7 @@ fn further_names(kind: Kind, names: &[u8]) -> Option<usize>
     }
 }
 
-/// The shape of the rows below a first line.
+/// The shape of the rows that follow a first line.
 fn read_first_line(kind: Kind, text: &[u8]) -> Result<Shape, LineFault>
     ensures { MatchResult result
         (λ shape. (shape.kind ≡ kind) × IsHeader kind shape.further text.now)
@@ -103,7 +104,7 @@ fn read_first_line(kind: Kind, text: &[u8]) -> Result<Shape, LineFault>
     }
 }
 
-/// The rows of the lines after the first.
+/// Reads the rows of the lines after the first.
 fn read_rows(alloc: Global, shape: Shape, lines: Lines<'_>) -> Result<Vec<Row>, FileFault>
     ensures { MatchResult result
         (λ rows. SpellsEach shape rows.items lines.entry)
@@ -120,8 +121,8 @@ fn read_rows(alloc: Global, shape: Shape, lines: Lines<'_>) -> Result<Vec<Row>, 
     Ok(rows)
 }
 
-/// The rows of a release file. `read_file` is the same with all clauses, which follow from these
-/// two.
+/// Reads the rows of a release file. `read_file` is the same function with all clauses, which
+/// follow from these two.
 fn read(alloc: Global, kind: Kind, bytes: &[u8]) -> Result<Vec<Row>, FileFault>
     ensures found { IfOk result (λ rows. IsReleaseFile kind rows.items bytes.now) }
     ensures fault { IfErr result (IsFaultThat (IsFaultOfFile kind bytes.now)) }
@@ -139,18 +140,18 @@ fn read(alloc: Global, kind: Kind, bytes: &[u8]) -> Result<Vec<Row>, FileFault>
     }
 }
 
-/// The rows of a release file of a kind, whole: an optional byte order mark, the column names, and
-/// one row a line, with as many columns as there are names. Lines end in CR LF or LF, which the last
-/// one may lack.
+/// Reads a whole release file of a kind: an optional byte order mark, the column names, and one row
+/// on each line, with as many columns as there are names. Lines end with CR LF or LF; the last line
+/// may lack its end.
 pub fn read_file(alloc: Global, kind: Kind, bytes: &[u8]) -> Result<Vec<Row>, FileFault>
-    // What is read is spelled so.
+    // The rows that are read are those in the file.
     ensures found { IfOk result (λ rows. IsReleaseFile kind rows.items bytes.now) }
-    // What is spelled so is read, unless memory runs out.
+    // A file with these rows is read, unless memory runs out.
     ensures only { (rows : List RowValue) → IsReleaseFile kind rows bytes.now
         → MatchResult result (λ v. v.items ≡ rows) (λ e. e ≡ filefault.OutOfMemory) }
-    // Which line is faulty, and how.
+    // A fault says which line is faulty, and how.
     ensures fault { IfErr result (IsFaultThat (IsFaultOfFile kind bytes.now)) }
-    // A file with that fault is refused so, unless memory runs out.
+    // A file with this fault is refused with it, unless memory runs out.
     ensures refused { (n : ℕ) (f : LineFault) → IsFaultOfFile kind bytes.now n f
         → MatchResult result (λ v. ⊥) (λ e. (e ≡ filefault.OutOfMemory) ⊎ (e ≡ filefault.Row n f)) }
 {

@@ -1,4 +1,4 @@
-//! Laws of the definitions. The functions do nothing: each has its law for a contract.
+//! Laws of the definitions, each the contract of a function that does nothing.
 
 ghost use Rattle.rf2_rows.specs.Laws.{SpellsOneRow, CanonicalSpells, OneFaultOfLine, RowHasNoFault};
 ghost use Rattle.rf2_rows.specs.Laws.{RowOrFault, MemberKeepsItsBytes};
@@ -15,7 +15,7 @@ pub fn canonical_spells()
     ensures { CanonicalSpells }
 {}
 
-/// The line of a member of a reference set ends with its further columns as they were.
+/// The line of a member of a reference set ends with its further columns, unchanged.
 pub fn member_keeps_its_bytes()
     ensures { MemberKeepsItsBytes }
 {}
@@ -60,7 +60,7 @@ pub fn bytes_are_their_lines()
     ensures { BytesAreTheirLines }
 {}
 
-/// Bytes have these lines exactly where they are these texts, each with a line end.
+/// Bytes have these lines exactly if they are these texts, each with a line end.
 pub fn lines_are_found()
     ensures { LinesAreFound }
 {}

@@ -1,7 +1,7 @@
 //! Release files of SNOMED CT: their rows, lines and faults.
 //!
-//! The files are those of the SNOMED CT Release File Specifications (RF2):
-//! text in UTF-8, one row a line, columns parted by TAB.
+//! The files are those of the SNOMED CT Release File Specifications (RF2): text in UTF-8, one row
+//! on each line, and columns separated by TAB.
 #![tactic(auto)]
 
 mod columns;

@@ -1,4 +1,4 @@
-//! Lines: reading a row.
+//! Reads a row from a line.
 
 ghost use Rattle.std.specs.Prelude.{◌≡◌, ◌≤◌, ◌⊎◌, ◌↔◌, ℕ, [], ◌∷◌, length, replicate, decimal};
 ghost use Rattle.std.specs.Prelude.{IsTrue, MatchResult, IfOk, IfErr};
@@ -63,7 +63,7 @@ fn read_common(
     })
 }
 
-/// The columns of its own that a concept has.
+/// The columns that only concepts have.
 #[tactic(auto, using(crate::proofs::Faults::fault_here, crate::proofs::Faults::fault_later, crate::proofs::Faults::fault_past_three))]
 fn read_concept(definition_status: &[u8]) -> Result<Body, LineFault>
     ensures { MatchResult result
@@ -76,7 +76,7 @@ fn read_concept(definition_status: &[u8]) -> Result<Body, LineFault>
     }))
 }
 
-/// The columns of its own that a description has.
+/// The columns that only descriptions have.
 #[tactic(auto, using(crate::proofs::Faults::fault_here, crate::proofs::Faults::fault_later, crate::proofs::Faults::fault_past_three))]
 fn read_description(
     alloc: Global,
@@ -102,7 +102,7 @@ fn read_description(
     }))
 }
 
-/// The columns of its own that a relationship has.
+/// The columns that only relationships have.
 #[tactic(auto, using(crate::proofs::Faults::fault_here, crate::proofs::Faults::fault_later, crate::proofs::Faults::fault_past_three))]
 fn read_relationship(
     source: &[u8],
@@ -132,7 +132,7 @@ fn read_relationship(
     }))
 }
 
-/// The columns of its own that a member of an association reference set has.
+/// The columns that only members of association reference sets have.
 #[tactic(auto, using(crate::proofs::Faults::fault_here, crate::proofs::Faults::fault_later, crate::proofs::Faults::fault_past_three))]
 fn read_association(refset: &[u8], referenced: &[u8], target: &[u8]) -> Result<Body, LineFault>
     ensures { MatchResult result
@@ -148,7 +148,7 @@ fn read_association(refset: &[u8], referenced: &[u8], target: &[u8]) -> Result<B
     }))
 }
 
-/// The columns of its own that a relationship with a concrete value has.
+/// The columns that only relationships with a concrete value have.
 #[tactic(auto, using(crate::proofs::Faults::fault_here, crate::proofs::Faults::fault_later, crate::proofs::Faults::fault_past_three))]
 fn read_concrete(
     alloc: Global,
@@ -179,7 +179,7 @@ fn read_concrete(
     }))
 }
 
-/// The columns of its own that a member of a reference set has.
+/// The columns that only members of other reference sets have.
 fn read_member(
     alloc: Global,
     refset: &[u8],
@@ -201,7 +201,7 @@ fn read_member(
     }))
 }
 
-/// Whether lines of the shape have so many columns of their own.
+/// Whether lines of the shape have this many columns besides the common ones.
 fn has_own_count(shape: Shape, count: usize) -> bool
     ensures { IsTrue result ↔ (count ≡ length (own_columns shape)) }
 {
@@ -214,7 +214,7 @@ fn has_own_count(shape: Shape, count: usize) -> bool
     }
 }
 
-/// The columns of its own that a line of the shape has.
+/// The columns of a line of the shape, besides the common ones.
 fn read_own(alloc: Global, shape: Shape, own: &[&[u8]]) -> Result<Body, RowFault>
     requires as_many { length own.now ≡ length (own_columns shape) }
     requires no_tab { HaveNoTab (texts own.now) }
@@ -259,8 +259,8 @@ fn read_columns(alloc: Global, shape: Shape, columns: &[&[u8]]) -> Result<Row, R
     ))
 }
 
-/// The row that a line spells. The vector is room for
-/// its columns, and what it holds doesn't matter.
+/// The row that a line spells. The vector is used for the line's columns; what was in it doesn't
+/// matter.
 pub(crate) fn read_line<'a>(
     alloc: Global,
     room: &mut Vec<&'a [u8]>,
@@ -281,14 +281,14 @@ pub(crate) fn read_line<'a>(
 
 /// The row that a line of a file of the shape spells, without its line end.
 pub fn parse_line(alloc: Global, shape: Shape, text: &[u8]) -> Result<Row, RowFault>
-    // What is read is spelled so.
+    // A row that is read is the one that the line spells.
     ensures found { IfOk result (λ v. HasShape shape v × Spells v text.now) }
-    // What is spelled so is read, unless memory runs out.
+    // A line that spells a row is read, unless memory runs out.
     ensures only { (v : RowValue) → HasShape shape v → Spells v text.now
         → MatchResult result (λ w. w ≡ v) (λ e. e ≡ rowfault.OutOfMemory) }
-    // How the line is faulty.
+    // A fault is the line's first fault.
     ensures fault { IfErr result (IsLineFaultThat (IsFaultOf shape text.now)) }
-    // A line with that fault is refused so, unless memory runs out.
+    // A line with this fault is refused with it, unless memory runs out.
     ensures refused { (f : LineFault) → IsFaultOf shape text.now f
         → MatchResult result (λ v. ⊥) (λ e. (e ≡ rowfault.OutOfMemory) ⊎ (e ≡ rowfault.Line f)) }
 {

@@ -1,4 +1,4 @@
-//! Lines: writing a row.
+//! Writes a row as a line.
 
 ghost use Rattle.std.specs.Prelude.{◌≡◌, ◌++◌, ◌∷◌, OnOk, OnErr, decimal};
 ghost use Rattle.rf2_values.specs.Row.{canonical, flag, id_text, body_columns};
@@ -50,7 +50,7 @@ fn put_id(line: &mut Vec<u8>, kind: Kind, id: u128) -> Result<(), AllocError>
     }
 }
 
-/// Appends the columns of its own that a kind has, each after a TAB.
+/// Appends the columns that only this kind has, with a TAB before each.
 fn put_own(line: &mut Vec<u8>, body: &Body) -> Result<(), AllocError>
     ensures ok { OnOk result (line.new.items ≡ line.old.items ++ tabbed (body_columns body.now)) }
     ensures stays { StaysInFront line.old.items line.new.items }
@@ -106,8 +106,8 @@ fn put_row(line: &mut Vec<u8>, row: &Row) -> Result<(), AllocError>
     Ok(())
 }
 
-/// Appends the row's canonical spelling, without a line end:
-/// as it was read, but member ids in lower case.
+/// Appends the row's canonical spelling, without a line end: it is that of the file, except that
+/// member ids are in lower case.
 pub fn write_row(row: &Row, out: &mut Vec<u8>) -> Result<(), AllocError>
     ensures ok { OnOk result (out.new.items ≡ out.old.items ++ canonical row.now) }
     ensures err { OnErr result (out.new.items ≡ out.old.items) }

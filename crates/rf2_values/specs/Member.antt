@@ -9,7 +9,7 @@ use Rattle.uuid.specs.Text.{parsed, hyphenated_text, lower}
 abbrev pub IsMemberByte : ℕ → Type 0
 IsMemberByte b = IsAsciiHexdigit b ⊎ (b ≡ 45)
 
--- 36 such bytes that are a UUID, whose 16 bytes, the highest first, are the number
+-- 36 such bytes that are a UUID, whose 16 bytes, as a big-endian number, are `n`
 pub record SpellsMember (n : ℕ) (text : List ℕ) : Type 0 where
   pub long : length text ≡ 36
   pub plain : All IsMemberByte text

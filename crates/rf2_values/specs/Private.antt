@@ -1,5 +1,5 @@
--- Words that private functions and proofs need, of this crate or of one above it.
--- No public clause cites them.
+-- Definitions for private functions and proofs, of this crate or of one above it. No public clause
+-- cites them.
 use Rattle.std.specs.Prelude.{◌≡◌, ◌≢◌, ℕ, ◌+◌, ◌<◌, ◌==◌, Bool, true, false, ◌&&◌, List, [], ◌∷◌}
 use Rattle.std.specs.Prelude.{length, slice_index, refl}
 use mathlib.Core.Path.{sym, ap, ◌∙◌}
@@ -16,18 +16,18 @@ use denote.Enum.Bare.{sameb}
 use denote.Enum.Declared.{tag_of}
 use Rattle.rf2_values.specs.Key.{kind_place, key_cmp}
 
--- what a text of decimal digits begins with: neither a plus sign nor a leading zero
+-- how decimal digits begin: neither with a plus sign nor with a leading zero
 pub record IsPlain (text : List ℕ) : Type 0 where
   pub some : 0 < length text
   pub no_plus : slice_index text 0 ≢ 43
   pub no_zero : slice_index text 0 ≡ 48 → length text ≡ 1
 
--- how many bytes columns take, each with a TAB before it
+-- the length of columns in bytes, with a TAB before each
 abbrev pub columns_len : List (List ℕ) → ℕ
 columns_len [] = 0
 columns_len (column ∷ columns) = length column + 1 + columns_len columns
 
--- the columns, each after a TAB
+-- the columns, with a TAB before each
 abbrev pub tabbed : List (List ℕ) → List ℕ
 tabbed columns = flat_map (λ column. 9 ∷ column) columns
 
@@ -36,7 +36,7 @@ pub keys_total : IsTotalOrder key_cmp
 keys_total = then_total (on_total (λ k. kind_place k.kind) nat_cmp_total)
     (then_total (on_total (λ k. k.id) nat_cmp_total) (on_total (λ k. k.time) nat_cmp_total))
 
--- ---- keys are equal exactly where none is above the other
+-- ---- keys are equal exactly if neither is greater than the other
 
 place_is_tag : (k : Kind) → kind_place k ≡ tag_of the_type k
 place_is_tag kind.Concept = refl
@@ -74,7 +74,7 @@ later_tie x y =
     ∙ ap (λ (b : Bool). is_eq (nat_cmp x.id y.id) && b) (unsigned_ties x.time y.time)
     ∙ sym (equal_then (nat_cmp x.id y.id) (nat_cmp x.time y.time))
 
--- the fields of two keys are equal exactly where neither key is above the other
+-- the fields of two keys are equal exactly if neither key is greater than the other
 pub keys_tie : (x y : Key)
     → (x.id == y.id && (x.time == y.time && sameb the_type x.kind y.kind)) ≡ is_eq (key_cmp x y)
 keys_tie x y =

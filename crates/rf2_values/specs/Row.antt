@@ -129,7 +129,7 @@ canonical v = line_of (id_text (kind_of v) v.id ∷ later_columns v)
 abbrev pub line_limit : ℕ
 line_limit = 65535
 
--- what a row may be
+-- which rows are valid
 pub record IsVersion (v : RowValue) : Type 0 where
   pub id : IsIdOf (kind_of v) v.id
   pub time : IsTime v.time
@@ -137,13 +137,12 @@ pub record IsVersion (v : RowValue) : Type 0 where
   pub body : IsBody v.body
   pub short : length (canonical v) ≤ line_limit
 
--- the texts are the spellings of the row's columns
+-- the texts spell the row's columns
 abbrev pub SpellsColumns : RowValue → List (List ℕ) → Type 0
 SpellsColumns v texts =
     (id : List ℕ) × SpellsId (kind_of v) v.id id × (texts ≡ id ∷ later_columns v)
 
--- the text is the spellings of the row's columns,
--- joined by TAB, in no more bytes than a line may have
+-- the text spells the row's columns, joined by TAB, in no more bytes than a line may have
 pub record Spells (v : RowValue) (text : List ℕ) : Type 0 where
   pub is_row : IsVersion v
   pub columns : (texts : List (List ℕ)) × SpellsColumns v texts × (text ≡ line_of texts)

@@ -20,7 +20,7 @@ products = (0 ∷ 1 ∷ 2 ∷ 3 ∷ 4 ∷ 5 ∷ 6 ∷ 7 ∷ 8 ∷ 9 ∷ [])
     ∷ (9 ∷ 8 ∷ 7 ∷ 6 ∷ 5 ∷ 4 ∷ 3 ∷ 2 ∷ 1 ∷ 0 ∷ [])
     ∷ []
 
--- Verhoeff's permutations: what becomes of a digit at each of eight places
+-- Verhoeff's permutations: what each digit is replaced by, at each of eight positions
 abbrev pub turns : List (List ℕ)
 turns = (0 ∷ 1 ∷ 2 ∷ 3 ∷ 4 ∷ 5 ∷ 6 ∷ 7 ∷ 8 ∷ 9 ∷ [])
     ∷ (1 ∷ 5 ∷ 7 ∷ 6 ∷ 2 ∷ 8 ∷ 3 ∷ 0 ∷ 9 ∷ 4 ∷ [])
@@ -36,13 +36,13 @@ turns = (0 ∷ 1 ∷ 2 ∷ 3 ∷ 4 ∷ 5 ∷ 6 ∷ 7 ∷ 8 ∷ 9 ∷ [])
 abbrev pub entry : List (List ℕ) → ℕ → ℕ → ℕ
 entry table row column = slice_index (slice_index_or table row []) column
 
--- the check after digits that are taken from the right, at the places from i on
+-- the check after further digits, taken from the right, at the positions from `i` on
 unfoldable pub check_from : ℕ → ℕ → List ℕ → ℕ
 check_from i check [] = check
 check_from i check (digit ∷ digits) =
     check_from (i + 1) (entry products check (entry turns (i % 8) digit)) digits
 
--- Verhoeff's check of a whole number: 0 where its last digit is right
+-- Verhoeff's check of a whole number: 0 if its last digit is right
 abbrev pub check_digits : ℕ → ℕ
 check_digits n = check_from 0 0 (reverse (digits_of 10 n))
 
@@ -52,7 +52,7 @@ pub record IsSctid (n : ℕ) : Type 0 where
   pub high : n < 10 ^ 18
   pub checked : check_digits n ≡ 0
 
--- what a partition, the two digits before the last, says
+-- what a partition, the two digits before the last, identifies
 abbrev pub class_of_partition : ℕ → Option Class
 class_of_partition partition =
     if partition == 0 || partition == 10 then Some Concept

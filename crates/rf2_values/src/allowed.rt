@@ -1,4 +1,4 @@
-//! What the columns of a row may be.
+//! Which values the columns of a row may have.
 
 ghost use Rattle.std.specs.Prelude.{◌≡◌, ◌↔◌, IsTrue};
 ghost use Rattle.rf2_values.specs.Row.{IsConcept, IsComponent, IsOfClass, IsIdOf, IsBody};
@@ -34,7 +34,7 @@ fn is_of_class(class: Class, id: u128) -> bool
     }
 }
 
-/// Whether the number may identify what rows of the kind describe.
+/// Whether the number may be an id of rows of the kind.
 pub(crate) fn is_id_of(kind: Kind, id: u128) -> bool
     ensures { IsTrue result ↔ IsIdOf kind id }
 {
@@ -50,7 +50,7 @@ pub(crate) fn is_id_of(kind: Kind, id: u128) -> bool
 fn is_description(columns: &Description) -> bool
     ensures { IsTrue result ↔ IsBody (Body.Description columns.now) }
 {
-    // Nothing is to be tested of the two texts: each `Text` is one.
+    // The two texts need no test, since each `Text` is valid.
     let _language_code = columns.language_code.as_bytes();
     let _term = columns.term.as_bytes();
     is_concept(columns.concept)
@@ -61,7 +61,7 @@ fn is_description(columns: &Description) -> bool
 fn is_relationship(columns: &Relationship) -> bool
     ensures { IsTrue result ↔ IsBody (Body.Relationship columns.now) }
 {
-    // Any group may stand in a line.
+    // A line may have any group.
     let _group = columns.group;
     is_concept(columns.source)
         && (is_concept(columns.destination)
@@ -80,7 +80,7 @@ fn is_association(columns: &Association) -> bool
 fn is_concrete(columns: &Concrete) -> bool
     ensures { IsTrue result ↔ IsBody (Body.Concrete columns.now) }
 {
-    // Nothing is to be tested of the value, which is a `Text`, and any group may stand in a line.
+    // The value needs no test, since each `Text` is valid, and a line may have any group.
     let _value = columns.value.as_bytes();
     let _group = columns.group;
     is_concept(columns.source)
@@ -92,7 +92,7 @@ fn is_concrete(columns: &Concrete) -> bool
 fn is_member(columns: &RefsetMember) -> bool
     ensures { IsTrue result ↔ IsBody (Body.Member columns.now) }
 {
-    // Nothing is to be tested of the further columns, which are a `Further`.
+    // The further columns need no test, since each `Further` is valid.
     let _further = columns.further.as_bytes();
     is_concept(columns.refset) && is_component(columns.referenced)
 }

@@ -11,8 +11,8 @@ use bstr::ByteSlice;
 use std::alloc::{AllocError, Global};
 use std::marker::Model;
 
-/// What a line has behind its columns of a known meaning, as it stands there: nothing, or further
-/// columns, each after a TAB.
+/// The part of a line after its columns with a known meaning, unchanged: nothing, or further
+/// columns with a TAB before each.
 #[derive(Debug, Drop)]
 pub struct Further {
     bytes: Vec<u8>,
@@ -37,7 +37,7 @@ fn begins_with_tab(bytes: &[u8]) -> bool
     }
 }
 
-/// Whether the bytes are further columns, each after a TAB.
+/// Whether the bytes are further columns, with a TAB before each.
 fn is_further(bytes: &[u8]) -> bool
     ensures { IsTrue result ↔ IsFurther bytes.now }
 {
@@ -52,7 +52,7 @@ fn count_tabs(bytes: &[u8]) -> usize
 }
 
 impl Further {
-    /// The further columns that these bytes are, if they are any.
+    /// The further columns that these bytes are, if they are valid.
     pub fn of(alloc: Global, bytes: &[u8]) -> Result<Option<Further>, AllocError>
         ensures { IfOk result
             (λ found. MatchOption found (IsFurther bytes.now → ⊥)
@@ -66,7 +66,7 @@ impl Further {
         }))
     }
 
-    /// How many further columns these bytes are, if they are any.
+    /// How many further columns these bytes have, if they are valid.
     pub fn count(bytes: &[u8]) -> Option<usize>
         ensures { MatchOption result (IsFurther bytes.now → ⊥)
             (λ n. IsFurther bytes.now × (n ≡ length (further_columns bytes.now))) }
@@ -86,7 +86,7 @@ impl Further {
         &self.bytes
     }
 
-    /// Equal further columns.
+    /// A copy.
     pub fn try_clone(&self, alloc: Global) -> Result<Further, AllocError>
         ensures { IfOk result (λ f. f ≡ self.now) }
     {

@@ -1,4 +1,4 @@
-//! Keys: what names a row.
+//! Keys, which identify rows.
 
 ghost use Rattle.std.specs.Prelude.{◌≡◌, refl};
 ghost use Rattle.std.proofs.Common.{rules};
@@ -12,8 +12,8 @@ use crate::row::Kind;
 use crate::time::EffectiveTime;
 use std::cmp::Ordering;
 
-/// What names a row among all rows: its kind, its id and its effective time, compared
-/// in this order. The fields stand in the order in which they take the least room.
+/// What identifies a row among all rows: its kind, its id and its effective time, compared in this
+/// order. The fields are declared in the order that takes the least memory.
 #[derive(Clone, Copy, Debug, PartialEq, Eq)]
 pub struct Key {
     /// An SCTID as a number, or a member id as one of 128 bits.
@@ -27,7 +27,7 @@ pub struct Key {
 const _: () = prove!(size_of::<Key>() == 32);
 
 impl Key {
-    /// How the two keys stand in order, as `<` and `cmp` say.
+    /// The order of the two keys, like `<` and `cmp`.
     pub fn compare(&self, other: &Key) -> Ordering
         ensures { result ≡ key_cmp self.now other.now }
     {

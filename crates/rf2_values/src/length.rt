@@ -1,4 +1,4 @@
-//! How long the line of a row is.
+//! The length of a row's line.
 
 ghost use Rattle.std.specs.Prelude.{◌≡◌, ◌+◌, ◌≤◌, ◌^◌, ◌↔◌, IsTrue, length, decimal};
 ghost use Rattle.rf2_values.specs.Text.{further_columns};
@@ -14,10 +14,10 @@ use crate::text::Text;
 use crate::time::EffectiveTime;
 use itoa::Buffer;
 
-/// The most bytes that a line has, without its line end.
+/// The greatest length of a line in bytes, without its end.
 pub const LINE_LIMIT: usize = 65_535;
 
-/// How many bytes the number takes, with the TAB before it.
+/// The length of the number in bytes, with the TAB before it.
 fn number_len(number: u64) -> u128
     ensures value { result ≡ length (decimal number) + 1 }
     ensures short { result ≤ 41 }
@@ -25,7 +25,7 @@ fn number_len(number: u64) -> u128
     Buffer::new().format(number).len() as u128 + 1
 }
 
-/// How many bytes the text takes, with the TAB before it.
+/// The length of the text in bytes, with the TAB before it.
 fn text_len(text: &Text) -> u128
     ensures value { result ≡ length text.now + 1 }
     ensures short { result ≤ 2 ^ 64 }
@@ -33,7 +33,7 @@ fn text_len(text: &Text) -> u128
     text.as_bytes().len() as u128 + 1
 }
 
-/// How many bytes the further columns take, with the TABs before them.
+/// The length of the further columns in bytes, with the TABs before them.
 fn further_len(further: &Further) -> u128
     ensures value { result ≡ columns_len (further_columns further.now) }
     ensures short { result ≤ 2 ^ 64 }
@@ -41,7 +41,7 @@ fn further_len(further: &Further) -> u128
     further.as_bytes().len() as u128
 }
 
-/// How many bytes the identifier of a row takes.
+/// The length of a row's identifier in bytes.
 fn id_len(kind: Kind, id: u128) -> u128
     ensures value { result ≡ length (id_text kind id) }
     ensures short { result ≤ 40 }
@@ -54,7 +54,7 @@ fn id_len(kind: Kind, id: u128) -> u128
     }
 }
 
-/// How many bytes the columns that only one kind has take, each with the TAB before it.
+/// The length of the columns that only this kind has in bytes, each with the TAB before it.
 fn body_len(body: &Body) -> u128
     ensures value { result ≡ columns_len (body_columns body.now) }
     ensures short { result ≤ 2 ^ 66 }
@@ -97,7 +97,7 @@ fn body_len(body: &Body) -> u128
     }
 }
 
-/// How many bytes the canonical spelling of a row with these columns has.
+/// The length of the canonical spelling of a row with these columns, in bytes.
 fn line_len(id: u128, time: EffectiveTime, active: bool, module_id: Sctid, body: &Body) -> u128
     ensures { result ≡ length (canonical (version id time active module_id body.now)) }
 {
@@ -109,8 +109,8 @@ fn line_len(id: u128, time: EffectiveTime, active: bool, module_id: Sctid, body:
         + body_len(body)
 }
 
-/// How many bytes the texts among the columns take, each with the TAB before it.
-/// Numbers take at most 126 more.
+/// The length of the texts among the columns in bytes, each with the TAB before it. The other
+/// columns have at most 126 more bytes.
 fn texts_len(body: &Body) -> u128
     requires { IsBody body.now }
     ensures many { columns_len (body_columns body.now) ≤ result + 126 }
@@ -124,8 +124,8 @@ fn texts_len(body: &Body) -> u128
     }
 }
 
-/// Whether the canonical spelling of a row with these columns fits a line.
-/// Mostly its texts tell, without counting digits.
+/// Whether the canonical spelling of a row with these columns fits in a line. Mostly the lengths of
+/// its texts decide this, and no digits are counted.
 pub(crate) fn is_short(
     id: u128,
     time: EffectiveTime,

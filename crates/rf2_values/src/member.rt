@@ -8,7 +8,7 @@ use std::alloc::AllocError;
 use std::marker::Model;
 use uuid::Uuid;
 
-/// The id of a member of a reference set: a UUID, of which clauses see the number.
+/// The id of a member of a reference set: a UUID, which clauses see as a number.
 #[derive(Clone, Copy, Debug, PartialEq, Eq)]
 pub struct Member {
     value: u128,
@@ -30,7 +30,7 @@ fn is_plain(text: &[u8]) -> bool
 }
 
 impl Member {
-    /// The member id with this number, whose highest byte comes first in a text.
+    /// The member id with this number, whose highest byte comes first in the text.
     pub fn of(value: u128) -> Member
         ensures { result ≡ value }
     {
@@ -53,7 +53,7 @@ impl Member {
         }
     }
 
-    /// Its 32 hexadecimal digits as one number, the first digit the highest.
+    /// Its 32 hexadecimal digits as one number, the first digit being the highest.
     pub fn value(self) -> u128
         ensures { result ≡ self }
     {

@@ -18,7 +18,7 @@ use crate::{allowed, length};
 use std::alloc::{AllocError, Global};
 use std::marker::Model;
 
-/// What a release file lists. The kinds stand in the order of keys.
+/// The kind of the rows in a release file. The kinds are in the order of keys.
 #[derive(Clone, Copy, Debug, PartialEq, Eq, PartialOrd, Ord)]
 pub enum Kind {
     Concept,
@@ -28,7 +28,7 @@ pub enum Kind {
     Association,
     /// A relationship whose destination is a value: a number, a text or a boolean.
     Concrete,
-    /// A member of a reference set of whatever pattern.
+    /// A member of a reference set of any other pattern.
     Member,
 }
 
@@ -44,11 +44,11 @@ pub struct Concept {
 pub struct Description {
     /// The column `conceptId`: what is described.
     pub concept: Sctid,
-    /// The column `languageCode`, kept as it stands.
+    /// The column `languageCode`, unchanged.
     pub language_code: Text,
     /// The column `typeId`: whether it is a fully specified name or a synonym.
     pub type_id: Sctid,
-    /// The column `term`, kept as it stands.
+    /// The column `term`, unchanged.
     pub term: Text,
     /// The column `caseSignificanceId`.
     pub case_significance: Sctid,
@@ -61,9 +61,9 @@ pub struct Relationship {
     pub source: Sctid,
     /// The column `destinationId`.
     pub destination: Sctid,
-    /// The column `relationshipGroup`: 0 where the relationship stands alone.
+    /// The column `relationshipGroup`: 0 if the relationship belongs to no group.
     pub group: u32,
-    /// The column `typeId`: what the source has to do with the destination.
+    /// The column `typeId`: how the source is related to the destination.
     pub type_id: Sctid,
     /// The column `characteristicTypeId`: whether it is inferred, and how.
     pub characteristic_type: Sctid,
@@ -87,9 +87,9 @@ pub struct Association {
 pub struct Concrete {
     /// The column `sourceId`.
     pub source: Sctid,
-    /// The column `value`, kept as it stands: `#` and a number, a text in quotes, or a boolean.
+    /// The column `value`, unchanged: `#` and a number, a text in quotes, or a boolean.
     pub value: Text,
-    /// The column `relationshipGroup`: 0 where the relationship stands alone.
+    /// The column `relationshipGroup`: 0 if the relationship belongs to no group.
     pub group: u32,
     /// The column `typeId`: what the value says of the source.
     pub type_id: Sctid,
@@ -99,8 +99,8 @@ pub struct Concrete {
     pub modifier: Sctid,
 }
 
-/// The columns that only members of reference sets have. What stands behind those that each
-/// reference set has is kept as it stands.
+/// The columns that only members of reference sets have. The columns after those that all reference
+/// sets have are kept unchanged.
 #[derive(Debug, Drop, PartialEq, Eq)]
 pub struct RefsetMember {
     /// The column `refsetId`: the reference set.
@@ -123,7 +123,7 @@ pub enum Body {
 }
 
 impl Body {
-    /// The kind whose columns they are.
+    /// The kind that has these columns.
     pub fn kind(&self) -> Kind
         ensures { result ≡ kind_of_body self.now }
     {
@@ -137,7 +137,7 @@ impl Body {
         }
     }
 
-    /// An equal body.
+    /// A copy.
     pub fn try_clone(&self, alloc: Global) -> Result<Body, AllocError>
         ensures { IfOk result (λ b. b ≡ self.now) }
     {
@@ -176,7 +176,7 @@ pub struct Row {
     pub id: u128,
     /// The column `effectiveTime`: the day from which this version holds.
     pub time: EffectiveTime,
-    /// The column `active`: false where the component is retired on that day.
+    /// The column `active`: false if the component is retired on that day.
     pub active: bool,
     /// The column `moduleId`: the module that publishes the version.
     pub module_id: Sctid,
@@ -198,7 +198,7 @@ impl Model for Row {
 }
 
 impl Row {
-    /// The row with these columns, where a line of a release file may hold them.
+    /// The row with these columns, if a line of a release file may have them.
     pub fn of(
         id: u128,
         time: EffectiveTime,
@@ -220,7 +220,7 @@ impl Row {
         }
     }
 
-    /// The row with these columns, which a line may hold.
+    /// The row with these columns, which a line may have.
     pub fn new(id: u128, time: EffectiveTime, active: bool, module_id: Sctid, body: Body) -> Row
         requires { IsVersion (version id time active module_id body) }
         ensures { result ≡ version id time active module_id body }
@@ -234,7 +234,7 @@ impl Row {
         }
     }
 
-    /// What the row is a version of.
+    /// The row's kind.
     pub fn kind(&self) -> Kind
         ensures kind { result ≡ kind_of self.now }
         ensures is_row { IsVersion self.now }
@@ -242,7 +242,7 @@ impl Row {
         self.body.kind()
     }
 
-    /// What names the row.
+    /// The row's key, which identifies it.
     pub fn key(&self) -> Key
         ensures key { result ≡ key_of self.now }
         ensures is_row { IsVersion self.now }
@@ -261,7 +261,7 @@ impl Row {
         self == other
     }
 
-    /// An equal row.
+    /// A copy.
     pub fn try_clone(&self, alloc: Global) -> Result<Row, AllocError>
         ensures { IfOk result (λ r. r ≡ self.now) }
     {

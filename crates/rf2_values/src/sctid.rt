@@ -24,8 +24,8 @@ const PRODUCTS: [[u8; 10]; 10] = [
     [9, 8, 7, 6, 5, 4, 3, 2, 1, 0],
 ];
 
-/// Verhoeff's permutations at the places 0, 2, 4 and 6, counted from the right:
-/// what becomes of a digit that no other stands before.
+/// Verhoeff's permutations at the positions 0, 2, 4 and 6, counted from the right: what each digit
+/// is replaced by.
 const TURNS: [[u8; 10]; 4] = [
     [0, 1, 2, 3, 4, 5, 6, 7, 8, 9],
     [5, 8, 0, 3, 7, 9, 6, 1, 4, 2],
@@ -33,8 +33,9 @@ const TURNS: [[u8; 10]; 4] = [
     [2, 7, 9, 3, 8, 0, 6, 4, 1, 5],
 ];
 
-/// The product of what becomes of the two digits of a number below 100, at each of four pairs of
-/// places: of the right one at the places 0, 2, 4 and 6, of the left one at 1, 3, 5 and 7.
+/// The product of the replacements of the two digits of a number below 100, at each of four pairs
+/// of positions: of the right digit at the positions 0, 2, 4 and 6, of the left one at 1, 3, 5 and
+/// 7.
 const PAIRS: [[u8; 100]; 4] = [
     [
         1, 2, 3, 4, 0, 9, 5, 6, 7, 8, 5, 6, 7, 8, 9, 0, 1, 2, 3, 4, 7, 8, 9, 5, 6, 3, 4, 0, 1, 2,
@@ -62,7 +63,8 @@ const PAIRS: [[u8; 100]; 4] = [
     ],
 ];
 
-/// What an identifier identifies, by its partition: the two digits before the check digit.
+/// What kind of component an identifier identifies, according to its partition: the two digits
+/// before the check digit.
 #[derive(Clone, Copy, Debug, PartialEq, Eq)]
 pub enum Class {
     Concept,
@@ -86,14 +88,14 @@ impl Model for Sctid {
     ghost inverse = { λ n. record { value = n } };
 }
 
-/// Verhoeff's check of a number's digits: 0 where the last digit is right.
+/// Verhoeff's check of a number's digits: 0 if the last digit is right.
 fn check(number: u64) -> u8
     ensures { result ≡ check_digits number }
 {
     let mut check = 0u8;
     let mut rest = number;
     let mut pair = 0usize;
-    // The product is associative, so that two digits cost one step.
+    // The product is associative, and so two digits need only one step.
     while rest >= 10 {
         let turned = PAIRS[pair % 4][(rest % 100) as usize];
         check = PRODUCTS[check as usize][turned as usize];
@@ -108,7 +110,7 @@ fn check(number: u64) -> u8
 }
 
 /// Whether the number is the identifier of a module, a type or another value of SNOMED CT's
-/// metadata that stands in many rows. The prover has checked their digits.
+/// metadata that occurs in many rows. The prover has checked their digits.
 fn is_metadata(value: u64) -> bool
     ensures { IsTrue result → IsSctid value }
 {
@@ -156,8 +158,8 @@ impl Sctid {
         Sctid::of(number::parse(text)?)
     }
 
-    /// What it identifies, where its partition is one of 00, 01, 02
-    /// (short form) and 10, 11, 12 (long form, with a namespace).
+    /// What it identifies, if its partition is one of 00, 01, 02 (short form) and 10, 11, 12 (long
+    /// form, with a namespace).
     pub fn class(self) -> Option<Class>
         ensures { result ≡ class_of self }
     {
@@ -169,7 +171,7 @@ impl Sctid {
         }
     }
 
-    /// Its digits as a number, the check digit among them.
+    /// Its digits as a number, including the check digit.
     pub fn value(self) -> u64
         ensures value { result ≡ self }
         ensures is_sctid { IsSctid result }

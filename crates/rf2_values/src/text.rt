@@ -1,4 +1,4 @@
-//! Texts of columns.
+//! The texts in columns.
 
 ghost use Rattle.std.specs.Prelude.{◌≡◌, nat_eq, ℕ, IfOk, MatchOption, IsTrue, ◌↔◌, ⊤, length, ◌≤◌};
 ghost use Rattle.std.specs.Prelude.{List};
@@ -10,7 +10,7 @@ use bstr::ByteSlice;
 use std::alloc::{AllocError, Global};
 use std::marker::Model;
 
-/// Some text of a line, without TAB and LF.
+/// A text in a line, which isn't empty and has no TAB and no LF.
 #[derive(Debug, Drop)]
 pub struct Text {
     bytes: Vec<u8>,
@@ -24,7 +24,7 @@ impl Model for Text {
     ghost invariant = { λ t. IsText t.bytes.items };
 }
 
-/// Whether the bytes are some text without TAB and LF.
+/// Whether the bytes are a text: not empty, UTF-8, and without TAB and LF.
 fn is_text(bytes: &[u8]) -> bool
     ensures { IsTrue result ↔ IsText bytes.now }
 {
@@ -32,7 +32,7 @@ fn is_text(bytes: &[u8]) -> bool
 }
 
 impl Text {
-    /// The text of these bytes, if they are one.
+    /// The text of these bytes, if they are valid.
     pub fn of(alloc: Global, bytes: &[u8]) -> Result<Option<Text>, AllocError>
         ensures { IfOk result
             (λ found. MatchOption found (IsText bytes.now → ⊥) (λ t. (t ≡ bytes.now) × IsText t)) }
@@ -53,7 +53,7 @@ impl Text {
         &self.bytes
     }
 
-    /// An equal text.
+    /// A copy.
     pub fn try_clone(&self, alloc: Global) -> Result<Text, AllocError>
         ensures { IfOk result (λ t. t ≡ self.now) }
     {

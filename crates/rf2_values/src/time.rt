@@ -1,4 +1,4 @@
-//! The day from which a row holds.
+//! The day from which a row is valid.
 
 ghost use Rattle.std.specs.Prelude.{◌≡◌, ℕ, Some, IfSome, SomeIff, decimal};
 ghost use Rattle.rf2_values.specs.Time.{IsTime};
@@ -6,8 +6,8 @@ ghost use Rattle.rf2_values.specs.Time.{IsTime};
 use crate::number;
 use std::marker::Model;
 
-/// The column `effectiveTime`: a day, as the number that its eight digits (year, month, day) spell.
-/// Each month may have 31 days.
+/// The column `effectiveTime`: a day, as the number of its eight digits (year, month, day). Every
+/// month may have 31 days.
 #[derive(Clone, Copy, Debug, PartialEq, Eq, PartialOrd, Ord)]
 pub struct EffectiveTime {
     value: u32,
@@ -36,7 +36,7 @@ impl EffectiveTime {
         }
     }
 
-    /// The day that the text spells, in eight digits.
+    /// The day that the text spells, with eight digits.
     pub fn parse(text: &[u8]) -> Option<EffectiveTime>
         ensures found { IfSome result (λ t. IsTime t × (text.now ≡ decimal t)) }
         ensures only { (t : ℕ) → IsTime t → text.now ≡ decimal t → result ≡ Some t }
@@ -44,7 +44,7 @@ impl EffectiveTime {
         EffectiveTime::of(u32::try_from(number::parse(text)?).ok()?)
     }
 
-    /// Year, month and day as one number of eight digits, as 20200131.
+    /// Year, month and day as one number of eight digits, such as 20200131.
     pub fn value(self) -> u32
         ensures value { result ≡ self }
         ensures is_time { IsTime result }

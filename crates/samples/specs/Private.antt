@@ -1,2 +1,2 @@
--- Words that private functions and proofs of this crate need. No public clause cites them.
+-- Definitions for private functions and proofs of this crate. No public clause cites them.
 pub mod SampleFiles

@@ -8,8 +8,8 @@ use Rattle.rf2_values.specs.declared.row.Kind.TheVariants as kind
 use Rattle.rf2_values.specs.Row.{line_of}
 use Rattle.rf2_rows.specs.Line.{header}
 
--- the file of a kind that has these rows, each by its columns:
--- the column names and the rows, with a CR LF behind each line
+-- the file of a kind with these rows, each given by its columns: the column names and the rows,
+-- each line followed by CR LF
 abbrev pub file_with : Kind → List (List (List ℕ)) → Kind × List ℕ
 file_with kind rows =
     (kind, flat_map (λ line. line ++ 13 ∷ 10 ∷ []) (header kind ∷ map line_of rows))
@@ -72,8 +72,8 @@ second_files =
     ∷ file_with kind.Association (association time ∷ [])
     ∷ []
 
--- July 2020: a row that the first one has, a concept's
--- retirement, and a concept that the first one lacks
+-- July 2020: a row that the first one has too, the retirement of a concept, and a concept that the
+-- first one lacks
 abbrev pub third_files : List (Kind × List ℕ)
 third_files =
     file_with kind.Concept

@@ -81,8 +81,8 @@ const SECOND: [SampleFile; 4] = [
     },
 ];
 
-/// The release of July 2020: a row that the first one has, a
-/// concept's retirement, and a concept that the first one lacks.
+/// The release of July 2020: a row that the first one has too, the retirement of a concept, and a
+/// concept that the first one lacks.
 const THIRD: [SampleFile; 1] = [SampleFile {
     name: "sct2_Concept_Delta_INT_20200731.txt",
     kind: Kind::Concept,
@@ -92,7 +92,7 @@ const THIRD: [SampleFile; 1] = [SampleFile {
            3000005\t20200131\t1\t900000000000207008\t900000000000074008\r\n",
 }];
 
-/// The release that has these files.
+/// The release of these files.
 fn release_of(alloc: Global, samples: &[SampleFile]) -> Result<Release, AllocError>
     ensures { IfOk result (λ release. files_of release ≡ texts_of samples.now) }
 {
@@ -107,8 +107,8 @@ fn release_of(alloc: Global, samples: &[SampleFile]) -> Result<Release, AllocErr
     Ok(Release { files })
 }
 
-/// The sample release with this name, one of `r1`, `r2` and `r3`: files as
-/// a release folder of SNOMED CT has them, with lines that end in CR LF.
+/// The sample release with this name, one of `r1`, `r2` and `r3`: with files like those in a
+/// release folder of SNOMED CT, whose lines end with CR LF.
 pub fn sample(alloc: Global, name: &str) -> Result<Option<Release>, AllocError>
     ensures { IfOk result (λ found. option_map files_of found ≡ sample_files name.now) }
 {

@@ -9,14 +9,14 @@ use std::process::ExitCode;
 use std::rt::HostRuntime;
 use std::{env, io};
 
-/// Opens `/` three times, so that descriptors 0 to 2 are taken even if the program was started
-/// without them; else the store's file would get one of them, and replies would be written into
-/// it. A folder can be neither read nor written.
+/// Opens `/` three times, so that descriptors 0 to 2 are in use even if the program was started
+/// without them. Otherwise the store's file could get one of them, and replies would be written
+/// into it. A folder can be neither read nor written.
 fn hold_standard_descriptors(rt: &HostRuntime) -> io::Result<[File; 3]> {
     Ok([fs::open(rt, "/")?, fs::open(rt, "/")?, fs::open(rt, "/")?])
 }
 
-/// The words of the command line, of which the first is the program's name.
+/// The words of the command line, beginning with the program's name.
 fn words_of(rt: &HostRuntime) -> io::Result<Vec<String>> {
     Ok(env::args(rt)?.collect(rt.alloc())?)
 }

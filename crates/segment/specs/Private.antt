@@ -1,4 +1,4 @@
--- Words that private functions and proofs need, of this crate or of one above it.
--- No public clause cites them.
+-- Definitions for private functions and proofs, of this crate or of one above it. No public clause
+-- cites them.
 pub mod Reading
 pub mod Finding

@@ -81,7 +81,7 @@ fn behind_member(bytes: &[u8]) -> Option<&[u8]>
     Some(rest)
 }
 
-/// The bytes behind the fields that bodies of this kind have.
+/// The bytes after the fields of a body of this kind.
 fn behind_body(kind: Kind, bytes: &[u8]) -> Option<&[u8]>
     ensures { option_map (λ p. p.1) (fields_at (body_forms kind) bytes.now)
         ≡ option_map (λ rest. rest.now) result }
@@ -96,7 +96,7 @@ fn behind_body(kind: Kind, bytes: &[u8]) -> Option<&[u8]>
     }
 }
 
-/// The bytes behind the fields of a record.
+/// The bytes after the fields of a record.
 fn behind_fields(bytes: &[u8]) -> Option<&[u8]>
     ensures { (s : StampedRow) (rest : List ℕ) → IsStamped s
         → bytes.now ≡ spelled (fields_of s) ++ rest
@@ -111,8 +111,8 @@ fn behind_fields(bytes: &[u8]) -> Option<&[u8]>
     behind_body(kind, rest)
 }
 
-/// The fields of the record at the front, where their checksum stands before them, and the bytes
-/// after the record.
+/// The fields of the first record, if the checksum before them is right, and the bytes after the
+/// record.
 pub(crate) fn read_checked_bytes(bytes: &[u8]) -> Option<(&[u8], &[u8])>
     ensures { Splits forms.Checked bytes.now (option_map (λ p. (p.0.now, p.1.now)) result) }
 {

@@ -1,4 +1,4 @@
-//! The columns of a row, from the fields of its record.
+//! Makes the columns of a row from the fields of its record.
 
 ghost use Rattle.std.specs.Prelude.{◌≡◌, [], ◌∷◌};
 ghost use Rattle.std.specs.Int.{w64};

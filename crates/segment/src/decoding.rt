@@ -1,4 +1,4 @@
-//! Rows, from the bytes of their records.
+//! Decodes rows from the bytes of their records.
 
 ghost use Rattle.std.specs.Prelude.{◌≡◌, ◌↔◌, ℕ, List, [], ◌∷◌, ◌++◌, IfOk, MatchResult, IsTrue};
 ghost use Rattle.std.specs.Option.{option_map};
@@ -17,7 +17,7 @@ use checksum::Form;
 use history_model::StampedRow;
 use std::alloc::Global;
 
-/// The fields of the record that bytes begin with, and the bytes after the record.
+/// The fields of the first record in the bytes, and the bytes after the record.
 fn split_record(form: Form, bytes: &[u8]) -> Option<(&[u8], &[u8])>
     ensures { Splits form bytes.now (option_map (λ p. (p.0.now, p.1.now)) result) }
 {
@@ -27,7 +27,7 @@ fn split_record(form: Form, bytes: &[u8]) -> Option<(&[u8], &[u8])>
     }
 }
 
-/// The row whose record bytes begin with, and the bytes after the record.
+/// The row of the first record in the bytes, and the bytes after the record.
 fn next_record(alloc: Global, form: Form, bytes: &[u8]) -> Result<(StampedRow, &[u8]), SegmentFault>
     ensures { FindsRecord form bytes.now result }
 {
@@ -38,7 +38,7 @@ fn next_record(alloc: Global, form: Form, bytes: &[u8]) -> Result<(StampedRow, &
     Ok((row, rest))
 }
 
-/// Whether the row's key is above those of rows in key order.
+/// Whether the row's key is greater than those of rows in key order.
 fn comes_after(rows: &[StampedRow], row: &StampedRow) -> bool
     requires { IsAscending stamped_cmp rows.now }
     ensures { IsTrue result ↔ IsAscending stamped_cmp (rows.now ++ row.now ∷ []) }
@@ -49,7 +49,7 @@ fn comes_after(rows: &[StampedRow], row: &StampedRow) -> bool
     }
 }
 
-/// The rows of a segment: what `encode` makes, and nothing else.
+/// Decodes the rows of a segment. It accepts exactly the bytes that `encode` makes.
 pub fn decode(alloc: Global, form: Form, bytes: &[u8]) -> Result<Vec<StampedRow>, SegmentFault>
     ensures found { IfOk result (λ rows. IsSegmentIn form rows.items bytes.now) }
     ensures only { (rows : List StampedRow) → IsSegmentIn form rows bytes.now
@@ -68,7 +68,7 @@ pub fn decode(alloc: Global, form: Form, bytes: &[u8]) -> Result<Vec<StampedRow>
     Ok(rows)
 }
 
-/// The row of the record at a place, and the place after the record.
+/// Decodes the record at an offset, and returns its row and the offset after the record.
 pub fn record_at(
     alloc: Global,
     form: Form,

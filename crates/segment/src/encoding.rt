@@ -1,4 +1,4 @@
-//! Rows as the bytes of their records.
+//! Encodes rows as the bytes of their records.
 
 ghost use Rattle.std.specs.Prelude.{◌≡◌, ℕ, ◌+◌, ◌-◌, ◌++◌, ◌^◌, ◌<◌, ◌≤◌, OnOk, IfOk, length, min};
 ghost use Rattle.std.specs.List.{AllByRecursion};
@@ -37,7 +37,7 @@ fn code_of_active(active: bool) -> u8
     u8::from(active)
 }
 
-/// How many bytes the texts of a body have.
+/// The total length of the texts of a body, in bytes.
 fn text_bytes(body: &Body) -> u32
     requires { texts_len body.now ≤ line_limit }
     ensures { result ≡ texts_len body.now }
@@ -53,7 +53,7 @@ fn text_bytes(body: &Body) -> u32
     }
 }
 
-/// How many bytes a record of this kind has besides its texts.
+/// The length of a record of this kind in bytes, without its texts.
 fn fixed_bytes(kind: Kind) -> u32
     ensures { result ≡ fixed_len kind }
 {
@@ -67,7 +67,7 @@ fn fixed_bytes(kind: Kind) -> u32
     }
 }
 
-/// How many bytes the record of a row has.
+/// The length of a row's record, in bytes.
 #[tactic(auto, using(crate::proofs::RecordLaws::record_size, crate::proofs::RecordLaws::texts_room))]
 pub(crate) fn record_len(stamped: &StampedRow) -> u32
     ensures { result ≡ length (record_of stamped.now) }
@@ -143,7 +143,7 @@ fn put_body(out: &mut Vec<u8>, body: &Body) -> Result<(), AllocError>
     }
 }
 
-/// The fields of a record.
+/// Appends the fields of a record.
 fn put_fields(out: &mut Vec<u8>, stamped: &StampedRow) -> Result<(), AllocError>
     requires { 1 ≤ stamped.now.import }
     ensures bytes { OnOk result (out.new.items ≡ out.old.items ++ spelled (fields_of stamped.now)) }
@@ -159,7 +159,7 @@ fn put_fields(out: &mut Vec<u8>, stamped: &StampedRow) -> Result<(), AllocError>
     put_body(out, &row.body)
 }
 
-/// What stands before these fields.
+/// The first four bytes of a record with these fields, as a number: its length, or their checksum.
 fn head(form: Form, fields: &[u8]) -> u32
     requires { 4 + length fields.now < 2 ^ 32 }
     ensures { result ≡ head_of form fields.now }
@@ -170,8 +170,8 @@ fn head(form: Form, fields: &[u8]) -> u32
     }
 }
 
-/// Adds the record of a row. Its fields are made in `fields` first, where rows of one segment share
-/// the memory.
+/// Appends the record of a row. Its fields are first encoded in the buffer `fields`, which can be
+/// reused for all rows of a segment.
 pub fn put_record(
     out: &mut Vec<u8>,
     fields: &mut Vec<u8>,
@@ -189,7 +189,7 @@ pub fn put_record(
     Ok(())
 }
 
-/// How many bytes the segment of these rows has: exactly, or `u64::MAX` where it has more.
+/// The length of the segment of these rows in bytes, or `u64::MAX` if it is longer.
 pub fn encoded_len(rows: &[StampedRow]) -> u64
     ensures { result ≡ min (length (segment_of rows.now)) (2 ^ 64 - 1) }
 {
@@ -200,7 +200,7 @@ pub fn encoded_len(rows: &[StampedRow]) -> u64
     len
 }
 
-/// The segment of rows that are in key order.
+/// Encodes rows that are in key order as a segment.
 pub fn encode(alloc: Global, form: Form, rows: &[StampedRow]) -> Result<Vec<u8>, AllocError>
     requires ascending { IsAscending stamped_cmp rows.now }
     requires from_one { AllByRecursion (λ s. 1 ≤ s.import) rows.now }

@@ -1,4 +1,4 @@
-//! Why bytes give no rows.
+//! Why bytes can't be decoded as rows.
 
 ghost use Rattle.std.specs.Prelude.{◌≡◌};
 ghost use Rattle.segment.specs.declared.fault.SegmentFault.TheVariants.{OutOfMemory};
@@ -6,7 +6,7 @@ ghost use Rattle.segment.specs.declared.fault.SegmentFault.TheVariants.{OutOfMem
 use std::alloc::{AllocError, AllocFailed};
 use thiserror::Error;
 
-/// Why bytes give no rows.
+/// Why bytes can't be decoded as rows.
 #[derive(Clone, Copy, Debug, PartialEq, Eq, Error)]
 pub enum SegmentFault {
     #[error("out of memory")]

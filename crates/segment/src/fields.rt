@@ -1,4 +1,4 @@
-//! Numbers and texts at the front of bytes.
+//! Reads numbers and texts at the beginning of bytes.
 
 ghost use Rattle.std.specs.Prelude.{◌≡◌};
 ghost use Rattle.std.specs.Option.{option_map};
@@ -53,7 +53,8 @@ pub(crate) fn read_text(bytes: &[u8]) -> Option<(&[u8], &[u8])>
     rest.split_at_checked(usize::from(len))
 }
 
-/// The bytes of the record at the front, without the four of its length, and the bytes after it.
+/// The fields of the first record of a plain segment, without the four bytes of its length, and the
+/// bytes after the record.
 #[tactic(auto, unfolding(crate::specs::Private::Reading::record_bytes_at))]
 pub(crate) fn read_record_bytes(bytes: &[u8]) -> Option<(&[u8], &[u8])>
     ensures { record_bytes_at bytes.now ≡ option_map (λ p. (p.0.now, p.1.now)) result }

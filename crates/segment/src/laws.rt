@@ -5,17 +5,17 @@ ghost use Rattle.segment.specs.Records.{EquallyLong, PlainIsAsBefore, ChangedByt
 ghost use Rattle.segment.specs.Records.{ChangedRecordIsNone};
 ghost use Rattle.segment.specs.Standing.{EachStandsAtItsByte};
 
-/// Bytes spell at most one list of rows.
+/// Bytes are the segment of at most one list of rows.
 pub fn one_segment()
     ensures { OneSegment }
 {}
 
-/// At a place stands the record of at most one row, and it ends at one place.
+/// At an offset there is the record of at most one row, and it ends at one offset.
 pub fn one_record()
     ensures { OneRecord }
 {}
 
-/// In a segment the record of each row stands where those of the rows before it end.
+/// In a segment each row's record begins where those of the rows before it end.
 pub fn each_at_its_place()
     ensures { EachAtItsPlace }
 {}
@@ -25,8 +25,8 @@ pub fn pieces_join()
     ensures { PiecesJoin }
 {}
 
-/// Where a row stands, its record is at that byte of its
-/// list's segment, and the place has its key and its number.
+/// If a row is at a place, its record is at that byte of its list's segment, and the place has its
+/// key and its import number.
 pub fn each_stands_at_its_byte()
     ensures { EachStandsAtItsByte }
 {}
@@ -36,18 +36,18 @@ pub fn equally_long()
     ensures { EquallyLong }
 {}
 
-/// A plain segment is what it was before there were checked ones.
+/// A plain segment is what a segment was before there were checked ones.
 pub fn plain_is_as_before()
     ensures { PlainIsAsBefore }
 {}
 
-/// A checked record in which one byte was changed is the record of no row.
+/// After one byte of a checked record was changed, it is the record of no row.
 pub fn changed_byte_is_noticed()
     ensures { ChangedByteIsNoticed }
 {}
 
-/// Bytes that begin with a checked record in which one byte was changed that doesn't say how long it
-/// is begin with no record.
+/// Bytes that began with a checked record begin with no record after one of its bytes was changed,
+/// unless the record's length depends on that byte.
 pub fn changed_record_is_none()
     ensures { ChangedRecordIsNone }
 {}

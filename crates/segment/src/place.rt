@@ -1,4 +1,4 @@
-//! Where rows stand in their segments.
+//! The places of rows in their segments.
 
 ghost use Rattle.std.specs.Prelude.{◌≡◌};
 ghost use Rattle.segment.specs.Standing.{row_place};
@@ -7,17 +7,16 @@ use crate::encoding::record_len;
 use history_model::StampedRow;
 use rf2_values::Key;
 
-/// Where a row's record stands in its segment, with
-/// what names the row and the number of its import.
+/// The place of a row: where its record is in its segment, with the row's key and import number.
 #[derive(Clone, Copy, Debug, PartialEq, Eq)]
 pub struct RowPlace {
     /// The row's kind, id and effective time.
     pub key: Key,
-    /// The number of the import that first brought the row, from 1 on.
+    /// The number of the import that first brought the row, counted from 1.
     pub import: u32,
-    /// The byte of the segment at which the record begins, from 0 on.
+    /// The offset of the record in the segment.
     pub at: u32,
-    /// How many bytes the record has, with the four of its length.
+    /// The length of the record, with the four bytes that it begins with.
     pub bytes: u32,
 }
 

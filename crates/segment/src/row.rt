@@ -1,4 +1,4 @@
-//! Rows, from the fields of their records.
+//! Makes rows from the fields of their records.
 
 ghost use Rattle.std.specs.Prelude.{◌≡◌, ⊤, ◌≤◌, IfSome, IfNone};
 ghost use Rattle.rf2_values.specs.declared.row.Kind.{Kind};
@@ -59,7 +59,7 @@ fn effective_time(value: u32) -> Result<EffectiveTime, SegmentFault>
     EffectiveTime::of(value).ok_or(SegmentFault::BadSegment)
 }
 
-/// The number of an import, from 1 on.
+/// Checks an import number, which begins with 1.
 fn import_number(value: u32) -> Result<u32, SegmentFault>
     ensures { Finds (λ n. 1 ≤ n) (λ n. (1 ≤ n) × (n ≡ value)) result }
 {
@@ -69,7 +69,7 @@ fn import_number(value: u32) -> Result<u32, SegmentFault>
     Ok(value)
 }
 
-/// The body that the last bytes of a record of this kind spell.
+/// The body that the last fields of a record of this kind encode.
 fn read_body(alloc: Global, kind: Kind, bytes: &[u8]) -> Result<Body, SegmentFault>
     ensures { Finds IsBody (IsBodyIn kind bytes.now) result }
 {
@@ -101,7 +101,7 @@ fn read_body(alloc: Global, kind: Kind, bytes: &[u8]) -> Result<Body, SegmentFau
     }
 }
 
-/// The row that the bytes of a record after its length spell.
+/// The row that the fields of a record encode.
 pub(crate) fn read_row(alloc: Global, bytes: &[u8]) -> Result<StampedRow, SegmentFault>
     ensures { Finds IsStamped (IsRowIn bytes.now) result }
 {

@@ -6,7 +6,8 @@ use checksum::{append, crc32c};
 use segment::{Form, SegmentFault, decode};
 use std::alloc::Global;
 
-/// The checksum of a text, which that of its first part goes on to, wherever it is parted.
+/// The checksum of a text, which has to be the same if it is computed in two parts, wherever the
+/// text is split.
 pub fn spell_sum(alloc: Global, text: &str) -> Answer {
     let bytes = unquoted(alloc, text)?;
     let sum = crc32c(bytes.as_slice());
@@ -30,7 +31,7 @@ fn is_refused(alloc: Global, bytes: &[u8]) -> Result<bool, NoAnswer> {
     }
 }
 
-/// How many bytes of a segment leave one that is refused, each turned over by itself in these bits.
+/// How many bytes of a segment cause its refusal if these bits of that byte alone are inverted.
 pub fn count_turned(alloc: Global, bytes: &[u8], bits: u8) -> Answer {
     let mut refused: usize = 0;
     for place in 0..bytes.len() {
@@ -46,7 +47,7 @@ pub fn count_turned(alloc: Global, bytes: &[u8], bits: u8) -> Answer {
     Ok(format!(in alloc; "{refused} of {count} refused")?)
 }
 
-/// The checksum of a record's fields, and what becomes of them behind it.
+/// The checksum of a record's fields, and the result of decoding the record with this checksum.
 pub fn spell_summed(alloc: Global, record: &[u8]) -> Answer {
     let Some((_, fields)) = record.split_at_checked(4) else {
         return Err(NoAnswer::NoQuestion);

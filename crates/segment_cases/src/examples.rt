@@ -1,18 +1,20 @@
-//! The rows of which segments are made.
+//! Segments, made from rows.
 //!
-//! A part is the rows of a segment: lines, each behind its kind and the number of its import.
-//! - `encoded NAME` answers the bytes of a segment in base 16, 40 a line, which have to give its
-//!   rows again, and `length NAME` how many there are;
-//! - `checked NAME` answers the same of a segment with checksums, and `turned NAME BITS` how many of
-//!   its bytes, each turned over by itself in these bits, leave a segment that is refused;
-//! - `sum TEXT` answers the checksum of a text, which has to come of its parts too;
-//! - `summed NAME AT TAKEN TEXT` answers the checksum of a record of which a part was changed, and
-//!   what becomes of the record with that checksum;
-//! - `record NAME PLACE` answers the row whose record begins at a place of the segment;
-//! - `joined NAME NAME` answers how many rows stand in the bytes of two segments, or the fault;
-//! - `changed NAME AT TAKEN TEXT` answers the same where the bytes of a text stand in the place of
-//!   some of a segment, and `fitted NAME AT TAKEN TEXT` where they do in a segment of one record,
-//!   which is given the length that it then has: that record has to have the same fault by itself.
+//! A part has the rows of a segment: lines, each after its kind and the number of its import.
+//! - `encoded NAME` prints the bytes of a segment in hexadecimal, 40 in each line, which have to
+//!   decode to its rows, and `length NAME` how many bytes there are;
+//! - `checked NAME` prints the bytes of the same segment with checksums, and `turned NAME BITS` how
+//!   many of its bytes cause its refusal if these bits of that byte alone are inverted;
+//! - `sum TEXT` prints the checksum of a text, which has to be the same if it is computed in two
+//!   parts;
+//! - `summed NAME AT TAKEN TEXT` prints the checksum of a record in which TAKEN bytes at AT are
+//!   replaced by those of a text, and the result of decoding it with that checksum;
+//! - `record NAME PLACE` prints the row whose record begins at this byte of the segment;
+//! - `joined NAME NAME` prints how many rows the bytes of two segments decode to, or the fault;
+//! - `changed NAME AT TAKEN TEXT` prints the same for a segment in which TAKEN bytes at AT are
+//!   replaced by those of a text; `fitted NAME AT TAKEN TEXT` for a segment of one record, whose
+//!   length field is then set to its new length: that record has to have the same fault if it is
+//!   read by itself.
 
 use crate::checksums::{count_turned, spell_sum, spell_summed};
 use crate::records::{changed, count_rows, joined, spell_bytes, spell_record, with_length};
@@ -30,7 +32,7 @@ struct Given {
     stamped: StampedRow,
 }
 
-/// The rows of all segments that were given.
+/// The rows of all segments.
 #[derive(Drop)]
 pub struct Examples {
     alloc: Global,
@@ -38,7 +40,7 @@ pub struct Examples {
 }
 
 impl Examples {
-    /// None.
+    /// No rows.
     pub fn new(alloc: Global) -> Examples {
         Examples {
             alloc,
@@ -70,7 +72,7 @@ impl Examples {
         segment_of(self.alloc, form, &self.rows_of(name)?)
     }
 
-    /// The bytes of a segment in this form, which give its rows again.
+    /// The bytes of a segment in this form, which have to decode to its rows.
     fn encoded(&self, form: Form, name: &str) -> Answer {
         let rows = self.rows_of(name)?;
         let bytes = self.bytes_in(form, name)?;
@@ -80,7 +82,7 @@ impl Examples {
         }
     }
 
-    /// How many bytes a segment has.
+    /// How many bytes a segment has, which has to be the length that is computed from its rows.
     fn length(&self, name: &str) -> Answer {
         let counted = encoded_len(&self.rows_of(name)?);
         let length = self.bytes_of(name)?.len();
@@ -90,7 +92,7 @@ impl Examples {
         Ok(format!(in self.alloc; "{length}")?)
     }
 
-    /// What becomes of a record whose length is made to fit.
+    /// The result of decoding a changed record whose length field is set to its new length.
     fn fitted(&self, name: &str, words: &str) -> Answer {
         let record = changed(self.alloc, &self.bytes_of(name)?, words)?;
         let record = with_length(self.alloc, &record)?;

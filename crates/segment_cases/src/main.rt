@@ -1,5 +1,5 @@
-//! Segments by worked examples, which are cases in files: the records of rows, and the bytes that
-//! are refused.
+//! Segments by worked examples, which are cases in files: the records of rows, and bytes that are
+//! refused.
 #![tactic(auto)]
 
 mod checksums;

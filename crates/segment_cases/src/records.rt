@@ -5,10 +5,10 @@ use case_values::{first_word, line_of, number};
 use segment::{Form, SegmentFault, decode, record_at};
 use std::alloc::{AllocError, Global};
 
-/// How many bytes stand in a line.
+/// How many bytes are printed in a line.
 const WIDTH: usize = 40;
 
-/// Bytes in base 16, some a line.
+/// Bytes in hexadecimal, `WIDTH` in each line.
 pub fn spell_bytes(alloc: Global, bytes: &[u8]) -> Answer {
     let mut text = String::new(alloc);
     for (place, byte) in bytes.iter().enumerate() {
@@ -21,7 +21,7 @@ pub fn spell_bytes(alloc: Global, bytes: &[u8]) -> Answer {
     Ok(text)
 }
 
-/// A fault, where it isn't that memory ran out.
+/// A fault, unless there isn't enough memory.
 pub fn spell_fault(alloc: Global, fault: SegmentFault) -> Answer {
     match fault {
         SegmentFault::OutOfMemory => Err(NoAnswer::OutOfMemory),
@@ -40,7 +40,7 @@ pub fn count_rows(alloc: Global, bytes: &[u8]) -> Answer {
     }
 }
 
-/// The row whose record begins at a place, its import, and where the next record begins.
+/// The row whose record begins at this byte, its import, and where the next record begins.
 pub fn spell_record(alloc: Global, bytes: &[u8], place: usize) -> Answer {
     match record_at(alloc, Form::Plain, bytes, place) {
         Ok((stamped, next)) => {
@@ -52,7 +52,7 @@ pub fn spell_record(alloc: Global, bytes: &[u8], place: usize) -> Answer {
     }
 }
 
-/// The bytes with others in the place of some: `AT TAKEN TEXT`.
+/// Replaces some of the bytes by others: `AT TAKEN TEXT`.
 pub fn changed(alloc: Global, bytes: &[u8], words: &str) -> Result<Vec<u8>, NoAnswer> {
     let (at, words) = first_word(words)?;
     let (taken, put) = first_word(words)?;
@@ -65,12 +65,12 @@ pub fn changed(alloc: Global, bytes: &[u8], words: &str) -> Result<Vec<u8>, NoAn
     Ok(changed)
 }
 
-/// What stands in front of a place, and what stands from it on.
+/// The bytes before a position, and those from it on.
 fn split(bytes: &[u8], at: usize) -> Result<(&[u8], &[u8]), NoAnswer> {
     bytes.split_at_checked(at).ok_or(NoAnswer::NoQuestion)
 }
 
-/// The record with the length that it has.
+/// The record with its length field set to its actual length.
 pub fn with_length(alloc: Global, record: &[u8]) -> Result<Vec<u8>, NoAnswer> {
     let (_, fields) = split(record, 4)?;
     let Ok(length) = u32::try_from(record.len()) else {
@@ -79,7 +79,7 @@ pub fn with_length(alloc: Global, record: &[u8]) -> Result<Vec<u8>, NoAnswer> {
     Ok(joined(alloc, &length.to_be_bytes(), fields)?)
 }
 
-/// The bytes of both.
+/// The bytes of both, one after the other.
 pub fn joined(alloc: Global, front: &[u8], rest: &[u8]) -> Result<Vec<u8>, AllocError> {
     let mut bytes = front.to_vec(alloc)?;
     bytes.extend_from_slice(rest)?;

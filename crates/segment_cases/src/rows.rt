@@ -1,4 +1,4 @@
-//! Rows, and the segments that are made of them.
+//! Rows, and segments that are made from them.
 
 ghost use Rattle.std.specs.Prelude.{IsTrue, ◌≤◌, ◌++◌, ◌∷◌, []};
 ghost use Rattle.std.specs.List.{AllByRecursion};
@@ -10,7 +10,7 @@ use history_model::StampedRow;
 use segment::{Form, encode};
 use std::alloc::Global;
 
-/// Whether the row's key is above those of rows in key order.
+/// Whether the row's key is greater than those of rows in key order.
 fn comes_after(rows: &[StampedRow], row: &StampedRow) -> bool
     requires { IsAscending stamped_cmp rows.now }
     ensures { IsTrue result → IsAscending stamped_cmp (rows.now ++ row.now ∷ []) }
@@ -21,7 +21,7 @@ fn comes_after(rows: &[StampedRow], row: &StampedRow) -> bool
     }
 }
 
-/// Whether the rows may be encoded.
+/// Whether the rows can be encoded.
 fn are_in_order(rows: &[StampedRow]) -> bool
     ensures ascending { IsTrue result → IsAscending stamped_cmp rows.now }
     ensures from_one { IsTrue result → AllByRecursion (λ s. 1 ≤ s.import) rows.now }
@@ -34,7 +34,7 @@ fn are_in_order(rows: &[StampedRow]) -> bool
     true
 }
 
-/// The segment of rows, which have to be in key order.
+/// The segment of these rows, which have to be in key order.
 pub fn segment_of(alloc: Global, form: Form, rows: &[StampedRow]) -> Result<Vec<u8>, NoAnswer> {
     if !are_in_order(rows) {
         return Err(NoAnswer::NoQuestion);

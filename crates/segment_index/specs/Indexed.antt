@@ -1,4 +1,4 @@
--- What is kept of the rows of segments, whose records stand one after the other.
+-- The places and postings of segments' rows, whose records follow one another.
 use Rattle.std.specs.Prelude.{◌≡◌, ℕ, List, length}
 use Rattle.history_model.specs.declared.stamped.StampedRow.{StampedRow}
 use Rattle.segment.specs.declared.place.RowPlace.{RowPlace}
@@ -11,14 +11,15 @@ use Rattle.term_prefix.specs.Pushed.{posted_term, IsPosted, ArePosted}
 use Rattle.links.specs.Edges.{Edges, posted_edges}
 use Rattle.links.specs.Laws.{ArePostingsOf, EachPosted}
 
--- what is posted of rows, each with its number from 0 on
+-- the postings of rows, each with its row's number, counted from 0
 abbrev pub terms_of : List StampedRow → List TermAt
 terms_of rows = posted_all posted_term 0 rows
 
 abbrev pub links_of : List StampedRow → Edges
 links_of rows = posted_edges rows
 
--- what is kept of rows while they come, in their order, and how many bytes their records have
+-- the places and postings of the rows pushed so far, in their order, and the total length of their
+-- records
 pub record IsBuilt (rows : List StampedRow) (places : List RowPlace) (terms : List TermAt)
     (links : Edges) (bytes : ℕ) : Type 0 where
   pub places_are : places ≡ places_of rows
@@ -26,14 +27,14 @@ pub record IsBuilt (rows : List StampedRow) (places : List RowPlace) (terms : Li
   pub links_are : links ≡ links_of rows
   pub bytes_are : bytes ≡ length (segment_of rows)
 
--- the place of each row, and what is posted of the rows, in any order
+-- the place of each row, and the postings of the rows in any order
 pub record IsIndexed (rows : List StampedRow) (places : List RowPlace) (terms : List TermAt)
     (links : Edges) : Type 0 where
   pub places_are : places ≡ places_of rows
   pub terms_are : IsPosted rows terms
   pub links_are : ArePostingsOf rows links
 
--- list by list the place of each row, and what is posted of the rows
+-- the same for each list of rows
 pub record AreIndexed (lists : List (List StampedRow)) (places : List (List RowPlace))
     (terms : List (List TermAt)) (links : List Edges) : Type 0 where
   pub places_are : Lists places lists

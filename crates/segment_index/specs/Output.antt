@@ -1,4 +1,4 @@
--- The index of the rows of two lists, of which the first rows are taken.
+-- The index of the rows of two lists, while they are merged.
 use Rattle.std.specs.Prelude.{◌≡◌, ℕ, ◌+◌, ◌-◌, ◌^◌, ◌<◌, min, List, [], ◌∷◌, length, take, drop}
 use Rattle.std.specs.Prelude.{Option, IsSome, IfSome}
 use Rattle.history_model.specs.declared.stamped.StampedRow.{StampedRow}
@@ -12,20 +12,20 @@ use Rattle.links.specs.Laws.{ArePostingsOf}
 use Rattle.segment_index.specs.declared.output_postings.OutputPostings.{OutputPostings}
 use Rattle.segment_index.specs.declared.index_merge.MergeMark.{MergeMark}
 
--- two lists of rows, and how many rows of their union are taken
+-- two lists of rows, and how many rows of their union have been taken
 pub record OutputRows : Type 0 where
   pub a : List StampedRow
   pub b : List StampedRow
   pub taken : ℕ
 
--- the rows that are taken, and those that are left
+-- the rows that have been taken, and those that are left
 abbrev pub taken_rows : OutputRows → List StampedRow
 taken_rows m = take m.taken (union m.a m.b)
 
 abbrev pub left_rows : OutputRows → List StampedRow
 left_rows m = drop m.taken (union m.a m.b)
 
--- how many are left
+-- how many rows are left
 abbrev pub left_count : OutputRows → ℕ
 left_count m = length m.a + length m.b - m.taken
 
@@ -33,12 +33,12 @@ left_count m = length m.a + length m.b - m.taken
 abbrev pub with_more : ℕ → OutputRows → OutputRows
 with_more n m = record m { taken = m.taken + min n (left_count m) }
 
--- what is posted of rows, in any order
+-- `p` has the postings of these rows, in any order
 pub record HasPostings (rows : List StampedRow) (p : OutputPostings) : Type 0 where
   pub terms_are : IsPosted rows p.terms
   pub links_are : ArePostingsOf rows p.links
 
--- so many rows of the two lists are taken, and their records have so many bytes
+-- the mark says how many rows of each list have been taken, and how long their records are
 pub record IsMarkOf (m : OutputRows) (mark : MergeMark) : Type 0 where
   pub lengths : IsOf mark.progress m.a m.b
   pub places_are : mark.progress.a_place + mark.progress.b_place ≡ m.taken
@@ -46,7 +46,8 @@ pub record IsMarkOf (m : OutputRows) (mark : MergeMark) : Type 0 where
   pub rows_are : mark.rows ≡ m.taken
   pub bytes_are : mark.bytes ≡ length (segment_of (taken_rows m))
 
--- the places of the rows that are taken, and once all are taken what is posted of all
+-- the output's index has the places of the rows taken so far, and once all are taken the postings
+-- of all rows
 pub record IsOutput (a b : List StampedRow) (mark : MergeMark) (places : List RowPlace)
     (postings : Option OutputPostings) : Type 0 where
   pub lists : AreLists (a ∷ b ∷ [])

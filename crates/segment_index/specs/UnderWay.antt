@@ -1,4 +1,4 @@
--- What is posted of two of a store's segments, merged while the store goes on.
+-- Merging the postings of two of a store's segments, in steps.
 use Rattle.std.specs.Prelude.{◌<◌, ℕ, List, [], length, slice_index_or, Option, Some, None}
 use Rattle.segment.specs.declared.place.RowPlace.{RowPlace}
 use Rattle.as_of_index.specs.Numbers.{TwoLists, AreKnown}
@@ -13,15 +13,15 @@ abbrev pub places_at : List (List RowPlace) → PostingsMerge → TwoLists
 places_at places m =
     record { first = slice_index_or places m.i []; second = slice_index_or places m.j [] }
 
--- the terms, and the other postings, of the segment with a number
+-- the terms, and the other postings, of the segment with this number
 abbrev pub terms_at : List (List TermAt) → ℕ → List TermAt
 terms_at terms i = slice_index_or terms i []
 
 abbrev pub edges_at : List Edges → ℕ → Edges
 edges_at links i = slice_index_or links i no_edges
 
--- both segments are listed, some numbers of their rows are known, and of what is posted of them so
--- much is merged
+-- both segments are listed, the known numbers of their rows are right, and so are the postings
+-- merged so far
 pub record IsPostingsMerge (places : List (List RowPlace)) (terms : List (List TermAt))
     (links : List Edges) (m : PostingsMerge) : Type 0 where
   pub first_within : m.i < length places
@@ -31,7 +31,7 @@ pub record IsPostingsMerge (places : List (List RowPlace)) (terms : List (List T
       IsMergeOfTerms (places_at places m) (terms_at terms m.i) (terms_at terms m.j) m.terms
   pub links_are : IsMergeOf (places_at places m) (edges_at links m.i) (edges_at links m.j) m.links
 
--- a merge that goes on is of two segments that are listed
+-- a merge of postings is one of two listed segments
 abbrev pub IsUnderWay : List (List RowPlace) → List (List TermAt) → List Edges
     → Option PostingsMerge → Type 0
 IsUnderWay places terms links None = Unit {0}

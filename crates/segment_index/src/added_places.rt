@@ -1,4 +1,4 @@
-//! Places of rows that are taken, one behind the other.
+//! The new places of rows that a merge took.
 
 ghost use Rattle.std.specs.Prelude.{◌≡◌, ◌+◌, ◌^◌, ◌<◌, ◌++◌, IfOk, OnOk, OnErr};
 ghost use Rattle.std.specs.List.{sum_by};
@@ -9,8 +9,8 @@ use merge::Taken;
 use segment::RowPlace;
 use std::alloc::AllocError;
 
-/// Adds the places of rows whose records stand from a byte on, one behind the other, and answers
-/// the byte behind them. An `Err` changes nothing.
+/// Adds the places of taken rows, whose records are stored one after the other from byte `from` on,
+/// and returns the offset after the last of them. An `Err` changes nothing.
 pub(crate) fn add_places(
     places: &mut PlaceListBuilder,
     from: u32,

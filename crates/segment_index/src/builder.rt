@@ -1,4 +1,4 @@
-//! The index of one segment, as its rows come.
+//! Builds the index of one segment from its rows.
 
 ghost use Rattle.std.specs.Prelude.{◌≡◌, ◌<◌, ◌^◌, ◌++◌, ◌∷◌, [], length, IfOk, OnOk, OnErr};
 ghost use Rattle.history_model.specs.InOrder.{IsAscending};
@@ -14,14 +14,14 @@ use segment::RowPlace;
 use std::alloc::{AllocError, Global};
 use std::marker::Model;
 
-/// What is kept of the rows of one segment, as they are pushed one after the other.
+/// The places and postings of one segment's rows, built row by row.
 #[derive(Drop)]
 pub struct IndexBuilder {
     places: PlaceListBuilder,
     terms: term_prefix::Postings,
     links: links::Postings,
     rows: GhostRows,
-    /// How many bytes the records of the rows have.
+    /// The total length of the rows' records, in bytes.
     bytes: u32,
 }
 
@@ -37,7 +37,7 @@ impl Model for IndexBuilder {
     ghost invariant = { λ a. IsBuilt a.rows a.places a.terms a.links a.bytes };
 }
 
-/// Adds what is posted of the row with a number. An `Err` changes nothing.
+/// Adds the postings of the row with this number. An `Err` changes nothing.
 fn post(
     terms: &mut term_prefix::Postings,
     links: &mut links::Postings,
@@ -60,7 +60,7 @@ fn post(
 }
 
 impl IndexBuilder {
-    /// No rows, with room for the places of so many.
+    /// An index of no rows, with capacity for this many places.
     pub fn with_capacity(alloc: Global, rows: usize) -> Result<IndexBuilder, AllocError>
         ensures { IfOk result (λ index. index ≡ []) }
     {
@@ -75,8 +75,8 @@ impl IndexBuilder {
         })
     }
 
-    /// Adds a row, the record of which stands behind those of the rows before it. Nothing is held
-    /// of the row itself. An `Err` changes nothing.
+    /// Adds a row, whose record follows those of the rows before it. The row itself isn't kept. An
+    /// `Err` changes nothing.
     pub fn push(&mut self, row: &StampedRow) -> Result<(), AllocError>
         requires { length (segment_of (self.old ++ row.now ∷ [])) < 2 ^ 32 }
         ensures ok { OnOk result (self.new ≡ self.old ++ row.now ∷ []) }
@@ -103,7 +103,7 @@ impl IndexBuilder {
         }
     }
 
-    /// What is kept, in the orders in which it is looked for. It takes no memory.
+    /// The finished index, whose postings are sorted. Allocates nothing.
     pub fn seal(self) -> SegmentIndex
         requires { IsAscending stamped_cmp self }
         ensures { result ≡ self }

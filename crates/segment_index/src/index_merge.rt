@@ -1,4 +1,4 @@
-//! The index of a merge's output, as its rows are taken.
+//! Builds the index of a merge's output.
 
 ghost use Rattle.std.specs.Prelude.{◌≡◌, ◌≤◌, ◌<◌, ◌↔◌, ◌+◌, ◌-◌, ◌^◌};
 ghost use Rattle.std.specs.Prelude.{◌++◌, ◌∷◌, [], List, length, take};
@@ -20,24 +20,24 @@ use merge::{MergeProgress, Taken};
 use std::alloc::{AllocError, Global};
 use std::marker::Model;
 
-/// How far a merge is, for `cut_to`.
+/// The progress of a merge, to which `cut_to` can return.
 #[derive(Clone, Copy)]
 pub struct MergeMark {
     pub(crate) progress: MergeProgress,
     pub(crate) rows: usize,
-    /// How many bytes the records of the rows taken have.
+    /// The total length of the taken rows' records, in bytes.
     pub bytes: u32,
 }
 
-/// The index of the output of a merge of two segments, whose rows are taken in turns. What is
-/// posted of them is merged meanwhile, so that nothing is left to sort at the end.
+/// Builds the index of the output of a merge of two segments, whose rows are taken step by step.
+/// Their postings are merged meanwhile, so that nothing is left to sort at the end.
 #[derive(Drop)]
 pub struct IndexMerge {
     at: MergeMark,
     places: PlaceListBuilder,
     a: GhostRows,
     b: GhostRows,
-    /// What is posted of all rows, once it is merged.
+    /// The postings of all rows, once they are merged.
     postings: Option<OutputPostings>,
 }
 
@@ -55,8 +55,8 @@ impl IndexMerge {
     ghost use Rattle.segment_index.specs.Output.{left_rows, left_count, taken_rows, with_more};
     ghost use Rattle.segment_index.specs.Output.{IsMarkOf};
 
-    /// The merge of two segments that a store lists, of which no row is taken yet. It takes no
-    /// memory; later calls take theirs from `alloc`.
+    /// A merge of two segments that a store lists, of which no row is taken yet. Allocates nothing;
+    /// later calls allocate from `alloc`.
     pub fn new(alloc: Global, index: &StoreIndex, i: usize, j: usize) -> IndexMerge
         requires places { i < j }
         requires within { j < length index.now }
@@ -104,7 +104,7 @@ impl IndexMerge {
         self.at.progress.is_done()
     }
 
-    /// How far it is, for `cut_to`, and how many bytes the records of the rows taken have.
+    /// The current progress, for `cut_to`, with the length of the taken rows' records.
     pub fn mark(&self) -> MergeMark
         ensures mark { IsMarkOf self.now result }
         ensures bytes { result.bytes ≡ length (segment_of (taken_rows self.now)) }
@@ -112,9 +112,9 @@ impl IndexMerge {
         self.at
     }
 
-    /// Takes up to `n` rows more, in key order, and answers their places in the two segments. Each
-    /// row costs one step, and what is posted of the two segments is merged by steps that go with
-    /// them, or to the end where no row is left. An `Err` changes nothing.
+    /// Takes up to `n` more rows, in key order, and returns their places in the two segments. Takes
+    /// time in proportion to the rows taken: the postings of the two segments are merged by as many
+    /// steps, or to the end if no row is left. An `Err` changes nothing.
     pub fn take(
         &mut self,
         alloc: Global,
@@ -146,7 +146,7 @@ impl IndexMerge {
         Ok(taken)
     }
 
-    /// Gives back the rows that were taken since: what `mark` answered once is left.
+    /// Undoes all calls of `take` since `mark` was called.
     pub fn cut_to(&mut self, mark: MergeMark)
         requires rows { mark.rows ≤ self.old.taken }
         requires mark { IsMarkOf (record self.old { taken = mark.rows }) mark }
@@ -156,7 +156,7 @@ impl IndexMerge {
         self.at = mark;
     }
 
-    /// The index of the rows of both segments. It takes no memory, and sorts nothing.
+    /// The index of the rows of both segments. Allocates nothing, and sorts nothing.
     pub fn seal(self) -> SegmentIndex
         requires { left_count self ≡ 0 }
         ensures { result ≡ union self.a self.b }

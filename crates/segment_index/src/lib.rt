@@ -1,5 +1,5 @@
-//! What is kept in memory of the rows of segments: the place of each row, and what is posted of
-//! it, its folded term, its link or reference, and its subject.
+//! The index of a store's segments, in memory: the place of each row, and its postings, which are
+//! its folded term, its link or reference, and its subject.
 #![tactic(auto)]
 
 mod added_places;

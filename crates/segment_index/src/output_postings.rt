@@ -1,4 +1,4 @@
-//! What is posted of the rows of two segments.
+//! The postings of the rows of a merge's output.
 
 ghost use Rattle.std.specs.Prelude.{◌≡◌, ◌+◌, ◌^◌, ◌<◌, ◌∷◌, [], List, length};
 ghost use Rattle.std.specs.Prelude.{Some, true, slice_get, IsSome, IfSome, OnOk, OnErr};
@@ -9,16 +9,16 @@ ghost use Rattle.segment_index.specs.Output.{HasPostings};
 use crate::store_index::StoreIndex;
 use std::alloc::{AllocError, Global};
 
-/// What is posted of the rows of a merge's output, of which no more come.
+/// The postings of all rows of a merge's output.
 #[derive(Drop)]
 pub(crate) struct OutputPostings {
     /// The folded terms of the descriptions.
     pub(crate) terms: term_prefix::Sealed,
-    /// What relationships and associations say, and what rows are about.
+    /// The postings of relationships and associations, and of what rows are about.
     pub(crate) links: links::Sealed,
 }
 
-/// What is posted of no rows.
+/// The postings of no rows.
 pub(crate) fn no_postings(alloc: Global) -> OutputPostings
     ensures { HasPostings [] result }
 {
@@ -28,8 +28,8 @@ pub(crate) fn no_postings(alloc: Global) -> OutputPostings
     }
 }
 
-/// Lets what is posted of the rows of two segments go on by a step of `n` rows, or to the end. An
-/// `Err` changes nothing.
+/// Advances the merge of the two segments' postings by a step of `n` rows, or finishes it. An `Err`
+/// changes nothing.
 pub(crate) fn go_on(
     postings: &mut Option<OutputPostings>,
     alloc: Global,

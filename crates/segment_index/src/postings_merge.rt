@@ -1,4 +1,4 @@
-//! What is posted of two segments of a store, merged while the store goes on.
+//! Merges the postings of two segments of a store, in steps.
 
 ghost use Rattle.std.specs.Prelude.{◌≡◌, ◌+◌, ◌-◌, ◌^◌, ◌<◌, ℕ, List, [], length, Some, OnOk};
 ghost use Rattle.history_model.specs.InOrder.{IsAscending};
@@ -15,17 +15,19 @@ use links::Links;
 use std::alloc::{AllocError, Global};
 use term_prefix::Terms;
 
-/// For each row of a step so many numbers of rows are found. Only once the first steps have found
-/// all are postings merged: until then the number of a posting's row would have to be searched for.
+/// How many numbers of rows are found for each row of a step. The first steps only find numbers:
+/// postings are merged once all numbers are known, since otherwise the number of each posting's row
+/// would have to be searched for.
 const NUMBERS_AHEAD: usize = 8;
 
-/// How far what is posted of two segments is merged.
+/// The progress of merging the postings of two segments.
 #[derive(Drop)]
 pub(crate) struct PostingsMerge {
     /// The numbers of the two segments, from 0 on.
     pub(crate) i: usize,
     pub(crate) j: usize,
-    /// The numbers that rows of the two have among the rows of both, as far as they are found.
+    /// The numbers that rows of the two segments have among the rows of both, as far as they are
+    /// known.
     numbers: NumberTable,
     terms: term_prefix::Merging,
     links: links::Merging,
@@ -51,7 +53,8 @@ impl PostingsMerge {
         }
     }
 
-    /// The merge of two segments that goes on, or else a new one. It takes no memory.
+    /// Resumes the merge of these two segments if it is the given one, and otherwise begins a new
+    /// one. Allocates nothing.
     pub(crate) fn resume(
         merging: Option<PostingsMerge>,
         alloc: Global,
@@ -72,8 +75,8 @@ impl PostingsMerge {
         PostingsMerge::new(alloc, i, j)
     }
 
-    /// How many postings of each kind a step of so many rows merges. None are merged while numbers
-    /// of rows are still to be found, so it is more than rows later on.
+    /// How many postings of each kind a step of `rows` rows merges. It is more than `rows`, because
+    /// the first steps, which find the numbers of rows, merge none.
     pub(crate) fn postings_in_step(&self, places: &Index, rows: usize) -> usize
         requires { (self.now.i < length places.now) × (self.now.j < length places.now) }
     {
@@ -88,8 +91,8 @@ impl PostingsMerge {
         }
     }
 
-    /// Goes on by the numbers of rows that a step of so many rows finds, and by up to `n` postings
-    /// of each kind. After an `Err` it may be called again.
+    /// Advances by the numbers of rows that a step of `rows` rows finds, and by up to `n` postings
+    /// of each kind. It may be called again after an `Err`.
     pub(crate) fn advance(
         &mut self,
         places: &Index,
@@ -131,7 +134,7 @@ impl PostingsMerge {
         self.links.advance(a, b, &numbers, n)
     }
 
-    /// What is merged. It takes no memory.
+    /// The merged postings. Allocates nothing.
     pub(crate) fn seal(self) -> OutputPostings
         requires { TextsRise self.terms.terms }
         ensures terms { result.terms ≡ self.terms.terms }

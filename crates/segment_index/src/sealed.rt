@@ -8,16 +8,16 @@ use history_model::GhostRows;
 use segment::RowPlace;
 use std::marker::Model;
 
-/// What is kept of the rows of one segment, of which no more come: clauses see these rows.
+/// The places and postings of one segment's rows. Its value in clauses are these rows.
 #[derive(Drop)]
 pub struct SegmentIndex {
     /// The place of each row, in key order.
     pub(crate) places: PlaceList,
     /// The folded terms of its descriptions.
     pub(crate) terms: term_prefix::Sealed,
-    /// What its relationships and associations say, and what its rows are about.
+    /// The postings of its relationships and associations, and of what its rows are about.
     pub(crate) links: links::Sealed,
-    /// The rows, which only clauses read.
+    /// The rows, which only clauses can see.
     pub(crate) rows: GhostRows,
 }
 

@@ -18,15 +18,15 @@ use std::alloc::{AllocError, Global};
 use std::marker::Model;
 use term_prefix::Terms;
 
-/// What is kept of the rows of several segments, in the order of the directory that lists them:
-/// clauses see the rows of each.
+/// The places and postings of the rows of several segments, in the order of the directory that
+/// lists them. Its value in clauses are the rows of each segment.
 #[derive(Drop)]
 pub struct StoreIndex {
     places: Index,
     terms: Terms,
     links: Links,
     rows: PerList<GhostRows>,
-    /// How far what is posted of two of the segments is merged, which no value shows.
+    /// The progress of merging the postings of two of the segments. The value doesn't show it.
     merging: Option<PostingsMerge>,
 }
 
@@ -49,7 +49,7 @@ impl StoreIndex {
     ghost use Rattle.history_model.specs.Lists.{union};
     ghost use Rattle.segment_index.specs.Output.{HasPostings};
 
-    /// No segments, with room for all that there may be.
+    /// An index of no segments, with capacity for as many as there may be.
     pub fn new(alloc: Global) -> Result<StoreIndex, AllocError>
         ensures { IfOk result (λ index. index ≡ []) }
     {
@@ -62,7 +62,7 @@ impl StoreIndex {
         })
     }
 
-    /// These segments, in this order.
+    /// An index of these segments, in this order.
     pub fn of_segments(alloc: Global, segments: Vec<SegmentIndex>) -> Result<StoreIndex, AllocError>
         requires few { length segments.items ≤ max_lists }
         requires lists { AreLists segments.items }
@@ -75,7 +75,7 @@ impl StoreIndex {
         Ok(index)
     }
 
-    /// Adds a segment as the last. It takes no memory.
+    /// Adds a segment at the end. Allocates nothing.
     pub fn add(&mut self, segment: SegmentIndex)
         requires room { length self.old < max_lists }
         requires lists { AreLists (self.old ++ segment ∷ []) }
@@ -93,7 +93,7 @@ impl StoreIndex {
         self.rows.add(rows);
     }
 
-    /// Puts a segment in the place of two, at the first's. It takes no memory.
+    /// Replaces segments `i` and `j` by one, at position `i`. Allocates nothing.
     pub fn replace_two(&mut self, i: usize, j: usize, segment: SegmentIndex)
         requires places { i < j }
         requires within { j < length self.old }
@@ -113,9 +113,8 @@ impl StoreIndex {
         self.merging = None;
     }
 
-    /// Merges what is posted of the rows of two segments by a step of `n` rows, or to the end, and
-    /// then gives what is posted of the rows of both. An `Err` may leave them merged further than
-    /// before.
+    /// Advances the merge of two segments' postings by a step of `n` rows, or finishes it and then
+    /// returns the postings of both. After an `Err` the merge may still have advanced.
     pub(crate) fn merge_postings(
         &mut self,
         alloc: Global,
@@ -152,7 +151,7 @@ impl StoreIndex {
         Ok(None)
     }
 
-    /// Forgets how far what is posted of two segments was merged.
+    /// Drops the progress of merging postings.
     pub fn forget_merge(&mut self)
         ensures { self.new ≡ self.old }
     {
@@ -173,14 +172,14 @@ impl StoreIndex {
         &self.terms
     }
 
-    /// What relationships and associations say, and what rows are about.
+    /// The postings of relationships and associations, and of what rows are about.
     pub fn links(&self) -> &Links
         ensures { EachPosted self.now result.now }
     {
         &self.links
     }
 
-    /// The rows of each segment, which only clauses read.
+    /// The rows of each segment, which only clauses can see.
     pub fn rows(&self) -> &[GhostRows]
         ensures { result.now ≡ self.now }
     {

@@ -1,4 +1,4 @@
-//! Names of files and folders, as people are shown them.
+//! The names of files and folders, in the form shown to people.
 #![tactic(auto)]
 
 mod laws;

@@ -1,4 +1,4 @@
-//! A name is shown: what a terminal or a reader of lines would obey is escaped.
+//! Shows a name, with escapes for what a terminal or a reader of lines would interpret.
 
 ghost use Rattle.std.specs.Prelude.{◌≡◌, ◌||◌, ◌==◌, flat_map, chars, encode_utf8_all};
 ghost use Rattle.std.specs.Fmt.{WritesOnOk};
@@ -7,8 +7,8 @@ ghost use Rattle.shown_names.specs.Shown.{is_escaped, shown_character};
 
 use std::fmt::{self, Display, Formatter};
 
-/// The name of a file or a folder, or a path, given by its bytes. It is shown on one line, whatever
-/// it is made of, and no two names are shown alike.
+/// The name of a file or a folder, or a path, given by its bytes. Whatever they are, it is shown on
+/// one line, and no two names are shown alike.
 #[derive(Clone, Copy)]
 pub struct Shown<'a>(pub &'a [u8]);
 
@@ -71,7 +71,8 @@ fn write_escape<W: fmt::Write>(c: char, f: &mut Formatter<W>) -> fmt::Result
     Ok(())
 }
 
-/// Writes a name that isn't UTF-8: printable ASCII as it is, and each other byte by its number.
+/// Writes a name that isn't UTF-8: printable ASCII unchanged, and each other byte as an escape with
+/// its number.
 fn write_bytes<W: fmt::Write>(bytes: &[u8], f: &mut Formatter<W>) -> fmt::Result
     ensures { WritesOnOk W.write_str_gives f.old result
         (encode_utf8_all (flat_map escape_ascii bytes.now)) f.new }

@@ -1,4 +1,4 @@
-//! A list that gives its items away, and with them the memory that they took.
+//! A list that frees its memory as its items are taken out.
 #![tactic(auto)]
 
 mod list;

@@ -1,22 +1,22 @@
-//! A list that is taken item by item.
+//! A list from which items are taken one by one.
 
 ghost use Rattle.std.specs.Prelude.{◌≡◌, length};
 ghost use Rattle.std.specs.Iterator.{YieldsFirst, item_count};
 
 use std::marker::Model;
 
-/// So many items are idle at least before room is given back:
-/// each time the rest may have to be moved.
+/// The least unused capacity, in items, at which memory is freed: each time, the remaining items
+/// may have to be moved.
 const FEWEST_IDLE: usize = 1024;
 
-/// And one part of so many of the room.
+/// And at least one part in this many of the capacity has to be unused.
 const PARTS: usize = 16;
 
-/// The items of a vector that are left, by value and in its order.
-/// As they are taken, their room is given back to the system.
+/// The remaining items of a vector, by value and in its order. As they are taken, their memory is
+/// returned to the system.
 #[derive(Drop)]
 pub struct ShrinkingList<T> {
-    /// The last one first.
+    /// The remaining items, the last one first.
     left: Vec<T>,
 }
 
@@ -45,7 +45,7 @@ impl<T: Drop> ShrinkingList<T> {
         self.left.len()
     }
 
-    /// Whether so much of the room is idle that it is worth giving back.
+    /// Whether enough of the capacity is unused to be worth freeing.
     fn is_roomy(&self) -> bool {
         let room = self.left.capacity();
         let idle = room.saturating_sub(self.left.len());

@@ -1,17 +1,18 @@
-//! Calls of a store, and what it shows.
+//! Calls of a store, and what the store reports.
 //!
-//! - `begin`, `step ROWS`, `publish`, `abandon`, `upgrade`, `rewrite` and `trim` answer what the
-//!   call does: a number, `done`, or `nothing`;
+//! - `begin`, `step ROWS`, `publish`, `abandon`, `upgrade`, `rewrite` and `trim` print the result
+//!   of the call: a number, `done`, or `nothing`;
 //! - `imports`, `rows`, `segments`, `version`, `plain`, `blocks`, `left`, `closed` and `latest`
-//!   answer what the store shows: `version` is that of its layout, `plain` how many segments have
-//!   no checksums, `blocks` how many blocks of the disk it needs, `left` how many rows of a merge
-//!   are left, `closed` whether it has to be opened again, and `latest` its latest day;
-//! - `holds` answers whether the store has exactly the rows of the first samples, as many as it has
-//!   imports, each with the number of its import, and `complete` imports those that it lacks;
-//! - `receipt NUMBER` answers what an import brought, and `digest PIN` in base 16 the digest of the
-//!   rows that a pin shows.
+//!   print what the store reports: `version` is the version of its layout, `plain` how many
+//!   segments have no checksums, `blocks` how many blocks of the disk it needs, `left` how many
+//!   rows of a merge are left, `closed` whether it has to be opened again, and `latest` its latest
+//!   day;
+//! - `holds` prints whether the store has exactly the rows of the first samples, as many as it has
+//!   imports, each with its import number, and `complete` imports those that it lacks;
+//! - `receipt NUMBER` prints the receipt of an import, and `digest PIN` the digest of the rows that
+//!   a pin shows, in hexadecimal.
 //!
-//! A refusal is answered by its number and by what Rust prints of it.
+//! A refusal is printed as its number and Rust's debug text of it.
 
 use case_files::{Answer, NoAnswer};
 use case_values::{number, spell_hex};
@@ -22,7 +23,7 @@ use test_support::{Example, holds};
 /// The samples, in the order in which cases import them.
 const SAMPLES: [&str; 3] = ["r1", "r2", "r3"];
 
-/// A store, where it is made or opened.
+/// The store, if it was made or opened.
 pub fn store_of(made: Result<Example, Refusal>) -> Result<Example, NoAnswer> {
     match made {
         Ok(store) => Ok(store),
@@ -45,7 +46,7 @@ fn spell_count(alloc: Global, answer: Result<u64, Refusal>) -> Answer {
     }
 }
 
-/// That a call is done, or a refusal.
+/// `done`, or a refusal.
 fn spell_done(alloc: Global, answer: Result<(), Refusal>) -> Answer {
     match answer {
         Ok(()) => Ok(String::from_str(alloc, "done")?),
@@ -67,7 +68,7 @@ pub fn spell_receipt(alloc: Global, answer: Result<Receipt, Refusal>) -> Answer 
     }
 }
 
-/// Whether the only segment was written anew.
+/// Whether the only segment was rewritten.
 fn spell_rewritten(alloc: Global, rewritten: Result<bool, Refusal>) -> Answer {
     match rewritten {
         Ok(true) => Ok(String::from_str(alloc, "done")?),
@@ -76,7 +77,7 @@ fn spell_rewritten(alloc: Global, rewritten: Result<bool, Refusal>) -> Answer {
     }
 }
 
-/// What an import brought.
+/// The receipt of an import at a later time.
 fn spell_brought(alloc: Global, brought: ImportReceipt) -> Answer {
     let new = brought.new;
     match brought.latest {
@@ -88,7 +89,7 @@ fn spell_brought(alloc: Global, brought: ImportReceipt) -> Answer {
     }
 }
 
-/// A number, or that there is none.
+/// A number, or `none`.
 fn spell_some(alloc: Global, number: Option<u64>) -> Answer {
     match number {
         Some(number) => Ok(format!(in alloc; "{number}")?),
@@ -96,7 +97,7 @@ fn spell_some(alloc: Global, number: Option<u64>) -> Answer {
     }
 }
 
-/// What a store shows.
+/// What a store reports.
 fn show(alloc: Global, store: &Example, word: &str) -> Answer {
     let number = match word {
         "imports" => Some(u64::from(store.imports())),
@@ -133,7 +134,7 @@ fn complete(store: &mut Example) -> Result<(), Refusal> {
     Ok(())
 }
 
-/// Makes a call, or says what the store shows.
+/// Makes a call, or prints what the store reports.
 pub fn call(alloc: Global, store: &mut Example, word: &str, words: &str) -> Answer {
     match (word, words) {
         ("step", rows) => spell_count(alloc, store.merge_step(number(rows)?)),

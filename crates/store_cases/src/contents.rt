@@ -1,19 +1,19 @@
-//! What the newer content block of a disk lists, as words say it: the epoch and the number of
-//! imports, and behind a comma each the first block, the bytes and the rows of a segment, as in `5
-//! 3, 6 638 10, 7 92 2`.
+//! The contents of the newer content block of a disk, described by words: the epoch and the number
+//! of imports, and then, each after a comma, the first block, the bytes and the rows of each
+//! segment, as in `5 3, 6 638 10, 7 92 2`.
 
 use case_files::NoAnswer;
 use case_values::{first_word, number};
 use std::alloc::Global;
 
-/// Adds the number that a word spells, in four bytes.
+/// Appends the number that a word spells, in four bytes.
 fn put_number(block: &mut Vec<u8>, word: &str) -> Result<(), NoAnswer> {
     let number: u32 = number(word)?;
     block.extend_from_slice(&number.to_be_bytes())?;
     Ok(())
 }
 
-/// Adds the first block, the bytes and the rows of a segment, and four zeros.
+/// Appends the first block, the bytes and the rows of a segment, and four zeros.
 fn put_entry(block: &mut Vec<u8>, entry: &str) -> Result<(), NoAnswer> {
     let (first, entry) = first_word(entry)?;
     let (bytes, rows) = first_word(entry)?;
@@ -24,7 +24,7 @@ fn put_entry(block: &mut Vec<u8>, entry: &str) -> Result<(), NoAnswer> {
     Ok(())
 }
 
-/// Adds the epoch, the mark, the number of imports, the number of entries and eight zeros.
+/// Appends the epoch, the mark, the number of imports, the number of entries and eight zeros.
 fn put_front(block: &mut Vec<u8>, epoch: u64, imports: &str, count: u32) -> Result<(), NoAnswer> {
     block.extend_from_slice(&epoch.to_be_bytes())?;
     block.extend_from_slice(b"SCTHIST2")?;
@@ -34,7 +34,7 @@ fn put_front(block: &mut Vec<u8>, epoch: u64, imports: &str, count: u32) -> Resu
     Ok(())
 }
 
-/// A content block: the front, the entries, and zeros up to its end.
+/// A content block: the header, the entries, and zeros up to its end.
 fn content(alloc: Global, epoch: u64, imports: &str, entries: &str) -> Result<Vec<u8>, NoAnswer> {
     let count = entries.split(", ").count().min(250) as u32;
     let mut block = Vec::new(alloc);
@@ -46,8 +46,8 @@ fn content(alloc: Global, epoch: u64, imports: &str, entries: &str) -> Result<Ve
     Ok(block)
 }
 
-/// Whether the newer slot is open and lists what the words say. The
-/// slot of an odd epoch is the first, that of an even one the second.
+/// Whether the newer slot is open and lists what the words say. The slot with an odd epoch is the
+/// first, the one with an even epoch the second.
 pub fn lists(alloc: Global, bytes: &[u8], words: &str) -> Result<bool, NoAnswer> {
     let (front, entries) = words.split_once(", ").ok_or(NoAnswer::NoQuestion)?;
     let (epoch, imports) = first_word(front)?;

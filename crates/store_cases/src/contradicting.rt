@@ -1,6 +1,6 @@
-//! The contradictions of a release: `contradictions LIMIT RELEASE` answers how many there are
-//! besides those that are listed, and then a line for each of these: its place and its row, and
-//! where the other row stands and what that is.
+//! The contradictions of a release: `contradictions LIMIT RELEASE` prints how many there are
+//! besides the listed ones, and then a line for each listed one: its file, its line and its row,
+//! and where the other row is and what that row is.
 
 use crate::calls::spell_refusal;
 use case_files::{Answer, NoAnswer};
@@ -9,7 +9,7 @@ use import_check::{ContradictingLine, OtherRow, Release};
 use std::alloc::Global;
 use test_support::Example;
 
-/// Where the other row stands.
+/// Where the other row is.
 fn spell_source(alloc: Global, store: &Example, other: &OtherRow) -> Answer {
     match other {
         OtherRow::Known(row) => {
@@ -23,7 +23,7 @@ fn spell_source(alloc: Global, store: &Example, other: &OtherRow) -> Answer {
     }
 }
 
-/// A contradiction, behind the end of the line before it.
+/// A contradiction, on a new line.
 fn spell_contradiction(alloc: Global, store: &Example, found: &ContradictingLine) -> Answer {
     let (file, line) = (found.line.file, found.line.line);
     let row = line_of(alloc, &found.line.row)?;
@@ -32,7 +32,7 @@ fn spell_contradiction(alloc: Global, store: &Example, found: &ContradictingLine
     Ok(format!(in alloc; "\nfile {file}, line {line}: {row} but {source} has {other}")?)
 }
 
-/// The contradictions of a release, or why they aren't listed.
+/// The contradictions of a release, or why they can't be listed.
 pub fn ask_contradictions(
     alloc: Global,
     store: &mut Example,

@@ -1,13 +1,13 @@
-//! Copies of the kept disk (`trials.rt`), which has to stay as it is: of its first so many imports,
-//! or of `all`.
+//! Copies of the kept disk (`trials.rt`), which has to stay unchanged: of its first IMPORTS
+//! imports, or of `all`.
 //!
-//! - `copy LENGTH IMPORTS` makes one on a disk of so many zeros, and then it is the store;
-//! - `copy-from FAILURE CALLS IMPORTS` lets a call of the kept disk fail behind so many others, and
-//!   `copy-reads IMPORTS` each of its reads in turn: a copy of all is then refused, and no store is
-//!   left, or it has as many imports;
-//! - `copy-stops IMPORTS` answers how many stores a stop leaves of a copy, over all its moments and
-//!   the four choices of each, and `copy-fails FAILURE IMPORTS` the most of them where each call of
-//!   the copy's disk fails in turn. Each has to have as many imports.
+//! - `copy LENGTH IMPORTS` makes a copy on a disk of LENGTH zeros, which then is the store;
+//! - `copy-from FAILURE CALLS IMPORTS` lets a call of the kept disk fail after CALLS others, and
+//!   `copy-reads IMPORTS` each of its reads in turn: a copy of all imports is then refused and
+//!   leaves no store, or it has that many imports;
+//! - `copy-stops IMPORTS` prints how many stores crashes during a copy leave, over all its moments
+//!   and the four choices of each, and `copy-fails FAILURE IMPORTS` the most of them if each call
+//!   of the copy's disk fails in turn. Each store has to have that many imports.
 //!
 //! A refusal is followed by the number of changing calls of the copy's disk.
 
@@ -19,10 +19,10 @@ use std::alloc::Global;
 use store_copy::{CopyFault, copy};
 use test_support::{CHOICES, Example, image_after};
 
-/// The most calls behind which one fails.
+/// The most calls after which one fails.
 const CALLS: u64 = 100;
 
-/// The imports that a word asks for.
+/// The number of imports that a word asks for.
 fn imports_of(word: &str) -> Result<Option<u32>, NoAnswer> {
     match word {
         "all" => Ok(None),
@@ -35,7 +35,7 @@ fn disk_of(alloc: Global, bytes: &[u8]) -> Result<MemDisk, NoAnswer> {
     Ok(MemDisk::from_bytes(alloc, bytes.to_vec(alloc)?))
 }
 
-/// Copies a disk. Why it is refused, if it is.
+/// Copies a disk, and returns why it is refused, if it is.
 fn refusal(
     alloc: Global,
     source: &mut MemDisk,
@@ -45,7 +45,7 @@ fn refusal(
     copy(alloc, source, target, imports).err()
 }
 
-/// What a copy is answered that is refused, or whose source changed.
+/// What is printed for a copy that is refused, or whose source changed.
 fn spell(
     alloc: Global,
     refused: Option<CopyFault>,
@@ -60,7 +60,7 @@ fn spell(
     }
 }
 
-/// Copies a disk of these bytes onto one of zeros: the copy, or what is answered.
+/// Copies a disk of these bytes onto one of zeros, and returns the copy, or what is printed.
 pub fn copy_kept(
     alloc: Global,
     kept: &[u8],
@@ -77,7 +77,7 @@ pub fn copy_kept(
     }
 }
 
-/// Copies a disk of which a call fails.
+/// Copies a disk, one of whose calls fails.
 fn copy_from(alloc: Global, kept: &[u8], words: &str) -> Answer {
     let (failure, words) = first_word(words)?;
     let (calls, imports) = first_word(words)?;
@@ -92,7 +92,7 @@ fn copy_from(alloc: Global, kept: &[u8], words: &str) -> Answer {
     }
 }
 
-/// How many imports the disk of these bytes is opened with, if it has a store.
+/// The number of imports of the store that the disk of these bytes represents, if it does.
 fn imports_in(alloc: Global, bytes: &[u8]) -> Option<u32> {
     match Example::of_bytes(alloc, bytes) {
         Ok(store) => Some(store.imports()),
@@ -100,8 +100,8 @@ fn imports_in(alloc: Global, bytes: &[u8]) -> Option<u32> {
     }
 }
 
-/// Whether a copy of a disk one of whose reads fails is whole, and not refused; none where it is
-/// neither.
+/// Whether a copy of a disk, one of whose reads fails, succeeds and is complete; none if it is
+/// neither complete nor refused.
 fn copy_with_a_read(
     alloc: Global,
     kept: &[u8],
@@ -134,7 +134,7 @@ fn copy_reads(alloc: Global, kept: &[u8], words: &str) -> Answer {
     Err(NoAnswer::NoQuestion)
 }
 
-/// How many stores the stops of a copy leave; none where one of them has other imports.
+/// How many stores the crashes during a copy leave; none if one of them has other imports.
 fn count_stores(alloc: Global, target: &MemDisk, imports: u32) -> Result<Option<u32>, NoAnswer> {
     let mut stores = 0u32;
     for calls in 0..=target.changes() {
@@ -149,8 +149,8 @@ fn count_stores(alloc: Global, target: &MemDisk, imports: u32) -> Result<Option<
     Ok(Some(stores))
 }
 
-/// How many stores stops leave of a copy onto a disk, and whether it is refused, since that disk
-/// failed; none where anything else is so.
+/// How many stores crashes leave of a copy onto a disk, and whether the copy is refused because
+/// that disk failed; none if anything else happens.
 fn copy_onto(
     alloc: Global,
     kept: &[u8],
@@ -165,7 +165,7 @@ fn copy_onto(
     }
 }
 
-/// How many stores stops leave of a copy.
+/// How many stores crashes during a copy leave.
 fn copy_stops(alloc: Global, kept: &[u8], words: &str) -> Answer {
     let mut target = MemDisk::new(alloc);
     match copy_onto(alloc, kept, &mut target, number(words)?)? {
@@ -191,7 +191,7 @@ fn copy_fails(alloc: Global, kept: &[u8], words: &str) -> Answer {
     Err(NoAnswer::NoQuestion)
 }
 
-/// Copies a disk of these bytes, and answers what comes of failures and stops.
+/// Copies a disk of these bytes, and prints the results of failures and crashes.
 pub fn try_copies(alloc: Global, kept: &[u8], word: &str, words: &str) -> Answer {
     match word {
         "copy-from" => copy_from(alloc, kept, words),

@@ -1,18 +1,19 @@
-//! What is asked of the disk of a store that is closed.
+//! Questions about the disk of a closed store.
 //!
 //! Each of these closes the store and opens it again:
-//! - `open` answers `done`, `length` how many bytes the disk has, and `lists` and words of
-//!   `contents.rt` whether the disk's newer content block is as they say;
-//! - `patch FROM TO BYTE` puts a byte at all places from one up to another; `break CALLS` lets the
-//!   changing call behind so many fail, before the store is opened, and `torn CALLS` does the same
-//!   with one byte of that call written.
+//! - `open` prints `done`, `length` how many bytes the disk has, and `lists`, followed by words of
+//!   `contents.rt`, whether the disk's newer content block is as they say;
+//! - `patch FROM TO BYTE` writes a byte at all offsets from one up to another; `break CALLS` lets
+//!   the changing call after CALLS others fail before the store is opened, and `torn CALLS` does
+//!   the same with one byte of that call written.
 //!
-//! - `bytes FROM TO` answers the bytes of the disk from one place up to another, in base 16;
-//! - `turned FROM TO BITS` answers how many bytes from one place up to another, each turned over by
-//!   itself in these bits, leave a disk that isn't opened as a store, since it is damaged.
+//! - `bytes FROM TO` prints the bytes of the disk from one offset up to another, in hexadecimal;
+//! - `turned FROM TO BITS` inverts these bits of each byte from one offset up to another, one byte
+//!   at a time, and prints how many of these changes leave a disk that isn't opened as a store
+//!   because it is damaged.
 //!
-//! `changes` closes it and answers how many changing calls were made of the disk: then comes a new
-//! store. `new` begins with a new store, too, and `new-in-three` with one of version 3.
+//! `changes` closes the store and prints how many changing calls were made on the disk; a new store
+//! follows. `new` begins with a new store too, and `new-in-three` with one of version 3.
 
 use crate::contents::lists;
 use case_files::{Answer, NoAnswer};
@@ -39,7 +40,7 @@ fn is_damaged(alloc: Global, bytes: &[u8]) -> Result<bool, NoAnswer> {
     }
 }
 
-/// How many bytes of a disk leave a damaged store, each turned over by itself.
+/// How many bytes of a disk, each inverted by itself, leave a damaged store.
 fn count_turned(alloc: Global, bytes: &[u8], words: &str) -> Answer {
     let (from, words) = first_word(words)?;
     let (to, bits) = first_word(words)?;
@@ -61,7 +62,7 @@ fn count_turned(alloc: Global, bytes: &[u8], words: &str) -> Answer {
     Ok(format!(in alloc; "{damaged} of {count} damaged")?)
 }
 
-/// What is asked of the bytes of a disk.
+/// Answers a question about the bytes of a disk.
 pub fn ask_disk(alloc: Global, bytes: &[u8], word: &str, words: &str) -> Answer {
     match (word, words) {
         ("length", "") => {
@@ -82,7 +83,7 @@ pub fn ask_disk(alloc: Global, bytes: &[u8], word: &str, words: &str) -> Answer 
     }
 }
 
-/// A disk with a byte at all places of a range.
+/// A disk with a byte at all offsets of a range.
 fn patched(alloc: Global, disk: &MemDisk, words: &str) -> Result<MemDisk, NoAnswer> {
     let (from, words) = first_word(words)?;
     let (to, byte) = first_word(words)?;
@@ -96,7 +97,7 @@ fn patched(alloc: Global, disk: &MemDisk, words: &str) -> Result<MemDisk, NoAnsw
     Ok(MemDisk::from_bytes(alloc, bytes))
 }
 
-/// The disk as it is to be opened.
+/// The disk that is opened.
 pub fn changed(
     alloc: Global,
     mut disk: MemDisk,

@@ -1,7 +1,8 @@
-//! The store of a case, which is new at its first question, and which function answers that.
+//! The store of a case, which is new at its first question, and the function that answers each
+//! question.
 //!
-//! `import RELEASE` and `check RELEASE` answer the receipt of what `releases.rt` finds: a check
-//! adds nothing.
+//! `import RELEASE` and `check RELEASE` print the receipt of the release that `releases.rt` finds;
+//! a check imports nothing.
 
 use crate::calls::{call, spell_receipt, store_of};
 use crate::contradicting::ask_contradictions;
@@ -28,7 +29,7 @@ pub struct Examples {
 }
 
 impl Examples {
-    /// Without a release.
+    /// No releases.
     pub fn new(alloc: Global) -> Examples {
         Examples {
             alloc,
@@ -53,21 +54,21 @@ impl Examples {
         spell_receipt(self.alloc, answer)
     }
 
-    /// Checks a release, which isn't imported.
+    /// Checks a release, without importing it.
     fn check(&mut self, words: &str) -> Answer {
         let release = self.releases.find(words)?;
         let answer = self.store()?.check(release);
         spell_receipt(self.alloc, answer)
     }
 
-    /// The contradictions of a release, of which so many are listed at most.
+    /// The contradictions of a release, of which a limited number is listed.
     fn contradictions(&mut self, words: &str) -> Answer {
         let (limit, words) = first_word(words)?;
         let release = self.releases.find(words)?;
         ask_contradictions(self.alloc, self.store()?, number(limit)?, release)
     }
 
-    /// Puts a store in the place of the present one.
+    /// Replaces the present store.
     pub fn put(&mut self, store: Example) {
         self.store = Some(store);
     }
@@ -79,7 +80,7 @@ impl Examples {
         Some((counts.0, counts.1, store.row_count(), store.version()))
     }
 
-    /// The version of the store's layout, and 0 without a store.
+    /// The version of the store's layout; 0 without a store.
     pub fn version(&self) -> u32 {
         match &self.store {
             Some(store) => store.version(),
@@ -87,7 +88,7 @@ impl Examples {
         }
     }
 
-    /// Closes the store, and gives its disk.
+    /// Closes the store, and returns its disk.
     pub fn close(&mut self) -> Result<MemDisk, NoAnswer> {
         self.store()?;
         match self.store.take() {
@@ -96,7 +97,7 @@ impl Examples {
         }
     }
 
-    /// Closes the store, answers what is asked of its disk, and opens it again.
+    /// Closes the store, answers a question about its disk, and opens it again.
     fn reopen(&mut self, word: &str, words: &str) -> Answer {
         let disk = self.close()?;
         let answer = ask_disk(self.alloc, disk.bytes(), word, words)?;
@@ -105,13 +106,13 @@ impl Examples {
         Ok(answer)
     }
 
-    /// Forgets the store, and the rows that are known without one.
+    /// Drops the store, and the rows that are known without one.
     pub fn begin(&mut self) {
         self.store = None;
         self.plain.begin();
     }
 
-    /// What becomes of a release without a store.
+    /// Answers a question about a release without a store.
     fn ask_plain(&mut self, word: &str, words: &str) -> Answer {
         match word {
             "fresh" => {
@@ -131,18 +132,18 @@ impl Examples {
         }
     }
 
-    /// Takes a line of a release.
+    /// Adds a line of a release.
     pub fn give(&mut self, part: &str, word: &str, rest: &str) -> Result<(), NoAnswer> {
         self.releases.give(part, word, rest)
     }
 
-    /// Asks what a line says.
+    /// Answers the question on a line.
     pub fn ask_line(&mut self, line: &str) -> Answer {
         let (word, rest) = two_words(line);
         self.ask(word, rest)
     }
 
-    /// Answers a question: its first word, and what stands behind that.
+    /// Answers a question, given by its first word and the words after that.
     pub fn ask(&mut self, word: &str, rest: &str) -> Answer {
         let alloc = self.alloc;
         match word {

@@ -6,7 +6,7 @@ use disk_model::MemDisk;
 /// Which calls fail.
 #[derive(Clone, Copy)]
 pub enum Failure {
-    /// One changing call, with so many bytes written.
+    /// One changing call, after writing this many bytes.
     Change(u64),
     /// One call that reads.
     Read,
@@ -26,7 +26,7 @@ impl Failure {
         }
     }
 
-    /// So many calls pass before a call of the disk fails.
+    /// Lets a call of the disk fail after `calls` successful ones.
     pub fn strike(self, disk: &mut MemDisk, calls: u64) {
         match self {
             Failure::Change(part) => disk.set_break(calls, part),

@@ -1,15 +1,15 @@
-//! The disk of a closed store, and other bytes on it.
+//! The disk of a closed store, and changed bytes on it.
 //!
-//! - `cut` answers what a disk is opened as that has only so many bytes of this one, for each
-//!   number;
-//! - `with PLACE BYTES` answers the same where these bytes stand from a place on, in base 16;
-//! - `byte BYTE ANSWERS LENGTH PLACES` puts a byte at each of so many places behind each of these
-//!   places, one at a time, and answers how many disks were opened so; each has to be answered as
-//!   one of the answers, with a comma between two. `damaged` is any damage. Where the byte stands
-//!   already, nothing is tried.
+//! - `cut` prints what a disk with only the first bytes of this one is opened as, for each number
+//!   of bytes;
+//! - `with PLACE BYTES` prints the same for these bytes, in hexadecimal, written from an offset on;
+//! - `byte BYTE ANSWERS LENGTH PLACES` writes a byte at each of LENGTH offsets from each of these
+//!   offsets on, one at a time, and prints how many disks were opened in this way; each result has
+//!   to be one of the answers, which are separated by commas. `damaged` is any damage. Where the
+//!   disk has that byte already, nothing is tried.
 //!
-//! A disk is opened as a number of imports, or refused, with the damaged part if it is damaged. One
-//! that is refused has to be left as it was.
+//! A disk is opened as a number of imports, or refused, with the damaged part if it is damaged. A
+//! disk that is refused has to stay unchanged.
 
 use crate::calls::spell_refusal;
 use case_files::{Answer, NoAnswer};
@@ -19,7 +19,7 @@ use history_store::Refusal;
 use std::alloc::Global;
 use test_support::{Example, put};
 
-/// Puts bytes on a disk, at the place that words begin with, and makes it long enough.
+/// Writes bytes to a disk, at the offset that the words begin with, and extends it if needed.
 pub fn put_at(alloc: Global, disk: &mut Vec<u8>, words: &str) -> Result<(), NoAnswer> {
     let (place, digits) = first_word(words)?;
     let place: usize = number(place)?;
@@ -32,7 +32,7 @@ pub fn put_at(alloc: Global, disk: &mut Vec<u8>, words: &str) -> Result<(), NoAn
     Ok(())
 }
 
-/// Why a disk isn't opened as a store.
+/// Why a disk can't be opened as a store.
 fn spell_reason(alloc: Global, refusal: Refusal) -> Answer {
     match refusal {
         Refusal::Unreadable(part) => Ok(format!(in alloc; "{part:?}")?),
@@ -53,7 +53,7 @@ fn opened(alloc: Global, bytes: Vec<u8>) -> Answer {
     }
 }
 
-/// What the disk is opened as with each number of its bytes.
+/// What the disk is opened as, with each number of its bytes.
 pub fn cut(alloc: Global, disk: &[u8]) -> Answer {
     let mut groups = Groups::new(alloc);
     for length in 0..=disk.len() {
@@ -63,14 +63,14 @@ pub fn cut(alloc: Global, disk: &[u8]) -> Answer {
     groups.end()
 }
 
-/// What the disk is opened as with other bytes at a place.
+/// What the disk is opened as, with other bytes at an offset.
 pub fn with(alloc: Global, disk: &[u8], words: &str) -> Answer {
     let mut bytes = disk.to_vec(alloc)?;
     put_at(alloc, &mut bytes, words)?;
     opened(alloc, bytes)
 }
 
-/// Whether an answer is one of some, with a comma between two.
+/// Whether an answer is one of those that are separated by commas.
 fn is_among(answer: &str, answers: &str) -> bool {
     let is_damaged = !answer.starts_with("refused") && answer.parse::<u32>().is_err();
     for wanted in answers.split(',') {
@@ -81,7 +81,7 @@ fn is_among(answer: &str, answers: &str) -> bool {
     false
 }
 
-/// A byte, what a disk may be opened as with it, and how many places are tried behind another one.
+/// A byte, what a disk may be opened as with it, and how many offsets are tried from each one on.
 #[derive(Clone, Copy)]
 struct Change<'a> {
     byte: u8,
@@ -89,7 +89,7 @@ struct Change<'a> {
     length: usize,
 }
 
-/// What a disk is opened as with a byte at a place, where another one stands there.
+/// What a disk is opened as with this byte at an offset, unless it has that byte already.
 fn changed(alloc: Global, disk: &[u8], place: usize, byte: u8) -> Result<Option<String>, NoAnswer> {
     let mut bytes = disk.to_vec(alloc)?;
     match bytes.get_mut(place) {
@@ -100,8 +100,8 @@ fn changed(alloc: Global, disk: &[u8], place: usize, byte: u8) -> Result<Option<
     Ok(Some(opened(alloc, bytes)?))
 }
 
-/// How many disks with the byte at a place behind this one are opened as they may be, or what the
-/// first other one is opened as.
+/// How many disks with the byte at an offset from this one on are opened as they may be; or what
+/// the first other one is opened as.
 fn try_places(
     alloc: Global,
     disk: &[u8],
@@ -120,7 +120,7 @@ fn try_places(
     Ok(Ok(count))
 }
 
-/// The same for some places.
+/// The same, for several offsets.
 pub fn try_byte(alloc: Global, disk: &[u8], words: &str) -> Answer {
     let (byte, words) = first_word(words)?;
     let (answers, words) = first_word(words)?;

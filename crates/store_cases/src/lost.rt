@@ -1,4 +1,4 @@
-//! What is known, but can't be had.
+//! Known rows that can't be read.
 
 ghost use Rattle.std.specs.Prelude.{[]};
 
@@ -9,7 +9,7 @@ use rf2_rows::Row;
 use rf2_values::Key;
 use std::alloc::Global;
 
-/// Refuses each row with a fault, and counts it.
+/// Fails for each row with a fault, and counts the faults.
 #[derive(Clone, Copy)]
 pub struct Lost {
     fault: ReadFault,
@@ -18,7 +18,7 @@ pub struct Lost {
 }
 
 impl Lost {
-    /// With the fault that a word names.
+    /// One that fails with the fault that a word names.
     pub fn of(word: &str) -> Result<Lost, NoAnswer> {
         let fault = match word {
             "memory" => ReadFault::OutOfMemory,
@@ -33,7 +33,7 @@ impl Lost {
         })
     }
 
-    /// How many faults of the disk there were, and how many damages.
+    /// How many faults of the disk there were, and how many of damage.
     pub fn counts(&self) -> (u64, u64) {
         (self.disk_faults, self.damages)
     }

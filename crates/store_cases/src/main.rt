@@ -1,5 +1,5 @@
-//! Calls of a store by worked examples, which are cases in files: imports, and which of them are
-//! refused; questions; merges beside both, and trims; and what stops, failures and damage leave.
+//! Worked examples of the calls of a store, as cases in files: imports, and which of them are
+//! refused; questions; merges during both, and trims; and what crashes, failures and damage leave.
 #![tactic(auto)]
 
 mod calls;

@@ -1,14 +1,15 @@
-//! Releases beside rows that are known, without a store: a case begins with none.
+//! Releases compared with known rows, without a store: a case begins with no known rows.
 //!
-//! - `fresh RELEASE` answers how many rows are new and how many lines repeat others, and then the
-//!   new rows are known too; or why the release is refused. The plain program of `plain_history`
-//!   has to accept it too, and to bring the same rows, or to refuse it where a row contradicts
-//!   another;
-//! - `order RELEASE` answers the new rows in their order, a line each;
-//! - `lost FAULT RELEASE` answers why it is refused where what is known can't be had, and how many
-//!   faults of the disk and damages are counted then;
-//! - `lookups RELEASE` answers how often a known row is asked for, where nothing is known;
-//! - `sample NAME` answers the files of a sample: a line of the name and the kind, and its lines.
+//! - `fresh RELEASE` prints how many rows are new and how many lines repeat others, and then the
+//!   new rows are known too; or it prints why the release is refused. The plain program of
+//!   `plain_history` has to accept it too and find the same rows, or to refuse it if a row
+//!   contradicts another;
+//! - `order RELEASE` prints the new rows in their order, one on each line;
+//! - `lost FAULT RELEASE` prints why the release is refused if known rows can't be read, and how
+//!   many faults of the disk and of damage are counted then;
+//! - `lookups RELEASE` prints how often a known row is looked up, if nothing is known;
+//! - `sample NAME` prints the files of a sample: a line with the name and the kind, and then its
+//!   lines.
 
 use crate::lost::Lost;
 use crate::unknown::Unknown;
@@ -29,7 +30,7 @@ pub struct Plain {
     rows: Vec<StampedRow>,
 }
 
-/// The rows of all lines, if each is one.
+/// The rows of all lines, if each line is a row.
 fn rows_of(alloc: Global, release: &Release) -> Result<Option<Vec<Row>>, NoAnswer> {
     let mut rows = Vec::new(alloc);
     for file in &release.files {
@@ -41,7 +42,7 @@ fn rows_of(alloc: Global, release: &Release) -> Result<Option<Vec<Row>>, NoAnswe
     Ok(Some(rows))
 }
 
-/// Whether an import brought these rows and no others, in this order.
+/// Whether an import brought exactly these rows, in this order.
 fn brought(ours: &[Row], after: &[StampedRow], import: u32) -> bool {
     let mut ours = ours.iter();
     for stamped in after {
@@ -55,7 +56,7 @@ fn brought(ours: &[Row], after: &[StampedRow], import: u32) -> bool {
     ours.next().is_none()
 }
 
-/// How many rows are new and how many lines aren't.
+/// How many rows are new, and how many lines aren't.
 fn spell_counts(alloc: Global, fresh: &NewRows) -> Answer {
     let (new, repeated) = (fresh.rows.len(), fresh.repeated);
     Ok(format!(in alloc; "{new} new, {repeated} repeated")?)
@@ -67,7 +68,7 @@ fn spell_fault(alloc: Global, fault: ImportFault) -> Answer {
 }
 
 impl Plain {
-    /// None.
+    /// No known rows.
     pub fn new(alloc: Global) -> Plain {
         Plain {
             alloc,
@@ -76,14 +77,14 @@ impl Plain {
         }
     }
 
-    /// Forgets the rows.
+    /// Drops the rows.
     pub fn begin(&mut self) {
         self.imports = 0;
         self.rows.clear();
     }
 
-    /// Adds the rows of lines as the plain program does, and tells whether these are as many, and
-    /// the new ones those that were found.
+    /// Adds the rows of lines as the plain program does, and returns whether it counts as many, and
+    /// finds the same new rows.
     fn add(&mut self, lines: &[Row], fresh: &NewRows) -> Result<bool, AllocError> {
         let imports = u32::from(self.imports);
         let receipt = plain_history::receipt(self.alloc, imports, &self.rows, lines)?;
@@ -96,7 +97,7 @@ impl Plain {
         Ok(is_same)
     }
 
-    /// What becomes of a release that is accepted, with these lines.
+    /// The result of a release that is accepted, with these lines.
     fn accept(&mut self, fresh: &NewRows, lines: &[Row]) -> Answer {
         if self.add(lines, fresh)? {
             spell_counts(self.alloc, fresh)
@@ -105,8 +106,8 @@ impl Plain {
         }
     }
 
-    /// Whether the plain program refuses the lines where a row contradicts another; and a line is
-    /// no row where that is the fault.
+    /// Whether the plain program refuses the lines, if the fault is that a row contradicts another;
+    /// or whether a line isn't a row, if that is the fault.
     fn refuses_with(&self, fault: ImportFault, lines: Option<&[Row]>) -> bool {
         match (fault, lines) {
             (ImportFault::Contradiction { .. }, Some(lines)) => {
@@ -117,7 +118,7 @@ impl Plain {
         }
     }
 
-    /// What becomes of a release.
+    /// The result of a release.
     pub fn fresh(&mut self, release: Release) -> Answer {
         let rows = rows_of(self.alloc, &release)?;
         let found = new_rows(self.alloc, release, &mut KnownRows::new(&self.rows));
@@ -149,7 +150,7 @@ impl Plain {
     }
 }
 
-/// Why a release is refused where what is known can't be had.
+/// Why a release is refused if known rows can't be read.
 pub fn refuse(alloc: Global, fault: &str, release: Release) -> Answer {
     let mut lost = Lost::of(fault)?;
     let found = new_rows(alloc, release, &mut lost);
@@ -162,7 +163,7 @@ pub fn refuse(alloc: Global, fault: &str, release: Release) -> Answer {
     }
 }
 
-/// How often a known row is asked for where nothing is known.
+/// How often a known row is looked up if nothing is known.
 pub fn count_lookups(alloc: Global, release: Release) -> Answer {
     let mut unknown = Unknown::new();
     let found = new_rows(alloc, release, &mut unknown);

@@ -1,6 +1,6 @@
-//! Questions about what the first imports of a store show: `at`, their number, and a question of
-//! `case_values`. The answer is the line of a row, or lines of rows, identifiers or days that are
-//! found; `none` where there is none.
+//! Questions about what the first imports of a store show: `at`, the number of imports, and a
+//! question of `case_values`. The answer is the line of a row, or lines of rows, identifiers or
+//! days; `none` if there are none.
 
 use crate::calls::spell_refusal;
 use case_files::Answer;
@@ -9,7 +9,7 @@ use history_store::Refusal;
 use std::alloc::{AllocError, Global};
 use test_support::Example;
 
-/// Lines, or that there is none.
+/// Lines, or `none`.
 fn spell_lines(alloc: Global, lines: &[u8]) -> Answer {
     if lines.is_empty() {
         return Ok(String::from_str(alloc, "none")?);
@@ -17,7 +17,7 @@ fn spell_lines(alloc: Global, lines: &[u8]) -> Answer {
     spell_text(alloc, lines.strip_suffix(b"\n").unwrap_or(lines))
 }
 
-/// Identifiers, one a line.
+/// Identifiers, one on each line.
 fn lines_of_ids(alloc: Global, ids: &[u64]) -> Result<Vec<u8>, AllocError> {
     let mut lines = Vec::new(alloc);
     for id in ids {
@@ -27,7 +27,7 @@ fn lines_of_ids(alloc: Global, ids: &[u64]) -> Result<Vec<u8>, AllocError> {
     Ok(lines)
 }
 
-/// The concepts that are found.
+/// The concepts that a question finds.
 fn find_concepts(
     alloc: Global,
     store: &mut Example,
@@ -43,7 +43,7 @@ fn find_concepts(
     Ok(lines_of_ids(alloc, ids.as_slice())?)
 }
 
-/// The lines that are found.
+/// The lines that a question finds.
 fn find(
     alloc: Global,
     store: &mut Example,
@@ -84,7 +84,7 @@ fn find(
     }
 }
 
-/// The answer to a question about what a pin shows.
+/// The answer to a question about the rows that a pin shows.
 pub fn ask_at(alloc: Global, store: &mut Example, text: &str) -> Answer {
     let (pin, text) = first_word(text)?;
     let (text, prefix) = split_prefix(text)?;

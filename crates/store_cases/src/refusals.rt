@@ -1,5 +1,5 @@
-//! The numbers of refusals: `refusals` answers a line for each refusal of a store, by its number
-//! and by what Rust prints of it.
+//! The numbers of refusals: `refusals` prints a line for each refusal of a store, with its number
+//! and Rust's debug text of it.
 
 use crate::calls::spell_refusal;
 use case_files::Answer;
@@ -7,7 +7,7 @@ use history_store::{Damage, Refusal};
 use rf2_rows::LineFault;
 use std::alloc::Global;
 
-/// Each refusal, one of those that have a part or a place.
+/// Each refusal; of those that have a part or a position, one example.
 const REFUSALS: [Refusal; 16] = [
     Refusal::OutOfMemory,
     Refusal::DiskFault,
@@ -43,7 +43,7 @@ const FAULTS: [LineFault; 12] = [
     LineFault::EmptyText,
 ];
 
-/// All of them, a line each.
+/// All of them, one on each line.
 pub fn all_refusals(alloc: Global) -> Answer {
     let mut text = String::new(alloc);
     for refusal in &REFUSALS {

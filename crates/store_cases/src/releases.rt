@@ -1,16 +1,16 @@
-//! The releases that cases import or check, by their names or by words.
+//! The releases that cases import or check, found by name or described by words.
 //!
-//! A part is a release: its lines, each behind the kind of the file that it stands in, as in
-//! `concept 138875005|20200131|1|CORE|PRIM`. A file has the lines of one kind that follow each
-//! other, and a kind without a line begins another file. Members with two further columns are of
-//! the kind `member+2`. Besides there are
-//! - `nothing`, without a file;
-//! - `r1`, `r2` and `r3`, the samples, and `cut BYTES`, the first file of `r1` without so many
-//!   bytes at its end;
-//! - `years FIRST COUNT`, of the versions of the root concept of so many years, and `term BYTES`,
-//!   of a description whose term has so many bytes;
-//! - `file KIND TEXT`, of a file of this text, and `below KIND TEXT`, of one that has the column
-//!   names in its first line.
+//! A part is a release: its lines, each after the kind of the file that it belongs to, as in
+//! `concept 138875005|20200131|1|CORE|PRIM`. Consecutive lines of one kind make one file, and a
+//! kind without a line begins another file. Members with two further columns are of the kind
+//! `member+2`. There are also
+//! - `nothing`, a release without files;
+//! - `r1`, `r2` and `r3`, the samples, and `cut BYTES`, the first file of `r1` without its last
+//!   BYTES bytes;
+//! - `years FIRST COUNT`, with versions of the root concept for COUNT years, and `term BYTES`, with
+//!   a description whose term has BYTES bytes;
+//! - `file KIND TEXT`, with a file of this text, and `below KIND TEXT`, with one whose first line
+//!   has the column names.
 
 use case_files::NoAnswer;
 use case_values::{first_word, kind_of, number, row_bytes, row_text, shape_of};
@@ -50,7 +50,7 @@ fn empty_file(alloc: Global, shape: Shape) -> Result<ReleaseFile, AllocError> {
     })
 }
 
-/// Adds a line to the last file, or to a new one of its kind.
+/// Appends a line to the last file, or to a new one of its kind.
 fn put_line(
     alloc: Global,
     files: &mut Vec<ReleaseFile>,
@@ -70,7 +70,7 @@ fn put_line(
     Ok(())
 }
 
-/// A release that the samples or the tests' own have.
+/// A release from the samples or from the tests' own.
 fn known(release: Result<Release, Refusal>) -> Result<Release, NoAnswer> {
     match release {
         Ok(release) => Ok(release),
@@ -79,7 +79,7 @@ fn known(release: Result<Release, Refusal>) -> Result<Release, NoAnswer> {
     }
 }
 
-/// The first sample's concept file alone, with so many bytes less at its end.
+/// Only the concept file of the first sample, without its last `less` bytes.
 fn cut_concepts(alloc: Global, less: usize) -> Result<Release, NoAnswer> {
     let mut release = known(sample_named(alloc, "r1"))?;
     release.files.truncate(1);
@@ -90,14 +90,14 @@ fn cut_concepts(alloc: Global, less: usize) -> Result<Release, NoAnswer> {
     Ok(release)
 }
 
-/// A release of a description whose term has so many bytes.
+/// A release with a description whose term has this many bytes.
 fn long_term(alloc: Global, bytes: usize) -> Result<Release, AllocError> {
     let term = "a".repeat(alloc, bytes)?;
     let line = format!(in alloc; "1000015|20200131|1|CORE|1000004|de|SYN|{term}|ECI")?;
     one_file(alloc, Kind::Description, &[line.as_str()])
 }
 
-/// A release of one file: a text, below the column names or by itself.
+/// A release of one file with this text, after the column names or by itself.
 fn text_file(alloc: Global, is_below: bool, words: &str) -> Result<Release, NoAnswer> {
     let (kind, text) = first_word(words)?;
     let kind = kind_of(kind)?;
@@ -126,7 +126,7 @@ fn described(alloc: Global, word: &str, words: &str) -> Result<Release, NoAnswer
 }
 
 impl Releases {
-    /// None.
+    /// No releases.
     pub fn new(alloc: Global) -> Releases {
         Releases {
             alloc,
@@ -134,7 +134,7 @@ impl Releases {
         }
     }
 
-    /// Takes a line of a release.
+    /// Adds a line of a release.
     pub fn give(&mut self, release: &str, kind: &str, line: &str) -> Result<(), NoAnswer> {
         let shape = shape_of(kind)?;
         let release = String::from_str(self.alloc, release)?;
@@ -147,7 +147,7 @@ impl Releases {
         Ok(())
     }
 
-    /// The files of the release with this name, none if there is no such.
+    /// The files of the release with this name; none if there is no such release.
     fn files_of(&self, name: &str) -> Result<Vec<ReleaseFile>, NoAnswer> {
         let mut files = Vec::new(self.alloc);
         let mut last = None;
@@ -160,7 +160,7 @@ impl Releases {
         Ok(files)
     }
 
-    /// The release with this name, or that the words describe.
+    /// The release with this name, or the one that the words describe.
     pub fn find(&self, words: &str) -> Result<Release, NoAnswer> {
         if let Some((word, words)) = words.split_once(' ') {
             return described(self.alloc, word, words);

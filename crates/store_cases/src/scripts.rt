@@ -1,16 +1,16 @@
-//! Parts whose lines are calls, each behind the word `call`, or bytes of a disk, each behind `at`
-//! and the place of the first, as in `at 4096 53435448`. A call is a question of this program, and
-//! in a *look*, whose answers stand one behind the other, also
-//! - `known PIN PART`, the number of the answers that were remembered of the part and are those of
-//!   the store, in which `PIN` stands for the pin;
-//! - `in-1 CALL`, a call that is made, and answered, by a store of version 1 alone.
+//! Parts whose lines are calls, each after the word `call`, or bytes of a disk, each after `at` and
+//! the offset of the first, as in `at 4096 53435448`. A call is a question of this program. In a
+//! *look*, whose answers are printed one after the other, a call may also be
+//! - `known PIN PART`, which prints the number of the remembered answers to the part that are equal
+//!   to the store's, where `PIN` stands for the pin;
+//! - `in-1 CALL`, a call that is made, and whose answer is printed, only by a store of version 1.
 
 use crate::examples::Examples;
 use case_files::{Answer, NoAnswer, two_words};
 use case_values::first_word;
 use std::alloc::Global;
 
-/// What a call of a store is answered that has to be opened again.
+/// The answer to a call of a store that has to be opened again.
 const SHUT: &str = "refused 3 ReopenNeeded";
 
 /// A line of a part.
@@ -20,7 +20,7 @@ struct Line {
     text: String,
 }
 
-/// The lines of all such parts, and the answers that were remembered.
+/// The lines of all such parts, and the remembered answers.
 #[derive(Drop)]
 pub struct Scripts {
     alloc: Global,
@@ -28,13 +28,13 @@ pub struct Scripts {
     remembered: Vec<String>,
 }
 
-/// Whether a call is refused, since the store has to be opened again.
+/// Whether a call is refused because the store has to be opened again.
 fn is_shut(examples: &mut Examples, call: &str) -> Result<bool, NoAnswer> {
     Ok(examples.ask_line(call)?.as_str() == SHUT)
 }
 
 impl Scripts {
-    /// None.
+    /// No parts.
     pub fn new(alloc: Global) -> Scripts {
         Scripts {
             alloc,
@@ -43,12 +43,12 @@ impl Scripts {
         }
     }
 
-    /// Forgets the answers that were remembered.
+    /// Drops the remembered answers.
     pub fn begin(&mut self) {
         self.remembered.clear();
     }
 
-    /// Takes a line of a part.
+    /// Adds a line of a part.
     pub fn give(&mut self, part: &str, text: &str) -> Result<(), NoAnswer> {
         let part = String::from_str(self.alloc, part)?;
         let text = String::from_str(self.alloc, text)?;
@@ -56,7 +56,7 @@ impl Scripts {
         Ok(())
     }
 
-    /// The lines of the part with this name; of `-` there are none.
+    /// The lines of the part with this name; the part `-` has none.
     pub fn lines_of(&self, name: &str) -> Result<Vec<String>, NoAnswer> {
         let mut found = Vec::new(self.alloc);
         for line in &self.lines {
@@ -70,7 +70,8 @@ impl Scripts {
         Ok(found)
     }
 
-    /// What a store answers to the calls of a part, a line for each, where `PIN` stands for a pin.
+    /// The answers of a store to the calls of a part, one on each line, where `PIN` stands for a
+    /// pin.
     fn answers(&self, examples: &mut Examples, pin: &str, part: &str) -> Answer {
         let mut text = String::new(self.alloc);
         for line in &self.lines {
@@ -84,7 +85,7 @@ impl Scripts {
         Ok(text)
     }
 
-    /// Remembers what a store answers to the calls of a part, and tells how many answers of parts
+    /// Remembers the answers of a store to the calls of a part, and prints how many parts' answers
     /// are remembered.
     pub fn remember(&mut self, examples: &mut Examples, words: &str) -> Answer {
         let (pin, part) = first_word(words)?;
@@ -94,7 +95,7 @@ impl Scripts {
         Ok(format!(in self.alloc; "{count}")?)
     }
 
-    /// The number of the first answers that were remembered and are those of a store.
+    /// The number of the first remembered answers that are equal to the store's.
     pub fn known(&self, examples: &mut Examples, words: &str) -> Answer {
         let (pin, part) = first_word(words)?;
         let answers = self.answers(examples, pin, part)?;
@@ -107,7 +108,7 @@ impl Scripts {
         Ok(String::from_str(self.alloc, "other answers")?)
     }
 
-    /// What a line of a look is answered, if it asks anything.
+    /// The answer to a line of a look, if it asks anything.
     fn look_line(&self, examples: &mut Examples, line: &str) -> Result<Option<String>, NoAnswer> {
         let (word, rest) = two_words(line);
         match word {
@@ -118,7 +119,7 @@ impl Scripts {
         }
     }
 
-    /// What a store answers to the calls of a look.
+    /// The answers of a store to the calls of a look.
     pub fn look(&self, examples: &mut Examples, part: &str) -> Answer {
         let mut text = String::new(self.alloc);
         for line in &self.lines {
@@ -135,7 +136,7 @@ impl Scripts {
         Ok(text)
     }
 
-    /// Whether each call of a part is refused, since the store has to be opened again.
+    /// Whether each call of a part is refused because the store has to be opened again.
     pub fn are_shut(&self, examples: &mut Examples, part: &str) -> Result<bool, NoAnswer> {
         for line in &self.lines {
             if line.part.as_str() == part && !is_shut(examples, line.text.as_str())? {

@@ -1,24 +1,24 @@
-//! Stores that are stopped at each moment, and on whose disks each call fails in turn.
+//! Stores with a crash at each moment, and stores on whose disks each call fails in turn.
 //!
-//! A trial begins with a disk that is kept, and opens its store, or with none, and makes a store.
-//! It then makes the calls of a part, the *script* (`scripts.rt`).
-//! - `keep` closes the store and keeps its disk, `disk PART` keeps one of the bytes of a part, with
-//!   zeros between them, and `put PLACE BYTES` puts bytes on it; each answers its length. `store`
-//!   opens what is kept, and `same` answers whether the disk of the store, which is closed and
-//!   opened again, is the kept one, byte for byte. `create` makes a store on what is kept, which
-//!   has to stay as it is where that is refused.
-//! - `remember PIN PART` and `known PIN PART` ask the store what `scripts.rt` says.
-//! - `stops CHOICE SCRIPT LOOK` answers what a look shows of the store that each stop leaves, where
-//!   the choice says what of that which wasn't synced: `kept`, `lost` or a byte in its place. The
-//!   stops are counted by the changing calls before them.
+//! A trial begins with a kept disk, whose store it opens, or without one, and then it makes a
+//! store. It then makes the calls of a part, the *script* (`scripts.rt`).
+//! - `keep` closes the store and keeps its disk, `disk PART` keeps a disk with the bytes of a part,
+//!   with zeros between them, and `put PLACE BYTES` writes bytes to the kept disk; each prints its
+//!   length. `store` opens the kept disk, and `same` prints whether the disk of the store, which is
+//!   closed and opened again, is equal to the kept one, byte for byte. `create` makes a store on
+//!   the kept disk, which has to stay unchanged if that is refused.
+//! - `remember PIN PART` and `known PIN PART` ask the store as `scripts.rt` says.
+//! - `stops CHOICE SCRIPT LOOK` prints what a look shows of the store that each crash leaves, where
+//!   the choice says what becomes of unsynced bytes: `kept`, `lost`, or replaced by this byte. The
+//!   crashes are numbered by the changing calls before them.
 //! - `fails FAILURE SCRIPT SHUT LOOK` lets one call of the disk fail, each in turn: one that
 //!   changes it, with none (`change`) or one (`torn`) of its bytes written, one that reads
-//!   (`read`), or all from one on (`all`). It answers how many runs met a failure, if in each of
-//!   them the call of the script is refused with 2, the store has the counts from before and
+//!   (`read`), or all from one on (`all`). It prints how many runs met a failure, if in each of
+//!   them the call of the script is refused with 2, the store reports the same counts as before and
 //!   refuses each call of the part SHUT, and what may be left of its disk looks as before the call
-//!   or as behind it.
-//! - `cut`, `with` and `byte` are asked of what is kept (`kept.rt`), and of its copies what
-//!   `copies.rt` says.
+//!   or as after it.
+//! - `cut`, `with` and `byte` are about the kept disk (`kept.rt`); for copies of it see
+//!   `copies.rt`.
 
 use crate::calls::{spell_refusal, store_of};
 use crate::copies::{copy_kept, try_copies};
@@ -34,7 +34,7 @@ use history_store::Refusal;
 use std::alloc::Global;
 use test_support::{CHOICES, Example, image_after};
 
-/// What is kept of what wasn't synced: all, nothing, or this byte in its place.
+/// What becomes of unsynced bytes: all are kept, all are lost, or each is replaced by this byte.
 fn choice_of(word: &str) -> Result<Choice, NoAnswer> {
     match word {
         "kept" => Ok(Choice::Kept),
@@ -43,25 +43,26 @@ fn choice_of(word: &str) -> Result<Choice, NoAnswer> {
     }
 }
 
-/// The names of the parts that are refused behind a failure, and that what is left is asked.
+/// The names of the part that has to be refused after a failure, and of the one that looks at what
+/// is left.
 #[derive(Clone, Copy)]
 struct Wanted<'a> {
     shut: &'a str,
     look: &'a str,
 }
 
-/// What came of a run.
+/// The result of a run.
 #[derive(Clone, Copy)]
 enum Outcome {
     /// No call failed.
     Whole,
-    /// A call failed, and all was as it has to be.
+    /// A call failed, and everything was as required.
     Failed,
-    /// A call failed, and this was not.
+    /// A call failed, and this was not as required.
     Wrong(&'static str),
 }
 
-/// The disk that trials begin with, and the store of a case.
+/// The disk with which trials begin, and the store of a case.
 #[derive(Drop)]
 pub struct Trials {
     alloc: Global,
@@ -71,7 +72,7 @@ pub struct Trials {
 }
 
 impl Trials {
-    /// Without a disk.
+    /// Without a kept disk.
     pub fn new(alloc: Global) -> Trials {
         Trials {
             alloc,
@@ -81,7 +82,7 @@ impl Trials {
         }
     }
 
-    /// Tells that something is done.
+    /// The answer `done`.
     fn done(&self) -> Answer {
         Ok(String::from_str(self.alloc, "done")?)
     }
@@ -99,7 +100,7 @@ impl Trials {
         self.length()
     }
 
-    /// Keeps a disk of the bytes of a part.
+    /// Keeps a disk with the bytes of a part.
     fn keep_part(&mut self, part: &str) -> Answer {
         let mut bytes = Vec::new(self.alloc);
         for line in &self.scripts.lines_of(part)? {
@@ -109,7 +110,7 @@ impl Trials {
         self.length()
     }
 
-    /// Puts bytes on the kept disk.
+    /// Writes bytes to the kept disk.
     fn put(&mut self, words: &str) -> Answer {
         put_at(self.alloc, &mut self.kept, words)?;
         self.length()
@@ -120,7 +121,7 @@ impl Trials {
         Ok(MemDisk::from_bytes(self.alloc, self.kept.to_vec(self.alloc)?))
     }
 
-    /// Opens a store in the place of the present one, or says why it is refused.
+    /// Opens a store in place of the present one, or returns why it is refused.
     fn open(&mut self, disk: MemDisk) -> Result<Option<Refusal>, NoAnswer> {
         match Example::opened(self.alloc, disk) {
             Ok(store) => {
@@ -141,7 +142,7 @@ impl Trials {
         }
     }
 
-    /// Whether the disk of the store is the kept one.
+    /// Whether the disk of the store is equal to the kept one.
     fn is_same(&mut self) -> Answer {
         let disk = self.examples.close()?;
         let is_same = disk.bytes() == self.kept.as_slice();
@@ -149,7 +150,7 @@ impl Trials {
         Ok(String::from_str(self.alloc, if is_same { "yes" } else { "no" })?)
     }
 
-    /// Makes a store on the kept disk, in the place of the present one, or says why it is refused.
+    /// Makes a store on the kept disk, in place of the present one, or prints why it is refused.
     fn create(&mut self) -> Answer {
         let disk = self.disk()?;
         let before = disk.changes();
@@ -168,7 +169,7 @@ impl Trials {
         }
     }
 
-    /// Makes or opens the store that a trial begins with.
+    /// Makes or opens the store with which a trial begins.
     fn begin_trial(&mut self) -> Result<(), NoAnswer> {
         let store = if self.kept.is_empty() {
             store_of(Example::new(self.alloc))?
@@ -187,7 +188,7 @@ impl Trials {
         }
     }
 
-    /// The disk behind calls, none of which may be refused.
+    /// The disk after calls, none of which may be refused.
     fn disk_behind(&mut self, script: &[String]) -> Result<MemDisk, NoAnswer> {
         self.begin_trial()?;
         for call in script {
@@ -198,7 +199,8 @@ impl Trials {
         self.examples.close()
     }
 
-    /// What a look shows of the disk behind none of a script's calls, behind the first, and so on.
+    /// What a look shows of the disk after none of a script's calls, after the first one, and so
+    /// on.
     fn looks(&mut self, script: &[String], look: &str) -> Result<Vec<String>, NoAnswer> {
         let mut looks = Vec::new(self.alloc);
         for count in 0..=script.len() {
@@ -209,7 +211,7 @@ impl Trials {
         Ok(looks)
     }
 
-    /// What each stop leaves.
+    /// What each crash leaves.
     fn stops(&mut self, words: &str) -> Answer {
         let (choice, words) = first_word(words)?;
         let (script, look) = first_word(words)?;
@@ -224,7 +226,7 @@ impl Trials {
         groups.end()
     }
 
-    /// Whether each image of a disk is the kept one, if one is kept.
+    /// Whether each image of a disk is equal to the kept disk, if one is kept.
     fn is_as_kept(&self, disk: &MemDisk) -> Result<bool, NoAnswer> {
         for choice in CHOICES {
             if !self.kept.is_empty() && disk.image_now(choice)? != self.kept {
@@ -253,7 +255,7 @@ impl Trials {
         Ok(true)
     }
 
-    /// What became of a store one of whose calls was refused.
+    /// The result of a store, one of whose calls was refused.
     fn fall(&mut self, wanted: Wanted<'_>, looks: Option<&[String]>) -> Result<Outcome, NoAnswer> {
         let is_shut = self.scripts.are_shut(&mut self.examples, wanted.shut)?;
         if !is_shut || self.examples.ask("closed", "")?.as_str() != "1" {
@@ -266,7 +268,7 @@ impl Trials {
         Ok(Outcome::Failed)
     }
 
-    /// Makes the calls of a script up to one that is refused.
+    /// Makes the calls of a script, up to one that is refused.
     fn go_on(
         &mut self,
         script: &[String],
@@ -289,7 +291,7 @@ impl Trials {
         Ok(Outcome::Whole)
     }
 
-    /// What became of an opening that is refused, and gave this disk back.
+    /// The result of an opening that was refused and returned this disk.
     fn refused(&self, refusal: Refusal, disk: &MemDisk) -> Result<Outcome, NoAnswer> {
         if refusal == Refusal::DiskFault && self.is_as_kept(disk)? {
             Ok(Outcome::Failed)
@@ -307,7 +309,7 @@ impl Trials {
         }
     }
 
-    /// A run in which a call fails behind so many others.
+    /// A run in which a call fails after `calls` others.
     fn run(
         &mut self,
         (failure, calls): (Failure, u64),
@@ -344,7 +346,7 @@ impl Trials {
         Err(NoAnswer::NoQuestion)
     }
 
-    /// Copies the kept disk. The copy is the store then.
+    /// Copies the kept disk. The copy is then the store.
     fn copy(&mut self, words: &str) -> Answer {
         match copy_kept(self.alloc, &self.kept, words)? {
             Ok(disk) => match self.open(disk)? {
@@ -355,7 +357,7 @@ impl Trials {
         }
     }
 
-    /// Asks what is kept.
+    /// Answers a question about the kept disk.
     fn ask_kept(&mut self, word: &str, rest: &str) -> Answer {
         match word {
             "keep" => self.keep(),

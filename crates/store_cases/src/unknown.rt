@@ -1,4 +1,4 @@
-//! Nothing that is known.
+//! No known rows.
 
 ghost use Rattle.std.specs.Prelude.{[]};
 
@@ -8,19 +8,19 @@ use rf2_rows::Row;
 use rf2_values::Key;
 use std::alloc::Global;
 
-/// Knows no row, and counts how often it is asked for one.
+/// Knows no rows, and counts how often one is looked up.
 #[derive(Clone, Copy)]
 pub struct Unknown {
     asked: u64,
 }
 
 impl Unknown {
-    /// Not asked yet.
+    /// Not used yet.
     pub fn new() -> Unknown {
         Unknown { asked: 0 }
     }
 
-    /// How often it was asked.
+    /// How often a row was looked up.
     pub fn asked(&self) -> u64 {
         self.asked
     }

@@ -1,4 +1,4 @@
--- What a copy answers, and what it leaves on the disk that is copied to.
+-- The result of a copy, and what it leaves on the target disk.
 use Rattle.std.specs.Prelude.{◌≡◌, ◌⊎◌, ℕ, ◌<◌, ◌≤◌, Option, List, length, Result, Ok, Err}
 use Rattle.fault_counts.specs.Counting.{HasRisen}
 use Rattle.disk_model.specs.Disk.{DiskState, Moments}
@@ -17,20 +17,20 @@ use Rattle.store_copy.specs.declared.fault.CopyFault.{CopyFault}
 use Rattle.store_copy.specs.declared.fault.CopyFault.TheVariants as faults
 use Rattle.store_copy.specs.Copying.{chosen, copied_listing, end_from, lists_up_to}
 
--- a disk that isn't empty, or failed
+-- the fault if the target isn't empty, or failed
 abbrev pub of_making : MakeFault → CopyFault
 of_making making.OutOfMemory = faults.OutOfMemory
 of_making making.DiskFault = faults.TargetFailed
 of_making making.NotEmpty = faults.NotEmpty
 
--- a store that isn't read
+-- the fault if the source can't be loaded
 abbrev pub of_loading : LoadFault → CopyFault
 of_loading loading.OutOfMemory = faults.OutOfMemory
 of_loading loading.DiskFault = faults.SourceFailed
 of_loading loading.NotAStore = faults.NotAStore
 of_loading (loading.Damaged damage) = faults.Damaged damage
 
--- what bytes represent that have a store: its directory, and the rows of its segments
+-- the store that a file has: its current slot, its directory, and the rows of its segments
 pub record Shown (file : List ℕ) : Type 0 where
   pub slot : Slot
   pub directory : DirectoryValue
@@ -49,13 +49,13 @@ copy_of asked of = copied_listing of.directory.layout (imports_of asked of) of.l
 abbrev pub lists_of : {file : List ℕ} → Option ℕ → Shown file → List (List StampedRow)
 lists_of asked of = lists_up_to (imports_of asked of) of.lists
 
--- the bytes are a copy of what the file represents, with as many imports as asked for, or all
+-- the bytes are a copy of the store in the file, with as many imports as asked for, or all
 pub record IsCopyOf (asked : Option ℕ) (file c : List ℕ) : Type 0 where
   pub of : Shown file
   pub within : imports_of asked of ≤ of.directory.imports
   pub is : HasStore A (copy_of asked of) (lists_of asked of) c
 
--- whatever a stop leaves is such a copy, with this directory
+-- every image that a crash may leave is such a copy, with this directory
 pub record HasCopy (asked : Option ℕ) (file : List ℕ) (copy : DirectoryValue) (state : DiskState)
     : Type 0 where
   pub of : Shown file
@@ -63,7 +63,7 @@ pub record HasCopy (asked : Option ℕ) (file : List ℕ) (copy : DirectoryValue
   pub copy_is : copy ≡ copy_of asked of
   pub on_disk : IsOnDisk state A copy (lists_of asked of)
 
--- why a store isn't copied
+-- why a store couldn't be copied
 abbrev pub IsNotCopied : CopyFault → Option ℕ → List ℕ → List ℕ → Type 0
 IsNotCopied faults.OutOfMemory asked file target = Unit {0}
 IsNotCopied faults.SourceFailed asked file target = Unit {0}
@@ -83,12 +83,12 @@ IsFailure faults.SourceFailed = Unit {0}
 IsFailure faults.TargetFailed = Unit {0}
 IsFailure other = ⊥
 
--- for any other reason it was refused, nothing changed
+-- after a refusal for another reason, nothing changed
 abbrev pub StaysUnlessFailed : {X : Type 0} → Result X CopyFault → Moments → Moments → Type 0
 StaysUnlessFailed (Ok copy) old new = Unit {0}
 StaysUnlessFailed (Err e) old new = IsFailure e ⊎ (new ≡ old)
 
--- the count of a disk's failures rises where it failed, and else stays
+-- the count of a disk's failures has risen if it failed, and otherwise is unchanged
 abbrev pub CountsSource : CopyFault → ℕ → ℕ → Type 0
 CountsSource faults.SourceFailed old new = HasRisen old new
 CountsSource other old new = new ≡ old

@@ -1,4 +1,4 @@
--- What a copy of a store has: the rows that its first imports brought.
+-- The contents of a copy of a store: the rows that its first imports brought.
 use Rattle.std.specs.Prelude.{ℕ, ◌+◌, Option, Some, None, List, [], ◌∷◌, length, nat_le}
 use Rattle.std.specs.Int.{div_ceil}
 use Rattle.std.specs.List.{filter}
@@ -12,7 +12,7 @@ use Rattle.directory.specs.Places.{end_block, extent_of}
 use Rattle.segment.specs.Records.{segment_of}
 use Rattle.store_image.specs.Kept.{entry_at}
 
--- the rows that the first n imports brought, each with its number
+-- the rows that the first `n` imports brought, each with its import number
 unfoldable pub up_to : ℕ → List StampedRow → List StampedRow
 up_to n rows = filter (λ s. nat_le s.import n) rows
 
@@ -20,34 +20,34 @@ up_to n rows = filter (λ s. nat_le s.import n) rows
 abbrev pub first_imports : ℕ → History → History
 first_imports n h = record { imports = n; rows = up_to n h.rows }
 
--- as many imports as are asked for, or all
+-- as many imports as asked for, or all
 abbrev pub chosen : Option ℕ → ℕ → ℕ
 chosen None all = all
 chosen (Some n) all = n
 
--- a list of rows before others, unless it is empty
+-- a list of rows before other lists, unless it is empty
 abbrev pub before : List StampedRow → List (List StampedRow) → List (List StampedRow)
 before [] lists = lists
 before (s ∷ rows) lists = (s ∷ rows) ∷ lists
 
--- of each segment the rows that the first n imports brought, where there are some
+-- of each segment the rows that the first `n` imports brought, if there are any
 abbrev pub lists_up_to : ℕ → List (List StampedRow) → List (List StampedRow)
 lists_up_to n [] = []
 lists_up_to n (rows ∷ lists) = before (up_to n rows) (lists_up_to n lists)
 
--- the segments of these rows, from a block on and with no block between them
+-- the entries of the segments of these rows, from block `first` on, without a block between them
 abbrev pub entries_from : Form → ℕ → List (List StampedRow) → List Entry
 entries_from form first [] = []
 entries_from form first (rows ∷ lists) = entry_at form first rows
     ∷ entries_from form (end_block (extent_of (entry_at form first rows))) lists
 
--- the block behind them
+-- the block after these segments
 abbrev pub end_from : ℕ → List (List StampedRow) → ℕ
 end_from first [] = first
 end_from first (rows ∷ lists) = end_from (first + div_ceil (length (segment_of rows)) 4096) lists
 
--- the directory of a copy with the first n imports of a store in this version, whose segments have
--- these rows
+-- the directory of a copy with the first `n` imports of a store of this layout version, whose
+-- segments have these rows
 abbrev pub copied_listing : Layout → ℕ → List (List StampedRow) → DirectoryValue
 copied_listing layout n lists =
     record {

@@ -1,4 +1,4 @@
--- What a copy represents, and what the first imports of a history are.
+-- What a copy represents, and properties of the first imports of a history.
 use Rattle.std.specs.Prelude.{◌≡◌, ◌↔◌, ℕ, ◌≤◌, Option, List, length, take}
 use Rattle.rf2_values.specs.Row.{RowValue}
 use Rattle.history_model.specs.History.{History, IsHistory, no_history, rows_at, then_all}
@@ -10,14 +10,14 @@ use Rattle.store_image.specs.Images.{RepresentsAs}
 use Rattle.store_copy.specs.Copying.{chosen, first_imports}
 use Rattle.store_copy.specs.Answers.{HasCopy, IsCopyOf}
 
--- a copy represents the history of the first imports, in the version of the store
+-- a copy represents the history of the first imports, in the layout version of the store
 abbrev pub CopyRepresents : Type 0
 CopyRepresents = (asked : Option ℕ) (file c : List ℕ) (h : History) (layout : Layout)
     → IsCopyOf asked file c → RepresentsAs layout h file
     → (chosen asked h.imports ≤ h.imports)
     × RepresentsAs layout (first_imports (chosen asked h.imports) h) c
 
--- whatever a stop leaves of a disk that has a copy is one
+-- every image that a crash may leave of a disk with a copy is a copy
 abbrev pub EachStopLeavesACopy : Type 0
 EachStopLeavesACopy = (asked : Option ℕ) (file : List ℕ) (copy : DirectoryValue)
     (state : DiskState) → HasCopy asked file copy state → EachImage state (IsCopyOf asked file)
@@ -27,16 +27,16 @@ abbrev pub FirstImportsAreReleases : Type 0
 FirstImportsAreReleases = (releases : List (List RowValue)) (n : ℕ) → n ≤ length releases
     → first_imports n (then_all no_history releases) ≡ then_all no_history (take n releases)
 
--- and all of them are the history
+-- all imports of a history are the history
 abbrev pub AllImportsAreAll : Type 0
 AllImportsAreAll = (h : History) → IsHistory h → first_imports h.imports h ≡ h
 
--- what a pin shows that isn't above them is the same
+-- a pin that is at most `n` shows the same in the first `n` imports
 abbrev pub PinsStay : Type 0
 PinsStay = (h : History) (n pin : ℕ) → pin ≤ n
     → rows_at pin (first_imports n h).rows ≡ rows_at pin h.rows
 
--- and so is what is said of one of these imports ever after
+-- the receipt of one of the first `n` imports is the same in them
 abbrev pub ReceiptsStay : Type 0
 ReceiptsStay = (h : History) (n number new : ℕ) (latest : Option ℕ)
     → number ≤ n → n ≤ h.imports

@@ -1,2 +1,2 @@
--- Words that private functions and proofs need. No public clause cites them.
+-- Definitions for private functions and proofs. No public clause cites them.
 pub mod Writing

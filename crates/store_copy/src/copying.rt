@@ -21,7 +21,7 @@ use disk_model::Disk;
 use std::alloc::Global;
 use store_image::{Loaded, SegmentPlaces, check_empty, load};
 
-/// How many imports are copied of so many: as many as asked for, or all.
+/// How many of a store's imports are copied: as many as asked for, or all.
 fn chosen(asked: Option<u32>, all: u32) -> Result<u32, CopyFault>
     ensures { IsChosen result asked all }
 {
@@ -36,7 +36,7 @@ fn chosen(asked: Option<u32>, all: u32) -> Result<u32, CopyFault>
     }
 }
 
-/// What was read of a store, and the directory of its copy.
+/// What was read of a store, and the directory planned for its copy.
 #[derive(Drop)]
 struct Planned {
     slot: Slot,
@@ -45,7 +45,7 @@ struct Planned {
     copy: Directory,
 }
 
-/// Reads the store, and plans a copy with so many of its imports.
+/// Reads the store, and plans a copy of its first imports.
 fn read_and_plan<S: Disk>(
     alloc: Global,
     source: &mut S,
@@ -53,7 +53,7 @@ fn read_and_plan<S: Disk>(
 ) -> Result<Planned, CopyFault>
     ensures read { (S.view source.old).is_honest → IfOk result
         (λ p. HasStore p.slot p.of p.segments.items (S.view source.old).moments.state.now) }
-    // On every disk what was read fits together, and the plan to it.
+    // On every disk, the parts that were read are consistent, and the plan is consistent with them.
     ensures planned { IfOk result (λ p. IsPlanned imports p.of p.segments.items p.copy) }
     ensures refused { (S.view source.old).is_honest → IfErr result (λ e. (target : List ℕ)
         → IsNotCopied e imports (S.view source.old).moments.state.now target) }
@@ -67,7 +67,7 @@ fn read_and_plan<S: Disk>(
         (IsImage (S.view source.old).moments.state) }
     ensures meters { Calls (Counts CountsSource result) Unsaid Unsaid
         (S.view source.old) (S.view source.new) }
-    // No fault is one of the disk that is copied to.
+    // No error is one of the target disk.
     ensures target_failures { (n : ℕ) → Counts CountsTarget result n n }
 {
     let Loaded {
@@ -85,36 +85,39 @@ fn read_and_plan<S: Disk>(
     })
 }
 
-/// Copies the first imports of a store, all if not said, onto a disk of no bytes, and answers the
-/// directory of the copy: the same rows with the same import numbers, in as many segments but those
-/// that would have no row, one behind the other, in the store's version. In version 3 all of them
-/// have checksums. The store is read twice: first as an opening reads it, and then row by row, each
-/// of which has to be the one of its place. Nothing but a sync and reads is asked of its disk.
+/// Copies the first imports of a store, or all if no number is given, to an empty disk, and returns
+/// the directory of the copy. The copy has the same rows with the same import numbers and the
+/// store's layout version. It has the same segments, without those that would have no row, one
+/// directly after the other; in version 3 all of them have checksums. The store is read twice:
+/// first like an opening reads it, and then row by row, where each row has to be the one of its
+/// place. No calls are made on its disk but reads, a sync and requests for its length.
 pub fn copy<S: Disk, T: Disk>(
     alloc: Global,
     source: &mut S,
     target: &mut T,
     imports: Option<u32>,
 ) -> Result<Directory, CopyFault>
-    // After Ok each stop leaves the copy.
+    // After `Ok` every crash leaves the copy.
     ensures copied { (S.view source.old).is_honest → (T.view target.old).is_honest → IfOk result
         (λ copy. HasCopy imports (S.view source.old).moments.state.now copy
         (T.view target.new).moments.state) }
-    // A stop at any moment leaves what it might have left before, no store, or the whole copy.
+    // A crash at any moment leaves what it might have left before, no store, or the whole copy.
     ensures any_moment { (S.view source.old).is_honest → (T.view target.old).is_honest
         → LeavesOnly (T.view target.old).moments (T.view target.new).moments
         (λ c. IsImage (T.view target.old).moments.state c ⊎ (IsStore c → ⊥)
         ⊎ IsCopyOf imports (S.view source.old).moments.state.now c) }
-    // It is made on a disk of no bytes alone.
+    // The target has to be empty.
     ensures empty { (T.view target.old).is_honest
         → OnOk result (length (T.view target.old).moments.state.now ≡ 0) }
     ensures refused { (S.view source.old).is_honest → (T.view target.old).is_honest → IfErr result
         (λ e. IsNotCopied e imports (S.view source.old).moments.state.now
         (T.view target.old).moments.state.now) }
-    // Refused for any other reason than a device or the memory, it leaves the target as it was.
+    // If it is refused for a reason other than a device failure or lack of memory, the target is
+    // unchanged.
     ensures stays { (S.view source.old).is_honest → (T.view target.old).is_honest
         → StaysUnlessFailed result (T.view target.old).moments (T.view target.new).moments }
-    // The source is read and synced: what a read gives and what a stop may leave is as before.
+    // The source is only read and synced: reads return what they returned before, and a crash
+    // leaves what it might have left before.
     ensures source { (S.view source.old).is_honest
         → ((S.view source.new).moments ≡ (S.view source.old).moments)
         ⊎ ((S.view source.new).moments ≡ synced (S.view source.old).moments) }

@@ -1,4 +1,4 @@
-//! Why a store isn't copied.
+//! Why a store couldn't be copied.
 
 use disk_model::DiskFault;
 use fault_counts::ReadFault;
@@ -6,12 +6,12 @@ use std::alloc::AllocError;
 use store_image::{Damage, LoadFault, MakeFault};
 use thiserror::Error;
 
-/// Why a store isn't copied.
+/// Why a store couldn't be copied.
 #[derive(Clone, Copy, Debug, PartialEq, Eq, Error)]
 pub enum CopyFault {
     #[error("out of memory")]
     OutOfMemory,
-    /// The disk that is copied from failed.
+    /// The source disk failed.
     #[error("the disk of the store failed")]
     SourceFailed,
     #[error("the disk has no store")]
@@ -20,17 +20,17 @@ pub enum CopyFault {
     Damaged(Damage),
     #[error("the store has fewer imports")]
     NoSuchImport,
-    /// The disk that is copied to has a byte.
+    /// The target disk isn't empty.
     #[error("the disk of the copy isn't empty")]
     NotEmpty,
     #[error("the segments are too large for a disk")]
     NoRoom,
-    /// The disk that is copied to failed.
+    /// The target disk failed.
     #[error("the disk of the copy failed")]
     TargetFailed,
 }
 
-/// Why a segment isn't copied: a row can't be read, or the copy can't be written.
+/// Why a segment couldn't be copied: a row couldn't be read, or the copy couldn't be written.
 #[derive(Clone, Copy)]
 pub(crate) enum SegmentCopyFault {
     Read(ReadFault),
@@ -41,7 +41,7 @@ impl SegmentCopyFault {
     ghost use Rattle.std.specs.Prelude.{◌≡◌};
     ghost use Rattle.store_copy.specs.Private.Writing.{in_segment};
 
-    /// The fault of the segment with this number, counted from 1.
+    /// The fault of a copy that fails at the segment with this number, counted from 1.
     pub(crate) fn in_segment(self, number: usize) -> CopyFault
         ensures { result ≡ in_segment number self }
     {

@@ -4,12 +4,12 @@ ghost use Rattle.store_copy.specs.Laws.{CopyRepresents, EachStopLeavesACopy};
 ghost use Rattle.store_copy.specs.Laws.{AllImportsAreAll, FirstImportsAreReleases};
 ghost use Rattle.store_copy.specs.Laws.{PinsStay, ReceiptsStay};
 
-/// A copy represents the history of the first imports, in the version of the store.
+/// A copy represents the history of the first imports, in the layout version of the store.
 pub fn copy_represents()
     ensures { CopyRepresents }
 {}
 
-/// Whatever a stop leaves of a disk that has a copy is one.
+/// Every image that a crash may leave of a disk with a copy is a copy.
 pub fn each_stop_leaves_a_copy()
     ensures { EachStopLeavesACopy }
 {}
@@ -24,12 +24,12 @@ pub fn all_imports_are_all()
     ensures { AllImportsAreAll }
 {}
 
-/// What a pin shows that isn't above the first imports is the same in a copy.
+/// A pin that is at most the number of copied imports shows the same in the copy.
 pub fn pins_stay()
     ensures { PinsStay }
 {}
 
-/// So is what is said of one of these imports ever after.
+/// The receipts of the copied imports are the same in the copy.
 pub fn receipts_stay()
     ensures { ReceiptsStay }
 {}

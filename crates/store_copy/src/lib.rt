@@ -1,6 +1,6 @@
-//! A copy of a store on another disk, with all of its imports or with the first ones: the backup
-//! that is checked while it is made, the compaction that gives room back, and the way back from a
-//! release that shouldn't have been imported.
+//! A copy of a store on another disk, with all of its imports or the first ones: as a backup that
+//! is verified while it is made, as a compaction that frees space, and as the way to undo the
+//! import of a wrong release.
 #![tactic(auto)]
 
 mod copying;

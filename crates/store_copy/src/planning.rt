@@ -1,4 +1,4 @@
-//! What a copy lists.
+//! The directory of a copy.
 
 ghost use Rattle.std.specs.Prelude.{◌≡◌, ◌⊎◌, ◌+◌, ◌<◌, ◌≤◌, List, length};
 ghost use Rattle.std.specs.Prelude.{IfOk, IfErr};
@@ -17,14 +17,14 @@ use directory::{Directory, Entry, Layout};
 use std::alloc::Global;
 use store_image::SegmentPlaces;
 
-/// How many bytes and rows are copied of a segment.
+/// How many bytes and rows of a segment are copied.
 #[derive(Clone, Copy)]
 pub(crate) struct Size {
     pub(crate) bytes: u32,
     pub(crate) rows: u32,
 }
 
-/// How much the first imports brought of a segment's rows.
+/// The size of those rows of a segment that the first imports brought.
 pub(crate) fn size_up_to(imports: u32, segment: &SegmentPlaces) -> Size
     requires { MayBeSegment segment.now }
     ensures bytes { result.bytes ≡ length (segment_of (up_to imports segment.now)) }
@@ -40,7 +40,7 @@ pub(crate) fn size_up_to(imports: u32, segment: &SegmentPlaces) -> Size
     size
 }
 
-/// Lists one segment more, from this block on, and answers the block behind it.
+/// Adds the entry of one more segment, from block `first` on, and returns the block after it.
 fn list_next(copied: &mut Directory, first: u32, size: Size) -> Result<u32, CopyFault>
     requires { first + div_ceil size.bytes 4096 ≤ block_limit
         → IsListing (with_entry copied.old (next_entry copied.old.layout first size)) }
@@ -64,7 +64,7 @@ fn list_next(copied: &mut Directory, first: u32, size: Size) -> Result<u32, Copy
     Ok(end as u32)
 }
 
-/// The directory of a copy with so many imports: its segments lie one behind the other.
+/// The directory of a copy with this many imports: its segments are one directly after the other.
 pub(crate) fn plan(
     alloc: Global,
     layout: Layout,

@@ -1,4 +1,4 @@
-//! A row, read at its place.
+//! Reads a row at its place.
 
 ghost use Rattle.std.specs.Prelude.{◌≡◌, ◌≢◌, ◌↔◌, ◌+◌, ◌*◌, ◌<◌, ◌≤◌, length, take, drop, IsTrue};
 ghost use Rattle.std.specs.Prelude.{IfOk, IfErr, MatchResult};
@@ -17,14 +17,14 @@ use history_model::StampedRow;
 use segment::{RowPlace, SegmentFault, record_at};
 use std::alloc::Global;
 
-/// Whether the row is that of the place.
+/// Whether the row has the key and the import number of the place.
 fn is_row_of(s: &StampedRow, at: RowPlace) -> bool
     ensures { IsTrue result ↔ IsRowOf s.now at }
 {
     s.row.key() == at.key && s.import == at.import
 }
 
-/// So many bytes from a place on.
+/// Reads `len` bytes from offset `from` on.
 fn read_bytes<S: Disk>(
     alloc: Global,
     source: &mut S,
@@ -51,7 +51,8 @@ fn read_bytes<S: Disk>(
     }
 }
 
-/// The row at a place of a segment: its record is decoded, and has to be that of the place.
+/// Reads the row at a place of a segment: decodes its record, and checks that the row is the one of
+/// the place.
 pub(crate) fn read_row<S: Disk>(
     alloc: Global,
     source: &mut S,
@@ -61,7 +62,8 @@ pub(crate) fn read_row<S: Disk>(
     ensures found { (S.view source.old).is_honest → (s : StampedRow)
         → IsThere entry.form (4096 * entry.first + at.at) s at (S.view source.old).moments.state.now
         → MatchResult result (λ row. row ≡ s) (λ e. e ≢ readfault.Damaged) }
-    // Whatever the disk gave, the row is as its place says.
+    // Whatever the disk returned, the row has the key, the import number and the length of its
+    // place.
     ensures of_place { IfOk result (λ row. IsOfPlace row at) }
     ensures meters { OnlyReads (Counts CountsDiskFault result) (AtMost at.bytes)
         (S.view source.old) (S.view source.new) }

@@ -1,4 +1,5 @@
-//! The slots of a copy: both closed while it is written, and the first one opened when it is whole.
+//! The slots of a copy: both are closed while it is written, and the first one is opened when it is
+//! complete.
 
 ghost use Rattle.std.specs.Prelude.{◌≡◌, ◌⊎◌, ◌↔◌, ◌+◌, ◌≤◌, List, length, OnOk};
 ghost use Rattle.disk_model.specs.Disk.{EachImage, IsImage, LeavesOnly};
@@ -16,10 +17,10 @@ use blocks::write_and_sync;
 use directory::Directory;
 use disk_model::{Disk, DiskFault};
 
-/// Writes zeros over both slots of an empty disk: first up to the second gate, and then what is
-/// behind it. So no stop leaves as many bytes as the slots have before both gates are closed.
+/// Writes zeros over both slots of an empty disk: first up to the second gate, and then the rest.
+/// So both gates are closed before any crash can leave a disk as long as the slots.
 pub(crate) fn close_slots<T: Disk>(target: &mut T) -> Result<(), DiskFault>
-    // A stop at any moment leaves what it might have left before, or no store.
+    // A crash at any moment leaves what it might have left before, or no store.
     ensures any_moment { (T.view target.old).is_honest
         → length (T.view target.old).moments.state.now ≡ 0
         → LeavesOnly (T.view target.old).moments (T.view target.new).moments
@@ -39,7 +40,7 @@ pub(crate) fn close_slots<T: Disk>(target: &mut T) -> Result<(), DiskFault>
 /// Syncs, writes the directory into the first slot, and opens its gate: from this byte on the disk
 /// has a store. `a5` opens a gate, and the slot's content begins at the second block.
 pub(crate) fn open_slot<T: Disk>(target: &mut T, directory: &Directory) -> Result<(), DiskFault>
-    // A stop at any moment leaves no store, or the whole copy.
+    // A crash at any moment leaves no store, or the whole copy.
     ensures any_moment { (T.view target.old).is_honest
         → (lists : List (List StampedRow)) → IsKept directory.now lists
         → EachImage (T.view target.old).moments.state IsShut
@@ -47,7 +48,7 @@ pub(crate) fn open_slot<T: Disk>(target: &mut T, directory: &Directory) -> Resul
         → HoldsAll (pieces_of directory.now.entries lists) (T.view target.old).moments.state.now
         → LeavesOnly (T.view target.old).moments (T.view target.new).moments
         (λ c. (IsStore c → ⊥) ⊎ HasStore A directory.now lists c) }
-    // After Ok each stop leaves the copy.
+    // After `Ok` every crash leaves the copy.
     ensures on_disk { (T.view target.old).is_honest
         → (lists : List (List StampedRow)) → IsKept directory.now lists
         → EachImage (T.view target.old).moments.state IsShut

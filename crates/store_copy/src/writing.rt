@@ -1,4 +1,4 @@
-//! The segments of a copy.
+//! Writes the segments of a copy.
 
 ghost use Rattle.std.specs.Prelude.{◌≡◌, ◌≢◌, ◌⊎◌, ◌↔◌, ◌+◌, ◌*◌, ◌≤◌, ◌++◌, ◌∷◌, [], List, length};
 ghost use Rattle.std.specs.Prelude.{IfErr, OnOk};
@@ -38,17 +38,17 @@ use segment::{Form, RowPlace, put_record};
 use std::alloc::Global;
 use store_image::SegmentPlaces;
 
-/// So many bytes are written at once, and those of one record more.
+/// Records are written once at least this many bytes are pending.
 const PIECE: usize = 65_536;
 
-/// What of a segment isn't written yet.
+/// The part of a segment that isn't written yet.
 #[derive(Drop)]
 struct Pending {
-    /// How many bytes of it are written.
+    /// How many bytes of the segment are written.
     written: u32,
-    /// Those that come next.
+    /// The bytes that follow them.
     bytes: Vec<u8>,
-    /// Where the fields of a record are made.
+    /// A buffer for the fields of a record.
     fields: Vec<u8>,
 }
 
@@ -64,7 +64,7 @@ impl Pending {
         }
     }
 
-    /// Takes the row at a place.
+    /// Reads the row at a place, and adds its record.
     fn take<S: Disk>(
         &mut self,
         alloc: Global,
@@ -92,7 +92,7 @@ impl Pending {
         Ok(())
     }
 
-    /// Writes what is pending.
+    /// Writes the pending bytes.
     fn flush<T: Disk>(&mut self, target: &mut T, extent: Extent) -> Result<(), DiskFault>
         requires inside { self.old.written + length self.old.bytes.items ≤ extent.bytes }
         requires below_limit { end_block extent ≤ block_limit }
@@ -121,7 +121,7 @@ impl Pending {
     }
 }
 
-/// Copies the row at a place, and writes what is pending where it is much.
+/// Copies the row at a place, and writes the pending bytes once they are many.
 fn copy_row<S: Disk, T: Disk>(
     alloc: Global,
     source: &mut S,
@@ -182,7 +182,7 @@ fn copy_segment<S: Disk, T: Disk>(
 ) -> Result<(), SegmentCopyFault>
     requires entry { IsEntry to }
     requires size { to.bytes ≡ length (segment_of (up_to imports segment.now)) }
-    // After Ok a read of the extent gives the segment of these rows.
+    // After `Ok` a read of the extent returns the segment of these rows.
     ensures written { (S.view source.old).is_honest → (T.view target.old).is_honest
         → IsAt (S.view source.old).moments.state.now from segment.now
         → OnOk result (BeginsWith (extent_of to) (segment_in to.form (up_to imports segment.now))
@@ -216,8 +216,8 @@ fn copy_segment<S: Disk, T: Disk>(
     }
 }
 
-/// Copies the rows of all segments that the first imports brought: those of the segments of `from`
-/// into the segments of the copy, of which there is one for each that has such a row.
+/// Copies the rows of all segments that the first imports brought: from the segments `from` to
+/// those of the copy, which has one for each that has such a row.
 fn copy_segments<S: Disk, T: Disk>(
     alloc: Global,
     source: &mut S,
@@ -229,7 +229,7 @@ fn copy_segments<S: Disk, T: Disk>(
     requires from { length from.now ≡ length segments.now }
     requires small { AllByRecursion MayBeSegment segments.now }
     requires copy { IsPlan copy.now segments.now }
-    // After Ok a read gives all segments of the copy.
+    // After `Ok` a read returns all segments of the copy.
     ensures held { (S.view source.old).is_honest → (T.view target.old).is_honest
         → AreSegments from.now segments.now
         → HoldsAll (pieces_of from.now segments.now) (S.view source.old).moments.state.now
@@ -269,8 +269,8 @@ fn copy_segments<S: Disk, T: Disk>(
     Ok(())
 }
 
-/// Writes a copy on an empty disk: both gates are closed, and the first one is opened when all
-/// segments are there.
+/// Writes a copy on an empty disk: closes both gates, and opens the first one when all segments are
+/// written.
 pub(crate) fn write_copy<S: Disk, T: Disk>(
     alloc: Global,
     source: &mut S,
@@ -283,7 +283,7 @@ pub(crate) fn write_copy<S: Disk, T: Disk>(
     requires small { AllByRecursion MayBeSegment segments.now }
     requires copy { IsPlan copy.now segments.now }
     requires kept { IsKept copy.now (lists_up_to copy.now.imports segments.now) }
-    // After Ok each stop leaves the copy.
+    // After `Ok` every crash leaves the copy.
     ensures on_disk { (S.view source.old).is_honest → (T.view target.old).is_honest
         → HoldsAll (pieces_of from.now segments.now) (S.view source.old).moments.state.now
         → length (T.view target.old).moments.state.now ≡ 0
@@ -292,7 +292,7 @@ pub(crate) fn write_copy<S: Disk, T: Disk>(
     ensures found { (S.view source.old).is_honest
         → HoldsAll (pieces_of from.now segments.now) (S.view source.old).moments.state.now
         → IfErr result (λ e. IsFailure e) }
-    // A stop at any moment leaves what it might have left before, no store, or the whole copy.
+    // A crash at any moment leaves what it might have left before, no store, or the whole copy.
     ensures any_moment { (S.view source.old).is_honest → (T.view target.old).is_honest
         → HoldsAll (pieces_of from.now segments.now) (S.view source.old).moments.state.now
         → length (T.view target.old).moments.state.now ≡ 0

@@ -1,4 +1,4 @@
--- The digest of rows, and what a store answers that is asked for that of all its rows.
+-- The digest of rows, and the result of asking a store for the digest of all its rows.
 use Rattle.std.specs.Prelude.{◌≡◌, ℕ, ◌+◌, ◌≤◌, List, [], ◌∷◌, ◌++◌, codes, Result, IfOk}
 use Rattle.std.specs.List.{flat_map, sum_by}
 use Rattle.sha2.specs.Sha256.{sha256}
@@ -23,9 +23,9 @@ text_of rows = flat_map text_line rows
 abbrev pub digest_of : List RowValue → List ℕ
 digest_of rows = sha256 (text_of rows)
 
--- On an honest disk the digest is that of all rows that the pin shows, in the order of their keys.
--- On every disk no call but reads is made, what is kept is not read again, and no more is read than
--- these rows take, each counted once.
+-- On an honest disk the digest is that of all rows that the pin shows, in key order. On every disk
+-- no calls but reads are made, cached blocks aren't read again, and no more is read than these rows
+-- take, each counted once.
 pub record IsDigestQuery {D : Type 0} (result : Result (List ℕ) Refusal) (pin : ℕ)
     (view : D → DiskView) (old new : StoreValue D) : Type 0 where
   pub found : (view old.disk).is_honest

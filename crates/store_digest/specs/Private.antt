@@ -1,4 +1,4 @@
--- What one row adds to a digest. No public clause cites it.
+-- What hashing one row does. No public clause cites these definitions.
 use Rattle.std.specs.Prelude.{◌≡◌, ℕ, ◌+◌, ◌≤◌, List, ◌++◌, map, Option, Result, IfOk}
 use Rattle.std.specs.Option.{option_to_list}
 use Rattle.std.specs.List.{sum_by}
@@ -16,11 +16,11 @@ use Rattle.history_store.specs.StoreValue.{StoreValue}
 use Rattle.history_store.specs.Queries.{IsQuery, ReadsThroughCache}
 use Rattle.store_digest.specs.Digest.{text_of}
 
--- the next row after a key that a pin shows, or none
+-- the next row after a key that the pin shows, or none
 abbrev pub next_row : {D : Type 0} → Option Key → ℕ → StoreValue D → List RowValue
 next_row after pin store = rows_after after 1 (rows_at pin store.history.rows)
 
--- The next row after a key was added to a hasher, and its key is answered, or there is none.
+-- The next row after a key was hashed, and its key is returned; or there is none.
 pub record IsNextAdded {D : Type 0} (result : Result (Option Key) Refusal) (after : Option Key)
     (pin : ℕ) (before after_it : Sha256)
     (view : D → DiskView) (old new : StoreValue D) : Type 0 where

@@ -1,4 +1,4 @@
-//! The rows of a store, one after the other, into one digest.
+//! Computes one digest over the rows of a store.
 
 ghost use Rattle.std.specs.Prelude.{◌++◌, ◌≤◌, ℕ, List, OnOk};
 ghost use Rattle.sha2.specs.Hashers.{Holds256};
@@ -12,7 +12,7 @@ use rf2_rows::{Key, Row};
 use sha2::{Digest, Sha256};
 use std::alloc::{AllocError, Global};
 
-/// Adds the line of a row to what a hasher holds.
+/// Hashes the line of a row, after what was hashed before.
 fn add_row(alloc: Global, row: &Row, hasher: &mut Sha256) -> Result<(), AllocError>
     ensures { (m : List ℕ) → Holds256 hasher.old m
         → OnOk result (Holds256 hasher.new (m ++ text_line row.now)) }
@@ -23,8 +23,8 @@ fn add_row(alloc: Global, row: &Row, hasher: &mut Sha256) -> Result<(), AllocErr
     Ok(())
 }
 
-/// Adds the next row after a key, if one is given, to what a hasher holds, and answers its key. It
-/// answers none where no row is left.
+/// Hashes the next row after a key, or the first row if no key is given, and returns the row's key;
+/// none if no row is left.
 fn add_next<D: Disk>(
     alloc: Global,
     store: &mut Store<D>,
@@ -45,8 +45,8 @@ fn add_next<D: Disk>(
     }
 }
 
-/// The digest of all rows that the first `pin` imports brought: the SHA-256 of their lines, kind by
-/// kind, ascending by identifier, then by time. It has one row in memory at a time.
+/// The digest of all rows that the first `pin` imports brought: the SHA-256 of their lines, in the
+/// order of kind, identifier and time. Only one row is in memory at a time.
 pub fn digest<D: Disk>(alloc: Global, store: &mut Store<D>, pin: u32) -> Result<[u8; 32], Refusal>
     requires { pin ≤ store.old.history.imports }
     ensures answer { IsDigestQuery result pin D.view store.old store.new }

@@ -1,13 +1,13 @@
-//! Laws of the definitions. The functions do nothing: each has its law for a contract.
+//! Laws of the definitions, each the contract of a function that does nothing.
 
 ghost use Rattle.store_digest.specs.Laws.{OneTextOneList, DigestStays, CopiesHaveTheDigest};
 
-/// Rows with one text are the same rows.
+/// Rows with the same text are the same rows.
 pub fn one_text_one_list()
     ensures { OneTextOneList }
 {}
 
-/// The digest of what a pin shows is unchanged by later imports.
+/// The digest of what a pin shows isn't changed by later imports.
 pub fn digest_stays()
     ensures { DigestStays }
 {}

@@ -1,4 +1,4 @@
-//! The text of which a digest is taken: a line for each row.
+//! The text that is hashed: a line for each row.
 
 ghost use Rattle.std.specs.Prelude.{◌≡◌, ◌++◌, ◌∷◌, [], OnOk};
 ghost use Rattle.line_commands.specs.Questions.{letter};

@@ -1,4 +1,4 @@
--- What one changed byte makes of a store of version 3.
+-- The effect of one changed byte in a store of version 3.
 use Rattle.std.specs.Prelude.{◌≡◌, ◌≢◌, ◌⊎◌, ℕ, ◌+◌, ◌<◌, ◌≤◌, List, ◌∷◌, ◌++◌, length, Some, slice_get}
 use Rattle.std.specs.List.{AllByRecursion}
 use Rattle.blocks.specs.Slots.{IsOpen, content_at, content_of, other}
@@ -15,18 +15,18 @@ use Rattle.store_image.specs.declared.fault.Damage.TheVariants as damages
 use Rattle.store_image.specs.Images.{IsStore, Represents}
 use Rattle.store_image.specs.Damage.{IsDamaged}
 
--- a byte behind the given ones was changed to another one
+-- the byte after `before` was changed to a different one
 pub record IsChanged (before : List ℕ) (byte changed : ℕ) (after : List ℕ) : Type 0 where
   pub differs : byte ≢ changed
   pub small : changed < 256
   pub bytes : AllByRecursion (λ b. b < 256) (before ++ byte ∷ after)
 
--- the directory is damaged, or where a byte of its epoch was changed, both slots have one epoch
+-- the directory is damaged; or, if a byte of its epoch was changed, both slots have the same epoch
 abbrev pub IsNoticed : ℕ → ℕ → List ℕ → Type 0
 IsNoticed from place file = IsDamaged damages.Directory file
     ⊎ ((place < from + 8) × IsDamaged damages.Slots file)
 
--- a store of version 3 in whose current directory one byte was changed is damaged
+-- a store of version 3 is damaged if one byte of its current directory was changed
 abbrev pub ChangedDirectoryIsDamaged : Type 0
 ChangedDirectoryIsDamaged = (before after : List ℕ) (byte changed : ℕ) (h : History) (epoch : ℕ)
     (entries : List Entry)
@@ -35,8 +35,8 @@ ChangedDirectoryIsDamaged = (before after : List ℕ) (byte changed : ℕ) (h : 
     → content_at stands.slot ≤ length before → length before < content_at stands.slot + 4096
     → IsNoticed (content_at stands.slot) (length before) (before ++ changed ∷ after)
 
--- So is one in whose other slot one byte was changed, where
--- that one is open and has a directory of version 3 as well.
+-- So is one if a byte of its other slot was changed, and that slot is open and has a directory of
+-- version 3 as well.
 abbrev pub ChangedOtherIsDamaged : Type 0
 ChangedOtherIsDamaged = (before after : List ℕ) (byte changed : ℕ) (h : History) (epoch : ℕ)
     (entries : List Entry)
@@ -48,7 +48,7 @@ ChangedOtherIsDamaged = (before after : List ℕ) (byte changed : ℕ) (h : Hist
     → length before < content_at (other stands.slot) + 4096
     → IsNoticed (content_at (other stands.slot)) (length before) (before ++ changed ∷ after)
 
--- a byte stands at this place of the record of a row, in a segment with checksums
+-- a byte is at this offset of a row's record, in a segment with checksums
 pub record IsInRecord (entries : List Entry) (lists : List (List StampedRow)) (s : StampedRow)
     (at place : ℕ) : Type 0 where
   pub number : ℕ
@@ -61,8 +61,8 @@ pub record IsInRecord (entries : List Entry) (lists : List (List StampedRow)) (s
   pub at_is : at ≡ start_of (extent_of entry) + length (segment_of front) + place
   pub within : place < length (record_of s)
 
--- Bytes that represented a history in version 3, and of which one was changed in a record with a
--- checksum, represent no history, if the byte doesn't say how long the record is.
+-- Bytes that represented a history in version 3 represent none after one byte of a record with a
+-- checksum was changed, unless the record's length depends on that byte.
 abbrev pub ChangedRecordIsNoStore : Type 0
 ChangedRecordIsNoStore = (before after : List ℕ) (byte changed : ℕ) (h : History) (epoch : ℕ)
     (entries : List Entry) (s : StampedRow) (place : ℕ)

@@ -23,20 +23,19 @@ pub record HasDirectory (d : DirectoryValue) (file : List ℕ) : Type 0 where
   pub lists_it : Lists content d
   pub other_is_whole : OtherIsWhole d.layout current.slot file
 
--- at the place of each entry is the segment of these
--- rows, and no number of an import is above this
+-- each entry's extent has the segment of these rows, and no import number is greater than `imports`
 pub record AreThere (imports : ℕ) (entries : List Entry) (lists : List (List StampedRow))
     (file : List ℕ) : Type 0 where
   pub segments : AreSegments entries lists
   pub numbered : AllByRecursion (AreNumbered imports) lists
   pub held : HoldsAll (pieces_of entries lists) file
 
--- no rows have their segment at the place of the entry, with numbers of imports up to this one
+-- the entry's extent has no segment of rows whose import numbers are at most `imports`
 abbrev pub IsBroken : ℕ → Entry → List ℕ → Type 0
 IsBroken imports entry file =
     (rows : List StampedRow) → IsAt file entry rows → AreNumbered imports rows → ⊥
 
--- of the entries, counted from 1, this is the first one that is broken
+-- this is the first of the entries, counted from 1, that is broken
 pub record IsFirstBroken (number imports : ℕ) (entries : List Entry)
     (file : List ℕ) : Type 0 where
   pub before : List Entry
@@ -54,15 +53,16 @@ pub record ShareKey (imports : ℕ) (entries : List Entry) (file : List ℕ) : T
   pub there : AreThere imports entries lists file
   pub shared : ¬ (AreLists lists)
 
--- no two segments share a key, and there is a row of a kind that the version doesn't have
+-- no two segments share a key, and a row is of a kind that the layout version doesn't have
 pub record HasStrangeKind (d : DirectoryValue) (file : List ℕ) : Type 0 where
   pub lists : List (List StampedRow)
   pub there : AreThere d.imports d.entries lists file
   pub apart : AreLists lists
   pub strange : ¬ (All (AreOfLayout d.layout) lists)
 
--- this part is damaged: no slot is the current one, or its content is no directory beside which
--- the other slot is whole, or what the directory lists isn't so
+-- This part is damaged: no slot is current; or the current slot's content is no directory that goes
+-- with the other slot; or a segment isn't as its entry says; or two segments share a key; or a row
+-- is of a kind that the layout version doesn't have.
 abbrev pub IsDamaged : Damage → List ℕ → Type 0
 IsDamaged damages.Slots file =
     (current : Current) (content : List ℕ) → IsCurrentWith current content file → ⊥

@@ -1,6 +1,6 @@
--- What bytes represented before there was a second version of the layout, and before there was a
--- third one: the definition of those times, on its own. In the first version rows were of the four
--- kinds that there were then, in the second one of five.
+-- What bytes represented before version 2 of the layout existed, and before version 3 did: a copy
+-- of the definitions of those times, which uses no later ones. Rows were of four kinds in version
+-- 1, and of five in version 2.
 use Rattle.std.specs.Prelude.{◌≡◌, ◌↔◌, ℕ, ◌^◌, ◌<◌, ◌≤◌, List, ◌++◌, length, take, drop, replicate}
 use Rattle.std.specs.Prelude.{codes, All}
 use Rattle.std.specs.List.{AllByRecursion, flat_map}
@@ -23,13 +23,13 @@ use Rattle.store_image.specs.Pieces.{HasPieces}
 use Rattle.store_image.specs.Kept.{AreSegments, pieces_of}
 use Rattle.store_image.specs.Images.{Represents}
 
--- the bytes that were read of a content block with this mark
+-- the bytes of a content block with this mark that were decoded
 abbrev pub bytes_then : List ℕ → ℕ → ℕ → List Entry → List ℕ
 bytes_then mark epoch imports entries =
     to_be_bytes w64 epoch ++ (mark ++ (to_be_bytes w32 imports
     ++ (to_be_bytes w32 (length entries) ++ (replicate 8 0 ++ flat_map entry_bytes entries))))
 
--- the kinds that there were at first
+-- the four kinds of version 1
 abbrev pub IsFirstKind : Kind → Type 0
 IsFirstKind kinds.Concept = Unit {0}
 IsFirstKind kinds.Description = Unit {0}
@@ -37,14 +37,14 @@ IsFirstKind kinds.Relationship = Unit {0}
 IsFirstKind kinds.Association = Unit {0}
 IsFirstKind kind = ⊥
 
--- and those that there were in the second version: one more
+-- the five kinds of version 2
 abbrev pub IsSecondKind : Kind → Type 0
 IsSecondKind kinds.Concrete = Unit {0}
 IsSecondKind kind = IsFirstKind kind
 
--- What bytes represented whose content blocks had this mark and so many entries at most, and whose
--- rows were of these kinds. No segment had checksums, and no content block that was published had
--- the mark of a third version.
+-- What bytes represented, when content blocks had this mark and at most `most` entries, and rows
+-- were of these kinds. No segment had checksums, and no published content block had the mark of
+-- version 3.
 pub record DidRepresentBy (mark : List ℕ) (most : ℕ) (WasKind : Kind → Type 0) (file : List ℕ)
     (h : History) (epoch : ℕ) (entries : List Entry) : Type 0 where
   pub slot : Slot
@@ -69,19 +69,19 @@ pub record DidRepresentBy (mark : List ℕ) (most : ℕ) (WasKind : Kind → Typ
   pub history : IsHistory (record { imports = h.imports; rows = listed lists })
   pub rows : h.rows ≡ listed lists
 
--- in the first version, and in the second one
+-- as above, with the marks, limits and kinds of version 1 and of version 2
 abbrev pub DidRepresent : List ℕ → History → ℕ → List Entry → Type 0
 DidRepresent = DidRepresentBy (codes "SCTHIST1") 128 IsFirstKind
 
 abbrev pub DidRepresentSecond : List ℕ → History → ℕ → List Entry → Type 0
 DidRepresentSecond = DidRepresentBy (codes "SCTHIST2") 250 IsSecondKind
 
--- what represented a history then does so in version 1 still, and nothing else does in that version
+-- bytes that represented a history then, and no others, do so in version 1 now
 abbrev pub FirstStillRepresents : Type 0
 FirstStillRepresents = (file : List ℕ) (h : History) (epoch : ℕ) (entries : List Entry)
     → DidRepresent file h epoch entries ↔ Represents file h layouts.One epoch entries
 
--- and what did so before there was a third version does so in version 2
+-- bytes that represented one before version 3 existed, and no others, do so in version 2 now
 abbrev pub SecondStillRepresents : Type 0
 SecondStillRepresents = (file : List ℕ) (h : History) (epoch : ℕ) (entries : List Entry)
     → DidRepresentSecond file h epoch entries ↔ Represents file h layouts.Two epoch entries

@@ -1,4 +1,4 @@
--- What a content block and the rows of its segments say. No file is seen here.
+-- What a directory and the rows of its segments have to satisfy, apart from the bytes of a disk.
 use Rattle.std.specs.Prelude.{◌≡◌, ℕ, List, [], ◌∷◌, length, sum_by, All}
 use Rattle.std.specs.List.{AllZip}
 use Rattle.rf2_values.specs.declared.row.Kind.{Kind}
@@ -28,15 +28,16 @@ abbrev pub entry_at : Form → ℕ → List StampedRow → Entry
 entry_at form first rows =
     record { first = first; bytes = length (segment_of rows); rows = length rows; form = form }
 
--- the bytes of the listed segments
+-- the total length of the listed segments
 abbrev pub bytes_listed : List Entry → ℕ
 bytes_listed entries = sum_by (λ entry. entry.bytes) entries
 
--- one list of rows for each entry
+-- the lists have the rows of the entries' segments, one list for each entry
 abbrev pub AreSegments : List Entry → List (List StampedRow) → Type 0
 AreSegments entries lists = AllZip IsSegmentOf entries lists
 
--- the version has rows of this kind: concrete values from version 2 on, members from version 3 on
+-- the layout version has rows of this kind: concrete values from version 2 on, members from version
+-- 3 on
 abbrev pub HasKind : Layout → Kind → Type 0
 HasKind layouts.One kinds.Concrete = ⊥
 HasKind layouts.One kinds.Member = ⊥
@@ -45,23 +46,23 @@ HasKind layouts.Two kinds.Member = ⊥
 HasKind layouts.Two kind = Unit {0}
 HasKind layouts.Three kind = Unit {0}
 
--- the rows are of kinds that the version has
+-- the layout version has the kinds of all the rows
 abbrev pub AreOfLayout : Layout → List StampedRow → Type 0
 AreOfLayout layout rows = All (λ s. HasKind layout (kind_of s.row)) rows
 
--- the segments, each at its entry's place
+-- the segments' bytes, each at the offset that its entry says
 abbrev pub pieces_of : List Entry → List (List StampedRow) → List (ℕ × List ℕ)
 pieces_of [] lists = []
 pieces_of (entry ∷ entries) [] = []
 pieces_of (entry ∷ entries) (rows ∷ lists) =
     (start_of (extent_of entry), segment_in entry.form rows) ∷ pieces_of entries lists
 
--- the rows of all lists, with the number of imports
+-- the history of all lists' rows, with the directory's number of imports
 abbrev pub history_of : DirectoryValue → List (List StampedRow) → History
 history_of d lists = record { imports = d.imports; rows = listed lists }
 
--- a directory and the rows of the segments that it lists: no key is in two of
--- them, together they are a history, and the version has rows of their kinds
+-- a directory, and the rows of the segments that it lists: no key is in two segments, the rows are
+-- a history, and the layout version has their kinds
 pub record IsKept (d : DirectoryValue) (lists : List (List StampedRow)) : Type 0 where
   pub listing : IsListing d
   pub segments : AreSegments d.entries lists

@@ -1,4 +1,4 @@
-//! Keys that two lists share, found in one pass over all lists together.
+//! Finds keys that are in two lists, in one pass over all lists together.
 
 ghost use Rattle.std.specs.Prelude.{◌≡◌, ◌↔◌, ◌+◌, refl, IsTrue, IfOk, OnOk, List, length, map};
 ghost use Rattle.std.specs.List.{AllByRecursion};
@@ -21,8 +21,8 @@ use std::alloc::{AllocError, Global};
 use std::cmp::Ordering;
 use std::collections::BinaryHeap;
 
-/// What is left of a list: its first key, and the places behind it.
-/// Of two the one with the lower first key is the greater one, which a heap hands out first.
+/// The rest of a list: its first key, and the places after it. Of two rests the one with the
+/// smaller first key is the greater, so that a heap returns it first.
 #[derive(Clone, Copy, Drop)]
 pub(crate) struct Rest<'a> {
     first: Key,
@@ -85,8 +85,8 @@ pub(crate) fn are_apart<B: SegmentBuilder>(
     run_out(&mut rests)
 }
 
-/// Goes on in what is left of the lists, from the least first key to
-/// the next, until a key is another one's too or one list is left.
+/// Advances through the rests of the lists in key order, until a key is found in two of them or
+/// only one list is left.
 fn run_out(rests: &mut BinaryHeap<Rest<'_>>) -> Result<bool, AllocError>
     requires { AreOpen (heap_items rests.old) }
     ensures { IfOk result
@@ -105,7 +105,7 @@ fn run_out(rests: &mut BinaryHeap<Rest<'_>>) -> Result<bool, AllocError>
     Ok(true)
 }
 
-/// Puts a list among those that are gone over.
+/// Adds a list to the heap, unless it is empty.
 fn put_in<'a>(rests: &mut BinaryHeap<Rest<'a>>, list: &'a [RowPlace]) -> Result<(), AllocError>
     requires rests { AreOpen (heap_items rests.old) }
     requires ascending { IsAscending key_cmp (keys_of list.now) }
@@ -128,7 +128,7 @@ fn put_in<'a>(rests: &mut BinaryHeap<Rest<'a>>, list: &'a [RowPlace]) -> Result<
     }
 }
 
-/// The places from the first one on whose key isn't below this one.
+/// The places from the first one on whose key isn't less than this one.
 fn skip_below<'a>(places: &'a [RowPlace], key: &Key) -> &'a [RowPlace]
     ensures behind { IsBehind key.now places.now result.now }
     ensures first { StartsFrom key.now result.now }
@@ -143,7 +143,7 @@ fn skip_below<'a>(places: &'a [RowPlace], key: &Key) -> &'a [RowPlace]
     left
 }
 
-/// Whether a key comes before another one.
+/// Whether a key is less than another one.
 pub(crate) fn is_below(key: &Key, other: &Key) -> bool
     ensures { IsTrue result ↔ (key_cmp key.now other.now ≡ Less) }
 {

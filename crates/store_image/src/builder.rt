@@ -1,4 +1,4 @@
-//! What the rows of a segment are read into.
+//! What a segment's rows are read into.
 
 ghost use Rattle.std.specs.Prelude.{◌≡◌, ◌<◌, ◌^◌, ◌++◌, ◌∷◌, List, [], length, IfOk, OnOk};
 ghost use Rattle.history_model.specs.declared.stamped.StampedRow.{StampedRow};
@@ -11,25 +11,25 @@ use history_model::StampedRow;
 use segment::RowPlace;
 use std::alloc::{AllocError, Global};
 
-/// Builds what is kept of the rows of a segment, as they are read.
+/// Builds a value that represents a segment in memory, from its rows as they are read.
 pub trait SegmentBuilder: Drop {
-    /// What is kept of a segment: the places of its rows, at least.
+    /// The value for a whole segment: it has the places of the rows, at least.
     type Segment: Drop;
     /// The rows so far.
     ghost rows: { Self → List StampedRow };
     /// The rows of a segment.
     ghost sealed: { Self.Segment → List StampedRow };
 
-    /// No rows, with room for the places of so many.
+    /// A builder without rows, with capacity for the places of `count` rows.
     fn with_capacity(alloc: Global, count: usize) -> Result<Self, AllocError>
         ensures { IfOk result (λ builder. rows builder ≡ []) };
 
-    /// Adds a row, the record of which stands behind those of the rows before it.
+    /// Adds a row, whose record is after those of the rows before it.
     fn push(&mut self, row: &StampedRow) -> Result<(), AllocError>
         requires { length (segment_of (rows self.old ++ row.now ∷ [])) < 2 ^ 32 }
         ensures { OnOk result (rows self.new ≡ rows self.old ++ row.now ∷ []) };
 
-    /// What is kept of the rows, of which no more come.
+    /// The value for the segment, once all its rows were pushed.
     fn seal(self) -> Self::Segment
         requires { IsAscending stamped_cmp (rows self) }
         ensures { sealed result ≡ rows self };

@@ -4,7 +4,7 @@ ghost use Rattle.directory.specs.Content.{Lists};
 
 use directory::Directory;
 
-/// The content block that lists a directory.
+/// The directory, encoded as a content block.
 pub(crate) fn content_of(directory: &Directory) -> [u8; 4096]
     ensures { Lists result directory.now }
 {

@@ -1,4 +1,4 @@
-//! Why a disk isn't made a store, or isn't read as one.
+//! Why a store can't be made on a disk, or can't be read from it.
 
 use blocks::SlotFault;
 use directory::DirectoryFault;
@@ -7,7 +7,7 @@ use segment::SegmentFault;
 use std::alloc::{AllocError, AllocFailed};
 use thiserror::Error;
 
-/// Why a disk isn't made a store.
+/// Why a store can't be made on a disk.
 #[derive(Clone, Copy, Debug, PartialEq, Eq, Error)]
 pub enum MakeFault {
     #[error("out of memory")]
@@ -18,16 +18,17 @@ pub enum MakeFault {
     NotEmpty,
 }
 
-/// The part of a store that is damaged. What is read before it isn't.
+/// The part of a store that is damaged. The parts that are read before it are undamaged.
 #[derive(Clone, Copy, Debug, PartialEq, Eq, Error)]
 pub enum Damage {
     /// A gate is open, and neither slot is the current one.
     #[error("the slots (the file ends within them, or both have one epoch)")]
     Slots,
-    /// The content of the current slot is no directory.
+    /// The content of the current slot is no valid directory, or the other slot can't have been
+    /// published before it.
     #[error("the directory")]
     Directory,
-    /// At the place of this entry, counted from 1, is no such segment.
+    /// The disk doesn't have a segment as this entry, counted from 1, describes it.
     #[error("segment {0}")]
     Segment(usize),
     #[error("two segments that share a key")]
@@ -36,7 +37,7 @@ pub enum Damage {
     Kind,
 }
 
-/// Why a disk isn't read as a store.
+/// Why a store can't be read from a disk.
 #[derive(Clone, Copy, Debug, PartialEq, Eq, Error)]
 pub enum LoadFault {
     #[error("out of memory")]
@@ -49,7 +50,7 @@ pub enum LoadFault {
     Damaged(Damage),
 }
 
-/// Why the rows of a segment aren't read.
+/// Why the rows of a segment can't be read.
 #[derive(Clone, Copy)]
 pub(crate) enum RowsFault {
     OutOfMemory,
@@ -61,7 +62,7 @@ impl RowsFault {
     ghost use Rattle.std.specs.Prelude.{◌≡◌};
     ghost use Rattle.store_image.specs.Private.Damage.{in_segment};
 
-    /// The fault of the segment with this number, counted from 1.
+    /// The fault of a load that fails at the segment with this number, counted from 1.
     pub(crate) fn in_segment(self, number: usize) -> LoadFault
         ensures { result ≡ in_segment number self }
     {

@@ -26,11 +26,11 @@ use std::alloc::Global;
 pub struct Made {
     /// The current slot.
     pub slot: Slot,
-    /// What its content lists.
+    /// The directory that its content lists.
     pub directory: Directory,
 }
 
-/// Looks whether a disk has no byte. `NotEmpty` where it has one.
+/// Checks that a disk is empty; `NotEmpty` if it isn't.
 pub fn check_empty<D: Disk>(disk: &mut D) -> Result<(), MakeFault>
     ensures exact { (D.view disk.old).is_honest
         → IsMade result (D.view disk.old).moments.state.now }
@@ -46,9 +46,9 @@ pub fn check_empty<D: Disk>(disk: &mut D) -> Result<(), MakeFault>
     Ok(())
 }
 
-/// Makes an empty store in this version on a disk of no bytes: the length is looked at, then all room is taken, and
-/// then it writes. So `OutOfMemory` leaves the disk empty. A stop before it has answered may leave
-/// anything.
+/// Makes an empty store of this layout version on an empty disk: asks for the disk's length, then
+/// allocates all memory, then writes. So `OutOfMemory` leaves the disk empty. A crash before it
+/// returns may leave anything.
 pub fn make<D: Disk>(alloc: Global, disk: &mut D, layout: Layout) -> Result<Made, MakeFault>
     ensures made { IfOk result (λ made. (made.slot ≡ Slot.A)
         × (made.directory ≡ empty_listing layout)) }
@@ -57,19 +57,19 @@ pub fn make<D: Disk>(alloc: Global, disk: &mut D, layout: Layout) -> Result<Made
     ensures on_disk { (D.view disk.old).is_honest
         → IfOk result
         (λ made. IsOnDisk (D.view disk.new).moments.state made.slot made.directory []) }
-    // Whatever a stop leaves represents the empty history.
+    // Every image that a crash may leave represents the empty history.
     ensures stands { (D.view disk.old).is_honest
         → OnOk result (EachImage (D.view disk.new).moments.state
         (λ c. Represents c no_history layout 1 [])) }
-    // A read then gives the two slots, and nothing behind them.
+    // A read then returns the two slots, and nothing after them.
     ensures bytes { (D.view disk.old).is_honest
         → OnOk result (IsNewStore layout (D.view disk.new).moments.state.now) }
     ensures refused { (D.view disk.old).is_honest
         → StaysIfRefused result (D.view disk.old).moments (D.view disk.new).moments }
-    // A disk with a byte stays as it is, whatever the answer: where the device fails, too.
+    // A disk that isn't empty is unchanged, whatever the result, even if the device fails.
     ensures untouched { (D.view disk.old).is_honest → 1 ≤ length (D.view disk.old).moments.state.now
         → (D.view disk.new).moments ≡ (D.view disk.old).moments }
-    // Whatever it answers, what a stop may leave doesn't change behind the slots.
+    // Whatever the result, a crash changes nothing after the slots.
     ensures inside { (D.view disk.old).is_honest
         → LeavesOnly (D.view disk.old).moments (D.view disk.new).moments
         (StemsWithin (D.view disk.old).moments.state slots_range) }
@@ -77,7 +77,7 @@ pub fn make<D: Disk>(alloc: Global, disk: &mut D, layout: Layout) -> Result<Made
         → MakesCalls result 9 (D.view disk.old).moments (D.view disk.new).moments }
     ensures meters { Calls (CountsMaking result) Stays (AtMost 10)
         (D.view disk.old) (D.view disk.new) }
-    // A refusal on any disk: the length was looked at, and nothing else was asked for.
+    // On every disk a refusal made one call at most: it asked for the length.
     ensures looked { LooksIfRefused result (D.view disk.old).other_calls
         (D.view disk.new).other_calls }
 {

@@ -1,4 +1,4 @@
-//! Reading what a disk represents.
+//! Loads the store that a disk represents.
 
 ghost use Rattle.std.specs.Prelude.{◌≡◌, ◌⊎◌, ◌↔◌, ◌+◌, ◌≤◌, length, map};
 ghost use Rattle.std.specs.Prelude.{IfOk, IfErr, MatchResult};
@@ -22,20 +22,20 @@ use directory::{Directory, Layout, may_precede};
 use disk_model::Disk;
 use std::alloc::Global;
 
-/// What was read.
+/// A store that was loaded.
 #[derive(Drop)]
 pub struct Loaded<T> {
     /// The current slot.
     pub slot: Slot,
-    /// What its content lists.
+    /// The directory that its content lists.
     pub directory: Directory,
-    /// What is kept of each segment, in the directory's order.
+    /// The value for each segment, in the directory's order.
     pub segments: Vec<T>,
 }
 
-/// Reads what a disk represents, after a sync. Each record is read once,
-/// through a buffer of fixed size, and its row is pushed to the builder of its segment.
-/// Where the bytes represent nothing, the damaged part is answered.
+/// Loads the store that a disk represents, after a sync. Each record is read once, through a buffer
+/// of fixed size, and its row is pushed to the builder of its segment. If the bytes represent no
+/// store, the damaged part is returned.
 pub fn load<D: Disk, B: SegmentBuilder>(
     alloc: Global,
     disk: &mut D,
@@ -45,19 +45,19 @@ pub fn load<D: Disk, B: SegmentBuilder>(
         (λ l. HasStore l.slot l.directory (map B.sealed l.segments.items)
         (D.view disk.old).moments.state.now)
         (λ e. IsNotOpened e (D.view disk.old).moments.state.now) }
-    // What was read fits together, on every disk.
+    // On every disk, the loaded parts are consistent.
     ensures kept { IfOk result (λ l. IsKept l.directory (map B.sealed l.segments.items)) }
-    // A stop at any moment leaves what it might have left before.
+    // A crash at any moment leaves what it might have left before.
     ensures any_moment { (D.view disk.old).is_honest
         → LeavesOnly (D.view disk.old).moments (D.view disk.new).moments
         (IsImage (D.view disk.old).moments.state) }
-    // It syncs once and changes nothing else, whatever it answers.
+    // Whatever the result, it syncs once and changes nothing else.
     ensures synced { (D.view disk.old).is_honest
         → IsSynced result (D.view disk.old).moments (D.view disk.new).moments }
-    // So a read gives what it gave before.
+    // So reads return what they returned before.
     ensures unchanged { (D.view disk.old).is_honest
         → (D.view disk.new).moments.state.now ≡ (D.view disk.old).moments.state.now }
-    // After Ok each stop leaves what was read.
+    // After `Ok` every crash leaves what was loaded.
     ensures on_disk { (D.view disk.old).is_honest
         → IfOk result (λ l. IsOnDisk (D.view disk.new).moments.state l.slot l.directory
         (map B.sealed l.segments.items)) }
@@ -68,18 +68,19 @@ pub fn load<D: Disk, B: SegmentBuilder>(
         (λ l. after ≤ before + slots_read + bytes_listed l.directory.entries))
         (λ before after. IfOk result (λ l. after ≤ before + 2 + length l.directory.entries))
         (D.view disk.old) (D.view disk.new) }
-    // Before it reads it makes one call: a sync that failed isn't tried again.
+    // Makes one call before the first read: a sync that failed isn't tried again.
     ensures synced_once { ((D.view disk.new).other_calls ≤ (D.view disk.old).other_calls + 1)
         ⊎ (raised_by (D.view disk.old).bytes_read 1 ≤ (D.view disk.new).bytes_read) }
-    // After an error it has asked for no more than up to the fault.
+    // After an error it has read no further than the fault.
     ensures stops { IfErr result
         (λ e. StopsAt e (D.view disk.old).bytes_read (D.view disk.new).bytes_read
         (D.view disk.old).other_calls (D.view disk.new).other_calls) }
-    // Where no gate is open, it made the sync and nothing else.
+    // If no gate is open, it made no other call than the sync and reads.
     ensures no_store { IfErr result
         (λ e. e ≡ faults.NotAStore
         → (D.view disk.new).other_calls ≤ (D.view disk.old).other_calls + 1) }
-    // Whatever it answers, it reads the slots and what a directory lists, and nothing else.
+    // Whatever the result: it reads the slots and the segments that a directory lists, and nothing
+    // else.
     ensures asked { (D.view disk.old).is_honest → AsksWithin (D.view disk.old).moments.state.now
         (D.view disk.old).bytes_read (D.view disk.new).bytes_read }
 {
@@ -99,7 +100,8 @@ pub fn load<D: Disk, B: SegmentBuilder>(
     })
 }
 
-/// Looks whether the other slot is whole, beside a directory of this version in the current one.
+/// Checks that the other slot is closed, or has a directory that may have been published before one
+/// of this version.
 fn check_other<D: Disk>(disk: &mut D, slot: Slot, layout: Layout) -> Result<(), LoadFault>
     ensures exact { (D.view disk.old).is_honest → 16384 ≤ length (D.view disk.old).moments.state.now
         → MatchResult result

@@ -27,19 +27,19 @@ use disk_model::Disk;
 use rf2_values::Key;
 use std::alloc::Global;
 
-/// How far the rows of a segment are read.
+/// How much of a segment was read.
 #[derive(Clone, Copy)]
 pub(crate) struct ReadTo {
-    /// The byte of the segment behind the last record.
+    /// The offset in the segment after the last record that was read.
     at: u32,
-    /// The key of the last row.
+    /// The key of the last row that was read.
     last: Option<Key>,
 }
 
-/// The fewest bytes that a record has.
+/// The smallest length of a record, in bytes.
 const RECORD_MIN: u64 = 46;
 
-/// The rows of each segment. A directory may list these entries.
+/// Reads the rows of each segment, into a value for each. A directory may list these entries.
 pub(crate) fn read_segments<D: Disk, B: SegmentBuilder>(
     alloc: Global,
     disk: &mut D,
@@ -56,11 +56,11 @@ pub(crate) fn read_segments<D: Disk, B: SegmentBuilder>(
     ensures moments { (D.view disk.old).is_honest
         → (D.view disk.new).moments ≡ (D.view disk.old).moments }
     ensures goes_on { raised_by (D.view disk.old).bytes_read 0 ≤ (D.view disk.new).bytes_read }
-    // Whatever it answers, its reads are asked for no more bytes than the segments have.
-    // Beside its reads it asks for the length alone, once for each segment.
+    // Whatever the result: no more bytes are requested than the segments have.
+    // Besides its reads it only asks for the length, once for each segment.
     ensures meters { Calls (CountsLoading result) (AtMost (bytes_listed entries.now))
         (AtMost (length entries.now)) (D.view disk.old) (D.view disk.new) }
-    // Of the segments behind a damaged one it asks for nothing.
+    // Nothing is requested from segments after a damaged one.
     ensures stops { IfErr result
         (λ e. StopsIn e entries.now (D.view disk.old).bytes_read (D.view disk.new).bytes_read
         (D.view disk.old).other_calls (D.view disk.new).other_calls) }
@@ -81,7 +81,7 @@ pub(crate) fn read_segments<D: Disk, B: SegmentBuilder>(
     Ok(segments)
 }
 
-/// The rows of an entry's segment.
+/// Reads the rows of an entry's segment.
 fn read_segment<D: Disk, B: SegmentBuilder>(
     alloc: Global,
     disk: &mut D,
@@ -107,8 +107,8 @@ fn read_segment<D: Disk, B: SegmentBuilder>(
     Ok(builder.seal())
 }
 
-/// Whether the disk reaches as far as an entry says, and as many rows may have as many bytes.
-/// So memory is taken for no more places than the disk has records.
+/// Checks that the disk is long enough for an entry, and that as many rows as it says fit in as
+/// many bytes. So no more memory is allocated than the places of the disk's records need.
 fn check_room<D: Disk>(disk: &mut D, entry: Entry) -> Result<(), RowsFault>
     ensures exact { (D.view disk.old).is_honest → (imports : ℕ) → MatchResult result (λ _. Unit {0})
         (λ e. IsNotReadAt e imports entry (D.view disk.old).moments.state.now) }
@@ -127,7 +127,7 @@ fn check_room<D: Disk>(disk: &mut D, entry: Entry) -> Result<(), RowsFault>
     Ok(())
 }
 
-/// As many rows as the entry says, whose records are all the bytes of its extent.
+/// Reads as many rows as the entry says, whose records have to fill its extent.
 fn read_rows<D: Disk, B: SegmentBuilder>(
     alloc: Global,
     disk: &mut D,
@@ -161,7 +161,7 @@ fn read_rows<D: Disk, B: SegmentBuilder>(
     Ok(builder)
 }
 
-/// The row whose record begins where the rows that were read end, behind these.
+/// Reads the row whose record begins at `to.at`, after the rows that were read.
 fn read_row<D: Disk, B: SegmentBuilder>(
     alloc: Global,
     disk: &mut D,
@@ -211,7 +211,7 @@ fn read_row<D: Disk, B: SegmentBuilder>(
     })
 }
 
-/// Whether a key is above that of the last row, if there is one.
+/// Whether a key is greater than that of the last row, if there is one.
 fn comes_after(last: Option<Key>, key: &Key) -> bool
     ensures { IsTrue result ↔ IsAbove key.now last }
 {

@@ -9,12 +9,12 @@ use segment::RowPlace;
 use std::alloc::{AllocError, Global};
 use std::marker::Model;
 
-/// The places of a segment's rows, and nothing else of them: clauses see the rows.
+/// The places of a segment's rows, and nothing else; only clauses can see the rows.
 #[derive(Drop)]
 pub struct SegmentPlaces {
     places: Vec<RowPlace>,
     rows: GhostRows,
-    /// How many bytes their records have.
+    /// The total length of the rows' records, in bytes.
     bytes: u32,
 }
 

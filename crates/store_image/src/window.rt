@@ -1,4 +1,4 @@
-//! A segment's bytes, read through a buffer of fixed size.
+//! Reads a segment's bytes through a buffer of fixed size.
 
 ghost use Rattle.std.specs.Prelude.{◌≡◌, ◌↔◌, ℕ, ◌+◌, ◌-◌, ◌^◌, ◌<◌, ◌≤◌, List, length, drop};
 ghost use Rattle.std.specs.Prelude.{vec_len, IfOk, IfErr, OnOk, MatchResult};
@@ -10,20 +10,20 @@ use disk_model::{Disk, DiskFault};
 use segment::{Form, SegmentFault, StampedRow, record_at};
 use std::alloc::{AllocError, Global};
 
-/// How many bytes there are at once. No record has more than 65,554.
+/// The size of the buffer. No record is longer than 65,554 bytes.
 const WINDOW: u32 = 131_072;
 
-/// Some of the bytes of a segment, as they were read last.
+/// A part of a segment's bytes, in a buffer.
 #[derive(Drop)]
 pub(crate) struct Window {
     pub(crate) extent: Extent,
     /// How its records begin.
     pub(crate) form: Form,
     bytes: Vec<u8>,
-    /// The place in the segment of the first of the bytes.
+    /// The offset in the segment of the first byte in the buffer.
     pub(crate) from: u32,
     len: u32,
-    /// How many bytes of the segment its reads were asked for.
+    /// How many bytes of the segment were requested so far.
     asked: u32,
     ghost long: { vec_len bytes ≡ 131072 },
     ghost short: { len ≤ 131072 },
@@ -40,7 +40,7 @@ impl Window {
     ghost use Rattle.store_image.specs.Private.Reading.{CountsFault, bytes_in, HasRecord};
     ghost use Rattle.store_image.specs.Private.Reading.{HasNoRecord, IsNoRecord, Sees, IsFull};
 
-    /// A window on a segment of no bytes.
+    /// A window without a segment, that is, on one without bytes.
     pub(crate) fn new(alloc: Global) -> Result<Window, AllocError> {
         Ok(Window {
             extent: Extent { first: 0, bytes: 0 },
@@ -52,7 +52,7 @@ impl Window {
         })
     }
 
-    /// Goes to another segment, of which no byte is read yet.
+    /// Moves the window to the beginning of another segment; no byte of it is read yet.
     pub(crate) fn begin(&mut self, extent: Extent, form: Form)
         ensures extent { self.new.extent ≡ extent }
         ensures form { self.new.form ≡ form }
@@ -67,7 +67,8 @@ impl Window {
         self.extent = extent;
     }
 
-    /// Forgets the bytes before a place of the segment, and moves the others to the front.
+    /// Drops the bytes before an offset of the segment, and moves the others to the front of the
+    /// buffer.
     fn forget_before(&mut self, at: u32)
         requires from { self.old.from ≤ at }
         requires reached { at ≤ self.old.from + self.old.len }
@@ -85,8 +86,8 @@ impl Window {
         self.from = at;
     }
 
-    /// Reads on behind the bytes that it has, as far as the segment goes and there is room. The
-    /// reads of a segment are asked for no more bytes than it has, whatever the device answers.
+    /// Reads the bytes that follow in the segment, until the buffer is full or the segment ends. No
+    /// more bytes of a segment are requested than it has, whatever the device returns.
     fn fill<D: Disk>(&mut self, disk: &mut D) -> Result<(), DiskFault>
         ensures extent { self.new.extent ≡ self.old.extent }
         ensures form { self.new.form ≡ self.old.form }
@@ -115,8 +116,8 @@ impl Window {
         Ok(())
     }
 
-    /// The row whose record begins at a place of the segment, and
-    /// the place after the record, where the window has all of it.
+    /// Decodes the record at an offset of the segment, if the window has all of it, and returns its
+    /// row and the offset after the record.
     fn row_in(&self, alloc: Global, at: u32) -> Result<(StampedRow, u32), SegmentFault>
         requires { self.now.from ≤ at }
         ensures found { IfOk result
@@ -132,8 +133,8 @@ impl Window {
         Ok((row, self.from + next as u32))
     }
 
-    /// The row whose record begins at a place of the segment, and the place after the record.
-    /// It reads on where the window doesn't have all of it.
+    /// Decodes the record at an offset of the segment, and returns its row and the offset after the
+    /// record. Reads on if the window doesn't have all of it.
     pub(crate) fn row_at<D: Disk>(
         &mut self,
         alloc: Global,

@@ -1,4 +1,5 @@
--- Which call of a life each call of `Store` is, by what it ensures: the premises are its clauses.
+-- Which call of a life each call of `Store` is, according to what it ensures: the premises are its
+-- clauses.
 use Rattle.std.specs.Prelude.{◌≡◌, ◌⊎◌, ◌↔◌, true, false, ℕ, Result, Ok, Err}
 use Rattle.disk_model.specs.Disk.{LeavesOnly}
 use Rattle.history_model.specs.declared.receipt.Receipt.{Receipt}
@@ -18,7 +19,7 @@ use Rattle.history_store.specs.Queries.{IsQuery}
 use Rattle.disk_model.specs.View.{DiskView}
 use Rattle.store_life.specs.Life.{Call, Imported, Failed, Other, IsCall}
 
--- which call an import is, by its answer
+-- the call of a life that an import is, according to its result
 abbrev pub call_of : Result Receipt Refusal → Release → Call
 call_of (Ok receipt) release = Imported release
 call_of (Err refusals.DiskFault) release = Failed release
@@ -39,7 +40,7 @@ ImportIsACall D view =
     → ((view old.disk).is_honest ↔ (view new.disk).is_honest)
     → IsCall view old (call_of result release) new
 
--- by `Store::check · answer`: it imports nothing, also where the device fails
+-- by `Store::check · answer`: it imports nothing, even if the device fails
 abbrev pub CheckIsACall : (D : Type 0) → (D → DiskView) → Type 0
 CheckIsACall D view =
     (old new : StoreValue D) (release : Release) (result : Result Receipt Refusal)
@@ -53,8 +54,8 @@ QueryIsACall T D view = (result : Result T Refusal) (old new : StoreValue D)
     → IsQuery result view old new
     → IsCall view old Other new
 
--- by `unchanged` of the answers of `children`, `descendants` and `dates` (`IsIndexQuery`), and
--- where a call only borrows the store
+-- by `unchanged` of the answers of `children`, `descendants` and `dates` (`IsIndexQuery`), and for
+-- a call that only borrows the store
 abbrev pub UnchangedIsACall : (D : Type 0) → (D → DiskView) → Type 0
 UnchangedIsACall D view = (old new : StoreValue D) → new ≡ old → IsCall view old Other new
 

@@ -1,4 +1,4 @@
--- What holds of every life of a store, on an honest disk.
+-- Laws of every life of a store, on an honest disk.
 use Rattle.std.specs.Prelude.{◌≡◌, ◌⊎◌, ℕ, ◌++◌, ◌+◌, ◌≤◌, List, [], ◌∷◌, length, map, Option}
 use Rattle.std.specs.Prelude.{None, Result, Ok, IfOk, MatchResult}
 use Rattle.std.specs.Option.{option_to_list}
@@ -30,9 +30,10 @@ EachLifeBegins D view = (device : D) (layout : Layout) (result : StoreOr D)
     ⊎ IsOpening result view device)
     → IfOk result (λ s. (view s.disk).is_honest × IsAcknowledged view s)
 
--- An opening of an honest device is one of those that a life names: where a store is opened, it is
--- opened from what a read gives; and whatever is answered, where a stop before it leaves what a
--- read gives, a stop within it leaves what it might have left before.
+-- An opening of an honest device is one of the openings that the definition of a life has: a store
+-- that is opened is the one in the bytes that a read returns; and whatever the result, if a crash
+-- before the opening leaves what a read returns, a crash within it leaves what it might have left
+-- before.
 abbrev pub EachOpeningIsOfALife : (D : Type 0) → (D → DiskView) → Type 0
 EachOpeningIsOfALife D view =
     (device : D) (result : StoreOr D) → (view device).is_honest
@@ -43,9 +44,9 @@ EachOpeningIsOfALife D view =
     → StopLeaves (view device).moments (view (device_of result)).moments left
     → OpeningLeaves view (view device).moments.state.now device (device_of result) left)
 
--- A store that is closed, and opened again from its disk without a stop in between, is an event of
--- a life. Where no call had failed, history, version, epoch and entries are the same, and no merge
--- goes on: by `Store::close · disk, stands` the store was acknowledged then.
+-- Closing a store, and opening it again from its disk without a crash in between, is an event of a
+-- life. If no call had failed, history, layout version, epoch and entries are the same, and no
+-- merge is in progress: by `Store::close · disk, stands` the store was acknowledged then.
 abbrev pub ClosedStoreIsOpened : (D : Type 0) → (D → DiskView) → Type 0
 ClosedStoreIsOpened D view = (old new : StoreValue D) → (view old.disk).is_honest
     → IsOpening (Ok new) view old.disk
@@ -53,14 +54,14 @@ ClosedStoreIsOpened D view = (old new : StoreValue D) → (view old.disk).is_hon
     × (IsAcknowledged view old → (new.history ≡ old.history)
     × (new.catalog ≡ record old.catalog { merge = None }))
 
--- a run of events followed by another is the run of both
+-- a run of events followed by another is one run of all these events
 abbrev pub LivesCompose : (D : Type 0) → (D → DiskView) → Type 0
 LivesCompose D view = (first mid last : StoreValue D) (events more : List Event)
     → IsLife view first events mid → IsLife view mid more last
     → IsLife view first (events ++ more) last
 
--- A stop at any moment while calls are made, one after the other, comes between two of them or
--- cuts one off: those before it were made, and those behind it weren't.
+-- A crash at any moment while calls are made, one after the other, comes between two of them or
+-- interrupts one: those before it were made, and those after it weren't.
 abbrev pub EachStopIsOfALife : (D : Type 0) → (D → DiskView) → Type 0
 EachStopIsOfALife D view = (first last : StoreValue D) (calls : List Call) (bytes : List ℕ)
     → (view first.disk).is_honest → IsAcknowledged view first
@@ -70,10 +71,10 @@ EachStopIsOfALife D view = (first last : StoreValue D) (calls : List Call) (byte
     × (calls ≡ before ++ option_to_list within ++ behind)
     × IsLife view first (map Called before) mid × IsStopped view mid within bytes
 
--- ---- what a life keeps
+-- ---- what a life preserves
 
--- Over any number of calls, stops and openings the history is the one from the beginning with each
--- release whose import was acknowledged, in order, and with at most one other for each stop.
+-- Over any number of calls, crashes and openings the history is the one from the beginning with
+-- each release whose import was acknowledged, in order, and with at most one other for each crash.
 abbrev pub EachLifeKeepsItsImports : (D : Type 0) → (D → DiskView) → Type 0
 EachLifeKeepsItsImports D view = (first last : StoreValue D) (events : List Event)
     → (view first.disk).is_honest → IsAcknowledged view first
@@ -81,16 +82,16 @@ EachLifeKeepsItsImports D view = (first last : StoreValue D) (events : List Even
     → (releases : List Release) × AreKept None events releases
     × TakesAll first.history releases last.history
 
--- Among the releases that a life keeps is each whose import was acknowledged, in order, and of
--- others there is at most one for each stop.
+-- Among the releases that a life keeps are all whose import was acknowledged, in order, and there
+-- is at most one other for each crash.
 abbrev pub KeptAreAcknowledged : Type 0
 KeptAreAcknowledged = (events : List Event) (releases : List Release)
     → AreKept None events releases
     → IsSubsequence (acknowledged events) releases
     × (length releases ≤ length (acknowledged events) + stops events)
 
--- Over any number of calls, stops and openings, whatever the next stop leaves represents the
--- history from the beginning with the releases that the life keeps.
+-- Over any number of calls, crashes and openings, every image that the next crash may leave
+-- represents the history from the beginning with the releases that the life keeps.
 abbrev pub EachLifeIsRepresented : (D : Type 0) → (D → DiskView) → Type 0
 EachLifeIsRepresented D view = (first last : StoreValue D) (events : List Event)
     (within : Option Call) (bytes : List ℕ)
@@ -100,7 +101,8 @@ EachLifeIsRepresented D view = (first last : StoreValue D) (events : List Event)
     × AreKept None (events ++ Stopped within ∷ []) releases
     × TakesAll first.history releases after × RepresentsHistory after bytes
 
--- And it is opened with that history, unless the opening runs out of memory or the device fails.
+-- And it is opened with that history, unless memory runs out during the opening or the device
+-- fails.
 abbrev pub EachLifeIsOpened : (D : Type 0) → (D → DiskView) → Type 0
 EachLifeIsOpened D view = (first last : StoreValue D) (events : List Event)
     (within : Option Call) (bytes : List ℕ) (result : StoreOr D)
@@ -112,7 +114,7 @@ EachLifeIsOpened D view = (first last : StoreValue D) (events : List Event)
     × TakesAll first.history releases s.history)
     (λ e. (e.0 ≡ store.OutOfMemory) ⊎ (e.0 ≡ store.DiskFault))
 
--- the histories agree up to an import
+-- the histories agree up to import number `pin`
 abbrev pub AgreeUpTo : ℕ → History → History → Type 0
 AgreeUpTo pin h g = rows_at pin h.rows ≡ rows_at pin g.rows
 
@@ -120,8 +122,8 @@ AgreeUpTo pin h g = rows_at pin h.rows ≡ rows_at pin g.rows
 abbrev pub BroughtAlike : ℕ → History → History → Type 0
 BroughtAlike number h g = brought_by number h.rows ≡ brought_by number g.rows
 
--- Over any number of calls, stops and openings, what a number of imports showed in the beginning it
--- shows still, and each of these imports brought the same rows.
+-- Over any number of calls, crashes and openings, the first `pin` imports still show what they
+-- showed in the beginning, and each of them brought the same rows.
 abbrev pub EachLifeKeepsItsPins : (D : Type 0) → (D → DiskView) → Type 0
 EachLifeKeepsItsPins D view = (first last : StoreValue D) (events : List Event) (pin : ℕ)
     → (view first.disk).is_honest → IsAcknowledged view first

@@ -1,4 +1,4 @@
--- The life of a store: calls on it, and stops after which it is opened again.
+-- The life of a store: calls on it, and crashes after which it is opened again.
 use Rattle.std.specs.Prelude.{◌≡◌, ◌↔◌, ◌⊎◌, true, false, Bool, ℕ, ◌+◌, List, [], ◌∷◌, ◌++◌}
 use Rattle.std.specs.Prelude.{Option, Some, None, Ok}
 use Rattle.std.specs.List.{Contains}
@@ -15,8 +15,8 @@ use Rattle.disk_model.specs.View.{DiskView}
 
 -- ---- calls
 
--- What a call on a store did to its history: it imported a release, or the device
--- failed in the import of one. Every other call leaves the history as it was.
+-- How a call on a store changed its history: it imported a release, or the device failed in the
+-- import of one. Every other call leaves the history unchanged.
 pub data Call : Type 0 where
   Imported : Release → Call
   Failed : Release → Call
@@ -41,19 +41,19 @@ TakesAll h (release ∷ releases) after =
     (accepted : IsAccepted (full h) release)
     × TakesAll (after_release h accepted.rows) releases after
 
--- whether the store has to be opened again after the call:
--- not after an import, and always once the device has failed in one
+-- whether the store has to be opened again after the call: not after an import, and always if the
+-- device failed in one
 abbrev pub NeedsReopenAfter : Call → Bool → Type 0
 NeedsReopenAfter (Imported release) needs_reopen = needs_reopen ≡ false
 NeedsReopenAfter (Failed release) needs_reopen = needs_reopen ≡ true
 NeedsReopenAfter Other needs_reopen = Unit {0}
 
--- the bytes represent the history with an accepted release, in some version
+-- the bytes represent the history with an accepted release, in some layout version
 abbrev pub RepresentsNext : History → Release → List ℕ → Type 0
 RepresentsNext h release c = (layout : Layout) × RepresentsWith layout h release c
 
--- what a stop before, within or after the call may leave: the
--- history from before, or that with the release of an import
+-- what a crash before, during or after the call may leave: the history from before, or the one with
+-- the release of an import
 abbrev pub RepresentsAround : History → Call → List ℕ → Type 0
 RepresentsAround h (Imported release) c = RepresentsHistory h c ⊎ RepresentsNext h release c
 RepresentsAround h (Failed release) c = RepresentsHistory h c ⊎ RepresentsNext h release c
@@ -64,30 +64,30 @@ pub record IsCall {D : Type 0} (view : D → DiskView)
     (old : StoreValue D) (call : Call) (new : StoreValue D) : Type 0 where
   pub history : (view old.disk).is_honest → TakesAll old.history (taken call) new.history
   pub needs_reopen : NeedsReopenAfter call new.needs_reopen
-  -- a store that has to be opened again stays as it is, and so does its disk
+  -- a store that has to be opened again is unchanged, and so is its disk
   pub closed : old.needs_reopen ≡ true → (new ≡ old) × (call ≡ Other)
   pub honesty : (view old.disk).is_honest ↔ (view new.disk).is_honest
   pub any_moment : (view old.disk).is_honest → IsAcknowledged view old
       → LeavesOnly (view old.disk).moments (view new.disk).moments
       (RepresentsAround old.history call)
-  -- as long as no call has failed, a stop after this one leaves what the store holds
+  -- as long as no call has failed, a crash after this one leaves what the store holds
   pub acknowledged : (view old.disk).is_honest → IsAcknowledged view old
       → new.needs_reopen ≡ false → IsAcknowledged view new
 
--- ---- stops
+-- ---- crashes
 
--- a stop at some moment from the old ones to the new ones may leave these bytes
+-- a crash at some moment from the old ones to the new ones may leave these bytes
 pub record StopLeaves (old new : Moments) (bytes : List ℕ) : Type 0 where
   -- the states of the disk since old, the newest first
   pub since : List DiskState
   pub grows : new.state ∷ new.past ≡ since ++ old.state ∷ old.past
-  -- the one at the moment of the stop, of which the bytes are an image
+  -- the state at the moment of the crash; the bytes are an image of it
   pub state : DiskState
   pub is_one : Contains (old.state ∷ since) state
   pub image : IsImage state bytes
 
--- A stop between two calls may leave these bytes, or a stop before, within or after the call.
--- That call is named as it would have been answered.
+-- A crash between two calls may leave these bytes, or one before, during or after the call, which
+-- is named by the result that it would have had.
 abbrev pub IsStopped : {D : Type 0} → (D → DiskView) → StoreValue D → Option Call → List ℕ → Type 0
 IsStopped view s None bytes = StopLeaves (view s.disk).moments (view s.disk).moments bytes
 IsStopped {D} view s (Some call) bytes = (end : StoreValue D) × IsCall view s call end
@@ -95,7 +95,7 @@ IsStopped {D} view s (Some call) bytes = (end : StoreValue D) × IsCall view s c
 
 -- ---- openings
 
--- the store was opened from an honest device, of which a read gave these bytes
+-- the store was opened from an honest device, and a read of that returned these bytes
 pub record IsOpenedFrom {D : Type 0} (view : D → DiskView) (bytes : List ℕ)
     (device : D) (s : StoreValue D) : Type 0 where
   pub is_honest : (view device).is_honest
@@ -104,9 +104,9 @@ pub record IsOpenedFrom {D : Type 0} (view : D → DiskView) (bytes : List ℕ)
   pub acknowledged : IsAcknowledged view s
   pub honesty : (view s.disk).is_honest
 
--- An opening of a device that holds these bytes, for a read and for a stop alike, was refused
--- or ended by a stop, and left the others: at each moment of an opening a stop leaves what
--- it might have left before.
+-- An opening of a device with these bytes, which both a read and a crash give, was refused or
+-- interrupted by a crash, and left the bytes `left`: at each moment of an opening a crash leaves
+-- what it might have left before.
 pub record OpeningLeaves {D : Type 0} (view : D → DiskView)
     (bytes : List ℕ) (device after : D) (left : List ℕ) : Type 0 where
   pub is_honest : (view device).is_honest
@@ -116,8 +116,8 @@ pub record OpeningLeaves {D : Type 0} (view : D → DiskView)
       (IsImage (view device).moments.state)
   pub is_left : StopLeaves (view device).moments (view after).moments left
 
--- A store was opened from the bytes, perhaps after openings that were refused or that
--- a stop ended. Of each of those the device is named as it was before and after.
+-- A store was opened from the bytes, perhaps after openings that were refused or interrupted by a
+-- crash. Of each of those the device before and after it is given.
 abbrev pub IsReopened : {D : Type 0} → (D → DiskView) → List ℕ → List (D × D)
     → StoreValue D → Type 0
 IsReopened {D} view bytes [] s =
@@ -128,8 +128,8 @@ IsReopened {D} view bytes (opening ∷ more) s =
 
 -- ---- lives
 
--- one event of a store's life: a call on it, or a stop, which came
--- between two calls or cut one off, and then an opening
+-- one event of a store's life: a call on it; or a crash, between two calls or during one, followed
+-- by an opening
 pub data Event : Type 0 where
   Called : Call → Event
   Stopped : Option Call → Event
@@ -139,14 +139,14 @@ IsEvent view old (Called call) new = IsCall view old call new
 IsEvent {D} view old (Stopped within) new = (bytes : List ℕ) × (openings : List (D × D))
     × IsStopped view old within bytes × IsReopened view bytes openings new
 
--- events come one after the other
+-- the events happened one after the other
 abbrev pub IsLife : {D : Type 0} → (D → DiskView) → StoreValue D → List Event → StoreValue D
     → Type 0
 IsLife view first [] last = last ≡ first
 IsLife {D} view first (event ∷ events) last =
     (mid : StoreValue D) × IsEvent view first event mid × IsLife view mid events last
 
--- the device failed in the import of the release, or the stop cut off the call that imports it
+-- the device failed in the import of the release, or the crash interrupted the call that imports it
 abbrev pub IsUnacknowledged : Option Release → Option Call → Release → Type 0
 IsUnacknowledged failed within release = (failed ≡ Some release)
     ⊎ (within ≡ Some (Imported release)) ⊎ (within ≡ Some (Failed release))
@@ -157,8 +157,8 @@ MayRemain failed within releases = (releases ≡ [])
     ⊎ ((release : Release) × (releases ≡ release ∷ []) × IsUnacknowledged failed within release)
 
 -- The releases that these events add to a history, in order: all that were imported, and at each
--- stop perhaps one more. The first argument is the release in whose import the device has failed
--- since the last stop, if it did.
+-- crash perhaps one more. The first argument is the release in whose import the device has failed
+-- since the last crash, if it did.
 abbrev pub AreKept : Option Release → List Event → List Release → Type 0
 AreKept failed [] releases = releases ≡ []
 AreKept failed (Called call ∷ events) releases = (more : List Release)
@@ -177,7 +177,7 @@ stops [] = 0
 stops (Called call ∷ events) = stops events
 stops (Stopped within ∷ events) = stops events + 1
 
--- the second list without some of its elements is the first
+-- the first list is the second without some of its items
 abbrev pub IsSubsequence : {X : Type 0} → List X → List X → Type 0
 IsSubsequence [] whole = Unit {0}
 IsSubsequence (x ∷ xs) [] = ⊥

@@ -18,63 +18,63 @@ pub fn import_is_a_call<D: Disk>()
     ensures { ImportIsACall D D.view }
 {}
 
-/// What `Store::check` ensures makes it a call that leaves the history.
+/// What `Store::check` ensures makes it a call that leaves the history unchanged.
 pub fn check_is_a_call<D: Disk>()
     ensures { CheckIsACall D D.view }
 {}
 
-/// So does what each question ensures that reads rows.
+/// So does what each question ensures that reads rows: it leaves the history unchanged.
 pub fn query_is_a_call<T, D: Disk>()
     ensures { QueryIsACall T D D.view }
 {}
 
-/// So does what each question ensures that reads none, and every call that only borrows the store
-/// is one, too.
+/// So does what each question ensures that reads no rows; and every call that only borrows the
+/// store leaves the history unchanged, too.
 pub fn unchanged_is_a_call<D: Disk>()
     ensures { UnchangedIsACall D D.view }
 {}
 
-/// So does what `Store::merge_begin` ensures.
+/// What `Store::merge_begin` ensures makes it such a call.
 pub fn merge_begin_is_a_call<D: Disk>()
     ensures { MergeBeginIsACall D D.view }
 {}
 
-/// So does what `Store::merge_step` ensures.
+/// What `Store::merge_step` ensures makes it such a call.
 pub fn merge_step_is_a_call<D: Disk>()
     ensures { MergeStepIsACall D D.view }
 {}
 
-/// So does what `Store::merge_publish` ensures.
+/// What `Store::merge_publish` ensures makes it such a call.
 pub fn merge_publish_is_a_call<D: Disk>()
     ensures { MergePublishIsACall D D.view }
 {}
 
-/// So does what `Store::upgrade` ensures.
+/// What `Store::upgrade` ensures makes it such a call.
 pub fn upgrade_is_a_call<D: Disk>()
     ensures { UpgradeIsACall D D.view }
 {}
 
-/// So does what `Store::rewrite` ensures.
+/// What `Store::rewrite` ensures makes it such a call.
 pub fn rewrite_is_a_call<D: Disk>()
     ensures { RewriteIsACall D D.view }
 {}
 
-/// So does what `Store::merge_abandon` ensures.
+/// What `Store::merge_abandon` ensures makes it such a call.
 pub fn merge_abandon_is_a_call<D: Disk>()
     ensures { MergeAbandonIsACall D D.view }
 {}
 
-/// So does what `Store::trim` ensures.
+/// What `Store::trim` ensures makes it such a call.
 pub fn trim_is_a_call<D: Disk>()
     ensures { TrimIsACall D D.view }
 {}
 
-/// A life may begin with what `Store::create_in` made and with what `Store::open` opened.
+/// A life may begin with a store that `Store::create_in` made or `Store::open` opened.
 pub fn each_life_begins<D: Disk>()
     ensures { EachLifeBegins D D.view }
 {}
 
-/// Each opening that `Store::open` makes is one of those that a life names.
+/// Each opening by `Store::open` is one of the openings that the definition of a life has.
 pub fn each_opening_is_of_a_life<D: Disk>()
     ensures { EachOpeningIsOfALife D D.view }
 {}
@@ -84,46 +84,46 @@ pub fn closed_store_is_opened<D: Disk>()
     ensures { ClosedStoreIsOpened D D.view }
 {}
 
-/// A run of events followed by another is the run of both.
+/// A run of events followed by another is one run of all these events.
 pub fn lives_compose<D: Disk>()
     ensures { LivesCompose D D.view }
 {}
 
-/// A stop while calls are made comes between two of them or cuts one off.
+/// A crash while calls are made comes between two of them or interrupts one.
 pub fn each_stop_is_of_a_life<D: Disk>()
     ensures { EachStopIsOfALife D D.view }
 {}
 
-/// Over any number of calls, stops and openings no import that was acknowledged is lost,
-/// and of the others at most one for each stop is kept, and that one whole.
+/// Over any number of calls, crashes and openings no acknowledged import is lost, and of the others
+/// at most one for each crash is kept, completely.
 pub fn each_life_keeps_its_imports<D: Disk>()
     ensures { EachLifeKeepsItsImports D D.view }
 {}
 
-/// Each release whose import was acknowledged is among those
-/// that are kept, and of others at most one for each stop.
+/// Each release whose import was acknowledged is among the releases that are kept, and of others
+/// there is at most one for each crash.
 pub fn kept_are_acknowledged()
     ensures { KeptAreAcknowledged }
 {}
 
-/// Whatever a stop leaves represents the history with the releases that are kept, after any number
-/// of calls, stops and openings.
+/// Every image that a crash may leave represents the history with the releases that are kept, after
+/// any number of calls, crashes and openings.
 pub fn each_life_is_represented<D: Disk>()
     ensures { EachLifeIsRepresented D D.view }
 {}
 
-/// So it is opened with that history.
+/// So the image is opened with that history.
 pub fn each_life_is_opened<D: Disk>()
     ensures { EachLifeIsOpened D D.view }
 {}
 
-/// What a pin shows is the same over any number of calls, stops and openings.
+/// A pin shows the same over any number of calls, crashes and openings.
 pub fn each_life_keeps_its_pins<D: Disk>()
     ensures { EachLifeKeepsItsPins D D.view }
 {}
 
-/// A release is answered alike by stores that are alike,
-/// unless memory runs out or the device fails.
+/// An import of a release has the same result in equal stores, unless memory runs out or the device
+/// fails.
 pub fn one_import<D: Disk>()
     ensures { OneImport D }
 {}

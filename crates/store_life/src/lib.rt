@@ -1,4 +1,4 @@
-//! What becomes of a store over calls, stops and openings: laws, and nothing that runs.
+//! What happens to a store over calls, crashes and openings: laws only, without code that runs.
 #![tactic(auto)]
 
 pub mod laws;

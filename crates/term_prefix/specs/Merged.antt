@@ -1,4 +1,4 @@
--- Terms of two lists of rows that are merged in turns.
+-- Merging the terms of two lists of rows, in steps.
 use Rattle.std.specs.Prelude.{◌≡◌, ◌≤◌, ℕ, ◌+◌, ◌-◌, false, List, [], ◌∷◌, ◌++◌, length}
 use Rattle.std.specs.Prelude.{take, drop, map}
 use Rattle.std.specs.List.Sorted.{IsPermutation}
@@ -17,13 +17,13 @@ use Rattle.term_prefix.specs.Pushed.{IsPosted}
 abbrev pub moved : (ℕ → ℕ) → TermAt → TermAt
 moved number t = record { folded = t.folded; row = number t.row }
 
--- terms of two lists of rows, with the numbers that the rows have among those of both
+-- terms of two lists of rows, with the numbers of their rows among the rows of both
 abbrev pub in_both : TwoLists → List TermAt → List TermAt → List TermAt
 in_both lists xs ys =
     map (moved (number_in_both lists.first lists.second)) xs
     ++ map (moved (number_in_both lists.second lists.first)) ys
 
--- what is merged so far, and how many terms of each of two lists it has
+-- the terms merged so far, and how many were taken from each of two lists
 pub record MergedTerms : Type 0 where
   pub terms : List TermAt
   pub taken : TakenCount
@@ -32,13 +32,13 @@ pub record MergedTerms : Type 0 where
 abbrev pub no_terms_merged : MergedTerms
 no_terms_merged = record { terms = []; taken = record { first = 0; second = 0 } }
 
--- no term of the one list is above one of the other
+-- no term of one list is greater than one of the other
 abbrev pub NoneAbove : List TermAt → List TermAt → Type 0
 NoneAbove ts us = (t u : TermAt) → Has ts t → Has us u
     → is_lt (slice_cmp nat_cmp u.folded t.folded) ≡ false
 
--- of the terms of two lists so many are merged, from the front of each, with the numbers of their
--- rows among the rows of both: they are in order, and none of them is above one that is left
+-- the first terms of two lists, this many of each, are merged, with the numbers of their rows among
+-- the rows of both: they are in order, and none of them is greater than one that is left
 pub record IsMergeOfTerms (lists : TwoLists) (a b : List TermAt) (m : MergedTerms) : Type 0 where
   pub first_within : m.taken.first ≤ length a
   pub second_within : m.taken.second ≤ length b
@@ -51,8 +51,8 @@ pub record IsMergeOfTerms (lists : TwoLists) (a b : List TermAt) (m : MergedTerm
 abbrev pub terms_left : List TermAt → List TermAt → MergedTerms → ℕ
 terms_left a b m = (length a - m.taken.first) + (length b - m.taken.second)
 
--- where each list has the postings of its rows and none is left, the merged ones are the postings
--- of the rows of both lists in key order
+-- if each list has the postings of its rows and none is left, the merged ones are the postings of
+-- the rows of both lists in key order
 abbrev pub MergedTermsArePosted : Type 0
 MergedTermsArePosted = (a_rows b_rows : List StampedRow) (a b : List TermAt) (m : MergedTerms)
     → AreLists (a_rows ∷ b_rows ∷ []) → IsPosted a_rows a → IsPosted b_rows b

@@ -1,5 +1,5 @@
--- Words that private functions and proofs need, of this crate or of one above it.
--- No public clause cites them.
+-- Definitions for private functions and proofs, of this crate or of one above it. No public clause
+-- cites them.
 use Rattle.std.specs.Prelude.{◌≡◌, ◌⊎◌, ◌≤◌, ◌<◌, ℕ, Bool, true, false, List, length, map, nat_eq}
 use Rattle.std.specs.Prelude.{nat_le, ◌+◌, if◌then◌else◌}
 use Rattle.std.specs.Prelude.{Option, Some, None, [], ◌∷◌, ◌++◌, take, flat_map}
@@ -29,44 +29,44 @@ use Rattle.term_prefix.specs.Terms.{TermAt}
 use Rattle.term_prefix.specs.Merged.{MergedTerms, moved}
 use Rattle.term_prefix.specs.Laid.{term_at, terms_at, AreLaid, head, HaveHeads}
 
--- the folding begins with a text
+-- the folding begins with this text
 abbrev pub begins : List ℕ → TermAt → Bool
 begins text t = starts_with nat_eq t.folded text
 
--- the place of row i of list n, if there is one
+-- the place of row `i` of list `n`, if there is one
 abbrev pub chosen_at : List (List StampedRow) → ℕ → ℕ → List Chosen
 chosen_at lists n i = map (chosen n) (option_to_list (item_at (map places_of lists) n i))
 
--- the places of the terms of which the folding begins with a text
+-- the places of the terms whose folding begins with this text
 abbrev pub begun : List (List StampedRow) → List ℕ → List (ℕ × TermAt) → List Chosen
 begun lists text xs =
     flat_map (λ x. chosen_at lists x.0 x.1.row) (filter (λ x. begins text x.1) xs)
 
--- as many as may be are kept, with ids below this one
+-- as many are kept as allowed, all with smaller ids
 abbrev pub IsBeyond : ℕ → List Chosen → ℕ → Type 0
 IsBeyond limit kept id = (limit ≤ length kept) × ((j : Chosen) → Has kept j → j.at.key.id < id)
 
--- the id is kept, or beyond those that are
+-- the id is kept, or too great to be kept
 abbrev pub IsTaken : ℕ → List Chosen → ℕ → Type 0
 IsTaken limit kept id = ((j : Chosen) × Has kept j × (j.at.key.id ≡ id)) ⊎ IsBeyond limit kept id
 
--- as many as may be are kept, none with an id above this one
+-- as many are kept as allowed, none with a greater id
 abbrev pub IsFull : ℕ → List Chosen → ℕ → Type 0
 IsFull limit kept id = (limit ≤ length kept) × ((j : Chosen) → Has kept j → j.at.key.id ≤ id)
 
--- what a test answers of an id: as many as may be are kept, none above it, or else, where as many
--- are kept as may be, one that is kept is above it
+-- the result of a test of an id: true if as many are kept as allowed, none with a greater id; false
+-- if fewer are kept, or one of them has a greater id
 abbrev pub SaysTaken : ℕ → List Chosen → ℕ → Bool → Type 0
 SaysTaken limit kept id true = IsFull limit kept id
 SaysTaken limit kept id false = limit ≤ length kept → (j : Chosen) × Has kept j × (id < j.at.key.id)
 
--- the id is above, if one is given, and the place is current
+-- the id is greater than `after`, if that is given, and the place is current
 pub record Counts (lists : List (List StampedRow)) (search : Search) (k : Chosen) : Type 0 where
   pub above : is_above search.after k.at.key.id ≡ true
   pub current : IsCurrentAt lists search.as_of k.segment k.at
 
--- what is answered of row i of list n: its place, if it counts and there is room for it, or else
--- why it is not to be kept
+-- the result for row `i` of list `n`: its place, if it counts and there is room for it; otherwise
+-- why it isn't kept
 abbrev pub SaysCandidate : List (List StampedRow) → Search → List Chosen → ℕ → ℕ → Candidate
     → Type 0
 SaysCandidate lists search kept n i (candidates.Wanted at) = IsPlaceOfRow lists n i at
@@ -78,7 +78,7 @@ SaysCandidate lists search kept n i candidates.High = (at : RowPlace) × IsPlace
 SaysCandidate lists search kept n i candidates.Old = (at : RowPlace) → IsPlaceOfRow lists n i at
     → Counts lists search (chosen n at) → ⊥
 
--- row i of list n, if there is one, is a description's
+-- row `i` of list `n`, if there is one, is a description
 abbrev pub IsOfDescription : List (List StampedRow) → ℕ → ℕ → Type 0
 IsOfDescription lists n i = (at : RowPlace) → IsPlaceOfRow lists n i at
     → at.key.kind ≡ kinds.Description
@@ -86,13 +86,13 @@ IsOfDescription lists n i = (at : RowPlace) → IsPlaceOfRow lists n i at
 abbrev pub AreOfDescriptions : List (List StampedRow) → ℕ → List Term → Type 0
 AreOfDescriptions lists n ts = (t : Term) → Has ts t → IsOfDescription lists n t.row
 
--- the number is the end or behind it, if one is known
+-- the number is `end` or greater, if an end is known
 abbrev pub is_behind : Option ℕ → ℕ → Bool
 is_behind None i = false
 is_behind (Some end) i = nat_le end i
 
--- of the rows of descriptions in list n those before the first have no id above, and those from the
--- end on have none below those that are kept, which are as many as may be
+-- of the rows of descriptions in list `n`, those before `first` have no id greater than `after`;
+-- and those from `end` on have no smaller id than the kept ones, which are as many as allowed
 pub record AreBounds (lists : List (List StampedRow)) (after : Option ℕ) (limit : ℕ)
     (kept : List Chosen) (n : ℕ) (b : Bounds) : Type 0 where
   pub low : (i : ℕ) (at : RowPlace) → IsPlaceOfRow lists n i at → at.key.kind ≡ kinds.Description
@@ -100,7 +100,7 @@ pub record AreBounds (lists : List (List StampedRow)) (after : Option ℕ) (limi
   pub high : (i : ℕ) (at : RowPlace) → IsPlaceOfRow lists n i at → at.key.kind ≡ kinds.Description
       → is_behind b.end i ≡ true → IsFull limit kept at.key.id
 
--- of those that count, the first by id, as many as may be
+-- of those that count, the first by id are kept, as many as allowed
 pub record AreKept (lists : List (List StampedRow)) (search : Search) (seen kept : List Chosen)
     : Type 0 where
   pub ascending : IsAscending chosen_cmp kept
@@ -109,7 +109,7 @@ pub record AreKept (lists : List (List StampedRow)) (search : Search) (seen kept
       → IsTaken search.limit kept k.at.key.id
   pub only : (k : Chosen) → Has kept k → Has seen k × Counts lists search k
 
--- a term was added, its folding at the end of the text
+-- a term was added, with its folding at the end of the text
 pub record AddsTerm (text : List ℕ) (ts : List Term) (folded : List ℕ) (row : ℕ)
     (text' : List ℕ) (ts' : List Term) : Type 0 where
   pub texts : text' ≡ text ++ folded
@@ -120,22 +120,22 @@ pub record AddsTerm (text : List ℕ) (ts : List Term) (folded : List ℕ) (row 
     row = row;
   } ∷ []
 
--- the first n terms are left, and no more text than theirs
+-- the first `n` terms and their text are left
 pub record IsCut (text : List ℕ) (ts : List Term) (n : ℕ) (text' : List ℕ) (ts' : List Term)
     : Type 0 where
   pub laid : AreLaid 0 ts' (length text')
   pub heads : HaveHeads text ts → HaveHeads text' ts'
   pub same : terms_at text' ts' ≡ take n (terms_at text ts)
 
--- what two terms are compared by: the head, and behind it the folding
+-- what terms are compared by: the head, and then the folding
 abbrev pub headed : List ℕ → Term → List ℕ
 headed text t = t.head ∷ (term_at text t).folded
 
--- of which list the lesser of two terms is: the first one's, if they are equal
+-- the list that has the smaller of two terms; the first if they are equal
 abbrev pub lesser_of : TermAt → TermAt → Next
 lesser_of t u = if is_lt (slice_cmp nat_cmp u.folded t.folded) then next.Second else next.First
 
--- of which list the next term is, where these are the next of both lists
+-- the list that has the next term, if these are the next ones of both lists
 abbrev pub next_of : Option TermAt → Option TermAt → Next
 next_of None None = next.Neither
 next_of None (Some u) = next.Second

@@ -1,4 +1,4 @@
--- What is posted of rows, and lists of it that stay such.
+-- The postings of rows, and how lists of them change.
 use Rattle.std.specs.Prelude.{◌≤◌, ℕ, List, [], ◌∷◌, ◌++◌, length, remove, slice_set}
 use Rattle.std.specs.Prelude.{if◌then◌else◌}
 use Rattle.std.specs.List.Sorted.{IsPermutation}
@@ -18,11 +18,11 @@ term_of_body (body.Association a) i = []
 term_of_body (body.Concrete c) i = []
 term_of_body (body.Member m) i = []
 
--- what is posted of row i: an active description's folded term
+-- the posting of row `i`: the folded term of an active description
 abbrev pub posted_term : RowValue → ℕ → List TermAt
 posted_term row i = if row.active then term_of_body row.body i else []
 
--- the list is what is posted of these rows, each with its number from 0 on, in any order
+-- the list has the postings of these rows, each with its row's number counted from 0, in any order
 abbrev pub IsPosted : List StampedRow → List TermAt → Type 0
 IsPosted rows ts = IsPermutation (posted_all posted_term 0 rows) ts
 
@@ -35,13 +35,13 @@ abbrev pub PostedTermsAreFew : Type 0
 PostedTermsAreFew = (rows : List StampedRow) (ts : List TermAt) → IsPosted rows ts
     → length ts ≤ length rows
 
--- each list has the postings of its rows still after a list and its postings are added
+-- each list still has the postings of its rows after a list and its postings are added
 abbrev pub PostedTermsMore : Type 0
 PostedTermsMore = (lists : List (List StampedRow)) (terms : List (List TermAt))
     (rows : List StampedRow) (ts : List TermAt)
     → ArePosted lists terms → IsPosted rows ts → ArePosted (lists ++ rows ∷ []) (terms ++ ts ∷ [])
 
--- each list has the postings of its rows still after one is put in the place of two
+-- each list still has the postings of its rows after one replaces two
 abbrev pub PostedTermsMerged : Type 0
 PostedTermsMerged = (lists : List (List StampedRow)) (terms : List (List TermAt))
     (i j : ℕ) (rows : List StampedRow) (ts : List TermAt)

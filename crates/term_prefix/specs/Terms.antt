@@ -9,7 +9,7 @@ pub record TermAt : Type 0 where
   pub folded : List ℕ
   pub row : ℕ
 
--- no text is below one before it
+-- no folding is less than one before it
 abbrev pub TextsRise : List TermAt → Type 0
 TextsRise [] = Unit {0}
 TextsRise (t ∷ ts) =

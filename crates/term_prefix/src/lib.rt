@@ -1,8 +1,8 @@
-//! Descriptions found by the beginning of their terms.
+//! Finds descriptions by the beginning of their terms.
 //!
-//! Each list of rows has a sorted list of the folded terms of its active descriptions. A term that
-//! is found is a candidate: it counts only where its version is the one that is picked at the date
-//! and the pin.
+//! For each list of rows there is a sorted list of the folded terms of its active descriptions. A
+//! term that is found is a candidate: it counts only if its row is the version of its component at
+//! the date and the pin.
 #![tactic(auto)]
 
 pub mod laws;

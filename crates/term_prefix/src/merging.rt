@@ -1,4 +1,4 @@
-//! The terms of two lists of rows, merged in turns.
+//! Merges the terms of two lists of rows, in steps.
 
 ghost use Rattle.std.specs.Prelude.{◌≡◌, ◌+◌, ◌-◌, ◌≤◌, List, [], Some, slice_get, OnOk, OnErr};
 ghost use Rattle.as_of_index.specs.Numbers.{TwoLists};
@@ -15,7 +15,7 @@ use std::alloc::{AllocError, Global};
 use std::cmp::Ordering;
 use std::marker::Model;
 
-/// Of which list the next term is taken.
+/// The list from which the next term is taken.
 #[derive(Clone, Copy)]
 pub(crate) enum Next {
     First,
@@ -23,8 +23,8 @@ pub(crate) enum Next {
     Neither,
 }
 
-/// The terms of two lists of rows that are merged so far, each with the number that its row has
-/// among the rows of both. Each call is to be given the same two lists, and the same numbers.
+/// The terms of two lists of rows that have been merged so far, each with the number of its row
+/// among the rows of both. Every call has to be given the same two lists and the same numbers.
 #[derive(Drop)]
 pub struct Merging {
     text: Vec<u8>,
@@ -48,7 +48,7 @@ impl Model for Merging {
         × HaveHeads a.text.items a.terms.items };
 }
 
-/// Of which list the lesser of two terms is: the first one's, if they are equal.
+/// The list that has the smaller of two terms; the first if they are equal.
 fn lesser_of(a_text: &[u8], a: &Term, b_text: &[u8], b: &Term) -> Next
     ensures { HasHead a_text.now a.now → HasHead b_text.now b.now
         → result ≡ lesser_of (term_at a_text.now a.now) (term_at b_text.now b.now) }
@@ -61,7 +61,7 @@ fn lesser_of(a_text: &[u8], a: &Term, b_text: &[u8], b: &Term) -> Next
 }
 
 impl Merging {
-    /// The beginning of a merge. It takes no memory.
+    /// The beginning of a merge. Allocates nothing.
     pub fn new(alloc: Global) -> Merging
         ensures none { result ≡ no_terms_merged }
         ensures merged { (lists : TwoLists) (a b : List TermAt) → IsMergeOfTerms lists a b result }
@@ -84,7 +84,7 @@ impl Merging {
             + b.terms.len().saturating_sub(self.taken.second)
     }
 
-    /// Of which list the next term is.
+    /// The list that has the next term.
     fn next(&self, a: &Sealed, b: &Sealed) -> Next
         ensures rising { TextsRise a.now × TextsRise b.now }
         ensures found { result ≡ next_of (slice_get a.now self.now.taken.first)
@@ -147,8 +147,8 @@ impl Merging {
         }
     }
 
-    /// Takes memory for all that is left, the first time for all: so no step has to move what is
-    /// merged. An `Err` changes nothing.
+    /// Allocates memory for all terms that are left; the first call allocates for all, so that no
+    /// step has to move the merged terms. An `Err` changes nothing.
     fn reserve(&mut self, a: &Sealed, b: &Sealed) -> Result<(), AllocError>
         ensures { self.new ≡ self.old }
     {
@@ -159,9 +159,9 @@ impl Merging {
         self.text.reserve(room)
     }
 
-    /// Merges up to so many terms more. The first call takes the memory for all of them. It takes
-    /// as long as so many bisections of the places, and as their texts are, however long the lists
-    /// are. After an `Err` it may be called again.
+    /// Merges up to `n` more terms. The first call allocates the memory for all of them. Takes the
+    /// time of at most `n` binary searches over the places, and of copying the terms' texts,
+    /// however long the lists are. It may be called again after an `Err`.
     pub fn advance(
         &mut self,
         a: &Sealed,
@@ -175,7 +175,7 @@ impl Merging {
             (terms_left a.now b.now self.new ≡ terms_left a.now b.now self.old - n) }
         ensures err { OnErr result
             (terms_left a.now b.now self.new ≤ terms_left a.now b.now self.old) }
-        // Whatever it answers, no more are merged than it was asked for.
+        // Whatever the result, at most `n` terms are merged.
         ensures few { terms_left a.now b.now self.old ≤ terms_left a.now b.now self.new + n }
     {
         self.reserve(a, b)?;
@@ -185,7 +185,7 @@ impl Merging {
         Ok(())
     }
 
-    /// What is merged: the terms of both lists, once none is left. It takes no memory.
+    /// The merged terms: those of both lists, once none is left. Allocates nothing.
     pub fn seal(self) -> Sealed
         requires rising { TextsRise self.terms }
         ensures { result ≡ self.terms }

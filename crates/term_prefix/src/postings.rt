@@ -1,4 +1,4 @@
-//! The terms of rows, as they are pushed.
+//! The terms of rows, in the order in which rows are pushed.
 
 ghost use Rattle.std.specs.Prelude.{◌≡◌, ◌++◌, [], List, length, take, OnOk, OnErr, IfOk};
 ghost use Rattle.std.specs.Prelude.{string_bytes};
@@ -18,7 +18,8 @@ use rf2_values::Body;
 use std::alloc::{AllocError, Global};
 use std::marker::Model;
 
-/// The terms of rows, in the order in which they were pushed. Their foldings stand in one text.
+/// The terms of rows, in the order in which they were pushed. Their foldings are stored in one
+/// text.
 #[derive(Drop)]
 pub struct Postings {
     text: Vec<u8>,
@@ -51,7 +52,7 @@ fn folded(alloc: Global, term: &[u8]) -> Result<String, AllocError>
     }
 }
 
-/// Adds a folded term, which is refused if it has 4 GiB and more. An `Err` changes nothing.
+/// Adds a folded term. Fails if the term has 4 GiB or more. An `Err` changes nothing.
 pub(crate) fn push_term(
     text: &mut Vec<u8>,
     terms: &mut Vec<Term>,
@@ -81,7 +82,7 @@ pub(crate) fn push_term(
     Ok(())
 }
 
-/// Takes away all terms from a place on, and their text.
+/// Keeps the first `len` terms and their text.
 fn cut(text: &mut Vec<u8>, terms: &mut Vec<Term>, len: usize)
     ensures { AreLaid 0 terms.old.items (length text.old.items)
         → IsCut text.old.items terms.old.items len text.new.items terms.new.items }
@@ -102,7 +103,7 @@ fn sort(text: &[u8], terms: &mut Vec<Term>)
 }
 
 impl Postings {
-    /// No terms. It takes no memory.
+    /// No terms. Allocates nothing.
     pub fn new(alloc: Global) -> Postings
         ensures { result ≡ [] }
     {
@@ -113,7 +114,7 @@ impl Postings {
         }
     }
 
-    /// Adds the row's term with the row's number in its list, if it is an active description.
+    /// Adds the row's term, with the row's number in its list, if the row is an active description.
     pub fn push(&mut self, row: &StampedRow, number: u32) -> Result<(), AllocError>
         ensures ok { OnOk result (self.new ≡ self.old ++ posted_term row.now.row number) }
         ensures err { OnErr result (self.new ≡ self.old) }
@@ -134,14 +135,14 @@ impl Postings {
         self.terms.len()
     }
 
-    /// Takes away all terms from a place on: what `len` answered once is left.
+    /// Keeps the first `len` terms, which are those from when `len` returned that number.
     pub fn cut_to(&mut self, len: usize)
         ensures { self.new ≡ take len self.old }
     {
         cut(&mut self.text, &mut self.terms, len);
     }
 
-    /// The terms in the order of their foldings. It takes no memory.
+    /// The terms in the order of their foldings. Allocates nothing.
     pub fn seal(self) -> Sealed
         ensures permutation { IsPermutation self result }
         ensures rising { TextsRise result }

@@ -33,7 +33,7 @@ impl Model for Sealed {
         × HaveHeads a.text.items a.terms.items };
 }
 
-/// Whether the folding comes before the prefix.
+/// Whether the folding is sorted before the prefix.
 fn is_under(text: &[u8], term: &Term, prefix: &[u8]) -> bool
     ensures { result ≡ is_lt (slice_cmp nat_cmp (term_at text.now term.now).folded prefix.now) }
 {
@@ -50,7 +50,7 @@ fn begins(text: &[u8], term: &Term, prefix: &[u8]) -> bool
     piece(text, term.start, term.len as usize).starts_with(prefix)
 }
 
-/// The terms that begin with the prefix: two bisections.
+/// The terms that begin with the prefix, found by two binary searches.
 fn candidates<'a>(text: &[u8], terms: &'a [Term], prefix: &[u8]) -> &'a [Term]
     ensures found { TextsRise (terms_at text.now terms.now) → (t : _)
         → Has result.now t ↔ (Has terms.now t × IsTrue (begins prefix.now (term_at text.now t))) }
@@ -62,7 +62,7 @@ fn candidates<'a>(text: &[u8], terms: &'a [Term], prefix: &[u8]) -> &'a [Term]
 }
 
 impl Sealed {
-    /// Those that begin with the prefix.
+    /// The terms that begin with the prefix.
     pub(crate) fn candidates(&self, prefix: &[u8]) -> &[Term]
         ensures { (i : ℕ) → Has (map (λ t. t.row) result.now) i
             ↔ Has (map (λ t. t.row) (filter (begins prefix.now) self.now)) i }

@@ -1,4 +1,4 @@
-//! Searches of postings.
+//! Searches the postings of terms.
 
 ghost use Rattle.std.specs.Prelude.{◌≡◌, ◌≤◌, ◌+◌, ◌++◌, List, length, take, flat_map, IfOk};
 ghost use Rattle.std.specs.Prelude.{IfErr, OnOk};
@@ -34,26 +34,27 @@ pub struct Search {
     pub limit: u32,
 }
 
-/// What is to be done with the row of a term.
+/// Whether the row of a term is kept, or why not.
 #[derive(Clone, Copy)]
 pub(crate) enum Candidate {
-    /// It is to be kept, and stands here.
+    /// It is kept; this is its place.
     Wanted(RowPlace),
-    /// Its id isn't above the one that the search begins behind.
+    /// Its id isn't greater than `after`.
     Low,
-    /// As many are kept as may be, none with a greater id.
+    /// As many rows are kept as allowed, none with a greater id.
     High,
     /// Its version isn't the one at the date, or there is no such row.
     Old,
 }
 
-/// Between which numbers the rows of a list may be to be kept. The rows of a kind ascend by their
-/// ids, so a number is compared in place of an id, which would have to be fetched.
+/// The range of row numbers in a list in which rows may still be kept. The rows of a kind are in
+/// ascending order of their ids, so that numbers can be compared instead of ids, which would have
+/// to be looked up.
 #[derive(Clone, Copy)]
 pub(crate) struct Bounds {
-    /// Rows before this one have ids that are too low.
+    /// The ids of the rows before this one are too small.
     pub(crate) first: u32,
-    /// This row and those behind it have ids that are too high, if one such is known.
+    /// The ids of this row and of those after it are too great, if such a row is known.
     pub(crate) end: Option<u32>,
 }
 
@@ -63,7 +64,8 @@ fn id_of(at: &RowPlace) -> u128
     at.key.id
 }
 
-/// Where a place of this id stands, or else where one is to be inserted.
+/// The position at which a place of this id is kept, or otherwise the one where it has to be
+/// inserted.
 fn place_for(kept: &[Chosen], id: u128) -> Result<usize, usize>
     ensures within { IfErr result (λ place. place ≤ length kept.now) }
     ensures found { IsAscending chosen_cmp kept.now → (k : Chosen) → k.at.key.id ≡ id
@@ -77,7 +79,7 @@ fn place_for(kept: &[Chosen], id: u128) -> Result<usize, usize>
     }
 }
 
-/// Keeps the place, and of all that are kept the first so many by id.
+/// Keeps the place, and then the first `limit` of all kept places by id.
 fn keep(kept: &mut Vec<Chosen>, limit: u32, segment: usize, at: RowPlace) -> Result<(), AllocError>
     ensures { OnOk result (IsAscending chosen_cmp kept.old.items → length kept.old.items ≤ limit
         → kept.new.items ≡ take limit (put chosen_cmp (chosen segment at) kept.old.items)) }
@@ -97,8 +99,7 @@ fn keep(kept: &mut Vec<Chosen>, limit: u32, segment: usize, at: RowPlace) -> Res
     Ok(())
 }
 
-/// Whether there is no need to keep the id: as many are kept as there may be, none with a
-/// greater id.
+/// Whether the id need not be kept: as many are kept as allowed, none with a greater id.
 fn is_taken(kept: &[Chosen], limit: u32, id: u128) -> bool
     ensures { IsAscending chosen_cmp kept.now → SaysTaken limit kept.now id result }
 {
@@ -117,7 +118,7 @@ fn is_above(after: Option<u128>, id: u128) -> bool
     }
 }
 
-/// Whether to keep the row with this number. Whether it is current is asked last, since that costs
+/// Whether to keep the row with this number. Whether it is current is tested last, since that needs
 /// a search of the index.
 fn judge(kept: &[Chosen], segment: usize, number: u32, index: &Index, search: &Search) -> Candidate
     ensures { (lists : List (List StampedRow)) → Lists index.now lists
@@ -139,7 +140,7 @@ fn judge(kept: &[Chosen], segment: usize, number: u32, index: &Index, search: &S
     }
 }
 
-/// Whether the number is the end or behind it, if one is known.
+/// Whether the number is `end` or greater, if an end is known.
 fn is_behind(end: Option<u32>, number: u32) -> bool
     ensures { result ≡ is_behind end number }
 {
@@ -149,8 +150,8 @@ fn is_behind(end: Option<u32>, number: u32) -> bool
     }
 }
 
-/// Keeps the row of a term, if it is current and has an id above `after`, and of all that are kept
-/// the first so many by id.
+/// Keeps the row of a term, if it is current and has an id greater than `after`, and then the first
+/// `limit` of all kept rows by id.
 fn keep_row(
     kept: &mut Vec<Chosen>,
     bounds: &mut Bounds,
@@ -168,7 +169,7 @@ fn keep_row(
         (seen ++ chosen_at lists segment number) kept.new.items
         × AreBounds lists search.now.after search.now.limit kept.new.items segment bounds.new) }
 {
-    // Its contract says that the places ascend.
+    // The contract of `lists` says that the places are in ascending order.
     let _listed = index.lists();
     if number < bounds.first {
         return Ok(());
@@ -190,8 +191,8 @@ fn keep_row(
     }
 }
 
-/// Keeps those of the terms that are current and have an id above `after`, and of all that are kept
-/// the first so many by id.
+/// Keeps those of the terms' rows that are current and have ids greater than `after`, and then the
+/// first `limit` of all kept rows by id.
 fn keep_current(
     kept: &mut Vec<Chosen>,
     terms: &[Term],
@@ -216,13 +217,13 @@ fn keep_current(
     Ok(())
 }
 
-/// Whether it pays to bring so many terms in the order of their rows before the first so many rows
-/// are kept: then hardly a row displaces one that is kept.
+/// Whether it pays to sort this many terms by their rows before the first `limit` rows are kept:
+/// then a row hardly ever displaces one that is kept.
 fn are_few(count: usize, limit: u32) -> bool {
     count / 128 <= limit as usize
 }
 
-/// The terms in the order of their rows.
+/// The terms, sorted by their rows.
 fn by_row(alloc: Global, terms: &[Term]) -> Result<Vec<Term>, AllocError>
     ensures permutation { IfOk result (λ sorted. IsPermutation terms.now sorted.items) }
     ensures sorted { IfOk result (λ sorted. IsNonDecreasingBy (λ t. t.row) sorted.items) }
@@ -233,8 +234,8 @@ fn by_row(alloc: Global, terms: &[Term]) -> Result<Vec<Term>, AllocError>
     Ok(sorted)
 }
 
-/// Keeps those of the terms that are current and have an id above `after`, and of all that are kept
-/// the first so many by id, in whatever order they are met.
+/// Keeps those of the terms' rows that are current and have ids greater than `after`, and then the
+/// first `limit` of all kept rows by id, in whatever order the terms are visited.
 fn keep_candidates(
     alloc: Global,
     kept: &mut Vec<Chosen>,
@@ -257,7 +258,7 @@ fn keep_candidates(
     keep_current(kept, sorted.as_slice(), segment, index, search)
 }
 
-/// The first places by id, above `after`, of the current terms that begin with the prefix.
+/// The places of the first current terms by id, greater than `after`, that begin with the prefix.
 fn keep_all(
     alloc: Global,
     lists: &[Sealed],
@@ -277,11 +278,11 @@ fn keep_all(
     Ok(kept)
 }
 
-/// The first rows by id, above `after` if that is given, of active descriptions at the date of
-/// which the folded term begins with the folded prefix, of the rows that the pin shows. Of the
-/// posted terms that begin so, one with an id above `after` costs a bisection a list at most, and
-/// another none. Where a list has at most 128 times `limit` such terms, they are sorted by their
-/// rows first, which takes memory for as many.
+/// The first rows by id, greater than `after` if that is given, of active descriptions at the date
+/// whose folded term begins with the folded prefix, among the rows that the pin shows. For a posted
+/// term that begins so it makes at most one binary search in each list if its id is greater than
+/// `after`, and otherwise none. If a list has fewer than 128 times `limit + 1` such terms, they are
+/// first sorted by their rows, which needs memory for as many.
 pub fn find<R: RowReader>(
     alloc: Global,
     terms: &Terms,
@@ -296,7 +297,7 @@ pub fn find<R: RowReader>(
         (R.view reader.new) }
     ensures stays { R.stays reader.old reader.new }
 {
-    // Its contract says that no key is listed twice.
+    // The contract of `lists` says that no key is listed twice.
     let _listed = index.lists();
     let folded = default_case_fold_str(alloc, prefix)?;
     let kept = keep_all(alloc, terms.as_slice(), index, folded.as_bytes(), search)?;

@@ -9,10 +9,10 @@ ghost use Rattle.term_prefix.specs.Private.{headed};
 
 use std::cmp::Ordering;
 
-/// Where a folded term stands in its list's text, and the number of its row in the list.
+/// A folded term: its position in its list's text, and the number of its row in the list.
 #[derive(Clone, Copy, Debug)]
 pub(crate) struct Term {
-    /// The first 16 bytes of the folding as one number, so that most of two terms are compared
+    /// The first 16 bytes of the folding as one number, so that most pairs of terms are compared
     /// without their texts.
     pub(crate) head: u128,
     pub(crate) start: usize,
@@ -20,7 +20,7 @@ pub(crate) struct Term {
     pub(crate) row: u32,
 }
 
-/// A piece of a text: so many bytes from a place on, as far as there are.
+/// A part of a text: `len` bytes from `start` on, or as many as there are.
 pub(crate) fn piece(text: &[u8], start: usize, len: usize) -> &[u8]
     ensures { result.now ≡ take len (drop start text.now) }
 {
@@ -32,22 +32,21 @@ pub(crate) fn piece(text: &[u8], start: usize, len: usize) -> &[u8]
     }
 }
 
-/// The term with a number, if there is one.
+/// A reference to the term with this number, if there is one.
 pub(crate) fn lent_at(terms: &[Term], i: usize) -> Option<&Term>
     ensures { option_copied result ≡ slice_get terms.now i }
 {
     terms.get(i)
 }
 
-/// The byte at a place, or zero behind the text's end.
+/// The byte at this position, or zero past the end of the text.
 fn byte_at(text: &[u8], place: usize) -> u8
     ensures { result ≡ get_or text.now place 0 }
 {
     if place < text.len() { text[place] } else { 0 }
 }
 
-/// The first 16 bytes as one number, the first byte the highest, with zeros behind a shorter
-/// text.
+/// The first 16 bytes as one big-endian number; a shorter text is extended by zeros.
 pub(crate) fn head_of(text: &[u8]) -> u128
     ensures { result ≡ head 16 text.now }
 {
@@ -71,8 +70,8 @@ pub(crate) fn head_of(text: &[u8]) -> u128
     ])
 }
 
-/// How two terms stand to each other, each in the text of its list: by their heads, and only where
-/// these are equal by their texts.
+/// The order of two terms, each in the text of its list: by their heads, and by their texts if the
+/// heads are equal.
 pub(crate) fn compare(a_text: &[u8], a: &Term, b_text: &[u8], b: &Term) -> Ordering
     ensures { result ≡ slice_cmp nat_cmp (headed a_text.now a.now) (headed b_text.now b.now) }
 {

@@ -1,11 +1,11 @@
-//! Disks in files, and what stands in the way of one.
+//! Disks in files, and the reasons why a file can't be opened as one.
 
 use disk_model::{Disk, DiskFault, FileDisk, OpenFault, sync_folder_of};
 use std::fs::{self, Files};
 use std::io::ErrorKind;
 use std::test::Fail;
 
-/// What a disk holds after the calls of `write_and_read`.
+/// The contents of a disk after the calls of `write_and_read`.
 const WRITTEN: [u8; 7] = [1, 2, 3, 0, 0, 8, 9];
 
 fn write_and_read<D: Disk>(disk: &mut D) -> Result<(u64, usize, [u8; 4]), DiskFault> {
@@ -20,7 +20,7 @@ fn write_and_read<D: Disk>(disk: &mut D) -> Result<(u64, usize, [u8; 4]), DiskFa
     Ok((disk.len()?, count, into))
 }
 
-/// What `write_and_read` answers on a file, which is closed again.
+/// The result of `write_and_read` on a file, which is closed afterwards.
 fn write_and_read_file(rt: &HostRuntime, path: &str) -> Result<(u64, usize, [u8; 4]), Fail> {
     let mut made = FileDisk::open_or_make(rt, path)?;
     Ok(write_and_read(&mut made)?)
@@ -32,7 +32,7 @@ fn length_of(opened: Result<FileDisk, OpenFault>) -> Result<u64, Fail> {
     Ok(disk.len()?)
 }
 
-/// How many of nine bytes are read of a file that is there, and into what.
+/// How many of nine bytes can be read from an existing file, and the buffer afterwards.
 fn read_nine(rt: &HostRuntime, path: &str, at: u64) -> Result<(usize, [u8; 9]), Fail> {
     let mut disk = FileDisk::open(rt, path)?;
     let mut into = [0u8; 9];
@@ -54,7 +54,7 @@ fn a_file_is_reopened_with_what_was_written(rt: HostRuntime) -> Result<(), Fail>
     Ok(())
 }
 
-/// What became of an opening.
+/// The result of opening a file, as a word.
 fn told_of(opened: Result<FileDisk, OpenFault>) -> &'static str {
     match opened {
         Ok(_) => "opened",
@@ -65,7 +65,8 @@ fn told_of(opened: Result<FileDisk, OpenFault>) -> &'static str {
     }
 }
 
-/// What became of two openings of a file that has a disk, and the length of that disk afterwards.
+/// The results of opening a file twice more while a disk holds it, and the length of that disk
+/// afterwards.
 fn ask_for_a_locked_file(
     rt: &HostRuntime,
     path: &str,

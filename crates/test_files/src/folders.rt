@@ -1,4 +1,4 @@
-//! Releases in unpacked folders: which files are taken, and what stood in the way.
+//! Releases in unpacked folders: which files are taken, and why a folder can't be read.
 
 use import_check::{Release, ReleaseFile, Scope};
 use release_folder::{
@@ -11,7 +11,7 @@ use std::alloc::Global;
 use std::fs::{self, Files};
 use std::test::Fail;
 
-/// Writes a file into a folder, which is made if it isn't there.
+/// Writes a file into a folder, which is created if necessary.
 fn write_in(rt: &HostRuntime, folder: &str, name: &str, bytes: &[u8]) -> Result<(), Fail> {
     fs::create_dir_all(rt, folder)?;
     let path = format!(in rt.alloc(); "{folder}/{name}")?;
@@ -35,7 +35,7 @@ fn write_all(
     Ok(())
 }
 
-/// The release of a name below the folder `releases`.
+/// Reads a release below the folder `releases`.
 fn read_named(rt: &HostRuntime, name: &str) -> Result<Release, Fail> {
     match read_folder(rt, rt.alloc(), "releases", name, Scope::Basic) {
         Ok(read) => Ok(read),
@@ -43,7 +43,7 @@ fn read_named(rt: &HostRuntime, name: &str) -> Result<Release, Fail> {
     }
 }
 
-/// Whether there is no release of a name below the folder `releases`, in neither scope.
+/// Whether there is no release of this name below the folder `releases`, in either scope.
 fn is_no_folder(rt: &HostRuntime, name: &str) -> bool {
     for scope in [Scope::Basic, Scope::Whole] {
         let read = read_folder(rt, rt.alloc(), "releases", name, scope);
@@ -54,7 +54,7 @@ fn is_no_folder(rt: &HostRuntime, name: &str) -> bool {
     true
 }
 
-/// Whether a file is one of a release, byte for byte.
+/// Whether a release has this file, byte for byte.
 fn is_in(file: &ReleaseFile, release: &Release) -> bool {
     for other in &release.files {
         if other.name == file.name && other.bytes == file.bytes {
@@ -64,8 +64,8 @@ fn is_in(file: &ReleaseFile, release: &Release) -> bool {
     false
 }
 
-/// Whether files are of these kinds, in this order, and those of a
-/// release; but for the file of concrete values, which it doesn't have.
+/// Whether files have these kinds, in this order, and are files of a release, except for the file
+/// of concrete values, which the release lacks.
 fn are_files_of(files: &[ReleaseFile], kinds: &[Kind], release: &Release) -> bool {
     for (file, kind) in files.iter().zip(kinds) {
         if file.kind != *kind || !(is_in(file, release) || file.kind == Kind::Concrete) {
@@ -75,8 +75,8 @@ fn are_files_of(files: &[ReleaseFile], kinds: &[Kind], release: &Release) -> boo
     files.len() == kinds.len()
 }
 
-/// Writes the sample `r2` below the folder `releases`. The association file stands in its own
-/// folder, there is one file more to take, and there are three of other names.
+/// Writes the sample `r2` below the folder `releases`, with the association file in a folder of its
+/// own, one more file that is taken, and three of other names.
 fn write_second(rt: &HostRuntime, release: &Release) -> Result<(), Fail> {
     let terminology = "releases/r2/Terminology";
     write_all(rt, terminology, "releases/r2/Refset/Content", release)?;
@@ -109,8 +109,8 @@ fn a_release_is_read_in_the_order_of_its_names(rt: HostRuntime) -> Result<(), Fa
 
 #[test]
 fn what_is_no_release_is_no_folder(rt: HostRuntime) -> Result<(), Fail> {
-    // Nothing there; a file in the folder's place; no file to take; a file in the place of a part;
-    // a folder with the name of a file to take.
+    // No folder; a file in place of the folder; no file to take; a file in place of a part; a
+    // folder that is named like a file to take.
     fs::create_dir_all(&rt, "releases/empty/Terminology")?;
     fs::write(&rt, "releases/file", b"no folder".as_slice())?;
     fs::create_dir_all(&rt, "releases/part")?;
@@ -125,7 +125,7 @@ fn what_is_no_release_is_no_folder(rt: HostRuntime) -> Result<(), Fail> {
     Ok(())
 }
 
-/// Whether a release has so many files of concepts, each of one byte: `1`, `2` and so on.
+/// Whether a release has this many files of concepts, with one byte each: `1`, `2` and so on.
 fn are_numbered(files: &[ReleaseFile], count: usize) -> bool {
     for (file, want) in files.iter().zip([b"1", b"2", b"3"]) {
         if file.kind != Kind::Concept || file.bytes.as_slice() != want.as_slice() {
@@ -137,8 +137,8 @@ fn are_numbered(files: &[ReleaseFile], count: usize) -> bool {
 
 #[test]
 fn files_of_one_kind_come_in_the_byte_order_of_their_names(rt: HostRuntime) -> Result<(), Fail> {
-    // Written in another order than the bytes have: capitals
-    // before small letters, and a name before one that goes on.
+    // Written in another order than the names have: capitals come before small letters, and a name
+    // before a longer one that begins with it.
     for (bytes, name) in [
         (b"3", "sct2_Concept_Full_de_20200131.txt"),
         (b"1", "sct2_Concept_Delta_INT_20200131.txt"),
@@ -150,7 +150,7 @@ fn files_of_one_kind_come_in_the_byte_order_of_their_names(rt: HostRuntime) -> R
     Ok(())
 }
 
-/// What stood in the way of a release below the folder `releases`.
+/// Why a release below the folder `releases` can't be read.
 fn obstacle_of(rt: &HostRuntime, name: &str, scope: Scope) -> Result<String, Fail> {
     match read_release(rt, rt.alloc(), "releases", name, scope, &mut Unwatched) {
         Ok(_) => Ok(String::from_str(rt.alloc(), "a release")?),
@@ -158,12 +158,12 @@ fn obstacle_of(rt: &HostRuntime, name: &str, scope: Scope) -> Result<String, Fai
     }
 }
 
-/// Whether this stood in the way of a release, of which the basic files were asked for.
+/// Whether this is why a release can't be read in the basic scope.
 fn is_in_the_way(rt: &HostRuntime, name: &str, text: &str) -> Result<bool, Fail> {
     Ok(obstacle_of(rt, name, Scope::Basic)?.as_str() == text)
 }
 
-/// Folders that are made below the folder `releases`.
+/// Folders that are created below the folder `releases`.
 const FOLDERS: [&str; 10] = [
     "releases/bare/terminology",
     "releases/package/Full/Terminology",
@@ -177,7 +177,7 @@ const FOLDERS: [&str; 10] = [
     "releases/refset/Refset",
 ];
 
-/// An endless device and links that lead nowhere: what each leads to, and where it stands.
+/// Links to an endless device and dangling links: the target of each, and its path.
 const LINKS: [(&str, &str); 6] = [
     (
         "/dev/zero",
@@ -193,7 +193,7 @@ const LINKS: [(&str, &str); 6] = [
     ("nowhere", "releases/refset/Refset/Content"),
 ];
 
-/// Makes the folders, and the files and links in them.
+/// Creates the folders, and the files and links in them.
 fn make_obstacles(rt: &HostRuntime) -> Result<(), Fail> {
     for path in FOLDERS {
         fs::create_dir_all(rt, path)?;
@@ -208,7 +208,7 @@ fn make_obstacles(rt: &HostRuntime) -> Result<(), Fail> {
     Ok(())
 }
 
-/// What stands in the way of a release of a name.
+/// The name of a release, and why it can't be read.
 const OBSTACLES: [(&str, &str); 12] = [
     ("absent", "releases/absent: no such folder"),
     ("gone", "releases/gone: a link that leads nowhere"),
@@ -296,7 +296,7 @@ fn names_that_are_nearly_ones_to_take(rt: HostRuntime) {
     }
 }
 
-/// Keeps what it is told, a line a file.
+/// Records the calls of a watcher, one line for each file.
 #[derive(Drop)]
 struct Notes {
     alloc: Global,
@@ -317,7 +317,7 @@ impl Watcher for Notes {
     }
 }
 
-/// Whether texts are these, in this order.
+/// Whether these are the lines, in this order.
 fn are_lines(lines: &[String], wanted: &[&str]) -> bool {
     for (line, want) in lines.iter().zip(wanted) {
         if line.as_str() != *want {
@@ -330,8 +330,8 @@ fn are_lines(lines: &[String], wanted: &[&str]) -> bool {
 /// The name of the file that the watched release has in several folders.
 const TAKEN: &str = "sct2_Concept_Full_INT_20200131.txt";
 
-/// Makes a release whose file to take stands in both folders that are read, and in two others.
-/// Around them are files that aren't to be taken, a folder without files, and a link to a folder.
+/// Creates a release with a file to take in both folders that are read and in two others. Next to
+/// them are files that aren't taken, a folder without files, and a link to a folder.
 fn make_watched(rt: &HostRuntime) -> Result<(), Fail> {
     for folder in ["Terminology", "Refset/Content", "Refset/Map", "old"] {
         let folder = format!(in rt.alloc(); "releases/watched/{folder}")?;
@@ -344,7 +344,7 @@ fn make_watched(rt: &HostRuntime) -> Result<(), Fail> {
     Ok(rt.symlink("..", "releases/watched/Refset/round")?)
 }
 
-/// Whether the watcher is told these lines while a release is read, and it is read.
+/// Whether the release is read, and the watcher records these lines.
 fn are_told(rt: &HostRuntime, name: &str, scope: Scope, wanted: &[&str]) -> bool {
     let mut notes = Notes {
         alloc: rt.alloc(),
@@ -368,8 +368,8 @@ fn a_watcher_is_told_of_each_file(rt: HostRuntime) -> Result<(), Fail> {
         "reads sct2_Concept_Full_INT_20200131.txt",
     ];
     assert!(rt; are_told(&rt, "watched", Scope::Basic, &wanted));
-    // Of the whole package the file in Refset/Map is read too, and what is
-    // below the link, which stands in the place of a folder that is read.
+    // In the whole scope the file in Refset/Map is read too, and the files below the link, which is
+    // in the place of a folder that is read, are named one by one.
     let wanted = [
         "passes over Refset/round/Refset/Content/sct2_Concept_Full_INT_20200131.txt",
         "passes over Refset/round/Refset/Map/sct2_Concept_Full_INT_20200131.txt",
@@ -414,7 +414,7 @@ fn a_name_that_is_in_the_way_is_told_on_one_line(rt: HostRuntime) -> Result<(), 
     Ok(())
 }
 
-/// A file of this kind, of no rows.
+/// A file of this kind, without rows.
 fn file_of(alloc: Global, kind: Kind, name: &str) -> Result<ReleaseFile, Fail> {
     Ok(ReleaseFile {
         name: String::from_str(alloc, name)?,
@@ -447,7 +447,7 @@ fn what_a_full_release_lacks(rt: HostRuntime) -> Result<(), Fail> {
     Ok(())
 }
 
-/// Names of files that stand in packages, and of which kind they are in each scope.
+/// Names of files in packages, and the kind that each has in the basic and in the whole scope.
 const NAMES: [(&str, Option<Kind>, Option<Kind>); 26] = [
     (
         "sct2_Concept_Full_INT_20260131.txt",
@@ -549,7 +549,7 @@ const NAMES: [(&str, Option<Kind>, Option<Kind>); 26] = [
     ("doc_RefsetFull_INT_20260131.txt", None, None),
 ];
 
-/// Whether a name is that of these kinds of file.
+/// Whether a name has these kinds in the basic and in the whole scope.
 fn is_of_kinds(name: &str, basic: Option<Kind>, whole: Option<Kind>) -> bool {
     let bytes = name.as_bytes();
     kind_to_take(bytes, Scope::Basic) == basic && kind_to_take(bytes, Scope::Whole) == whole
@@ -571,7 +571,7 @@ fn kinds_of_files_in_each_scope(rt: HostRuntime) {
     }
 }
 
-/// The folders and the files of a package, as they are read.
+/// The folders and files of a package, in the order in which they are read.
 const PACKAGE: [(&str, &str); 8] = [
     ("Terminology", "sct2_Concept_Full_INT_20260131.txt"),
     (
@@ -598,7 +598,7 @@ const PACKAGE: [(&str, &str); 8] = [
     ),
 ];
 
-/// Writes a package, and files beside its own that aren't read.
+/// Writes a package, and other files that aren't read.
 fn write_package(rt: &HostRuntime) -> Result<(), Fail> {
     for (folder, name) in PACKAGE {
         let folder = format!(in rt.alloc(); "releases/made/{folder}")?;
@@ -621,7 +621,7 @@ fn write_package(rt: &HostRuntime) -> Result<(), Fail> {
     Ok(())
 }
 
-/// Whether the files of the package that stand at these places are those that are read of it.
+/// Whether exactly the files of `PACKAGE` at these indices are read in this scope.
 fn are_read(rt: &HostRuntime, scope: Scope, places: &[usize]) -> bool {
     let Ok(read) = read_folder(rt, rt.alloc(), "releases", "made", scope) else {
         return false;
@@ -640,14 +640,14 @@ fn a_package_is_read_whole_or_in_its_basic_files(rt: HostRuntime) -> Result<(), 
     write_package(&rt)?;
     assert!(rt; are_read(&rt, Scope::Basic, &[0, 4]));
     assert!(rt; are_read(&rt, Scope::Whole, &[0, 1, 2, 3, 4, 5, 6, 7]));
-    // A link to a folder is read as one.
+    // A link to a folder is read as a folder.
     rt.symlink("Map", "releases/made/Refset/also")?;
     assert!(rt; are_read(&rt, Scope::Basic, &[0, 4]));
     assert!(rt; are_read(&rt, Scope::Whole, &[0, 1, 2, 3, 4, 5, 6, 6, 7]));
     Ok(())
 }
 
-/// Folders of packages that can't be read whole.
+/// Folders of packages that can't be read in the whole scope.
 const WHOLE_FOLDERS: [&str; 5] = [
     "releases/device3/Refset/Language",
     "releases/nowhere3/Refset",
@@ -656,7 +656,7 @@ const WHOLE_FOLDERS: [&str; 5] = [
     "releases/nested3/Refset/Map/der2_sRefset_SimpleMapFull_INT_20260131.txt",
 ];
 
-/// What stands in their way.
+/// The name of a release, and why it can't be read in the whole scope.
 const WHOLE_OBSTACLES: [(&str, &str); 5] = [
     (
         "device3",

@@ -1,5 +1,5 @@
-//! Disks in files, and releases in unpacked folders: what is made, taken and told of real files. It
-//! has no code of its own.
+//! Disks in files, and releases in unpacked folders: what the code makes of real files, and what it
+//! reports. It has no code of its own.
 #![tactic(auto)]
 
 #[cfg(test)]

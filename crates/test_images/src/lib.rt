@@ -1,5 +1,5 @@
 //! Worked examples of directories, and of the image of a store: byte for byte, damaged, merged,
-//! trimmed, and after stops and failures. It has no code of its own.
+//! trimmed, and after crashes and failures. It has no code of its own.
 #![tactic(auto)]
 
 #[cfg(test)]

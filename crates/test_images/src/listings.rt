@@ -1,4 +1,4 @@
-//! Directories as values and as bytes, and where a segment finds room.
+//! Directories as values and as bytes, and the place that is found for a segment.
 
 use blocks::Extent;
 use checksum::{Form, crc32c};
@@ -30,7 +30,7 @@ const SECOND: Entry = Entry {
     form: Form::Plain,
 };
 
-/// Both segments in one.
+/// The segment that merges both.
 const BOTH: Entry = Entry {
     first: 8,
     bytes: 8238,
@@ -38,7 +38,7 @@ const BOTH: Entry = Entry {
     form: Form::Plain,
 };
 
-/// A block with these bytes in front, and another byte in the rest.
+/// A block that begins with these bytes and is filled with another byte.
 fn block_of(front: &[u8], rest: u8) -> [u8; 4096] {
     let mut block = [rest; 4096];
     for (place, byte) in block.iter_mut().zip(front) {
@@ -86,7 +86,7 @@ fn is_bad(alloc: Global, block: &[u8; 4096]) -> bool {
     )
 }
 
-/// Whether the block of both segments with another byte at a place is refused.
+/// Whether the block of both segments is refused if this byte is changed.
 fn is_bad_with(alloc: Global, place: usize, byte: u8) -> bool {
     let mut block = two_segments();
     if place >= block.len() {
@@ -96,7 +96,7 @@ fn is_bad_with(alloc: Global, place: usize, byte: u8) -> bool {
     is_bad(alloc, &block)
 }
 
-/// A byte at a place of the block of both segments, and why that is bad.
+/// A byte at an offset in the block of both segments, and why it is bad there.
 const BAD_BYTES: [(usize, u8, &str); 14] = [
     (7, 0, "epoch 0"),
     (15, b'3', "another mark"),
@@ -195,9 +195,9 @@ fn the_least_place_is_found(rt: HostRuntime) {
     assert_eq!(rt; found, [Ok(4), Ok(5), Ok(8), Ok(9), Ok(4), Err(Full)]);
 }
 
-/// Where an output of so many blocks fits, where the first segment has so many bytes and the last
-/// one so many. The two segments to merge lie in blocks 4 and 5, three of 1,048,576 blocks each
-/// behind them, and one more up to the last free blocks of 4,194,304.
+/// Where an output of `wanted` blocks fits if the first segment has `len` bytes and the last one
+/// `last`. The two segments to merge are in blocks 4 and 5; three segments of 1,048,576 blocks each
+/// follow, and then the last one, up to the free blocks at the end of the 4,194,304.
 fn fit(wanted: u32, len: u32, last: u32) -> Result<u32, Full> {
     let live = [
         segment(4, len),
@@ -212,21 +212,21 @@ fn fit(wanted: u32, len: u32, last: u32) -> Result<u32, Full> {
 
 #[test]
 fn an_output_wants_free_blocks_side_by_side(rt: HostRuntime) {
-    // No free block; none for one block; one where two are wanted.
+    // No free block; none for an output of one block; only one for an output of two.
     let full = [
         fit(2, 4_096, 4_294_942_720),
         fit(1, 4_095, 4_294_942_720),
         fit(2, 4_096, 4_294_938_624),
     ];
     assert_eq!(rt; full, [Err(Full); 3]);
-    // One; two; one of two.
+    // One free block for one; two for two; the first of two for one.
     let free = [
         fit(1, 4_095, 4_294_938_624),
         fit(2, 4_096, 4_294_934_528),
         fit(1, 4_095, 4_294_934_528),
     ];
     assert_eq!(rt; free, [Ok(4_194_303), Ok(4_194_302), Ok(4_194_302)]);
-    // Block 6 and the last one are free, which lie apart.
+    // Block 6 and the last block are free, but they aren't adjacent.
     let apart = [
         segment(4, 4_096),
         segment(5, 1),
@@ -256,13 +256,13 @@ fn a_block_of_version_one(rt: HostRuntime) -> Result<(), Fail> {
     Ok(())
 }
 
-/// The same beginning in version 3, whose segment has checksums.
+/// The same beginning in version 3, with a segment that has checksums.
 const CHECKED_SEGMENT: [u8; 48] = [
     0, 0, 0, 0, 0, 0, 0, 2, 0x53, 0x43, 0x54, 0x53, 0x54, 0x4f, 0x52, 0x33, 0, 0, 0, 1, 0, 0, 0, 1,
     0, 0, 0, 0, 0, 0, 0, 0, 0, 0, 0, 4, 0, 0, 0, 0x2e, 0, 0, 0, 1, 0, 0, 0, 1,
 ];
 
-/// The block of that beginning, with its checksum.
+/// The block with that beginning, and with its checksum.
 fn checked_block() -> [u8; 4096] {
     let mut block = block_of(&CHECKED_SEGMENT, 0);
     block[4092] = 0x70;
@@ -272,7 +272,7 @@ fn checked_block() -> [u8; 4096] {
     block
 }
 
-/// Puts the checksum that a block of version 3 has behind its other bytes.
+/// Writes the checksum at the end of a block of version 3.
 fn put_sum(block: &mut [u8; 4096]) {
     let sum = crc32c(&block[..4092]).to_be_bytes();
     for (place, byte) in block[4092..].iter_mut().zip(sum) {
@@ -280,7 +280,7 @@ fn put_sum(block: &mut [u8; 4096]) {
     }
 }
 
-/// The block with another byte at a place, and with the checksum that it then has.
+/// The block with this byte changed, and with the matching checksum.
 fn summed(place: usize, byte: u8) -> [u8; 4096] {
     let mut block = checked_block();
     if place < block.len() {
@@ -290,7 +290,7 @@ fn summed(place: usize, byte: u8) -> [u8; 4096] {
     block
 }
 
-/// Whether the block with another byte at a place, and the checksum from before, is refused.
+/// Whether the block is refused if this byte is changed and the checksum isn't.
 fn is_bad_unsummed(alloc: Global, place: usize, byte: u8) -> bool {
     let mut block = checked_block();
     if place >= block.len() {
@@ -340,7 +340,7 @@ fn a_content_block_of_version_three(rt: HostRuntime) -> Result<(), Fail> {
     assert!(rt; is_bad_unsummed(alloc, 11, 0x48));
     assert!(rt; is_bad_unsummed(alloc, 2000, 1));
     assert!(rt; is_bad_unsummed(alloc, 4095, 0xe2));
-    // With a right checksum, too: a form that isn't any, and a mark that isn't any.
+    // With a matching checksum: an unknown form, and an unknown mark.
     assert!(rt; !is_bad(alloc, &summed(0, 0)));
     assert!(rt; is_bad(alloc, &summed(47, 2)));
     assert!(rt; is_bad(alloc, &summed(15, 0x34)));
@@ -361,7 +361,7 @@ fn which_block_may_be_older(rt: HostRuntime) {
     assert_eq!(rt; may_precede_each(&two_segments()), [true, true, true]);
     assert_eq!(rt; may_precede_each(&checked_block()), [false, false, true]);
     assert_eq!(rt; may_precede_each(&[0; 4096]), [true, true, false]);
-    // A changed byte of the epoch, of the mark, behind the entries, and of the checksum.
+    // A changed byte of the epoch, of the mark, after the entries, and of the checksum.
     let cases = [
         (7, 1, [false, false, false]),
         (11, 0x48, [true, true, false]),

@@ -1,4 +1,4 @@
-//! A store byte for byte, and each way in which an image is damaged.
+//! A store byte for byte, and each way in which an image can be damaged.
 
 use blocks::Slot;
 use directory::{Directory, Entry, Layout};
@@ -12,15 +12,15 @@ use store_image::{
     make, publish_directory, sync_and_publish, trim, write_ahead,
 };
 
-/// What a disk is loaded as.
+/// Loads a store from a disk.
 fn load_disk(alloc: Global, disk: &mut MemDisk) -> Result<Loaded<SegmentPlaces>, LoadFault> {
     load::<MemDisk, SegmentPlaces>(alloc, disk)
 }
 
-/// The current slot of what was loaded, its epoch, and how many imports and segments there are.
+/// The current slot, its epoch, the number of imports and the number of segments.
 type Shown = (Slot, u64, u32, usize);
 
-/// What a disk is loaded as, in numbers.
+/// Loads a store from a disk, and returns its numbers.
 fn shown(alloc: Global, disk: &mut MemDisk) -> Result<Shown, LoadFault> {
     let store = load_disk(alloc, disk)?;
     let directory = &store.directory;
@@ -28,12 +28,12 @@ fn shown(alloc: Global, disk: &mut MemDisk) -> Result<Shown, LoadFault> {
     Ok((store.slot, directory.epoch(), directory.imports(), segments))
 }
 
-/// How many segments are read of a disk.
+/// How many segments are loaded from a disk.
 fn segments_of(alloc: Global, disk: &mut MemDisk) -> Result<usize, LoadFault> {
     Ok(load_disk(alloc, disk)?.segments.len())
 }
 
-/// Why a disk isn't loaded.
+/// Why no store can be loaded from a disk, or none if one can.
 fn fault_of(alloc: Global, disk: &mut MemDisk) -> Option<LoadFault> {
     load_disk(alloc, disk).err()
 }
@@ -50,7 +50,7 @@ const OTHER: [u8; 46] =
     \x44\x01\x34\x3a\xc3\x00\x00\x00\x02\x01\x0c\x7d\x71\x3b\x49\xdd\x28\xa0\x0c\x7d\
     \x71\x3b\x49\xdb\x21\x18";
 
-/// The front of the content of epoch 2, with one import and one segment.
+/// The beginning of the content block of epoch 2, with one import and one segment.
 const CONTENT: [u8; 48] = [
     0, 0, 0, 0, 0, 0, 0, 2, 0x53, 0x43, 0x54, 0x48, 0x49, 0x53, 0x54, 0x32, 0, 0, 0, 1, 0, 0, 0, 1,
     0, 0, 0, 0, 0, 0, 0, 0, 0, 0, 0, 4, 0, 0, 0, 0x2e, 0, 0, 0, 1, 0, 0, 0, 0,
@@ -70,7 +70,7 @@ const SECOND: Entry = Entry {
     form: Form::Plain,
 };
 
-/// The segment of the rows of both.
+/// The segment with the rows of both.
 const BOTH: Entry = Entry {
     first: 6,
     bytes: 92,
@@ -78,14 +78,14 @@ const BOTH: Entry = Entry {
     form: Form::Plain,
 };
 
-/// Makes a store on a disk. Its current slot and its epoch.
+/// Makes a store on a disk, and returns its current slot and its epoch.
 fn make_store(alloc: Global, disk: &mut MemDisk) -> Result<(Slot, u64), MakeFault> {
     let made = make(alloc, disk, Layout::Two)?;
     Ok((made.slot, made.directory.epoch()))
 }
 
-/// Makes a store with two imports, the second one with these bytes as its segment. The slot that is
-/// current, and a directory that lists one segment in the place of both.
+/// Makes a store with two imports, the second one with these bytes as its segment. Returns the
+/// current slot, and a directory that lists one segment in place of both.
 fn import_two(
     alloc: Global,
     disk: &mut MemDisk,
@@ -113,13 +113,14 @@ fn two_imports(alloc: Global, second: &[u8; 46]) -> Result<MemDisk, Fail> {
     Ok(disk)
 }
 
-/// Writes the segment of both, in key order, by two parts.
+/// Writes the segment of both, in key order, in two parts.
 fn write_both(disk: &mut MemDisk) -> Result<(), DiskFault> {
     write_ahead(disk, BOTH.extent(), 0, &OTHER)?;
     write_ahead(disk, BOTH.extent(), 46, &ROOT)
 }
 
-/// How many segments are read after a stop behind so many calls; none where there are fewer.
+/// How many segments are loaded after a crash that follows the first `after` changing calls; none
+/// if there are fewer.
 fn segments_after(
     alloc: Global,
     disk: &MemDisk,
@@ -133,13 +134,13 @@ fn segments_after(
     Ok(Some(segments_of(alloc, &mut stopped)?))
 }
 
-/// How many segments are read after a stop at the present moment.
+/// How many segments are loaded after a crash at the present moment.
 fn segments_now(alloc: Global, disk: &MemDisk, choice: Choice) -> Result<usize, Fail> {
     let mut stopped = MemDisk::from_bytes(alloc, disk.image_now(choice)?);
     Ok(segments_of(alloc, &mut stopped)?)
 }
 
-/// Makes a store where there is none, and then another one.
+/// Makes a store on an empty disk, and then tries to make another one there.
 fn make_twice(rt: &impl Abort, alloc: Global, disk: &mut MemDisk) {
     let made = (
         check_empty(disk),
@@ -157,12 +158,12 @@ fn an_empty_store(rt: HostRuntime) {
     make_twice(&rt, rt.alloc(), &mut MemDisk::new(rt.alloc()));
 }
 
-/// What `make_store` answers.
+/// The result of `make_store`.
 type MadeStore = Result<(Slot, u64), MakeFault>;
 
-/// What the making of a store answers on a disk of three bytes, where the first call of the disk
-/// fails and then again; and in between, how many calls changed the disk, and whether it has the
-/// three bytes.
+/// Tries to make a store on a disk of three bytes, first with a failing first read and then again.
+/// Returns both results, and, after the first, how many calls changed the disk and whether it still
+/// has the three bytes.
 fn make_on_three_bytes(alloc: Global) -> Result<([MadeStore; 2], u64, bool), AllocError> {
     let mut disk = MemDisk::from_bytes(alloc, vec![in alloc; 1, 2, 3]?);
     disk.set_read_break(0);
@@ -180,7 +181,8 @@ fn a_disk_that_cannot_be_looked_at_stays(rt: HostRuntime) -> Result<(), AllocErr
     Ok(())
 }
 
-/// Of the only row of a disk: its id, the number of its import, its first byte and its length.
+/// Describes the only row of a disk: its id, the number of its import, its first byte and its
+/// length.
 fn only_place(
     alloc: Global,
     disk: &mut MemDisk,
@@ -195,7 +197,7 @@ fn only_place(
     }
 }
 
-/// Whether a disk has these bytes at a place.
+/// Whether a disk has these bytes at an offset.
 fn has_at(disk: &MemDisk, at: usize, wanted: &[u8]) -> bool {
     match disk.bytes().split_at_checked(at) {
         Some((_, rest)) => rest.starts_with(wanted),
@@ -231,8 +233,8 @@ fn an_import_byte_for_byte(rt: HostRuntime) -> Result<(), Fail> {
     Ok(())
 }
 
-/// The two rows that are handed on of a disk, and how many segments there are: of each row its id,
-/// the number of its import, its first byte, and how many segments there are before it.
+/// Describes the two rows of a disk, and says how many segments there are: for each row its id, the
+/// number of its import, its first byte, and how many segments precede its own.
 fn two_rows(
     alloc: Global,
     disk: &mut MemDisk,
@@ -258,7 +260,7 @@ fn rows_are_handed_on_segment_by_segment(rt: HostRuntime) -> Result<(), Fail> {
     Ok(())
 }
 
-/// Why a disk with another byte at a place isn't loaded.
+/// Why a disk can't be loaded with this byte changed, or none if it can.
 fn fault_with(
     alloc: Global,
     disk: &MemDisk,
@@ -272,7 +274,7 @@ fn fault_with(
     Ok(fault_of(alloc, &mut MemDisk::from_bytes(alloc, bytes)))
 }
 
-/// A byte at a place, the part that it damages, and how.
+/// A byte to change, the part that this damages, and the kind of damage.
 const DAMAGES: [(usize, u8, Damage, &str); 8] = [
     (
         4111,
@@ -294,7 +296,7 @@ const DAMAGES: [(usize, u8, Damage, &str); 8] = [
     ),
 ];
 
-/// The first of the damages after which a disk isn't refused as it has to be.
+/// The first of these damages after which a disk isn't refused as it has to be.
 fn wrong_damage(
     alloc: Global,
     disk: &MemDisk,
@@ -318,8 +320,8 @@ fn each_way_in_which_an_image_is_damaged(rt: HostRuntime) -> Result<(), Fail> {
     Ok(())
 }
 
-/// A disk with a store that was made in this version, and of which the directory was published twice
-/// more, the second time in version 3. Slot A is the current one, at epoch 3.
+/// A disk with a store that was made in this version, and whose directory was published twice more,
+/// the second time in version 3. The current slot is A, at epoch 3.
 fn published_twice(alloc: Global, layout: Layout) -> Result<MemDisk, Fail> {
     let mut disk = MemDisk::new(alloc);
     let Made {
@@ -334,7 +336,7 @@ fn published_twice(alloc: Global, layout: Layout) -> Result<MemDisk, Fail> {
     Ok(disk)
 }
 
-/// What damages the slots where both have a directory of version 3.
+/// Damages to the slots if both have a directory of version 3.
 const CHECKED_DAMAGES: [(usize, u8, Damage, &str); 10] = [
     (
         4103,
@@ -378,7 +380,7 @@ const CHECKED_DAMAGES: [(usize, u8, Damage, &str); 10] = [
     ),
 ];
 
-/// What damages them where the other one has version 2, as after an upgrade.
+/// Damages to them if the other one has version 2, as after an upgrade.
 const UPGRADED_DAMAGES: [(usize, u8, Damage, &str); 5] = [
     (
         4103,
@@ -401,12 +403,12 @@ fn a_changed_epoch_of_version_three_is_noticed(rt: HostRuntime) -> Result<(), Fa
     let mut upgraded = published_twice(alloc, Layout::Two)?;
     assert_eq!(rt; shown(alloc, &mut upgraded), Ok((Slot::A, 3, 2, 0)));
     assert_eq!(rt; wrong_damage(alloc, &upgraded, &UPGRADED_DAMAGES)?, None);
-    // What the other slot has of version 2, beside its mark, plays no part.
+    // The other slot's bytes of version 2 don't matter, except for its mark.
     assert_eq!(rt; fault_with(alloc, &upgraded, 16000, 1)?, None);
     Ok(())
 }
 
-/// Why a disk of one byte at a place, and of zeros before it, isn't loaded.
+/// Why a disk with this byte at an offset, and zeros before it, can't be loaded.
 fn fault_of_byte(alloc: Global, place: u64, byte: u8) -> Option<LoadFault> {
     let mut disk = MemDisk::new(alloc);
     if place > 16383 || disk.write_at(place, &[byte]).is_err() {
@@ -433,7 +435,7 @@ fn what_is_no_store_or_has_a_key_twice(rt: HostRuntime) -> Result<(), Fail> {
     Ok(())
 }
 
-/// Writes a segment ahead, and then publishes the directory that lists it.
+/// Writes a segment ahead, and then publishes a directory that lists it.
 fn write_and_publish(rt: &impl Abort, alloc: Global, disk: &mut MemDisk) -> Result<(), Fail> {
     let (slot, merged) = import_two(alloc, disk, &OTHER)?;
     let written = (disk.changes(), write_both(disk), disk.bytes().len());
@@ -463,8 +465,8 @@ fn publish_both(alloc: Global, disk: &mut MemDisk) -> Result<(), Fail> {
     Ok(())
 }
 
-/// How many segments are read after a stop behind so many calls: where
-/// the other gate reads as closed, and where it reads as opened.
+/// How many segments are loaded after a crash that follows this many changing calls: if the other
+/// gate is read as closed, and if it is read as open.
 const STOPS: [(u64, usize, usize); 10] = [
     (25, 2, 2),
     (26, 2, 2),
@@ -478,7 +480,7 @@ const STOPS: [(u64, usize, usize); 10] = [
     (34, 1, 1),
 ];
 
-/// Whether so many segments are read after a stop, whatever it leaves of what isn't synced.
+/// Whether this many segments are loaded after a crash, whatever it leaves of the unsynced changes.
 fn is_stopped_with(
     alloc: Global,
     disk: &MemDisk,
@@ -497,7 +499,7 @@ fn is_stopped_with(
     Ok(true)
 }
 
-/// Behind how many calls the first stop is that leaves other segments than it has to.
+/// The number of calls before the first crash that leaves another number of segments.
 fn wrong_stop(alloc: Global, disk: &MemDisk) -> Result<Option<u64>, Fail> {
     for stop in &STOPS {
         if !is_stopped_with(alloc, disk, *stop)? {
@@ -507,7 +509,7 @@ fn wrong_stop(alloc: Global, disk: &MemDisk) -> Result<Option<u64>, Fail> {
     Ok(None)
 }
 
-/// Two writes ahead, one sync and the six changing calls of a publication.
+/// Two writes ahead, one sync, and the six changing calls of a publication.
 #[test]
 fn a_stop_leaves_two_segments_or_the_one_of_both(rt: HostRuntime) -> Result<(), Fail> {
     let mut disk = MemDisk::new(rt.alloc());
@@ -517,8 +519,8 @@ fn a_stop_leaves_two_segments_or_the_one_of_both(rt: HostRuntime) -> Result<(), 
     Ok(())
 }
 
-/// How many segments are read where a changing call behind so many others fails, from the first one
-/// of the publication on; none where it doesn't say so.
+/// How many segments are loaded if a changing call fails after `calls` others, counted from the
+/// first one of the publication; none if the publication reports no failure.
 fn segments_after_failure(alloc: Global, calls: u64) -> Result<Option<usize>, Fail> {
     let mut disk = MemDisk::new(alloc);
     let (slot, merged) = import_two(alloc, &mut disk, &OTHER)?;
@@ -530,7 +532,7 @@ fn segments_after_failure(alloc: Global, calls: u64) -> Result<Option<usize>, Fa
     Ok(Some(segments_of(alloc, &mut disk)?))
 }
 
-/// Each changing call of the publication fails once; the last one is the sync of the opened gate.
+/// Each changing call of the publication fails once; the last one is the sync of the open gate.
 #[test]
 fn a_publication_that_failed_leaves_one_of_the_two(rt: HostRuntime) -> Result<(), Fail> {
     for (calls, segments) in [(0, 2), (1, 2), (2, 2), (3, 2), (4, 2), (5, 2), (6, 1)] {
@@ -540,7 +542,8 @@ fn a_publication_that_failed_leaves_one_of_the_two(rt: HostRuntime) -> Result<()
     Ok(())
 }
 
-/// How many segments are read after a stop at the present moment, whatever it leaves.
+/// How many segments are loaded after a crash at the present moment, for three choices of what it
+/// leaves.
 fn segments_of_images(alloc: Global, disk: &MemDisk) -> Result<[usize; 3], Fail> {
     let lost = segments_now(alloc, disk, Choice::Lost)?;
     let kept = segments_now(alloc, disk, Choice::Kept)?;
@@ -557,7 +560,7 @@ fn a_write_ahead_that_failed_leaves_what_is_listed(rt: HostRuntime) -> Result<()
     Ok(())
 }
 
-/// Cuts off what no segment needs.
+/// Trims the disk to the end of the last segment.
 fn cut_off(rt: &impl Abort, disk: &mut MemDisk) {
     assert_eq!(rt; write_both(disk), Ok(()));
     let kept = (trim(disk, 28672), trim(disk, 24668), disk.changes());
@@ -566,7 +569,8 @@ fn cut_off(rt: &impl Abort, disk: &mut MemDisk) {
     assert_eq!(rt; cut, (Ok(92), 29, 24576));
 }
 
-/// How many segments are read after a stop behind so many calls, whatever it leaves.
+/// How many segments are loaded after a crash that follows the first `after` changing calls, for
+/// three choices of what it leaves.
 fn segments_of_stop(alloc: Global, disk: &MemDisk, after: u64) -> Result<[Option<usize>; 3], Fail> {
     let lost = segments_after(alloc, disk, after, Choice::Lost)?;
     let kept = segments_after(alloc, disk, after, Choice::Kept)?;
@@ -584,8 +588,8 @@ fn what_no_segment_needs_is_cut_off(rt: HostRuntime) -> Result<(), Fail> {
     Ok(())
 }
 
-/// What a trim answers where a changing call behind so many others
-/// fails, and how many bytes and segments the disk has then.
+/// The result of a trim if a changing call fails after `calls` others, and how many bytes and
+/// segments the disk then has.
 fn trim_and_fail(
     alloc: Global,
     calls: u64,
@@ -597,7 +601,7 @@ fn trim_and_fail(
     Ok((trimmed, disk.bytes().len(), segments_of(alloc, &mut disk)?))
 }
 
-/// The cut fails, and then the sync.
+/// First the cut fails, and then the sync.
 #[test]
 fn a_trim_that_failed_leaves_what_is_listed(rt: HostRuntime) -> Result<(), Fail> {
     assert_eq!(rt; trim_and_fail(rt.alloc(), 0)?, (Err(DiskFault), 24668, 2));

@@ -1,4 +1,4 @@
-//! How an index has room for lists, and how rows are read at their places.
+//! How many lists an index holds, and how rows are read at their places.
 
 use crate::lists::{add, alone, index_of, reader_of};
 use crate::rows::{day, row};
@@ -22,7 +22,8 @@ fn two_lists(alloc: Global) -> Result<Index, Fail> {
     Ok(index)
 }
 
-/// A place that is listed is not added again, nor listed twice; no place may be added.
+/// A list with an already listed place can't be added, an empty list can, and no list may have a
+/// place twice.
 fn check_may_add(
     rt: &impl Abort,
     alloc: Global,

@@ -1,6 +1,6 @@
-//! How an index has room for lists and reads rows, the numbers that the rows of two lists have in
-//! one, and postings of as many lists and rows as there may be. It has no code of its own. What an
-//! index answers is in the cases of `history_cases`.
+//! How many lists an index holds, how it reads rows, the numbers of two lists' rows in the merged
+//! list, and postings at the limits of lists and rows. It has no code of its own. The answers of an
+//! index are tested in the cases of `history_cases`.
 #![tactic(auto)]
 
 #[cfg(test)]

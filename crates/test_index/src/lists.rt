@@ -7,7 +7,7 @@ use segment::RowPlace;
 use std::alloc::Global;
 use std::test::Fail;
 
-/// Where the rows of a list stand.
+/// The places of a list's rows.
 fn places_of(alloc: Global, rows: &[StampedRow]) -> Result<Vec<RowPlace>, Fail> {
     let mut places = Vec::new(alloc);
     let mut at = 0u32;
@@ -45,7 +45,7 @@ pub(crate) fn index_of(alloc: Global, lists: &[Vec<StampedRow>]) -> Result<Index
     Ok(index)
 }
 
-/// A list of this row alone.
+/// A list with this row alone.
 pub(crate) fn alone(alloc: Global, row: StampedRow) -> Result<Vec<StampedRow>, Fail> {
     let mut list = Vec::new(alloc);
     list.push(row)?;

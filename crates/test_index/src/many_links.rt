@@ -1,4 +1,4 @@
-//! Links of as many lists as there may be, and of many concepts.
+//! Links of the greatest number of lists, and of many concepts.
 
 ghost use Rattle.std.specs.Prelude.{◌≤◌};
 
@@ -32,7 +32,7 @@ fn links_of(alloc: Global, lists: &[Vec<StampedRow>]) -> Result<Links, Fail> {
     Ok(links)
 }
 
-/// The children of the root at the last day.
+/// The children of the root on the last day.
 fn children_of_root(alloc: Global, links: &Links, index: &Index) -> Result<Vec<u64>, Fail> {
     let root = Sctid::of(ROOT).ok_or("no SCTID")?;
     let date = day(LAST_DAY)?;
@@ -41,7 +41,7 @@ fn children_of_root(alloc: Global, links: &Links, index: &Index) -> Result<Vec<u
 
 const THREE: [u64; 3] = [1_000_004, 2_000_001, 3_000_005];
 
-/// One of three concepts, by a number.
+/// Picks one of three concepts by a number.
 fn pick_concept(number: u32) -> u64 {
     match THREE.get((number % 3) as usize) {
         Some(id) => *id,
@@ -49,7 +49,7 @@ fn pick_concept(number: u32) -> u64 {
     }
 }
 
-/// As many lists as may be, each of one relationship to the root.
+/// The greatest number of lists, with one relationship to the root each.
 fn many_lists(alloc: Global) -> Result<Vec<Vec<StampedRow>>, Fail> {
     let mut lists = Vec::new(alloc);
     for number in 0..250u32 {
@@ -68,7 +68,8 @@ fn links_of_as_many_lists_as_may_be(rt: HostRuntime) -> Result<(), Fail> {
     let index = index_of(alloc, &lists)?;
     assert!(rt; children_of_root(alloc, &links, &index)?.as_slice() == THREE.as_slice());
 
-    // In the place of the first list's and its own, the last list's are of no row of the first.
+    // The last list's links replace the first list's and their own. There they refer to rows that
+    // the first list doesn't have.
     links.replace_two(0, 249, post_links(alloc, &lists[249])?.seal());
     assert_eq!(rt; links.lists(), 249);
     assert!(rt; children_of_root(alloc, &links, &index)?.as_slice() == THREE.as_slice());
@@ -77,7 +78,7 @@ fn links_of_as_many_lists_as_may_be(rt: HostRuntime) -> Result<(), Fail> {
 
 const CHILDREN: u32 = 3_000;
 
-/// A relationship to the root from each of many concepts, the greatest first.
+/// A relationship to the root from each of many concepts, in descending order of the concepts.
 fn family(alloc: Global, first: u32) -> Result<Vec<StampedRow>, Fail>
     requires { first ≤ 4000 }
 {
@@ -97,7 +98,7 @@ fn families(alloc: Global) -> Result<Vec<Vec<StampedRow>>, Fail> {
     Ok(lists)
 }
 
-/// The concepts that a family's relationships lead from, the least first.
+/// The source concepts of a family's relationships, in ascending order.
 fn family_ids(alloc: Global) -> Result<Vec<u64>, Fail> {
     let mut ids = Vec::new(alloc);
     for number in 1..=CHILDREN {

@@ -1,4 +1,4 @@
-//! Terms of as many lists as there may be, and terms that are taken away again.
+//! Terms of the greatest number of lists, and terms that are removed again.
 
 use crate::lists::{alone, index_of, reader_of};
 use crate::rows::{LAST_DAY, day, description, numbered};
@@ -30,7 +30,7 @@ fn terms_of(alloc: Global, lists: &[Vec<StampedRow>]) -> Result<Terms, Fail> {
     Ok(terms)
 }
 
-/// The ids of what is found at the last day.
+/// The ids of the descriptions that are found on the last day.
 fn ids_found(
     alloc: Global,
     terms: &Terms,
@@ -48,7 +48,7 @@ fn ids_found(
     Ok(found.iter().map(|row| row.id).collect(alloc)?)
 }
 
-/// As many lists as may be, each of one description, the greatest id first.
+/// The greatest number of lists, with one description each, in descending order of their ids.
 fn many_lists(alloc: Global) -> Result<Vec<Vec<StampedRow>>, Fail> {
     let mut lists = Vec::new(alloc);
     for number in 0..250u32 {
@@ -58,7 +58,7 @@ fn many_lists(alloc: Global) -> Result<Vec<Vec<StampedRow>>, Fail> {
     Ok(lists)
 }
 
-/// The ids of the first of those descriptions, the least first.
+/// The ids of the first of those descriptions, in ascending order.
 fn first_ids(alloc: Global) -> Result<Vec<u128>, Fail> {
     let mut ids = Vec::new(alloc);
     for number in 151..251u32 {
@@ -77,7 +77,7 @@ fn terms_of_as_many_lists_as_may_be(rt: HostRuntime) -> Result<(), Fail> {
     Ok(())
 }
 
-/// Puts the last of the lists in the place of the fourth and its own.
+/// Lets the last list replace the fourth one and itself.
 fn put_last(
     alloc: Global,
     lists: &mut Vec<Vec<StampedRow>>,

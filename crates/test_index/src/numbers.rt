@@ -1,4 +1,4 @@
-//! The numbers that the rows of two lists have in one list of both.
+//! The numbers of two lists' rows in the list that merges both.
 
 use crate::versions::{VERSIONS, is_of_first, versions};
 use as_of_index::{NumberTable, Numbers, PlaceList};
@@ -6,7 +6,7 @@ use std::alloc::Global;
 use std::process::Abort;
 use std::test::Fail;
 
-/// The numbers of rows of two short lists in one of both.
+/// The numbers of two short lists' rows in the list that merges both.
 fn numbers_of<'a>(first: &'a PlaceList, second: &'a PlaceList) -> Result<Numbers<'a>, Fail> {
     let first = first.places();
     let second = second.places();
@@ -16,7 +16,7 @@ fn numbers_of<'a>(first: &'a PlaceList, second: &'a PlaceList) -> Result<Numbers
     Ok(Numbers::new(first, second))
 }
 
-/// Each row of either list has the number that it has in the list of all rows.
+/// Checks that each row of either list has its number in the list of all rows.
 fn check_numbers(rt: &impl Abort, numbers: &Numbers<'_>) {
     let mut of_first = 0u32;
     let mut of_second = 0u32;
@@ -30,7 +30,7 @@ fn check_numbers(rt: &impl Abort, numbers: &Numbers<'_>) {
         }
     }
     assert!(rt; of_first > 20 && of_second > 20);
-    // A row that isn't there keeps its number.
+    // A number without a row is returned unchanged.
     assert_eq!(rt; numbers.of_first(of_first), of_first);
     assert_eq!(rt; numbers.of_second(u32::MAX), u32::MAX);
 }
@@ -44,7 +44,7 @@ fn rows_of_two_lists_are_numbered_as_in_one(rt: HostRuntime) -> Result<(), Fail>
     Ok(())
 }
 
-/// A table tells each row's number, first of some rows and then of all.
+/// Checks each row's number with a table, first of some rows and then of all.
 fn check_table(
     rt: &impl Abort,
     alloc: Global,

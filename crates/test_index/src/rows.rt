@@ -14,7 +14,8 @@ pub(crate) fn day(value: u32) -> Result<EffectiveTime, Fail> {
     Ok(EffectiveTime::of(value).ok_or("no day")?)
 }
 
-/// The row that a line spells, in which a bar stands for a TAB and a name for an identifier.
+/// Reads the row of a line, in which a bar stands for a TAB, and a name in capitals for an
+/// identifier.
 pub(crate) fn row(alloc: Global, kind: Kind, line: &str) -> Result<StampedRow, Fail> {
     let line = row_text(alloc, line)?;
     match read_row(alloc, kind, line.as_bytes()) {
@@ -23,8 +24,8 @@ pub(crate) fn row(alloc: Global, kind: Kind, line: &str) -> Result<StampedRow, F
     }
 }
 
-/// The identifier of a concept, a description or a relationship, by a number from 100 on.
-/// The partitions of these kinds are numbered as the kinds are.
+/// The identifier of a concept, a description or a relationship with this number, from 100 on. The
+/// number of a kind is that of its partition.
 pub(crate) fn numbered(number: u32, kind: Kind) -> Result<u64, Fail> {
     let front = u64::from(number) * 1000 + u64::from(kind as u8) * 10;
     for digit in 0..10u64 {
@@ -35,7 +36,7 @@ pub(crate) fn numbered(number: u32, kind: Kind) -> Result<u64, Fail> {
     Err(Fail::from("no check digit"))
 }
 
-/// A description of a concept, by a number.
+/// A description of a concept, with this number.
 pub(crate) fn description(
     alloc: Global,
     number: u32,
@@ -47,7 +48,7 @@ pub(crate) fn description(
     row(alloc, Kind::Description, line.as_str())
 }
 
-/// A relationship by a number, that makes a concept a child of the root.
+/// A relationship with this number, which makes a concept a child of the root.
 pub(crate) fn child(alloc: Global, number: u32, concept: u64) -> Result<StampedRow, Fail> {
     let id = numbered(number, Kind::Relationship)?;
     let line = format!(in alloc; "{id}|20200131|1|CORE|{concept}|{ROOT}|0|116680003|INF|MOD")?;

@@ -14,12 +14,12 @@ pub(crate) const VERSIONS: u32 = 120;
 /// How many bytes a concept's record has.
 const CONCEPT: u32 = 46;
 
-/// Whether the version with a number is one of the first list.
+/// Whether the version with this number is in the first list.
 pub(crate) fn is_of_first(number: u32) -> bool {
     number % 5 < 2 || number % 7 == 3
 }
 
-/// The place of the version with a number, in key order among all.
+/// The place of the version with this number, counted in key order among all.
 pub(crate) fn version(number: u32) -> Result<RowPlace, Fail> {
     let time = if number % 2 == 0 {
         20_200_131

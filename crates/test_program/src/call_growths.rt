@@ -10,7 +10,7 @@ use std::process::Abort;
 use std::test::Fail;
 use test_support::{Example, Scarcity, merged_disk, sample_named};
 
-/// By how many bytes more a call finds each time.
+/// By how many bytes the memory grows from one try to the next.
 const STEP: usize = 16;
 
 /// How many times a call is tried.
@@ -20,8 +20,8 @@ const STREET: u128 = 1_000_004;
 
 const ROOT: u64 = 138_875_005;
 
-/// Calls on a new store, what they answer, and how often each is
-/// refused first, at least. Where that is 0, it is never refused.
+/// Calls on a new store, the expected answers, and the least number of times that each is refused
+/// first. If that is 0, it is never refused.
 const CALLS: [(Call, Wanted, u32); 31] = [
     (
         Call::Row(Kind::Concept, 138_875_005, 20_230_131, 0),
@@ -126,7 +126,7 @@ const CALLS: [(Call, Wanted, u32); 31] = [
         Wanted::Lines(&["20200131", "20200731", "20210131"]),
         1,
     ),
-    // The releases once more: nothing of them is new.
+    // The same releases again, which have no new rows.
     (Call::Import(0), Wanted::Imported(4, 0, 6), 150),
     (Call::MergeBegin, Wanted::Number(12), 0),
     (Call::MergeStep(100), Wanted::Number(0), 200),
@@ -134,7 +134,7 @@ const CALLS: [(Call, Wanted, u32); 31] = [
     (Call::Trim, Wanted::Number(8_284), 0),
 ];
 
-/// What the counts of a store are.
+/// The counts that a store reports.
 type Counts = (u32, u64, u32, Option<u64>);
 
 fn counts(store: &Example) -> Counts {
@@ -146,14 +146,14 @@ fn counts(store: &Example) -> Counts {
     )
 }
 
-/// A disk that needs no memory for what the calls do.
+/// A disk that allocates nothing for these calls.
 fn disk_with_room(alloc: Global, bytes: &[u8]) -> Result<MemDisk, AllocError> {
     let mut disk = MemDisk::from_bytes(alloc, bytes.to_vec(alloc)?);
     disk.reserve(1_048_576, 1_000)?;
     Ok(disk)
 }
 
-/// Whether so many refusals are at least these, and none where these are none.
+/// Whether there are at least `least` refusals, or none if `least` is 0.
 fn is_as_often(refused: u32, least: u32) -> bool {
     if least == 0 {
         refused == 0
@@ -162,8 +162,8 @@ fn is_as_often(refused: u32, least: u32) -> bool {
     }
 }
 
-/// Makes a call with more and more memory, until it isn't refused for want of it. The answer, and
-/// how often it was refused first; no refusal may change the counts.
+/// Makes a call with more and more memory, until it isn't refused for lack of memory. Returns the
+/// answer, and how often it was refused first. No refusal may change the counts.
 fn try_call(
     alloc: Global,
     scarcity: &mut Scarcity,
@@ -190,8 +190,8 @@ fn try_call(
     Err(Fail::from("refused with all memory"))
 }
 
-/// Makes a call with more and more memory. Whether it is answered
-/// as it has to be, and how often it was refused first.
+/// Makes a call with more and more memory. Returns whether its answer is the expected one, and how
+/// often it was refused first.
 fn check_call(
     alloc: Global,
     scarcity: &mut Scarcity,
@@ -203,7 +203,7 @@ fn check_call(
     Ok((is_wanted(alloc, &answer, wanted)?, refused))
 }
 
-/// A new store, made with more and more memory on the disk that comes back.
+/// Makes a new store with more and more memory, on the disk that each refusal returns.
 fn create_with_little(alloc: Global, scarcity: &mut Scarcity) -> Result<(Example, u32), Fail> {
     let mut disk = disk_with_room(alloc, b"")?;
     let mut refused = 0u32;
@@ -270,7 +270,8 @@ fn is_merged(store: &Example) -> bool {
     counts(store) == (3, 12, 2, None)
 }
 
-/// Whether a disk with these bytes is opened with so much memory; none where something else came.
+/// Whether a disk with these bytes can be opened with this much memory; none if the result is
+/// neither the store nor a refusal for lack of memory after which the disk can be opened.
 fn opens(
     alloc: Global,
     scarcity: &mut Scarcity,
@@ -291,7 +292,7 @@ fn opens(
     }
 }
 
-/// How often an opening is refused, with more and more memory, until it isn't.
+/// How often opening is refused, with more and more memory, until it succeeds.
 fn count_refused(alloc: Global, scarcity: &mut Scarcity, bytes: &[u8]) -> Result<u32, Fail> {
     let mut refused = 0u32;
     for number in 0..TRIES {

@@ -1,4 +1,4 @@
-//! Calls of the store, and what they answer.
+//! Calls of the store, and their answers.
 
 use history_store::{Receipt, Refusal};
 use import_check::Release;
@@ -9,14 +9,14 @@ use test_support::{Example, copy_of, line, lines};
 /// A call.
 #[derive(Clone, Copy)]
 pub enum Call {
-    /// The release at this place is imported.
+    /// Imports the release at this index.
     Import(usize),
     MergeBegin,
     MergeStep(u32),
     MergePublish,
     MergeAbandon,
     Trim,
-    /// The row of a component at a date, as the first so many imports show it.
+    /// The row of a component at a date, among the rows of the first so many imports.
     Row(Kind, u128, u32, u32),
     History(Kind, u128, u32),
     Page(Kind, u32, u32),
@@ -28,25 +28,25 @@ pub enum Call {
     Ancestors(u64, u32),
     Replaces(u64, u32),
     Timeline(Kind, u64),
-    /// What changed of a kind from one date to another.
+    /// The rows of a kind that changed from one date to another.
     Delta(Kind, u32, u32),
     Dates,
 }
 
-/// What a call answers.
+/// The answer of a call.
 #[derive(Drop)]
 pub enum Answer {
     Imported(Receipt),
-    /// A number, 0 where the call answers none.
+    /// A number, which is 0 if the call has no result.
     Number(u64),
-    /// The line of a row without an LF, no bytes where there is none.
+    /// The line of a row without LF, or no bytes if there is no row.
     Line(Vec<u8>),
     /// Lines, each with an LF.
     Lines(Vec<u8>),
     Ids(Vec<u64>),
 }
 
-/// What a call is to answer.
+/// The expected answer of a call.
 #[derive(Clone, Copy)]
 pub enum Wanted {
     Imported(u32, u64, u64),
@@ -71,7 +71,8 @@ pub fn release_of(
     }
 }
 
-/// Makes a call that may change the store, and is no import. The number that it answers, if any.
+/// Makes a call that may change the store, other than an import. Returns its number, or 0 if it has
+/// none.
 fn change(call: Call, store: &mut Example) -> Result<u64, Refusal> {
     match call {
         Call::Import(_) => Ok(0),
@@ -89,7 +90,7 @@ fn change(call: Call, store: &mut Example) -> Result<u64, Refusal> {
     }
 }
 
-/// Makes a call that asks a question of an audit, and any other that imports nothing.
+/// Makes a call for an audit, or any call that is left except an import.
 fn audit(call: Call, store: &mut Example, pin: u32) -> Result<Answer, Refusal> {
     match call {
         Call::Descendants(id, date) => Ok(Answer::Ids(store.descendants(id, date, pin)?)),
@@ -104,7 +105,7 @@ fn audit(call: Call, store: &mut Example, pin: u32) -> Result<Answer, Refusal> {
     }
 }
 
-/// Makes a call that imports nothing.
+/// Makes a call other than an import.
 fn ask(call: Call, store: &mut Example) -> Result<Answer, Refusal> {
     let pin = store.imports();
     match call {
@@ -121,7 +122,7 @@ fn ask(call: Call, store: &mut Example) -> Result<Answer, Refusal> {
     }
 }
 
-/// Makes a call, or imports the release that it imports.
+/// Imports the release if there is one, and otherwise makes the call.
 pub fn make(call: Call, release: Option<Release>, store: &mut Example) -> Result<Answer, Refusal> {
     match release {
         Some(release) => Ok(Answer::Imported(store.take(release)?)),
@@ -129,7 +130,7 @@ pub fn make(call: Call, release: Option<Release>, store: &mut Example) -> Result
     }
 }
 
-/// Whether an answer is the wanted one.
+/// Whether an answer is the expected one.
 pub fn is_wanted(alloc: Global, answer: &Answer, wanted: Wanted) -> Result<bool, AllocError> {
     match (answer, wanted) {
         (Answer::Imported(receipt), Wanted::Imported(number, new, repeated)) => {

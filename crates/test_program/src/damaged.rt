@@ -1,4 +1,4 @@
-//! A disk that is damaged while its store is served.
+//! A disk that is damaged while its store is being served.
 
 use disk_model::{Disk, DiskFault, MemDisk};
 use history_store::Store;
@@ -7,7 +7,7 @@ use line_support::{Examples, Turn, after, input_of, replies_of};
 use std::alloc::Global;
 use std::test::Fail;
 
-/// A disk in memory whose reads are sound at first, and give zeros from then on.
+/// A disk in memory whose first reads are sound, and whose further reads give zeros.
 #[derive(Drop)]
 struct Spoiled {
     disk: MemDisk,
@@ -47,7 +47,7 @@ impl Disk for Spoiled {
     }
 }
 
-/// The lines to a store of which no row can be read any more. The first one finds that out.
+/// Requests to a store of which no row can be read any more. The first read of a row detects that.
 const LINES: [Turn; 15] = [
     ("0 STATUS", &["OK 2 10 2 -"]),
     ("0 GET C 138875005 20230131", &["ERR 8 Damaged"]),
@@ -66,8 +66,8 @@ const LINES: [Turn; 15] = [
     ("1 IMPORT new-in-2030", &["ERR 8 Damaged"]),
 ];
 
-/// What is written for the lines where so many reads of the disk are sound, and how many calls
-/// changed the disk; none if it isn't opened as a store.
+/// Serves the requests with this many sound reads of the disk. Returns the replies and how many
+/// calls changed the disk, or none if it can't be opened as a store.
 fn served(alloc: Global, bytes: &[u8], sound_reads: u32) -> Result<Option<(Vec<u8>, u64)>, Fail> {
     let disk = Spoiled {
         disk: MemDisk::from_bytes(alloc, bytes.to_vec(alloc)?),

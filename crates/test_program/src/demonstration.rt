@@ -1,5 +1,5 @@
-//! The program's demonstration beside the script of the tests of lines:
-//! two texts, of which each has to say what the other does.
+//! Compares the program's demonstration with the script of the line tests: the two texts have to
+//! agree.
 
 use crate::shown::words_of;
 use command_line::{FileDisks, SCRIPT, run};

@@ -1,11 +1,11 @@
-//! The examples in a help.
+//! The examples in a help text.
 
 use crate::shown::{Shown, run_line};
 use std::fs;
 use std::test::Fail;
 
-/// Runs the program on the words of a line and an input, and answers what it writes. A refusal is
-/// a mistake.
+/// Runs the program with the words of a line and an input, and returns its output. A failing status
+/// is an error.
 fn run_whole(rt: &HostRuntime, line: &str, input: &[u8]) -> Result<String, Fail> {
     let Shown { status, output } = run_line(rt, line, input)?;
     if status != 0 {
@@ -14,8 +14,8 @@ fn run_whole(rt: &HostRuntime, line: &str, input: &[u8]) -> Result<String, Fail>
     Ok(String::from_utf8(output)?)
 }
 
-/// The lines of the input that a help has as examples: each stands
-/// behind two spaces, and what it does stands behind two more.
+/// The example requests in a help text: each is indented by two spaces, and followed by two more
+/// and an explanation.
 fn examples_of(rt: &HostRuntime, help: &str) -> Result<String, Fail> {
     let mut examples = String::new(rt.alloc());
     for line in help.lines() {

@@ -1,7 +1,7 @@
-//! What has a structure of its own: calls of the store with ever more memory until there is enough;
-//! how often a server reads, and when; what it answers once its disk is damaged; the examples in the
-//! program's helps, and its demonstration; and a disk whose name leads elsewhere. It has no code of
-//! its own.
+//! Tests that no case can express: calls of the store with more and more memory until there is
+//! enough; how often a server reads, and when; its replies once its disk is damaged; the examples
+//! in the program's help texts, and its demonstration; and a disk whose name comes to refer to
+//! another file. It has no code of its own.
 #![tactic(auto)]
 
 #[cfg(test)]

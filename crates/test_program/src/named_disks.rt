@@ -1,11 +1,11 @@
-//! A disk whose name comes to lead elsewhere, or to fewer bytes.
+//! A disk whose name comes to refer to another file, or to fewer bytes.
 
 use command_line::{Name, NamedDisk};
 use disk_model::{Disk, DiskFault, MemDisk};
 use std::io;
 use std::test::Fail;
 
-/// A name that leads to what it was given to, as long as that has no more than so many bytes.
+/// A name that refers to its disk as long as the disk has at most this many bytes.
 #[derive(Clone, Copy)]
 struct Sign {
     bytes: u64,
@@ -32,7 +32,7 @@ fn nothing_is_written_where_the_name_leads_elsewhere(rt: HostRuntime) -> Result<
     let mut disk = NamedDisk::new(MemDisk::new(rt.alloc()), Sign { bytes: 8 }, 0);
     assert_eq!(rt; disk.write_at(0, b"abcdefgh"), Ok(()));
     assert!(rt; disk.missed().is_none());
-    // The disk has 8 bytes before this write, and 9 from then on.
+    // The disk has 8 bytes before this write, and 9 after it.
     assert_eq!(rt; disk.write_at(8, b"i"), Ok(()));
     assert_eq!(rt; disk.write_at(0, b"z"), Err(DiskFault));
     assert!(rt; disk.missed().is_some());
@@ -40,7 +40,7 @@ fn nothing_is_written_where_the_name_leads_elsewhere(rt: HostRuntime) -> Result<
     assert_eq!(rt; disk.cut(8), Ok(()));
     assert_eq!(rt; disk.write_at(0, b"z"), Ok(()));
     assert_eq!(rt; disk.disk().bytes(), b"zbcdefgh".as_slice());
-    // A write of no bytes makes no disk longer.
+    // A write of no bytes doesn't extend the disk.
     assert_eq!(rt; disk.write_at(100, b""), Ok(()));
     assert_eq!(rt; disk.write_at(0, b"y"), Ok(()));
     Ok(())

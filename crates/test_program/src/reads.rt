@@ -1,4 +1,4 @@
-//! How many reads are made, and when.
+//! How many reads a server makes, and when.
 
 use line_server::ServeFault;
 use line_support::{Narrow, Server};
@@ -8,8 +8,8 @@ use std::test::Fail;
 
 const STATUS: &[u8] = b"0 STATUS\n";
 
-/// Gives a piece a read, and then ends, or fails if a failure is named. It would
-/// then give the pieces again to one who reads on. It counts its reads.
+/// Returns one piece for each read, and then the end of the input, or an error if one is set. After
+/// that it would return the pieces again. It counts its reads.
 #[derive(Drop)]
 struct Counted<'a> {
     pieces: &'a [&'a [u8]],
@@ -35,8 +35,8 @@ impl Read for Counted<'_> {
     }
 }
 
-/// Pieces of the input, how it fails at its end if it does,
-/// how many reads are allowed, the room for replies.
+/// The pieces of the input, the error at its end if there is one, how many reads are allowed, and
+/// how many bytes of replies the output accepts.
 type Way<'a> = (&'a [&'a [u8]], Option<ErrorKind>, u32, usize);
 
 #[test]
@@ -44,7 +44,7 @@ fn each_piece_takes_one_read(rt: HostRuntime) -> Result<(), Fail> {
     let parts: &[&[u8]] = &[b"0 STA", b"TUS\n0 STATUS\n0", b" STATUS"];
     let lines: &[&[u8]] = &[STATUS, STATUS];
     let other = Some(ErrorKind::Other);
-    // What is answered, and after how many reads.
+    // The result, and how many reads were made.
     let cases: [(Way<'_>, Result<u64, ServeFault>, u32); 9] = [
         ((&[], None, 9, 99), Ok(0), 1),
         ((lines, None, 9, 99), Ok(2), 3),
@@ -53,7 +53,8 @@ fn each_piece_takes_one_read(rt: HostRuntime) -> Result<(), Fail> {
         ((parts, other, 9, 99), Err(ServeFault::Read), 4),
         ((lines, None, 0, 99), Err(ServeFault::Reads), 0),
         ((lines, None, 2, 99), Err(ServeFault::Reads), 2),
-        // The first reply isn't written, and then the one to a line that the end of the input ends.
+        // The first reply can't be written; then the reply to a line that only the end of the input
+        // ends.
         ((parts, None, 9, 0), Err(ServeFault::Write), 2),
         ((parts, None, 9, 22), Err(ServeFault::Write), 4),
     ];
@@ -77,7 +78,7 @@ fn each_piece_takes_one_read(rt: HostRuntime) -> Result<(), Fail> {
     Ok(())
 }
 
-/// Gives a line a read, but only once all lines before it have their replies.
+/// Returns one line for each read, but fails if a line before it has no reply yet.
 #[derive(Drop)]
 struct Waiting<'a> {
     lines: usize,
@@ -99,7 +100,7 @@ impl Read for Waiting<'_> {
     }
 }
 
-/// Counts the replies that it takes, of one line each.
+/// Counts the replies, of one line each, that it accepts.
 #[derive(Drop)]
 struct Counting<'a> {
     replies: &'a Cell<usize>,

@@ -1,11 +1,11 @@
-//! A reader that fails once, and would then give more.
+//! A reader that fails once, and would then return more.
 
 use line_server::ServeFault;
 use line_support::{Narrow, Server};
 use std::io::{self, ErrorKind, Read};
 use std::test::Fail;
 
-/// Gives the first bytes, fails once, and gives the others.
+/// Returns the first bytes, fails once, and then returns the others.
 #[derive(Drop)]
 struct Recovering<'a> {
     first: &'a [u8],
@@ -36,7 +36,7 @@ impl Read for Recovering<'_> {
 #[test]
 fn a_reader_that_recovers_is_not_read_again(rt: HostRuntime) -> Result<(), Fail> {
     let others: &[u8] = b"0 IMPORT r1\n0 STATUS\n";
-    // What comes before the failure, and the replies to the lines that ended in it.
+    // The input before the failure, and the replies to the lines that it completes.
     let cases: [(&[u8], &[u8]); 3] = [
         (b"", b""),
         (b"0 STATUS\n", b"OK 0 0 0 -\n"),

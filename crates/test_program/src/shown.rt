@@ -1,10 +1,10 @@
-//! Runs of the program, and what they show.
+//! Runs of the program, and their output.
 
 use command_line::{FileDisks, run};
 use std::alloc::{AllocError, Global};
 use std::test::Fail;
 
-/// What a run showed: its status, and its output.
+/// The result of a run: its exit status and its output.
 #[derive(Drop)]
 pub struct Shown {
     pub status: u8,
@@ -23,7 +23,7 @@ pub fn words_of(alloc: Global, line: &str) -> Result<Vec<String>, AllocError> {
     Ok(words)
 }
 
-/// Runs the program on the words of a line and an input.
+/// Runs the program with the words of a line and an input.
 pub fn run_line(rt: &HostRuntime, line: &str, mut input: &[u8]) -> Result<Shown, Fail> {
     let words = words_of(rt.alloc(), line)?;
     let mut output = Vec::new(rt.alloc());

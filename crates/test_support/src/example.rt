@@ -1,4 +1,4 @@
-//! A store whose calls have no clauses.
+//! A wrapper around `Store` without contracts, which makes tests quick to prove.
 
 use crate::releases::sample_named;
 use disk_model::MemDisk;
@@ -8,15 +8,15 @@ use rf2_rows::Key;
 use std::alloc::Global;
 use std::mem::size_of;
 
-/// A store on a disk in memory. It is boxed, so that a test
-/// which lets it go is proved without what a store is made of.
+/// A store on a disk in memory. It is boxed, so that a test which drops it is proved without
+/// looking at the fields of a store.
 #[derive(Drop)]
 pub struct Example {
     pub(crate) alloc: Global,
     pub(crate) store: Box<Store<MemDisk>>,
 }
 
-/// The store in its box, or the disk back.
+/// Puts the store in a box, or returns the disk.
 fn put_in_box(alloc: Global, store: Store<MemDisk>) -> Result<Example, (Refusal, MemDisk)> {
     match Box::new(alloc, store) {
         Ok(store) => Ok(Example { alloc, store }),
@@ -33,8 +33,8 @@ impl Example {
         }
     }
 
-    /// A new store on this disk, or the disk back. Memory for the box is taken first, so that a
-    /// call that runs out of memory leaves the disk as it was.
+    /// Makes a new store on this disk, or returns the disk. Memory for the box is allocated first,
+    /// so that a call that runs out of memory leaves the disk unchanged.
     pub fn create(alloc: Global, disk: MemDisk) -> Result<Example, (Refusal, MemDisk)> {
         let Ok(room) = Vec::<u8>::with_capacity(alloc, size_of::<Store<MemDisk>>()) else {
             return Err((Refusal::OutOfMemory, disk));
@@ -55,12 +55,12 @@ impl Example {
         }
     }
 
-    /// Brings the store to version 3.
+    /// Upgrades the store to version 3.
     pub fn upgrade(&mut self) -> Result<(), Refusal> {
         self.store.upgrade()
     }
 
-    /// Writes the only segment of a store of version 3 anew, if it has no checksums.
+    /// Rewrites the only segment of a store of version 3, if it has no checksums.
     pub fn rewrite(&mut self) -> Result<bool, Refusal> {
         self.store.rewrite()
     }
@@ -70,12 +70,12 @@ impl Example {
         self.store.plain_segments()
     }
 
-    /// The store that a disk represents, or the disk back.
+    /// Opens the store that a disk represents, or returns the disk.
     pub fn open(alloc: Global, disk: MemDisk) -> Result<Example, (Refusal, MemDisk)> {
         put_in_box(alloc, Store::open(alloc, disk)?)
     }
 
-    /// The store that a disk represents.
+    /// Opens the store that a disk represents.
     pub fn opened(alloc: Global, disk: MemDisk) -> Result<Example, Refusal> {
         match Example::open(alloc, disk) {
             Ok(example) => Ok(example),
@@ -83,12 +83,12 @@ impl Example {
         }
     }
 
-    /// The store that a disk of these bytes represents.
+    /// Opens the store that a disk of these bytes represents.
     pub fn of_bytes(alloc: Global, bytes: &[u8]) -> Result<Example, Refusal> {
         Example::opened(alloc, MemDisk::from_bytes(alloc, bytes.to_vec(alloc)?))
     }
 
-    /// A new store after these sample releases.
+    /// A new store after importing these sample releases.
     pub fn after(alloc: Global, names: &[&str]) -> Result<Example, Refusal> {
         let mut example = Example::new(alloc)?;
         for name in names {
@@ -97,17 +97,17 @@ impl Example {
         Ok(example)
     }
 
-    /// Adds a release that is given away.
+    /// Imports a release.
     pub fn take(&mut self, release: Release) -> Result<Receipt, Refusal> {
         self.store.import(release)
     }
 
-    /// Checks a release, and adds nothing.
+    /// Checks a release, and imports nothing.
     pub fn check(&mut self, release: Release) -> Result<Receipt, Refusal> {
         self.store.check(release)
     }
 
-    /// The contradictions of a release, as many as the limit at most.
+    /// The contradictions of a release, at most as many as the limit.
     pub fn contradictions(
         &mut self,
         release: Release,
@@ -121,7 +121,7 @@ impl Example {
         self.store.import_of(key)
     }
 
-    /// Adds the sample release of this name.
+    /// Imports the sample release of this name.
     pub fn import_sample(&mut self, name: &str) -> Result<Receipt, Refusal> {
         let release = sample_named(self.alloc, name)?;
         self.take(release)
@@ -165,7 +165,7 @@ impl Example {
         self.store.needs_reopen()
     }
 
-    /// Gives the disk back.
+    /// Returns the disk.
     pub fn close(self) -> MemDisk {
         Box::into_inner(self.store).close()
     }

@@ -1,6 +1,6 @@
-//! Stores, releases, rows and images of disks for tests, and memory that runs out. Nothing here
-//! has a clause: a test that calls the store through an `Example` is proved without what the
-//! store promises.
+//! Stores, releases, rows and images of disks for tests, and a way to run out of memory. Nothing
+//! here has a contract: a test that calls the store through an `Example` is proved without using
+//! what the store promises.
 #![tactic(auto)]
 
 mod disks;

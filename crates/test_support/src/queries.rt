@@ -1,5 +1,5 @@
-//! The questions, as lines. A pin above the number of imports, a number of an import that
-//! there isn't, and one that isn't a date or an identifier, are mistakes of the test.
+//! The queries, whose results are lines. A pin above the number of imports, an import number that
+//! doesn't exist, and a number that isn't a date or an identifier are mistakes in the test.
 
 ghost use Rattle.std.specs.Prelude.{◌≤◌, IfOk};
 
@@ -11,14 +11,14 @@ use history_store::{AsOf, ImportReceipt, Refusal, Store};
 use rf2_rows::{EffectiveTime, Kind, Row, Sctid};
 use store_digest::digest;
 
-/// The pin, or the number of imports where that is less.
+/// The pin, or the number of imports if that is less.
 fn clamp_pin(store: &Store<MemDisk>, pin: u32) -> u32
     ensures { result ≤ store.now.history.imports }
 {
     pin.min(store.imports())
 }
 
-/// The date that a number is.
+/// The number as a date.
 fn date_of(number: u32) -> Result<EffectiveTime, Refusal> {
     EffectiveTime::of(number).ok_or(MISUSED)
 }
@@ -34,12 +34,12 @@ fn as_of(store: &Store<MemDisk>, date: u32, pin: u32) -> Result<AsOf, Refusal>
     Ok(AsOf { date, pin })
 }
 
-/// The identifier that a number is.
+/// The number as an identifier.
 fn id_of(number: u64) -> Result<Sctid, Refusal> {
     Sctid::of(number).ok_or(MISUSED)
 }
 
-/// What an import brought. Where there is none with this number, it is a mistake of the test.
+/// The receipt of an import. If there is no import with this number, that is a mistake in the test.
 fn receipt_of(store: &Store<MemDisk>, number: u32) -> Result<ImportReceipt, Refusal> {
     if number == 0 || number > store.imports() {
         return Err(MISUSED);
@@ -48,7 +48,7 @@ fn receipt_of(store: &Store<MemDisk>, number: u32) -> Result<ImportReceipt, Refu
 }
 
 impl Example {
-    /// A pin that is shown.
+    /// Refuses a pin above the number of imports.
     fn check_pin(&self, pin: u32) -> Result<(), Refusal> {
         if pin > self.imports() {
             return Err(MISUSED);
@@ -68,7 +68,7 @@ impl Example {
         self.store.get(kind, id, as_of)
     }
 
-    /// The line of the component's row at the date; no bytes where there is none.
+    /// The line of the component's row at the date; no bytes if there is none.
     pub fn line_at(
         &mut self,
         kind: Kind,
@@ -80,7 +80,7 @@ impl Example {
         Ok(line_of(self.alloc, row.as_ref())?)
     }
 
-    /// The lines of the component's versions, each with an LF.
+    /// The lines of the component's versions, each followed by an LF.
     pub fn history(&mut self, kind: Kind, id: u128, pin: u32) -> Result<Vec<u8>, Refusal> {
         self.check_pin(pin)?;
         let pin = clamp_pin(&self.store, pin);
@@ -88,7 +88,7 @@ impl Example {
         Ok(lines_of(self.alloc, &rows)?)
     }
 
-    /// The lines of the first rows of a kind from above `after` on, each with an LF.
+    /// The lines of the first rows of a kind with ids greater than `after`, each followed by an LF.
     pub fn page(
         &mut self,
         kind: Kind,
@@ -102,7 +102,7 @@ impl Example {
         Ok(lines_of(self.alloc, &rows)?)
     }
 
-    /// The lines of descriptions whose term begins with the prefix, each with an LF.
+    /// The lines of descriptions whose term begins with the prefix, each followed by an LF.
     pub fn terms(
         &mut self,
         prefix: &str,
@@ -115,7 +115,7 @@ impl Example {
         Ok(lines_of(self.alloc, &rows)?)
     }
 
-    /// The lines of such descriptions from above `after` on, each with an LF.
+    /// The lines of such descriptions with ids greater than `after`, each followed by an LF.
     pub fn search(
         &mut self,
         prefix: &str,
@@ -129,7 +129,7 @@ impl Example {
         Ok(lines_of(self.alloc, &rows)?)
     }
 
-    /// The lines of the rows of a kind that are about a component, each with an LF.
+    /// The lines of the rows of a kind that are about a component, each followed by an LF.
     pub fn about(&mut self, kind: Kind, id: u64, date: u32, pin: u32) -> Result<Vec<u8>, Refusal> {
         let id = id_of(id)?;
         let as_of = as_of(&self.store, date, pin)?;
@@ -158,7 +158,7 @@ impl Example {
         self.store.ancestors(id, as_of)
     }
 
-    /// The lines of a component's associations, each with an LF.
+    /// The lines of the associations that refer to a component, each followed by an LF.
     pub fn replacements(&mut self, id: u64, date: u32, pin: u32) -> Result<Vec<u8>, Refusal> {
         let id = id_of(id)?;
         let as_of = as_of(&self.store, date, pin)?;
@@ -166,7 +166,7 @@ impl Example {
         Ok(lines_of(self.alloc, &rows)?)
     }
 
-    /// The lines of the associations of which a component is the target, each with an LF.
+    /// The lines of the associations whose target is a component, each followed by an LF.
     pub fn replaces(&mut self, id: u64, date: u32, pin: u32) -> Result<Vec<u8>, Refusal> {
         let id = id_of(id)?;
         let as_of = as_of(&self.store, date, pin)?;
@@ -175,7 +175,7 @@ impl Example {
     }
 
     /// The lines of all versions of the components of a kind that were ever about a component, each
-    /// with an LF.
+    /// followed by an LF.
     pub fn timeline(&mut self, kind: Kind, id: u64, pin: u32) -> Result<Vec<u8>, Refusal> {
         let id = id_of(id)?;
         self.check_pin(pin)?;
@@ -184,8 +184,8 @@ impl Example {
         Ok(lines_of(self.alloc, &rows)?)
     }
 
-    /// The lines of the first rows of a kind that changed from one date to another, from above
-    /// `after` on, each with an LF.
+    /// The lines of the first rows of a kind that changed from one date to another, with ids
+    /// greater than `after`, each followed by an LF.
     pub fn delta(
         &mut self,
         kind: Kind,
@@ -201,7 +201,8 @@ impl Example {
         Ok(lines_of(self.alloc, &rows)?)
     }
 
-    /// The lines of the first members of a reference set, from above `after` on, each with an LF.
+    /// The lines of the first members of a reference set with ids greater than `after`, each
+    /// followed by an LF.
     pub fn members(
         &mut self,
         refset: u64,
@@ -216,8 +217,8 @@ impl Example {
         Ok(lines_of(self.alloc, &rows)?)
     }
 
-    /// The lines of the first active members of a reference set that refer to a component above
-    /// `after`, each with an LF.
+    /// The lines of the first active members of a reference set that refer to a component greater
+    /// than `after`, each followed by an LF.
     pub fn values(
         &mut self,
         refset: u64,
@@ -233,7 +234,7 @@ impl Example {
     }
 
     /// The lines of the descriptions by which a concept is called in a language, and of their
-    /// members, each with an LF.
+    /// members, each followed by an LF.
     pub fn called(
         &mut self,
         concept: u64,
@@ -248,7 +249,7 @@ impl Example {
         Ok(lines_of(self.alloc, &rows)?)
     }
 
-    /// The days that have rows, each with an LF.
+    /// The days that have rows, each followed by an LF.
     pub fn dates(&mut self, pin: u32) -> Result<Vec<u8>, Refusal> {
         self.check_pin(pin)?;
         let pin = clamp_pin(&self.store, pin);
@@ -263,7 +264,7 @@ impl Example {
         digest(self.alloc, &mut self.store, pin)
     }
 
-    /// What an import brought.
+    /// The receipt of an import.
     pub fn receipt(&self, number: u32) -> Result<ImportReceipt, Refusal> {
         receipt_of(&self.store, number)
     }

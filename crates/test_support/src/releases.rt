@@ -28,7 +28,7 @@ fn file_text(alloc: Global, kind: Kind, lines: &[&str]) -> Result<Vec<u8>, Alloc
     Ok(text)
 }
 
-/// A release of the same files.
+/// A copy of the release.
 pub fn copy_of(alloc: Global, release: &Release) -> Result<Release, AllocError> {
     let mut files = Vec::with_capacity(alloc, release.files.len())?;
     for file in &release.files {
@@ -54,8 +54,8 @@ pub fn one_file(alloc: Global, kind: Kind, lines: &[&str]) -> Result<Release, Al
     of_bytes(alloc, kind, text.as_slice())
 }
 
-/// A release of so many versions of the root concept, each on the last day of January, one a year
-/// from this one on.
+/// A release with `count` versions of the root concept, each of the last day of January, for the
+/// years from `first` on.
 pub fn root_years(alloc: Global, first: u32, count: u32) -> Result<Release, AllocError> {
     let mut rows = Vec::new(alloc);
     for year in first..first.saturating_add(count) {
@@ -68,11 +68,11 @@ pub fn root_years(alloc: Global, first: u32, count: u32) -> Result<Release, Allo
     one_file(alloc, Kind::Concept, texts.as_slice())
 }
 
-/// What is answered where a test asks for a sample, a date, an identifier, a pin
-/// or an import that there isn't: no call on an open store is refused so.
+/// What is returned if a test asks for a sample, a date, an identifier, a pin or an import that
+/// doesn't exist: no call on an open store is refused with this.
 pub const MISUSED: Refusal = Refusal::NotAStore;
 
-/// The sample release of this name, r1, r2 or r3. Any other name is a mistake of the test.
+/// The sample release of this name: r1, r2 or r3. Any other name is a mistake in the test.
 pub fn sample_named(alloc: Global, name: &str) -> Result<Release, Refusal> {
     match sample(alloc, name)? {
         Some(release) => Ok(release),

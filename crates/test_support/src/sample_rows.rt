@@ -1,4 +1,4 @@
-//! What a store holds after the first of the sample releases.
+//! The rows of a store after the first of the sample releases.
 
 use crate::example::Example;
 use crate::text::lines;
@@ -6,8 +6,8 @@ use history_store::Refusal;
 use rf2_rows::Kind;
 use std::alloc::{AllocError, Global};
 
-/// The rows of the three releases: the number of the import that first brings each,
-/// its kind, its identifier and its line. The versions of a component ascend by time.
+/// The rows of the three releases: the number of the import that first brings each, its kind, its
+/// identifier and its line. The versions of a component are ascending by time.
 const ROWS: [(u32, Kind, u128, &str); 12] = [
     (
         1,
@@ -58,7 +58,7 @@ const ROWS: [(u32, Kind, u128, &str); 12] = [
     ),
 ];
 
-/// The lines of a component's versions that the first so many imports bring.
+/// The lines of a component's versions that the first `imports` imports bring.
 fn versions(alloc: Global, kind: Kind, id: u128, imports: u32) -> Result<Vec<u8>, AllocError> {
     let mut found = Vec::new(alloc);
     for (import, of_kind, of_id, line) in &ROWS {
@@ -69,7 +69,7 @@ fn versions(alloc: Global, kind: Kind, id: u128, imports: u32) -> Result<Vec<u8>
     lines(alloc, found.as_slice())
 }
 
-/// Whether a pin shows exactly the rows of the first so many imports.
+/// Whether a pin shows exactly the rows of the first `pin` imports.
 fn shows(alloc: Global, store: &mut Example, pin: u32) -> Result<bool, Refusal> {
     for (_, kind, id, _) in &ROWS {
         let want = versions(alloc, *kind, *id, pin)?;
@@ -80,8 +80,8 @@ fn shows(alloc: Global, store: &mut Example, pin: u32) -> Result<bool, Refusal> 
     Ok(true)
 }
 
-/// Whether the store holds exactly the rows of the first
-/// so many imports, each with the number of its import.
+/// Whether the store has exactly the rows of the first `imports` imports, each with its import
+/// number.
 pub fn holds(alloc: Global, store: &mut Example, imports: u32) -> Result<bool, Refusal> {
     let rows = ROWS.iter().filter(|row| row.0 <= imports).count();
     if store.imports() != imports || store.row_count() != rows as u64 {

@@ -1,10 +1,10 @@
-//! Rows as text. In the text of a test a bar stands for
-//! a TAB, and a name in capitals for an identifier.
+//! Rows as text. In the text of a test a bar stands for a TAB, and a name in capitals for an
+//! identifier.
 
 use rf2_rows::{EffectiveTime, Row, write_row};
 use std::alloc::{AllocError, Global};
 
-/// What a name in capitals stands for.
+/// The identifier that a name in capitals stands for.
 fn meaning(column: &str) -> &str {
     match column {
         "CORE" => "900000000000207008",
@@ -17,7 +17,7 @@ fn meaning(column: &str) -> &str {
     }
 }
 
-/// A line: TABs for bars, and identifiers for names in capitals.
+/// A line of such a text, with TABs for bars and identifiers for names in capitals.
 pub fn line(alloc: Global, text: &str) -> Result<String, AllocError> {
     let mut line = String::new(alloc);
     for (place, column) in text.split('|').enumerate() {
@@ -29,7 +29,7 @@ pub fn line(alloc: Global, text: &str) -> Result<String, AllocError> {
     Ok(line)
 }
 
-/// Such lines, each with an LF.
+/// Such lines, each followed by an LF.
 pub fn lines(alloc: Global, rows: &[&str]) -> Result<Vec<u8>, AllocError> {
     let mut text = Vec::new(alloc);
     for row in rows {
@@ -40,7 +40,7 @@ pub fn lines(alloc: Global, rows: &[&str]) -> Result<Vec<u8>, AllocError> {
     Ok(text)
 }
 
-/// The line of a row; no bytes where there is none.
+/// The line of a row; no bytes if there is none.
 pub fn line_of(alloc: Global, row: Option<&Row>) -> Result<Vec<u8>, AllocError> {
     let mut text = Vec::new(alloc);
     if let Some(row) = row {
@@ -49,7 +49,7 @@ pub fn line_of(alloc: Global, row: Option<&Row>) -> Result<Vec<u8>, AllocError> 
     Ok(text)
 }
 
-/// Days as lines, each with an LF.
+/// Days as lines, each followed by an LF.
 pub fn lines_of_days(alloc: Global, days: &[EffectiveTime]) -> Result<Vec<u8>, AllocError> {
     let mut text = Vec::new(alloc);
     for day in days {
@@ -60,7 +60,7 @@ pub fn lines_of_days(alloc: Global, days: &[EffectiveTime]) -> Result<Vec<u8>, A
     Ok(text)
 }
 
-/// The lines of rows, each with an LF.
+/// The lines of rows, each followed by an LF.
 pub fn lines_of(alloc: Global, rows: &[Row]) -> Result<Vec<u8>, AllocError> {
     let mut text = Vec::new(alloc);
     for row in rows {

@@ -1,10 +1,10 @@
-//! Which function answers a question, by its first word.
+//! Dispatches each question by its first word to the function that answers it.
 
 use crate::{lists, requests, rows, values};
 use case_files::{Answer, Answers, NoAnswer};
 use std::alloc::Global;
 
-/// Values, of which nothing is kept.
+/// The questions about values, which have no state.
 #[derive(Clone, Copy)]
 pub struct Examples {
     pub alloc: Global,

@@ -1,8 +1,8 @@
-//! Counts of faults, and the order of lists that shrink.
+//! Counts of faults, and the order of shrinking lists.
 //!
-//! - `raised NUMBER` answers the count after one fault more;
-//! - `in_order COUNT` answers whether a list of so many numbers gives them in their order, and then
-//!   none; how many it has at first has to be right too.
+//! - `raised NUMBER` prints the count after one more fault;
+//! - `in_order COUNT` prints whether a list of COUNT numbers returns them in order, and then none;
+//!   the number that it says it has at first has to be right too.
 
 use case_files::Answer;
 use case_values::number;
@@ -10,7 +10,7 @@ use fault_counts::raised;
 use shrinking_list::ShrinkingList;
 use std::alloc::{AllocError, Global};
 
-/// So many numbers, ascending from 0.
+/// The numbers below `count`, in ascending order.
 fn numbers(alloc: Global, count: u32) -> Result<ShrinkingList<u32>, AllocError> {
     let mut items = Vec::new(alloc);
     for number in 0..count {
@@ -19,7 +19,7 @@ fn numbers(alloc: Global, count: u32) -> Result<ShrinkingList<u32>, AllocError> 
     Ok(ShrinkingList::new(items))
 }
 
-/// Whether a list of so many numbers gives them in their order, and then none.
+/// Whether a list of this many numbers returns them in order, and then none.
 fn are_in_order(alloc: Global, count: u32) -> Result<bool, AllocError> {
     let mut list = numbers(alloc, count)?;
     if list.len() as u64 != u64::from(count) {
@@ -33,7 +33,7 @@ fn are_in_order(alloc: Global, count: u32) -> Result<bool, AllocError> {
     Ok(list.next().is_none() && list.next().is_none())
 }
 
-/// The answer to a question about a count or a list.
+/// Answers a question about a count or a list.
 pub fn answer(alloc: Global, word: &str, rest: &str) -> Answer {
     match word {
         "raised" => {

@@ -1,8 +1,9 @@
 //! Lines of the protocol.
 //!
-//! - `request TEXT` answers the session and the command that a line asks, which of a question that
-//!   follows the session is the question alone, or the number and the name of the refusal;
-//! - `request_fits TEXT` answers `yes` in place of the command.
+//! - `request TEXT` prints the session and the command of a line, or the number and the name of the
+//!   refusal. For a question about the imports that the session sees, the question alone is printed
+//!   as the command;
+//! - `request_fits TEXT` prints the same with `yes` in place of the command.
 
 use case_files::{Answer, unquoted};
 use line_commands::{Command, Request, Unread, parse};
@@ -14,7 +15,7 @@ fn spell_refusal(alloc: Global, reason: Unread) -> Answer {
     Ok(format!(in alloc; "{code} {name}")?)
 }
 
-/// A session and what it asks.
+/// A session and its command.
 fn spell_request(alloc: Global, request: &Request<'_>) -> Answer {
     let session = request.session;
     match &request.command {
@@ -23,7 +24,7 @@ fn spell_request(alloc: Global, request: &Request<'_>) -> Answer {
     }
 }
 
-/// The answer to a question about a line.
+/// Answers a question about a line.
 pub fn answer(alloc: Global, word: &str, rest: &str) -> Answer {
     let line = unquoted(alloc, rest)?;
     match parse(line.as_slice()) {

@@ -1,15 +1,15 @@
 //! Lines and files of releases.
 //!
-//! - `line SHAPE TEXT` answers the fault of a line, or `no fault`: a shape is a kind, and behind a
-//!   plus sign how many further columns a member has;
-//! - `row KIND TEXT` answers the kind, the number and the line of the row that a line spells;
-//! - `file KIND TEXT` answers how many rows a file has, or its first faulty line and the fault;
-//! - `file_of KIND TEXT` answers the same of a file that begins with the column names of its kind,
-//!   and once more of the file with a byte order mark in front;
-//! - `names KIND` answers the column names, `names_as KIND KIND` what becomes of a file of those of
-//!   the first kind that is read as one of the second;
-//! - `bytes KIND TEXT` answers how many bytes a line has, `term_bytes KIND TEXT` how many the term
-//!   of its row has.
+//! - `line SHAPE TEXT` prints the fault of a line, or `no fault`: a shape is a kind and, after a
+//!   plus sign, the number of a member's further columns;
+//! - `row KIND TEXT` prints the kind, the number and the line of the row that is read from a line;
+//! - `file KIND TEXT` prints how many rows a file has, or its first faulty line and the fault;
+//! - `file_of KIND TEXT` prints the same for a file that begins with the column names of its kind,
+//!   and, if it differs, for the file with a byte order mark before them;
+//! - `names KIND` prints the column names, and `names_as KIND KIND` the result of reading a file of
+//!   the first kind's column names as one of the second kind;
+//! - `bytes KIND TEXT` prints how many bytes a line takes, and `term_bytes KIND TEXT` how many the
+//!   term of its row takes.
 //!
 //! In each text a bar stands for a TAB, and a name in capitals for an identifier.
 
@@ -36,7 +36,7 @@ fn fault_of(alloc: Global, shape: Shape, line: &[u8]) -> Answer {
     }
 }
 
-/// What becomes of a file.
+/// Reads a file: how many rows it has, or its first fault.
 fn outcome(alloc: Global, kind: Kind, bytes: &[u8]) -> Answer {
     match read_file(alloc, kind, bytes) {
         Ok(rows) => {
@@ -48,7 +48,7 @@ fn outcome(alloc: Global, kind: Kind, bytes: &[u8]) -> Answer {
     }
 }
 
-/// The file of these bytes behind a front and the column names.
+/// A file of `front`, the column names and `bytes`.
 fn file_below(
     alloc: Global,
     kind: Kind,
@@ -61,7 +61,7 @@ fn file_below(
     Ok(file)
 }
 
-/// What becomes of a file that begins with the column names, with a byte order mark and without.
+/// Reads a file that begins with the column names, with and without a byte order mark.
 fn outcome_below(alloc: Global, kind: Kind, bytes: &[u8]) -> Answer {
     let plain = outcome(alloc, kind, file_below(alloc, kind, b"", bytes)?.as_slice())?;
     let marked = file_below(alloc, kind, b"\xef\xbb\xbf", bytes)?;
@@ -72,7 +72,7 @@ fn outcome_below(alloc: Global, kind: Kind, bytes: &[u8]) -> Answer {
     Ok(format!(in alloc; "{plain}, and with a mark {marked}")?)
 }
 
-/// Whether a copy of the row, and the row made of its columns, equal it.
+/// Whether a copy of the row, and a row made from its columns, equal it.
 fn is_copied(alloc: Global, row: &Row) -> Result<bool, AllocError> {
     let copy = row.try_clone(alloc)?;
     let body = copy.body.try_clone(alloc)?;
@@ -80,7 +80,7 @@ fn is_copied(alloc: Global, row: &Row) -> Result<bool, AllocError> {
     Ok(copy.is_same(row) && made.is_some_and(|made| made == copy))
 }
 
-/// Whether the key of a row is that of its kind, its number and its day.
+/// Whether the key of a row consists of its kind, its number and its day.
 fn has_key(row: &Row) -> bool {
     let key = Key {
         id: row.id,
@@ -90,7 +90,7 @@ fn has_key(row: &Row) -> bool {
     row.key() == key
 }
 
-/// What there is to say of a row.
+/// Describes a row.
 fn spell_row(alloc: Global, row: &Row) -> Answer {
     if !is_copied(alloc, row)? {
         return Ok(String::from_str(alloc, "a copy is another row")?);
@@ -104,7 +104,7 @@ fn spell_row(alloc: Global, row: &Row) -> Answer {
     Ok(format!(in alloc; "{kind:?} {id}\n{line}")?)
 }
 
-/// How many bytes the term of a description has.
+/// How many bytes the term of a description takes.
 fn count_term(row: &Row) -> usize {
     match &row.body {
         Body::Description(columns) => columns.term.as_bytes().len(),
@@ -112,7 +112,7 @@ fn count_term(row: &Row) -> usize {
     }
 }
 
-/// The answer to a question about a line or a file.
+/// Answers a question about a line or a file.
 pub fn answer(alloc: Global, word: &str, rest: &str) -> Answer {
     if word == "names" {
         return spell_text(alloc, column_names(kind_of(rest)?));

@@ -1,15 +1,15 @@
-//! Identifiers, days, members, keys, rows made of columns, and names as people are shown them.
+//! Identifiers, days, members, keys, rows made from columns, and file names as they are printed.
 //!
-//! - `sctid TEXT` answers the class of the identifier that the text spells, `sctid_of NUMBER` the
-//!   identifier with a number, `time TEXT` the number of the day, `member TEXT` that of the member,
-//!   in base 16, and each of them `none` where there is none;
-//! - `further TEXT` answers how many further columns of a member the text is, or `none`;
-//! - `below KIND ID DAY < KIND ID DAY` answers whether the first key is less, by `compare`, by `<`
-//!   and by `==`, and neither turned round nor of one with itself;
-//! - `bytes_of a key` answers how many bytes it takes in memory;
-//! - `shown TEXT` answers what the name of a file that the text spells is shown as;
-//! - `term TEXT` answers whether there is a row of a description with this term, `concept_of ID
-//!   MODULE STATUS` whether there is one of a concept with these numbers.
+//! - `sctid TEXT` prints the class of the identifier in a text, `sctid_of NUMBER` the identifier
+//!   with a number, `time TEXT` the number of the day in a text, and `member TEXT` that of the
+//!   member, in hexadecimal; each prints `none` if there is none;
+//! - `further TEXT` prints how many further columns of a member the text has, or `none`;
+//! - `below KIND ID DAY < KIND ID DAY` prints whether the first key is less by `compare`, `<` and
+//!   `==`, also with the keys swapped, and each equal to itself;
+//! - `bytes_of a key` prints how many bytes a key takes in memory;
+//! - `shown TEXT` prints a file name as the program prints it;
+//! - `term TEXT` prints whether a row of a description may have this term, and `concept_of ID
+//!   MODULE STATUS` whether a row of a concept may have these numbers.
 
 use case_files::{Answer, NoAnswer, unquoted};
 use case_values::{day_of, first_word, kind_of, number, sctid_of};
@@ -21,7 +21,7 @@ use std::alloc::Global;
 use std::cmp::Ordering;
 use std::mem::size_of;
 
-/// The class of the identifier that a text spells.
+/// The class of the identifier in a text.
 fn class_of(alloc: Global, text: &[u8]) -> Answer {
     let Some(id) = Sctid::parse(text) else {
         return Ok(String::from_str(alloc, "none")?);
@@ -35,7 +35,7 @@ fn class_of(alloc: Global, text: &[u8]) -> Answer {
     }
 }
 
-/// The number, or that there is none.
+/// The number, or `none`.
 fn spell_number(alloc: Global, number: Option<u64>) -> Answer {
     match number {
         Some(number) => Ok(format!(in alloc; "{number}")?),
@@ -43,7 +43,7 @@ fn spell_number(alloc: Global, number: Option<u64>) -> Answer {
     }
 }
 
-/// The number of the day that a text spells.
+/// The number of the day in a text.
 fn day_in(alloc: Global, text: &[u8]) -> Answer {
     let day = EffectiveTime::parse(text);
     if let Some(day) = day
@@ -54,7 +54,7 @@ fn day_in(alloc: Global, text: &[u8]) -> Answer {
     spell_number(alloc, day.map(|day| u64::from(day.value())))
 }
 
-/// The number of the member that a text spells.
+/// The number of the member in a text.
 fn member_in(alloc: Global, text: &[u8]) -> Answer {
     let Some(member) = Member::parse(text) else {
         return Ok(String::from_str(alloc, "none")?);
@@ -66,7 +66,7 @@ fn member_in(alloc: Global, text: &[u8]) -> Answer {
     Ok(format!(in alloc; "{number:032x}")?)
 }
 
-/// How many further columns a text is: where it is any, they are kept as they stand.
+/// How many further columns a text has. If it has any, `Further` has to keep its bytes unchanged.
 fn further_in(alloc: Global, text: &[u8]) -> Answer {
     let count = Further::count(text);
     let kept = Further::of(alloc, text)?;
@@ -81,13 +81,13 @@ fn further_in(alloc: Global, text: &[u8]) -> Answer {
     spell_number(alloc, count.map(|count| count as u64))
 }
 
-/// What the name of a file is shown as.
+/// A file name as the program prints it.
 fn shown(alloc: Global, name: &[u8]) -> Answer {
     let name = Shown(name);
     Ok(format!(in alloc; "{name}")?)
 }
 
-/// The key of a kind, a number and a day.
+/// Reads a key: a kind, a number and a day.
 fn key_of(words: &str) -> Result<Key, NoAnswer> {
     let (kind, words) = first_word(words)?;
     let (id, day) = first_word(words)?;
@@ -98,7 +98,7 @@ fn key_of(words: &str) -> Result<Key, NoAnswer> {
     })
 }
 
-/// Whether the first of two keys is less than the second, by each way to compare them.
+/// Whether the first of two keys is less than the second, by each way of comparing them.
 fn is_below(a: &Key, b: &Key) -> bool {
     let compared = (a.compare(b), b.compare(a), a.compare(a));
     compared == (Ordering::Less, Ordering::Greater, Ordering::Equal)
@@ -120,7 +120,7 @@ fn spell_row(alloc: Global, row: Option<Row>) -> Answer {
     Ok(String::from_str(alloc, if row.is_some() { "a row" } else { "none" })?)
 }
 
-/// A row of a description with a term: its other columns fit.
+/// Makes a row of a description with this term, and with valid other columns.
 fn with_term(alloc: Global, term: &[u8]) -> Answer {
     let (concept, day) = (sctid_of("138875005")?, day_of("20200131")?);
     let Some(language_code) = Text::of(alloc, b"de")? else {
@@ -139,7 +139,7 @@ fn with_term(alloc: Global, term: &[u8]) -> Answer {
     spell_row(alloc, Row::of(1_000_015, day, true, concept, body))
 }
 
-/// A row of a concept with these numbers.
+/// Makes a row of a concept with these numbers.
 fn with_numbers(alloc: Global, words: &str) -> Answer {
     let (id, words) = first_word(words)?;
     let (module_id, status) = first_word(words)?;
@@ -152,7 +152,7 @@ fn with_numbers(alloc: Global, words: &str) -> Answer {
     )
 }
 
-/// The answer to a question about a value.
+/// Answers a question about a value.
 pub fn answer(alloc: Global, word: &str, rest: &str) -> Answer {
     match word {
         "sctid" => class_of(alloc, unquoted(alloc, rest)?.as_slice()),

@@ -1,4 +1,4 @@
--- Words beside those of `Chosen` that no public clause cites.
+-- Definitions that complete those of `Chosen`. No public clause cites them.
 use Rattle.std.specs.Prelude.{ℕ}
 use Rattle.std.specs.Ordering.{nat_cmp, ordering_then}
 use Rattle.std.specs.declared.cmp.Ordering.{Ordering}

@@ -1,15 +1,15 @@
--- What is looked for among the dates of places, and what is added to a list of dates.
+-- Searching the dates of places, and adding to a list of dates.
 use Rattle.std.specs.Prelude.{◌≡◌, ◌≤◌, ◌⊎◌, ℕ, List}
 use Rattle.history_model.specs.InOrder.{Has}
 use Rattle.segment.specs.declared.place.RowPlace.{RowPlace}
 use Rattle.as_of_index.specs.declared.dates.DateEntry.{DateEntry}
 use Rattle.as_of_index.specs.Dates.{IsEntryOf}
 
--- there is an entry of the place
+-- some entry has the place's date and import
 abbrev pub HasEntry : List DateEntry → RowPlace → Type 0
 HasEntry entries p = (e : DateEntry) × Has entries e × IsEntryOf p e
 
--- the new list has what the old one had, and the times of those that the pin shows
+-- the new list has the old times and those of the items that the pin shows, and no others
 pub record AddsTimes {X : Type 0} (time import : X → ℕ) (pin : ℕ) (xs : List X) (old new : List ℕ)
     : Type 0 where
   pub kept : (t : ℕ) → Has old t → Has new t

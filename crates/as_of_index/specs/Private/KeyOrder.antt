@@ -1,4 +1,4 @@
--- The next place in the order of keys.
+-- The next place in key order.
 use Rattle.std.specs.Prelude.{◌≡◌, ℕ, true, List, Option, Some, None}
 use Rattle.std.specs.declared.cmp.Ordering.TheVariants.{Less}
 use Rattle.rf2_values.specs.declared.key.Key.{Key}
@@ -7,7 +7,7 @@ use Rattle.history_model.specs.KeyOrder.{is_key_after}
 use Rattle.segment.specs.declared.place.RowPlace.{RowPlace}
 use Rattle.as_of_index.specs.Places.{place_cmp}
 
--- of the places whose keys come after a key, if one is given, none is before this one
+-- of the places whose keys are greater than `after`, if that is given, this is the first
 pub record IsFirstAfter (after : Option Key) (xs : List (ℕ × RowPlace)) (x : ℕ × RowPlace)
     : Type 0 where
   pub there : Has xs x

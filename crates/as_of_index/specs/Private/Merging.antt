@@ -1,9 +1,9 @@
--- Words beside those of `Merging` that no public clause cites.
+-- Definitions that complete those of `Merging`. No public clause cites them.
 use Rattle.std.specs.Prelude.{◌≡◌, ◌≤◌, ℕ, List, Some, slice_get}
 use Rattle.as_of_index.specs.Merging.{PostingKind}
 
--- of what is left of two lists this one's first comes next: it is there, and the other's isn't
--- below
+-- posting `i` of this list comes next: it exists, and posting `j` of the other list, if that
+-- exists, isn't below it
 pub record IsNext {X : Type 0} (kind : PostingKind X) (own : List X) (i : ℕ) (other : List X)
     (j : ℕ) : Type 0 where
   pub x : X

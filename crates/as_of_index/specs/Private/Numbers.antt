@@ -1,10 +1,10 @@
--- Words beside those of `Numbers` that no public clause cites.
+-- Definitions that complete those of `Numbers`. No public clause cites them.
 use Rattle.std.specs.Prelude.{◌≡◌, ℕ, List, Some, slice_get}
 use Rattle.std.specs.declared.cmp.Ordering.TheVariants.{Less}
 use Rattle.segment.specs.declared.place.RowPlace.{RowPlace}
 use Rattle.as_of_index.specs.Places.{place_cmp}
 
--- the place with a number is there, and below the other list's, if that is there
+-- place `i` of a list exists, and is less than place `j` of the other list, if that exists
 pub record ComesBefore (own : List RowPlace) (i : ℕ) (other : List RowPlace) (j : ℕ)
     : Type 0 where
   pub p : RowPlace

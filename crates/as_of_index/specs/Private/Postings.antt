@@ -1,4 +1,4 @@
--- Words beside those of `Postings` that no public clause cites.
+-- Definitions that complete those of `Postings`. No public clause cites them.
 use Rattle.std.specs.Prelude.{ℕ, ◌+◌, List, [], ◌∷◌, ◌++◌, map}
 
 -- the items of all lists, each with the number of its list

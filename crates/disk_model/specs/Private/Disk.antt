@@ -1,6 +1,6 @@
--- Words beside those of `Disk` that no public clause cites.
+-- Definitions that complete those of `Disk`. No public clause cites them.
 use Rattle.std.specs.Prelude.{◌≡◌, ℕ, ◌<◌, List, length, slice_index}
 
--- below place n c has no other bytes than d
+-- below offset `n`, `c` has the same bytes as `d`
 pub record SameBelow (n : ℕ) (d c : List ℕ) : Type 0 where
   pub each : (i : ℕ) → i < n → i < length c → slice_index c i ≡ slice_index d i

@@ -1,4 +1,4 @@
--- Words beside those of `Entry` that no public clause cites.
+-- Definitions that complete those of `Entry`. No public clause cites them.
 use Rattle.std.specs.Prelude.{ℕ, ◌+◌, ◌-◌, ◌≤◌, Bool, true, false}
 use Rattle.disk_model.specs.declared.disk.TheConstants.{MAX_END}
 use Rattle.disk_model.specs.declared.memory.record.Entry.{Entry}
@@ -38,6 +38,6 @@ end_of Synced = 0
 end_of (WriteFailed at from end part) = end
 end_of (CutFailed len is_made) = 0
 
--- the bytes that a write had are among so many, and on the disk they end where a write may end
+-- the bytes of a write are among the first `n`, and on the disk they end where a write may end
 abbrev pub IsWithin : ℕ → Entry → Type 0
 IsWithin n entry = IsRange n (at_of entry) (from_of entry) (end_of entry)

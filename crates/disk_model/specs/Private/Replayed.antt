@@ -1,5 +1,4 @@
--- A proof, which the law of the disk in memory cites:
--- what a read gives is an image, after each call.
+-- A proof that a law of the disk in memory cites: what a read returns is an image, after each call.
 use Rattle.std.proofs.lemmas.Bool.Decides.{nat_tests}
 use Rattle.std.proofs.Common.{◌≡◌, inl, inr, Bool, ℕ, ◌+◌, ◌≤◌, min, List, [], ◌∷◌, length, take}
 use Rattle.std.proofs.Common.{if◌then◌else◌, ltb}
@@ -76,7 +75,7 @@ now-after_cut s n =
     }) refl
     (λ wrong. take_all n s.now (grind (arith, nat_tests)))
 
--- after a write of which a part is written, what a read gives is an image
+-- after a write of which a part is written, what a read returns is an image
 part_image : (s : DiskState) (at : ℕ) (bytes part : List ℕ) → IsImage s s.now
     → length part ≤ length bytes
     → IsImage (after_write s at bytes) (written s.now at part)

@@ -5,12 +5,12 @@ ghost use Rattle.disk_model.specs.Change.{written};
 use crate::MAX_END;
 use std::alloc::{AllocError, Global};
 
-/// What a read of a disk in memory gives.
+/// The bytes of a disk in memory, as a read returns them.
 #[derive(Drop)]
 pub(crate) struct Contents {
-    /// What the disk held when it was made.
+    /// The bytes that the disk was made with.
     pub(crate) first: Vec<u8>,
-    /// What it holds now, once that was to be changed.
+    /// The present bytes, once they were changed or are about to be.
     pub(crate) changed: Option<Vec<u8>>,
 }
 
@@ -35,7 +35,7 @@ impl Contents {
         }
     }
 
-    /// Takes all the memory for changes that end at or below `end`.
+    /// Allocates all memory for changes that end at or below `end`.
     pub(crate) fn make_room(&mut self, alloc: Global, end: usize) -> Result<(), AllocError>
         ensures room { OnOk result (HasRoom self.new end) }
         ensures shown { shown self.new ≡ shown self.old }
@@ -85,7 +85,7 @@ impl Contents {
     }
 }
 
-/// Writes over the bytes from `at` on, with zeros before them where the file ends earlier.
+/// Overwrites the bytes from `at` on, with zeros before them if the file ends earlier.
 pub(crate) fn overwrite(file: &mut Vec<u8>, at: u64, bytes: &[u8]) -> Result<(), AllocError>
     requires { at + length bytes.now ≤ MAX_END }
     ensures ok { OnOk result (file.new.items ≡ written file.old.items at bytes.now) }
@@ -103,7 +103,7 @@ pub(crate) fn overwrite(file: &mut Vec<u8>, at: u64, bytes: &[u8]) -> Result<(),
     Ok(())
 }
 
-/// Adds zeros up to a length, where the file is shorter.
+/// Extends the file with zeros to this length, if it is shorter.
 fn reach(file: &mut Vec<u8>, end: usize) -> Result<(), AllocError>
     ensures ok { OnOk result (file.new.items
         ≡ file.old.items ++ replicate (end - length file.old.items) 0) }

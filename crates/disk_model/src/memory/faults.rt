@@ -1,17 +1,17 @@
 ghost use Rattle.std.specs.Prelude.{◌≡◌, ◌↔◌, IsTrue, Some};
 
-/// What becomes of a call that changes the disk.
+/// The fate of a call that changes the disk.
 #[derive(Clone, Copy)]
 pub(crate) enum Fate {
     Passes,
-    /// It fails, once so many bytes are written; a cut is made where there are any.
+    /// It fails after writing this many bytes; a cut is made if there are any.
     Fails(u64),
 }
 
 impl Fate {
     ghost use Rattle.disk_model.specs.Private.Faults.{part_of};
 
-    /// How many of so many bytes are written.
+    /// How many of `bytes` bytes are written.
     pub(crate) fn part_of(self, bytes: usize) -> usize
         ensures { result ≡ part_of self bytes }
     {
@@ -25,11 +25,11 @@ impl Fate {
 /// The failures that a test has asked for.
 #[derive(Clone, Copy)]
 pub(crate) struct Faults {
-    /// How many calls still pass, before each one fails.
+    /// How many calls still succeed before each one fails.
     pub(crate) fuse: Option<u64>,
-    /// How many changing calls still pass before one fails, and how many bytes that one writes.
+    /// How many changing calls still succeed before one fails, and how many bytes that one writes.
     pub(crate) change_break: Option<(u64, u64)>,
-    /// How many calls of `len` and `read_at` still pass before one fails.
+    /// How many calls of `len` and `read_at` still succeed before one fails.
     pub(crate) read_break: Option<u64>,
 }
 
@@ -70,7 +70,7 @@ impl Faults {
         }
     }
 
-    /// Whether the next call of `len` or `read_at` passes.
+    /// Whether the next call of `len` or `read_at` succeeds.
     pub(crate) fn of_read(&mut self) -> bool
         ensures passes { result ≡ passes_read self.old }
         ensures faults { self.new ≡ after_read_call self.old }

@@ -7,10 +7,10 @@ use crate::MAX_END;
 use crate::memory::faults::Fate;
 use std::alloc::{AllocError, Global};
 
-/// A call on the record. What a write was given lies in the record's bytes.
+/// A call in the record. The bytes of a write are in the record's `bytes`.
 #[derive(Clone, Copy)]
 pub(crate) enum Entry {
-    /// Where on the disk, and from where to where in the record's bytes.
+    /// The offset on the disk, and the range in the record's bytes.
     Written {
         at: u64,
         from: usize,
@@ -18,7 +18,7 @@ pub(crate) enum Entry {
     },
     Shortened(u64),
     Synced,
-    /// A write that failed, and how many bytes it had written.
+    /// A write that failed, and how many of its bytes were written.
     WriteFailed {
         at: u64,
         from: usize,
@@ -43,8 +43,7 @@ impl Entry {
     }
 }
 
-/// The calls that changed a disk, and those that failed
-/// where they may have changed it, the oldest first.
+/// The calls that changed a disk, and the failed calls that may have changed it, the oldest first.
 #[derive(Drop)]
 pub(crate) struct Record {
     pub(crate) entries: Vec<Entry>,
@@ -66,7 +65,7 @@ impl Record {
         }
     }
 
-    /// Takes all the memory for so many calls more that write so many bytes.
+    /// Allocates all memory for this many more calls, which write this many bytes together.
     pub(crate) fn make_room(&mut self, calls: usize, bytes: usize) -> Result<(), AllocError>
         ensures room { OnOk result (HasRoomFor self.new calls bytes) }
         ensures changes { changes_in self.new ≡ changes_in self.old }
@@ -121,7 +120,7 @@ impl Record {
         };
     }
 
-    /// A sync that fails isn't on the record.
+    /// Records a sync, unless it fails.
     pub(crate) fn note_sync(&mut self, fate: Fate)
         requires { HasRoomFor self.old 1 0 }
         ensures changes { changes_in self.new ≡ changes_in self.old ++ synced_as fate }
@@ -134,21 +133,21 @@ impl Record {
         }
     }
 
-    /// How many calls are on it, those that failed among them.
+    /// How many calls it has, including those that failed.
     pub(crate) fn len(&self) -> usize
         ensures { result ≡ length (changes_in self.now) }
     {
         self.entries.len()
     }
 
-    /// How many of its calls answered Ok.
+    /// How many of its calls returned `Ok`.
     pub(crate) fn made(&self) -> usize
         ensures { result ≡ count_made (changes_in self.now) }
     {
         self.entries.iter().filter(|entry| entry.is_made()).count()
     }
 
-    /// How many calls there are up to the one of this number among those that answered Ok.
+    /// How many calls there are up to the one with this number among those that returned `Ok`.
     pub(crate) fn place_of(&self, number: u64) -> usize
         ensures place { result ≡ place_of (changes_in self.now) number }
         ensures within { result ≤ length (changes_in self.now) }

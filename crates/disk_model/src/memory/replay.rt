@@ -14,21 +14,21 @@ use crate::memory::record::{Entry, Record};
 use crate::{Choice, MAX_END};
 use std::alloc::{AllocError, Global};
 
-/// What a disk was at a moment, as far as its images need it.
+/// The state of a disk at a moment, as far as its images depend on it.
 #[derive(Drop)]
 pub(crate) struct Replay {
-    /// What a read gave.
+    /// The bytes that a read returned.
     pub(crate) now: Vec<u8>,
     /// The bytes at the last sync.
     pub(crate) durable: Vec<u8>,
-    /// The least length since then.
+    /// The smallest length since then.
     pub(crate) least: usize,
     /// The ranges written since then, each by its start and its end.
     pub(crate) unsynced: Vec<(usize, usize)>,
 }
 
 impl Replay {
-    /// The moment after so many of the calls on the record.
+    /// The moment after the first `count` calls of the record.
     pub(crate) fn of(
         alloc: Global,
         first: &[u8],
@@ -83,7 +83,7 @@ impl Replay {
         }
     }
 
-    /// A write of which so many bytes were written.
+    /// Replays a write of which `part` bytes were written.
     fn write(&mut self, at: u64, bytes: &[u8], part: usize) -> Result<(), AllocError>
         requires { at + length bytes.now ≤ MAX_END }
         ensures { OnOk result ((s : DiskState) → Shows self.old s → Shows self.new
@@ -98,7 +98,7 @@ impl Replay {
         Ok(())
     }
 
-    /// A cut that was made, or wasn't.
+    /// Replays a cut that was made, or wasn't.
     fn cut(&mut self, len: u64, is_made: bool)
         ensures { (s : DiskState) → Shows self.old s → Shows self.new
             (reading (after_cut s len) (if is_made then take len s.now else s.now)) }

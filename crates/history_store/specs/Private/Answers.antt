@@ -1,4 +1,4 @@
--- Words beside those of `Answers` that no public clause cites.
+-- Definitions that complete those of `Answers`. No public clause cites them.
 use Rattle.std.specs.Prelude.{◌≡◌, false, List, Result, Ok, Err}
 use Rattle.rf2_values.specs.Row.{RowValue}
 use Rattle.history_model.specs.History.{History}
@@ -12,8 +12,8 @@ use Rattle.history_store.specs.Catalog.{Catalog}
 use Rattle.history_store.specs.StoreValue.{StoreValue}
 use Rattle.history_store.specs.Answers.{IsRefused}
 
--- the store goes on to this history and catalog; or the device failed, they stay, and the store
--- has to be opened again
+-- the store advances to this history and catalog; or the device failed, they are unchanged, and the
+-- store has to be opened again
 abbrev pub IsStep : {D : Type 0} → Result (Unit {0}) Refusal → StoreValue D → StoreValue D → History
     → Catalog → Type 0
 IsStep (Ok done) old new after next =
@@ -21,8 +21,8 @@ IsStep (Ok done) old new after next =
 IsStep (Err e) old new after next =
     (e ≡ refusals.DiskFault) × IsRefused e old new
 
--- why the new rows of a release are not had: a fault of the files
--- on every disk, a contradiction and no damage on an honest one
+-- why the new rows of a release can't be found: a fault of the files on every disk, and on an
+-- honest one a contradiction but no damage
 abbrev pub IsNotFresh : Type 0 → Refusal → List RowValue → Release → Type 0
 IsNotFresh honest e known release =
     (fault : ImportFault) × (e ≡ refusal_of fault) × IsRefusal honest known release fault

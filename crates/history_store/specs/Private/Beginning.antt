@@ -1,4 +1,4 @@
--- What the parts of the beginning of a merge give. Only private functions cite these words.
+-- What the functions that begin a merge return. Only private functions cite these definitions.
 use Rattle.std.specs.Prelude.{◌≡◌, ◌+◌, ◌^◌, ◌<◌, ◌≤◌, List, Some, None, slice_get}
 use Rattle.std.specs.Int.{div_ceil}
 use Rattle.std.specs.List.{AllByRecursion}
@@ -12,7 +12,7 @@ use Rattle.history_store.specs.Merging.{AreFewest}
 abbrev pub AreLong : List Entry → Type 0
 AreLong entries = AllByRecursion (λ (e : Entry). e.rows ≤ e.bytes) entries
 
--- a merge of the two segments of fewest rows, of which nothing is taken
+-- a merge of the two segments with the fewest rows, of which no row is merged yet
 pub record IsNewMerge (d : DirectoryValue) (m : MergeInProgress) : Type 0 where
   pub a : Entry
   pub b : Entry

@@ -1,4 +1,4 @@
--- Words beside those of `Prepared` that no public clause cites.
+-- Definitions that complete those of `Prepared`. No public clause cites them.
 use Rattle.std.specs.Prelude.{◌≡◌, ◌^◌, ◌<◌, Option, Some, List, [], ◌∷◌, length}
 use Rattle.history_model.specs.declared.stamped.StampedRow.{StampedRow}
 use Rattle.history_model.specs.History.{IsHistory}
@@ -17,7 +17,7 @@ use Rattle.history_store.specs.Catalog.{catalog_of, place_for}
 use Rattle.history_store.specs.StoreValue.{StoreValue}
 use Rattle.history_store.specs.Private.StoreValue.{directory_of, with_rows}
 
--- the entry of a segment of these rows, at the first place where it finds room
+-- the entry of a segment of these rows, at the first extent with room for it
 pub record IsPlacedAt (d : DirectoryValue) (merge : Option Merge) (rows : List StampedRow)
     (entry : Entry) : Type 0 where
   pub few : length d.entries < most_entries d.layout
@@ -25,7 +25,7 @@ pub record IsPlacedAt (d : DirectoryValue) (merge : Option Merge) (rows : List S
   pub place : place_for rows (catalog_of d merge) ≡ Some entry.first
   pub entry_is : entry ≡ entry_at (form_of d.layout) entry.first rows
 
--- the segment of these rows, and the directory with it
+-- the segment of these rows, and the directory that also lists it
 pub record IsPrepared (d : DirectoryValue) (merge : Option Merge) (rows : List StampedRow)
     (p : Prepared) : Type 0 where
   pub index_is : p.index ≡ rows
@@ -44,7 +44,7 @@ IsUnprepared refusals.TooManySegments rows catalog = HasNoEntry rows catalog
 IsUnprepared refusals.Full rows catalog = HasNoPlace rows catalog
 IsUnprepared _ rows catalog = ⊥
 
--- what is prepared goes with the store, and is of kinds that the next version has
+-- what is prepared fits the store, and its rows are of kinds that the next layout version has
 pub record IsPreparedFor {D : Type 0} (s : StoreValue D) (p : Prepared) : Type 0 where
   pub apart : AreLists (s.history.rows ∷ p.index ∷ [])
   pub history : IsHistory (with_rows s.history p.index)

@@ -1,4 +1,4 @@
--- Rows that stand on a disk, and what reading them leaves as it is.
+-- Rows on a disk, and what reading them leaves unchanged.
 use Rattle.std.specs.Prelude.{◌≡◌, ◌↔◌, ℕ, ◌+◌, ◌^◌, ◌≤◌, List, length, map, take, drop}
 use Rattle.std.specs.List.{AllByRecursion}
 use Rattle.std.proofs.Common.{refl, subst, ◌∙◌}
@@ -19,7 +19,7 @@ use Rattle.store_image.specs.Pieces.{HoldsAll}
 use Rattle.store_image.specs.Kept.{AreSegments, pieces_of}
 use Rattle.history_store.specs.Queries.{is_listed}
 
--- an honest disk stays one, and its moments stay
+-- an honest disk stays honest, and its moments are unchanged
 abbrev pub MomentsStay : Type 0 → Type 0 → Moments → Moments → Type 0
 MomentsStay was is old new = (was ↔ is) × (was → new ≡ old)
 
@@ -31,7 +31,7 @@ pub stay_on : (first second third : Type 0) (a b c : Moments)
 stay_on first second third a b c ab bc =
     ((λ up. bc.0.0 (ab.0.0 up), λ down. ab.0.1 (bc.0.1 down)), λ up. bc.1 (ab.0.0 up) ∙ ab.1 up)
 
--- blocks of the listed segments, and then others of the same segments
+-- looking up blocks of the listed segments, and then others of them, is one such lookup
 pub listed_on : (entries same : List Entry) (a b c : LruCache ℕ (List ℕ)) (first second third : ℕ)
     → same ≡ entries → LooksUpSome (is_listed entries) a b first second
     → LooksUpSome (is_listed same) b c second third
@@ -40,14 +40,14 @@ listed_on entries same a b c first second third is ab bc =
     some_more (is_listed entries) a b c first second third ab
     (subst (λ (e : List Entry). LooksUpSome (is_listed e) b c second third) is bc)
 
--- the rows are those of the segments that are listed, and the file has these
+-- the segments of the listed entries consist of these rows, and the file has their bytes
 pub record AreThere (entries : List Entry) (lists : List (List StampedRow))
     (file : List ℕ) : Type 0 where
   pub entries_are : AllByRecursion IsEntry entries
   pub segments : AreSegments entries lists
   pub pieces : HoldsAll (pieces_of entries lists) file
 
--- the row's record in this form is in the file at this byte, and this is what is listed of it
+-- the row's record in this form is in the file at this byte, and `p` is its place
 pub record IsThere (form : Form) (from : ℕ) (s : StampedRow) (p : RowPlace) (file : List ℕ)
     : Type 0 where
   pub below : from + p.bytes ≤ 2 ^ 34
@@ -61,6 +61,6 @@ pub record IsThere (form : Form) (from : ℕ) (s : StampedRow) (p : RowPlace) (f
 abbrev pub rows_of : List (List StampedRow) → List RowValue
 rows_of lists = map (λ (s : StampedRow). s.row) (listed lists)
 
--- no row was brought after so many imports
+-- no row has an import number greater than `pin`
 abbrev pub Early : ℕ → List (List StampedRow) → Type 0
 Early pin lists = AllByRecursion (λ (s : StampedRow). s.import ≤ pin) (listed lists)

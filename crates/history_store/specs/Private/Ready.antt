@@ -1,4 +1,5 @@
--- What is made of a release before the first write. Only private functions cite these words.
+-- What is made from a release before the first write. Only private functions cite these
+-- definitions.
 use Rattle.std.specs.Prelude.{◌≡◌, ◌+◌, ◌≤◌, [], length, Result, Ok, Err}
 use Rattle.history_model.specs.declared.receipt.Receipt.{Receipt}
 use Rattle.history_model.specs.History.{IsHistory, full, stamped}
@@ -15,7 +16,7 @@ use Rattle.history_store.specs.StoreValue.{StoreValue}
 use Rattle.history_store.specs.Private.StoreValue.{directory_of}
 use Rattle.history_store.specs.Private.Prepared.{IsPrepared}
 
--- the next directory: with a segment of the new rows, or without one where there are none
+-- the next directory: with a segment of the new rows, or without one if there are none
 abbrev pub IsNext : {D : Type 0} → StoreValue D → NewRows → Next → Type 0
 IsNext s fresh (nexts.WithoutSegment directory) =
     (fresh.rows.items ≡ []) × (directory ≡ after_import (directory_of s))
@@ -23,7 +24,7 @@ IsNext s fresh (nexts.WithSegment prepared) = (1 ≤ length fresh.rows.items)
     × IsPrepared (directory_of s) s.catalog.merge (stamped (s.history.imports + 1) fresh.rows.items)
     prepared
 
--- a release would be taken, and what an import of it answers and writes is ready
+-- the release would be accepted, and `ready` has the receipt of an import and what it writes
 pub record IsMadeReady {D : Type 0} (honest : Type 0) (s : StoreValue D) (release : Release)
     (ready : Ready) : Type 0 where
   pub history : IsHistory s.history
@@ -38,7 +39,7 @@ pub record IsMadeReady {D : Type 0} (honest : Type 0) (s : StoreValue D) (releas
   }
   pub next_is : IsNext s fresh ready.next
 
--- what a check answers of it
+-- the result of a check, which is that of `make_ready` without what would be written
 abbrev pub checked : Result Ready Refusal → Result Receipt Refusal
 checked (Ok ready) = Ok ready.receipt
 checked (Err e) = Err e

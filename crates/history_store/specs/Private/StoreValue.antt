@@ -1,4 +1,4 @@
--- Words beside those of `StoreValue` that no public clause cites.
+-- Definitions that complete those of `StoreValue`. No public clause cites them.
 use Rattle.std.specs.Prelude.{ℕ, ◌+◌, [], ◌∷◌, List}
 use Rattle.history_model.specs.declared.stamped.StampedRow.{StampedRow}
 use Rattle.history_model.specs.History.{History}
@@ -19,6 +19,6 @@ directory_of s = record {
 abbrev pub with_imports : History → ℕ → History
 with_imports h imports = record { imports = imports; rows = h.rows }
 
--- the history with one import more, that brought these rows
+-- the history after one more import, which brought these rows
 abbrev pub with_rows : History → List StampedRow → History
 with_rows h rows = record { imports = h.imports + 1; rows = listed (h.rows ∷ rows ∷ []) }

@@ -1,5 +1,5 @@
--- What a pass over lines in key order lists of those that contradict.
--- No clause of a public function cites these words.
+-- Which contradictions a pass over lines in key order lists. No clause of a public function cites
+-- these definitions.
 use Rattle.std.specs.Prelude.{◌≡◌, ◌≢◌, ◌⊎◌, ◌-◌, ℕ, List, [], ◌∷◌, ◌++◌, length, take}
 use Rattle.std.specs.Prelude.{Option, Some, IsSomeAnd}
 use Rattle.std.specs.Option.{option_map}
@@ -17,43 +17,43 @@ use Rattle.import_check.specs.Known.{IsUnknown}
 use Rattle.import_check.specs.Contradictions.{rank_cmp, row_of}
 use Rattle.import_check.specs.Private.Sweep.{IsEarliest}
 
--- of lines in any order: the row is known, or none with its key is, and it is on the earliest line
--- with the key
+-- for lines in any order: the row is known; or its key isn't, and the row is that of the earliest
+-- line with the key
 abbrev pub CountsAmong : List RowValue → List PlacedLine → OtherRow → Type 0
 CountsAmong known lines (others.Known row) = Has known row
 CountsAmong known lines (others.Line first) =
     IsUnknown known (key_of first.row) × IsEarliest lines first
 
--- the row that counts for the line's key, if no line before it has the key
+-- the row that counts for the line's key, if no earlier line has the key
 abbrev pub IsFoundFor : List RowValue → PlacedLine → OtherRow → Type 0
 IsFoundFor known line (others.Known row) = Has known row × (key_of row ≡ key_of line.row)
 IsFoundFor known line (others.Line first) = IsUnknown known (key_of line.row) × (first ≡ line)
 
--- the key of the line before
+-- the key of the previous line
 abbrev pub last_key : Option Counting → Option Key
 last_key last = option_map (λ counting. counting.key) last
 
--- the row that counts for the line's key: the last one, or if that counts for another key the one
--- found
+-- the row that counts for the line's key: that of the previous line, or the one that was found if
+-- that line had another key
 abbrev pub IsNext : List RowValue → PlacedLine → Option Counting → Counting → Type 0
 IsNext known line last counting = (counting.key ≡ key_of line.row)
     × ((last ≡ Some counting)
     ⊎ ((IsSomeAnd last (λ c. c.key ≡ key_of line.row) → ⊥)
     × IsFoundFor known line counting.other))
 
--- the first of all these are listed, and the others counted
+-- the first of all these are listed, up to the limit, and the others are counted
 abbrev pub AreListed : ℕ → List ContradictingLine → Contradictions → Type 0
 AreListed limit all found =
     (found.listed.items ≡ take limit all) × (found.further ≡ length all - limit)
 
--- one contradiction more if the line has another row
+-- one more contradiction, if the line's row differs
 abbrev pub IsNoted : ℕ → OtherRow → PlacedLine → Contradictions → Contradictions → Type 0
 IsNoted limit other line old new = ((row_of other ≡ line.row) × (new ≡ old))
     ⊎ ((row_of other ≢ line.row)
     × ((all : List ContradictingLine) → AreListed limit all old
     → AreListed limit (all ++ record { line = line; other = other } ∷ []) new))
 
--- of all lines in key order these are sifted so far: all that contradict
+-- of the lines in key order these have been compared so far, and these are all that contradict
 pub record Sifted (known : List RowValue) (lines done : List PlacedLine)
     (all : List ContradictingLine) : Type 0 where
   pub ascending : IsAscending (λ a b. rank_cmp a.line b.line) all
@@ -64,7 +64,7 @@ pub record Sifted (known : List RowValue) (lines done : List PlacedLine)
       × CountsAmong known lines other × (key_of (row_of other) ≡ key_of line.row)
       × ((row_of other ≡ line.row) ⊎ Has all (record { line = line; other = other }))
 
--- of these lines in key order those that contradict are listed
+-- the contradictions among these lines in key order are listed
 abbrev pub AreSifted : List RowValue → ℕ → List PlacedLine → Contradictions → Type 0
 AreSifted known limit lines found = (all : List ContradictingLine)
     × Sifted known lines lines all × AreListed limit all found

@@ -1,5 +1,5 @@
--- What a pass over lines in key order has found so far.
--- No clause of a public function cites these words.
+-- What a pass over lines in key order has found so far. No clause of a public function cites these
+-- definitions.
 use Rattle.std.specs.Prelude.{◌≡◌, ◌≢◌, ℕ, ◌+◌, ◌-◌, ◌≤◌, ◌<◌, ◌⊎◌, false, List, [], ◌∷◌, ◌++◌}
 use Rattle.std.specs.Prelude.{length}
 use Rattle.std.specs.Prelude.{slice_get}
@@ -26,17 +26,17 @@ use Rattle.import_check.specs.Contradictions.{rank_cmp}
 use Rattle.import_check.specs.Known.{IsUnknown}
 use Rattle.import_check.specs.Release.{rows_of}
 
--- a line is another one, or comes before it
+-- a line is the other one, or comes before it in the release
 abbrev pub StandsBy : ℕ → ℕ → ℕ → ℕ → Type 0
 StandsBy file line other_file other_line =
     (file < other_file) ⊎ ((file ≡ other_file) × (line ≤ other_line))
 
--- none is above one that follows it
+-- no item is greater than a later one
 abbrev pub IsRising : {X : Type 0} → (X → X → Ordering) → List X → Type 0
 IsRising cmp [] = Unit {0}
 IsRising cmp (x ∷ xs) = AllByRecursion (λ y. is_gt (cmp x y) ≡ false) xs × IsRising cmp xs
 
--- no line with its key stands before it
+-- no earlier line has its key
 pub record IsEarliest (lines : List PlacedLine) (first : PlacedLine) : Type 0 where
   pub there : Has lines first
   pub least : (line : PlacedLine) → Has lines line → key_of line.row ≡ key_of first.row
@@ -50,11 +50,11 @@ pub record IsNewRow (known : List RowValue) (lines : List PlacedLine) (row : Row
   pub earliest : IsEarliest lines line
   pub row_is : line.row ≡ row
 
--- the row that lines with its key have to agree with
+-- the row that lines with its key must have
 abbrev pub Stands : List RowValue → List PlacedLine → RowValue → Type 0
 Stands known lines row = Has known row ⊎ IsNewRow known lines row
 
--- a line whose row isn't the one that stands
+-- a line whose row isn't the one that counts for its key
 pub record IsContradiction (known : List RowValue) (lines : List PlacedLine)
     (c : Contradiction) : Type 0 where
   pub line : PlacedLine
@@ -67,11 +67,11 @@ pub record IsContradiction (known : List RowValue) (lines : List PlacedLine)
   pub line_is : c.line ≡ line.line
   pub key_is : c.key ≡ key_of line.row
 
--- a contradiction that stands by the line or before it
+-- a contradiction on this line or an earlier one
 abbrev pub IsBlamed : Option Contradiction → PlacedLine → Type 0
 IsBlamed first line = MatchOption first ⊥ (λ c. StandsBy c.file c.line line.file line.line)
 
--- the line's row is the one that stands, or a contradiction is found no later
+-- the line has the row that counts for its key, or a contradiction was found that comes no later
 pub record IsCompared (known : List RowValue) (lines : List PlacedLine)
     (first : Option Contradiction) (line : PlacedLine) : Type 0 where
   pub standing : RowValue
@@ -79,20 +79,19 @@ pub record IsCompared (known : List RowValue) (lines : List PlacedLine)
   pub same_key : key_of standing ≡ key_of line.row
   pub verdict : (standing ≡ line.row) ⊎ IsBlamed first line
 
--- the row that stands for the key of the last line: the
--- one that is known, or else the last of the new rows
+-- the row that counts for the key of the last line: the known one, or else the last of the new rows
 abbrev pub standing_row : Option RowValue → List RowValue → Option RowValue
 standing_row None fresh = slice_get fresh (length fresh - 1)
 standing_row (Some row) fresh = Some row
 
--- the row stands, and its key is that of a line and the greatest so far
+-- the row counts for its key, which is that of a line and the greatest so far
 pub record IsLast (known : List RowValue) (lines done : List PlacedLine)
     (row : RowValue) : Type 0 where
   pub stands : Stands known lines row
   pub greatest : (line : PlacedLine) → Has done line → is_gt (row_cmp line.row row) ≡ false
   pub at : (line : PlacedLine) × Has done line × (key_of line.row ≡ key_of row)
 
--- of all these lines, so many have been taken and so many compared
+-- how far the pass over all these lines is: some have been taken, and some compared
 pub record Swept (known : List RowValue) (lines compared done : List PlacedLine)
     (known_row : Option RowValue) (fresh : List RowValue)
     (first : Option Contradiction) : Type 0 where
@@ -109,35 +108,35 @@ pub record Swept (known : List RowValue) (lines compared done : List PlacedLine)
 abbrev pub standing_of : Sweep → Option RowValue
 standing_of s = standing_row s.known_row s.fresh.items
 
--- all lines so far are compared
+-- all lines taken so far have been compared
 abbrev pub IsSwept : List RowValue → List PlacedLine → List PlacedLine → Sweep → Type 0
 IsSwept known lines done s = Swept known lines done done s.known_row s.fresh.items s.first
 
--- the row that stands has the key of the last line
+-- the row that counts has the key of the last line
 abbrev pub IsInStep : Sweep → Type 0
 IsInStep s = MatchOption s.key (standing_of s ≡ None)
     (λ key. IsSomeAnd (standing_of s) (λ row. key_of row ≡ key))
 
--- What taking a line reads: nothing where the last line had its key or no row that is known has
--- it, and else no more than a known row with this key takes.
+-- What taking a line reads: nothing if the previous line had its key or no known row has it, and
+-- otherwise no more than a known row with this key costs.
 pub record AsksOnce (cost : RowValue → ℕ) (known : List RowValue) (last : Option Key)
     (line : PlacedLine) (old new : ℕ) : Type 0 where
   pub again : last ≡ Some (key_of line.row) → new ≤ old
   pub unknown : IsUnknown known (key_of line.row) → new ≤ old
   pub one : (row : RowValue) → Has known row → key_of row ≡ key_of line.row → new ≤ old + cost row
 
--- a line to come that has the key of one that is taken has the key of the last line
+-- a later line with the key of a line that was taken has the key of the last line
 abbrev pub IsAhead : List PlacedLine → Option Key → List PlacedLine → Type 0
 IsAhead done last rest = (line later : PlacedLine) → Has done line → Has rest later
     → key_of line.row ≡ key_of later.row → last ≡ Some (key_of later.row)
 
--- one line more is taken
+-- one more line is taken
 abbrev pub TakesLine : List RowValue → PlacedLine → Sweep → Sweep → Type 0
 TakesLine known line old new =
     (lines done rest : List PlacedLine) → lines ≡ done ++ line ∷ rest → IsRising rank_cmp lines
     → IsSwept known lines done old → IsSwept known lines (done ++ line ∷ []) new
 
--- the one of the two that stands first
+-- the one of the two that comes first in the release
 abbrev pub IsEarlierOf : Option Contradiction → Contradiction → Contradiction → Type 0
 IsEarlierOf None found result = result ≡ found
 IsEarlierOf (Some first) found result =
@@ -148,7 +147,7 @@ IsEarlierOf (Some first) found result =
 abbrev pub contradiction_at : PlacedLine → Contradiction
 contradiction_at line = record { file = line.file; line = line.line; key = key_of line.row }
 
--- where the first contradiction stands after a line: as before if its row is the one that stands
+-- the first contradiction after a line was compared: unchanged if its row is the one that counts
 abbrev pub IsVerdict : Option RowValue → Option Contradiction → PlacedLine → Option Contradiction
     → Type 0
 IsVerdict standing first line now =
@@ -157,7 +156,7 @@ IsVerdict standing first line now =
     ((standing ≢ Some line.row) × (c : Contradiction) × (now ≡ Some c)
     × IsEarlierOf first (contradiction_at line) c)
 
--- the first contradiction, or without one the new rows and how many lines more there were
+-- the first contradiction; or if there is none, the new rows, and how many other lines there were
 abbrev pub IsOutcome : Sweep → ℕ → Result NewRows ImportFault → Type 0
 IsOutcome s count result = MatchOption s.first
     (IsOkAnd result
@@ -165,28 +164,28 @@ IsOutcome s count result = MatchOption s.first
     × (fresh.repeated ≡ count - length s.fresh.items)))
     (λ c. result ≡ Err (importfault.Contradiction c.file c.line c.key))
 
--- these rows ascend, and none of their keys is known
+-- these rows are in ascending order, and none of their keys is known
 pub record IsApart (known fresh : List RowValue) : Type 0 where
   pub ascending : IsAscending row_cmp fresh
   pub unknown : (row : RowValue) → Has fresh row → IsUnknown known (key_of row)
 
--- the new rows ascend, none of their keys is known, and each
--- is below all lines to come but those for whose key it stands
+-- the new rows are in ascending order, none of their keys is known, and each is less than all later
+-- lines, except lines with its key if it counts for them
 pub record IsOwn (known : List RowValue) (rest : List PlacedLine) (s : Sweep) : Type 0 where
   pub apart : IsApart known s.fresh.items
   pub below : (row : RowValue) → Has s.fresh.items row → (line : PlacedLine) → Has rest line
       → (row_cmp row line.row ≡ Less)
       ⊎ ((key_of row ≡ key_of line.row) × (s.key ≡ Some (key_of row)))
 
--- the new rows still ascend, are unknown and are below the lines to come after one line more is
--- taken
+-- the new rows are still in ascending order, unknown, and less than the later lines, after one more
+-- line is taken
 abbrev pub KeepsApart : List RowValue → PlacedLine → Sweep → Sweep → Type 0
 KeepsApart known line old new =
     (rest : List PlacedLine) → IsRising rank_cmp (line ∷ rest) → IsOwn known (line ∷ rest) old
     → IsOwn known rest new
 
--- The new rows are rows of the lines so far. Where no line contradicts, each of these rows whose
--- key is unknown is among them. A row stands for the last key only if a known one has it.
+-- The new rows are rows of the lines so far. If no line contradicts, each row of the lines whose
+-- key is unknown is among them. `known_row` is only set if a known row has the last key.
 pub record IsGathered (known : List RowValue) (done : List PlacedLine) (s : Sweep) : Type 0 where
   pub from_lines : (row : RowValue) → Has s.fresh.items row → Has (rows_of done) row
   pub each : s.first ≡ None → (row : RowValue) → Has (rows_of done) row
@@ -194,20 +193,20 @@ pub record IsGathered (known : List RowValue) (done : List PlacedLine) (s : Swee
   pub known_key : (row : RowValue) → s.known_row ≡ Some row
       → IsSomeAnd s.key (λ key. IsUnknown known key → ⊥)
 
--- the same after one line more is taken
+-- the same holds after one more line is taken
 abbrev pub Gathers : List RowValue → PlacedLine → Sweep → Sweep → Type 0
 Gathers known line old new = (done : List PlacedLine) → IsGathered known done old
     → IsGathered known (done ++ line ∷ []) new
 
--- why lines are taken no further: memory ran out, or a known row can't be had
+-- why taking lines ended early: memory ran out, or a known row couldn't be read
 abbrev pub IsCutShort : (honest : Type 0) → ImportFault → Type 0
 IsCutShort honest importfault.OutOfMemory = ⊤
 IsCutShort honest (importfault.Known fault) = honest → fault ≢ readfault.Damaged
 IsCutShort honest (importfault.Row file line fault) = ⊥
 IsCutShort honest (importfault.Contradiction file line key) = ⊥
 
--- why lines give no new rows: memory ran out, a known row can't be had, or one is the first that
--- contradicts
+-- why lines give no new rows: memory ran out, a known row couldn't be read, or this line is the
+-- first that contradicts
 abbrev pub IsRefusalOf : (honest : Type 0) → List RowValue → List PlacedLine → ImportFault → Type 0
 IsRefusalOf honest known lines importfault.OutOfMemory = ⊤
 IsRefusalOf honest known lines (importfault.Known fault) = honest → fault ≢ readfault.Damaged

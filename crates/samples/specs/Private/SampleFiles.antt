@@ -1,4 +1,4 @@
--- What the program has of the samples' files: a word of its private functions.
+-- What a release has of a sample's files: a definition for private functions.
 use Rattle.std.specs.Prelude.{ℕ, List, map}
 use Rattle.rf2_values.specs.declared.row.Kind.{Kind}
 use Rattle.samples.specs.declared.releases.SampleFile.{SampleFile}

@@ -1,5 +1,5 @@
--- The fields that bytes begin with, by their forms alone: words
--- of the private readers of bytes, which no public clause cites.
+-- The fields at the beginning of bytes, judged by their forms alone: definitions for private
+-- functions that read bytes. No public clause cites them.
 use Rattle.std.specs.Prelude.{ℕ, ◌+◌, List, [], ◌∷◌, length, take, drop, Option, Some, None}
 use Rattle.std.specs.Prelude.{option_and_then, nat_lt, ◌==◌, ◌-◌, ◌*◌, ◌^◌, ◌<◌, if◌then◌else◌}
 use Rattle.std.specs.Int.{Width, w8, w16, w32, w64, w128, byte_len, from_be_bytes}
@@ -15,7 +15,7 @@ use Rattle.segment.specs.declared.raw.RawConcrete.{RawConcrete}
 use Rattle.segment.specs.declared.raw.RawMember.{RawMember}
 use Rattle.segment.specs.Records.{Field, Number, Text}
 
--- what a field may be: a number of a width, or a text
+-- the form of a field: a number of a width, or a text
 pub data Form : Type 0 where
   Wide : Width → Form
   Counted : Form
@@ -24,7 +24,7 @@ abbrev pub form_of : Field → Form
 form_of (Number width n) = Wide width
 form_of (Text text) = Counted
 
--- what has a spelling: a number within its width, a text whose length is within two bytes
+-- the fields that can be encoded: a number within its width, a text whose length fits in two bytes
 abbrev pub Fits : Field → Type 0
 Fits (Number width n) = n < 2 ^ (8 * byte_len width)
 Fits (Text text) = length text < 2 ^ 16
@@ -33,17 +33,17 @@ infixl 10 ◌>>=◌
 abbrev pub ◌>>=◌ : {A B : Type 0} → Option A → (A → Option B) → Option B
 found >>= next = option_and_then next found
 
--- the first so many bytes, and those after them
+-- the first `n` bytes, and those after them
 abbrev pub cut_at : ℕ → List ℕ → Option (List ℕ × List ℕ)
 cut_at n bytes = if nat_lt (length bytes) n then None else Some (take n bytes, drop n bytes)
 
--- the number of a width that bytes begin with, and the bytes after it
+-- the number of this width at the beginning of the bytes, and the bytes after it
 unfoldable pub number_at : Width → List ℕ → Option (ℕ × List ℕ)
 number_at width bytes = do
   parts ← cut_at (byte_len width) bytes
   Some (from_be_bytes width parts.0, parts.1)
 
--- the text that bytes begin with, behind the number of its bytes, and the bytes after it
+-- the text at the beginning of the bytes, after the two bytes of its length, and the bytes after it
 unfoldable pub text_at : List ℕ → Option (List ℕ × List ℕ)
 text_at bytes = do
   len ← number_at w16 bytes
@@ -64,7 +64,7 @@ fields_at (form ∷ forms) bytes = do
   fields ← fields_at forms field.1
   Some (field.0 ∷ fields.0, fields.1)
 
--- the forms of the fields that each record has, and of those of its kind
+-- the forms of the fields that all records have, and of those for a kind
 abbrev pub common_forms : List Form
 common_forms = Wide w8 ∷ Wide w128 ∷ Wide w32 ∷ Wide w32 ∷ Wide w8 ∷ Wide w64 ∷ []
 
@@ -76,19 +76,19 @@ body_forms kinds.Association = Wide w64 ∷ Wide w64 ∷ Wide w64 ∷ []
 body_forms kinds.Concrete = Wide w64 ∷ Wide w32 ∷ Wide w64 ∷ Wide w64 ∷ Wide w64 ∷ Counted ∷ []
 body_forms kinds.Member = Wide w64 ∷ Wide w64 ∷ Counted ∷ []
 
--- the fields that bytes are, with no rest
+-- the fields that the bytes consist of, with no rest
 abbrev pub all_at : List Form → List ℕ → Option (List Field)
 all_at forms bytes = do
   fields ← fields_at forms bytes
   if length fields.1 == 0 then Some fields.0 else None
 
--- the record that bytes begin with, without its length, and the bytes after it
+-- the first record in the bytes, without its length, and the bytes after it
 unfoldable pub record_bytes_at : List ℕ → Option (List ℕ × List ℕ)
 record_bytes_at bytes = do
   len ← number_at w32 bytes
   if nat_lt len.0 4 then None else cut_at (len.0 - 4) len.1
 
--- ---- the fields of what the code reads, before any column's rule is applied
+-- ---- the fields that are read, before the rules of any column are checked
 
 abbrev pub raw_common_fields : RawCommon → List Field
 raw_common_fields r = Number w8 r.kind ∷ Number w128 r.id ∷ Number w32 r.time ∷ Number w32 r.import
@@ -112,7 +112,7 @@ raw_concrete_fields r = Number w64 r.source ∷ Number w32 r.group ∷ Number w6
 abbrev pub raw_member_fields : RawMember → List Field
 raw_member_fields r = Number w64 r.refset ∷ Number w64 r.referenced ∷ Text r.further.now ∷ []
 
--- how many bytes a record has besides its texts
+-- the length of a record in bytes, without its texts
 abbrev pub fixed_len : Kind → ℕ
 fixed_len kinds.Concept = 46
 fixed_len kinds.Description = 66
@@ -121,7 +121,7 @@ fixed_len kinds.Association = 62
 fixed_len kinds.Concrete = 76
 fixed_len kinds.Member = 56
 
--- how many bytes the texts of a body have
+-- the total length of the texts of a body, in bytes
 abbrev pub texts_len : Body → ℕ
 texts_len (bodies.Description d) = length d.language_code + length d.term
 texts_len (bodies.Concrete c) = length c.value

@@ -1,4 +1,4 @@
--- What a copy has while it is written.
+-- The state of a copy while it is written.
 use Rattle.std.specs.Prelude.{◌≡◌, ℕ, Option, Result, Ok, Err, ◌^◌, ◌<◌, ◌≤◌, List, ◌++◌, length, take, drop}
 use Rattle.rf2_values.specs.Key.{key_of}
 use Rattle.blocks.specs.declared.extent.Extent.{Extent}
@@ -23,26 +23,26 @@ use Rattle.store_copy.specs.declared.fault.SegmentCopyFault.{SegmentCopyFault}
 use Rattle.store_copy.specs.declared.fault.SegmentCopyFault.TheVariants.{Read, Write}
 use Rattle.store_copy.specs.declared.planning.Size.{Size}
 
--- so many imports as asked for, or all, where there are as many
+-- as many imports as asked for, or all, if the store has as many
 abbrev pub IsChosen : Result ℕ CopyFault → Option ℕ → ℕ → Type 0
 IsChosen (Ok n) asked all = (n ≡ chosen asked all) × (n ≤ all)
 IsChosen (Err e) asked all = (e ≡ faults.NoSuchImport) × (all < chosen asked all)
 
--- so few rows that a segment may have them
+-- the rows are few and short enough for a segment
 abbrev pub MayBeSegment : List StampedRow → Type 0
 MayBeSegment rows = (length (segment_of rows) < 2 ^ 32) × (length rows < 2 ^ 32)
 
--- a segment of so many bytes and rows, from a block on
+-- the entry of a segment with this many bytes and rows, from block `first` on
 abbrev pub next_entry : Layout → ℕ → Size → Entry
 next_entry layout first size =
     record { first = first; bytes = size.bytes; rows = size.rows; form = form_of layout }
 
--- the directory lists what is copied of the segments of these rows, one behind the other
+-- the directory lists the copied rows of these segments, one segment directly after the other
 abbrev pub IsPlan : DirectoryValue → List (List StampedRow) → Type 0
 IsPlan copy lists =
     copy.entries ≡ entries_from (form_of copy.layout) 4 (lists_up_to copy.imports lists)
 
--- the directory and the rows of a store, and the directory of a copy with so many of its imports
+-- the directory and the rows of a store, and the directory of a copy with this many of its imports
 pub record IsPlanned (asked : Option ℕ) (d : DirectoryValue) (lists : List (List StampedRow))
     (copy : DirectoryValue) : Type 0 where
   pub kept : IsKept d lists
@@ -50,7 +50,7 @@ pub record IsPlanned (asked : Option ℕ) (d : DirectoryValue) (lists : List (Li
   pub copy_is : copy ≡ copied_listing d.layout (chosen asked d.imports) lists
   pub listing : IsListing copy
 
--- both gates are there, and closed
+-- the file is long enough to have both gates, and both are closed
 pub record IsShut (file : List ℕ) : Type 0 where
   pub long : 8193 ≤ length file
   pub first : IsClosed A file
@@ -64,7 +64,7 @@ pub record ArePending (form : Form) (extent : Extent) (rows : List StampedRow) (
   pub there : BeginsWith extent front file
   pub all : front ++ bytes ≡ segment_in form rows
 
--- the row's record in this form is in the file at this byte, and this is what is listed of it
+-- the row's record in this form is in the file at this byte, and `p` is its place
 pub record IsThere (form : Form) (from : ℕ) (s : StampedRow) (p : RowPlace) (file : List ℕ)
     : Type 0 where
   pub whole : length (take p.bytes (drop from file)) ≡ p.bytes
@@ -73,7 +73,7 @@ pub record IsThere (form : Form) (from : ℕ) (s : StampedRow) (p : RowPlace) (f
   pub key : key_of s.row ≡ p.key
   pub import : s.import ≡ p.import
 
--- the fault of the segment with this number
+-- the fault of a copy that fails at the segment with this number
 abbrev pub in_segment : ℕ → SegmentCopyFault → CopyFault
 in_segment number (Read reading.OutOfMemory) = faults.OutOfMemory
 in_segment number (Read reading.DiskFault) = faults.SourceFailed
@@ -87,7 +87,7 @@ IsNoDamage (Read reading.DiskFault) = Unit {0}
 IsNoDamage (Read reading.Damaged) = ⊥
 IsNoDamage Write = Unit {0}
 
--- the count of a disk's failures rises where it failed, and else stays
+-- the count of a disk's failures has risen if it failed, and otherwise is unchanged
 abbrev pub CountsRead : SegmentCopyFault → ℕ → ℕ → Type 0
 CountsRead (Read fault) old new = CountsDiskFault fault old new
 CountsRead Write old new = new ≡ old

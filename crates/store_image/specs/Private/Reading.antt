@@ -1,4 +1,4 @@
--- What the reading of segments gives: words of the functions that `load` is made of.
+-- Reading segments: definitions for the functions that `load` consists of.
 use Rattle.std.specs.Prelude.{◌≡◌, ◌⊎◌, ℕ, ◌+◌, ◌<◌, ◌≤◌, List, [], ◌∷◌, ◌++◌, length, take, drop, All}
 use Rattle.std.specs.Prelude.{Result, Ok, Err, Option, Some, None}
 use Rattle.std.specs.List.{AllByRecursion}
@@ -28,14 +28,14 @@ use Rattle.store_image.specs.declared.window.Window.{Window}
 use Rattle.store_image.specs.Kept.{HasKind, AreSegments}
 use Rattle.store_image.specs.Reading.{AreNumbered, IsAt}
 
--- the count of failures rises where the device failed, and else stays
+-- the count of failures has risen if the device failed, and otherwise is unchanged
 abbrev pub CountsFault : {T : Type 0} → Result T RowsFault → ℕ → ℕ → Type 0
 CountsFault (Ok done) old new = new ≡ old
 CountsFault (Err faults.OutOfMemory) old new = new ≡ old
 CountsFault (Err faults.DiskFault) old new = HasRisen old new
 CountsFault (Err faults.Damaged) old new = new ≡ old
 
--- why bytes in memory are no record, as why they aren't read
+-- why bytes in memory couldn't be decoded, as a fault of reading rows
 abbrev pub of_segment : SegmentFault → RowsFault
 of_segment segments.OutOfMemory = faults.OutOfMemory
 of_segment segments.BadSegment = faults.Damaged
@@ -46,33 +46,33 @@ of_segment segments.BadSegment = faults.Damaged
 abbrev pub bytes_of : Extent → List ℕ → List ℕ
 bytes_of extent file = take extent.bytes (drop (start_of extent) file)
 
--- the row's record begins at the place
+-- the row's record begins at this offset
 abbrev pub HasRecord : Form → List ℕ → ℕ → StampedRow → Type 0
 HasRecord form bytes at s = IsStamped s
     × (take (length (record_of s)) (drop at bytes) ≡ record_in form s)
 
--- why no record was read of bytes in memory
+-- why no record could be decoded from bytes in memory
 abbrev pub HasNoRecord : Form → SegmentFault → List ℕ → ℕ → Type 0
 HasNoRecord form segments.OutOfMemory bytes at = Unit {0}
 HasNoRecord form segments.BadSegment bytes at = (s : StampedRow) → HasRecord form bytes at s → ⊥
 
--- why no record was read of bytes on a disk
+-- why no record could be read from a disk
 abbrev pub IsNoRecord : Form → RowsFault → List ℕ → ℕ → Type 0
 IsNoRecord form faults.OutOfMemory bytes at = Unit {0}
 IsNoRecord form faults.DiskFault bytes at = Unit {0}
 IsNoRecord form faults.Damaged bytes at = (s : StampedRow) → HasRecord form bytes at s → ⊥
 
--- the bytes that a window has
+-- the bytes in the window
 abbrev pub bytes_in : Window → List ℕ
 bytes_in w = take w.len w.bytes.items
 
--- the bytes of the window are the segment's at its place, and where fewer were read than were asked
--- for, the file ends
+-- the window's bytes are the segment's from its offset on, and if fewer were read than requested,
+-- the file ends there
 pub record Sees (w : Window) (file : List ℕ) : Type 0 where
   pub bytes : bytes_in w ≡ take w.len (drop w.from (bytes_of w.extent file))
   pub ended : w.from + w.len < w.asked → length (bytes_of w.extent file) ≤ w.from + w.len
 
--- the window reaches to the segment's end, or as far as a window may
+-- the window reaches to the segment's end, or its buffer is full
 abbrev pub IsFull : Window → List ℕ → Type 0
 IsFull w file = (length (drop w.from (bytes_of w.extent file)) ≤ w.len) ⊎ (131072 ≤ w.len)
 
@@ -84,12 +84,12 @@ IsLastKey None rows = rows ≡ []
 IsLastKey (Some key) rows = (front : List StampedRow) × (last : StampedRow)
     × (rows ≡ front ++ last ∷ []) × (key ≡ key_of last.row)
 
--- the key is above the other one, if there is another one
+-- the key is greater than the other one, if there is another one
 abbrev pub IsAbove : Key → Option Key → Type 0
 IsAbove key None = Unit {0}
 IsAbove key (Some last) = key_cmp last key ≡ Less
 
--- these rows are in key order, and their records end there
+-- these rows are in key order, and `to` says where their records end
 pub record AreReadTo (to : ReadTo) (imports : ℕ) (rows : List StampedRow) : Type 0 where
   pub last_is : IsLastKey to.last rows
   pub at_is : to.at ≡ length (segment_of rows)
@@ -97,11 +97,11 @@ pub record AreReadTo (to : ReadTo) (imports : ℕ) (rows : List StampedRow) : Ty
   pub ascending : IsAscending stamped_cmp rows
   pub numbered : AreNumbered imports rows
 
--- the bytes begin with their records
+-- the bytes begin with the records of these rows
 abbrev pub BeginsWith : Form → List StampedRow → List ℕ → Type 0
 BeginsWith form rows bytes = (rest : List ℕ) × (bytes ≡ segment_in form rows ++ rest)
 
--- why no row is read behind these: no segment of more rows has these bytes
+-- why no further row could be read: no segment with these bytes has more rows
 abbrev pub IsNotNext : Form → RowsFault → ℕ → List StampedRow → List ℕ → Type 0
 IsNotNext form faults.OutOfMemory imports rows bytes = Unit {0}
 IsNotNext form faults.DiskFault imports rows bytes = Unit {0}
@@ -109,7 +109,7 @@ IsNotNext form faults.Damaged imports rows bytes = BeginsWith form rows bytes
     → (others : List StampedRow)
     → IsSegmentIn form others bytes → AreNumbered imports others → length rows < length others → ⊥
 
--- why the room of an entry isn't there, or why its segment isn't read
+-- why there is no room for an entry's segment, or why it can't be read
 abbrev pub IsNotReadAt : RowsFault → ℕ → Entry → List ℕ → Type 0
 IsNotReadAt faults.OutOfMemory imports entry file = Unit {0}
 IsNotReadAt faults.DiskFault imports entry file = Unit {0}
@@ -130,14 +130,14 @@ pub record IsOfPlace (s : StampedRow) (p : RowPlace) : Type 0 where
 
 -- ---- the kinds of rows
 
--- these are places of rows of kinds that the version has
+-- the layout version has the kinds of the rows at these places
 abbrev pub AreOfKinds : Layout → List RowPlace → Type 0
 AreOfKinds layout places = All (λ (p : RowPlace). HasKind layout p.key.kind) places
 
 -- ---- the rows of all segments
 
--- each entry is the segment of its rows, no key is in two of them, and no number of an import is
--- above this
+-- each entry's segment has its rows, no key is in two segments, and no import number is greater
+-- than `imports`
 pub record AreRead (imports : ℕ) (entries : List Entry)
     (lists : List (List StampedRow)) : Type 0 where
   pub segments : AreSegments entries lists
