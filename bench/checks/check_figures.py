@@ -65,7 +65,7 @@ def failures_in(asked):
     return number_in(CRASHES, "^fails %s -> " % asked)
 
 
-# The last stop of the script is behind all its calls, and behind the one of an opening.
+# The last crash of the script is behind all its calls, and behind the one of an opening.
 SCRIPT_CALLS = "n=$(sed -nE 's/^= [0-9]+ to ([0-9]+): 3, yes, none, done, yes$/\\1/p' crates/%s" \
     " | head -n 1) && echo $(( ${n:?} - 1 ))" % CRASHES
 BREAKS = failures_in("change script shut held")
@@ -74,8 +74,8 @@ READS = failures_in("read script-and-questions shut held")
 OPENINGS = failures_in("read - shut held")
 ALL_OPENINGS = failures_in("all - shut held")
 IMAGES = "awk '/^byte / {s += $NF} END {print s}' crates/%s" % DAMAGE
-# The last stop that is counted where nothing is left of what wasn't synced, and stop 0.
-OLD_STOPS = ("awk '/^stops lost / {asked = 1; next}"
+# The last crash that is counted where nothing is left of what wasn't synced, and crash 0.
+OLD_CRASHES = ("awk '/^crashes lost / {asked = 1; next}"
              " asked && /^= / {n = $2 ~ /:$/ ? $2 : $4; sub(\":\", \"\", n); last = n; next}"
              " asked {s += last + 1; asked = 0} END {print s}' crates/%s" % OLD)
 FIELDS = ("sed -n '/^case a field that is changed/,/^asked/p' crates/%s | grep -c '^with '" % DAMAGE)
@@ -104,8 +104,8 @@ FIGURES = [
     Figure(RELIABILITY, "| A crash | {} moments, 4 images each", reckoned(SCRIPT_CALLS, "n + 1")),
     Figure(RELIABILITY, ": {} disks | before, between and after all calls of the script",
            reckoned(SCRIPT_CALLS, "(n + 1) * 4")),
-    Figure(RELIABILITY, "becomes version 2 | {} moments, 4 images each", OLD_STOPS),
-    Figure(RELIABILITY, ": {} disks | see below", reckoned(OLD_STOPS, "n * 4")),
+    Figure(RELIABILITY, "becomes version 2 | {} moments, 4 images each", OLD_CRASHES),
+    Figure(RELIABILITY, ": {} disks | see below", reckoned(OLD_CRASHES, "n * 4")),
     Figure(RELIABILITY, "runs: {} calls, twice", BREAKS),
     Figure(RELIABILITY, "| {} runs: ", reckoned(BREAKS, "n * 2")),
     Figure(RELIABILITY, "each of the {} reads", READS),

@@ -5,7 +5,7 @@
 import re
 from pathlib import Path
 
-ROWS = {"Index::get", "Index::history", "Index::page", "Index::delta", "Index::rows_after", "term_prefix::find",
+ROWS = {"Index::get", "Index::versions", "Index::page", "Index::delta", "Index::rows_after", "term_prefix::find",
         "links::about", "links::replacements", "replacements", "links::timeline", "links::replaces",
         "links::members", "links::values", "links::called"}
 OF_ROWS = {"found", "keys", "work", "work_always", "undamaged", "lists", "honesty", "disk_faults", "damages"}

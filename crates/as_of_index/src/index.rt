@@ -279,7 +279,7 @@ impl Index {
 
     /// All versions of the component that the pin shows, ascending by time. Makes a binary search
     /// in each list for each version.
-    pub fn history<R: RowReader>(
+    pub fn versions<R: RowReader>(
         &self,
         reader: &mut R,
         kind: Kind,

@@ -23,7 +23,7 @@ pub(crate) fn folder_above(path: &str) -> (&str, &str)
 
 /// The folder of releases, and the name of one. If the folder is given, the name is `word` without
 /// slashes at its end; otherwise `word` is a path, which is split before its last part.
-pub(crate) fn place_of<'a>(releases: Option<&'a str>, word: &'a str) -> (&'a str, &'a str)
+pub(crate) fn folder_and_name<'a>(releases: Option<&'a str>, word: &'a str) -> (&'a str, &'a str)
     ensures { IsNamed (option_map (λ s. s.now) releases.entry) word.now
         result.0.now result.1.now }
 {

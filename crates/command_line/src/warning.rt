@@ -148,7 +148,7 @@ fn has_own_row<D: Disk>(module: u64, store: &mut Store<D>) -> Result<bool, Refus
     ensures { IsOnlyRead D.view store.old.disk store.new.disk }
 {
     let pin = store.imports();
-    let rows = store.history(Kind::Concept, u128::from(module), pin)?;
+    let rows = store.versions(Kind::Concept, u128::from(module), pin)?;
     Ok(rows.iter().any(|row| row.module_id.value() == module))
 }
 

@@ -17,7 +17,7 @@ ghost use Rattle.directory.specs.Listings.{number_of};
 ghost use Rattle.command_line.specs.Words.{empty_program, program};
 
 use crate::helps;
-use crate::paths::place_of;
+use crate::paths::folder_and_name;
 use clap::builder::ValueParser;
 use clap::error::ErrorKind;
 use clap::{Arg, ArgAction, ArgMatches, Command, Error};
@@ -419,7 +419,7 @@ fn import_of<'a>(found: &ArgMatches<'a>) -> Option<Task<'a>>
     ensures { IfSome result (IsImportOf (rows_of (found_of found.now))) }
 {
     let store = found.get_str("store")?;
-    let (releases, name) = place_of(found.get_str("releases"), found.get_str("name")?);
+    let (releases, name) = folder_and_name(found.get_str("releases"), found.get_str("name")?);
     let quiet = is_set(found, "quiet");
     if is_set(found, "check") {
         Some(Task::Check {

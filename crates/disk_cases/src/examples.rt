@@ -1,12 +1,12 @@
 //! The disk of a case, which is empty at first, and the function that answers each question.
 //!
-//! `disk BYTES`, in hexadecimal, begins with another disk, and `stop CALLS CHOICE` with what a
+//! `disk BYTES`, in hexadecimal, begins with another disk, and `crash CALLS CHOICE` with what a
 //! crash leaves of the present one (`slots.rt`). The current slot and the cache stay as they are.
 
 use crate::caches::{ask_cache, make_cache, spell_extent, spell_slot, write_extent};
 use crate::disks::{ask_disk, image};
 use crate::slots::{
-    change_slots, choice_of, spell_changed, spell_current, spell_other, spell_stops,
+    change_slots, choice_of, spell_changed, spell_current, spell_other, spell_crashes,
 };
 use blocks::{BlockCache, Current};
 use case_files::{Answer, Answers, NoAnswer};
@@ -41,7 +41,7 @@ impl Examples {
     }
 
     /// Replaces the disk by what a crash leaves of it.
-    fn stop(&mut self, words: &str) -> Answer {
+    fn crash(&mut self, words: &str) -> Answer {
         let (calls, choice) = first_word(words)?;
         let left = image(&self.disk, calls, choice_of(choice)?)?;
         self.put(left)
@@ -57,9 +57,9 @@ impl Examples {
     }
 
     /// What crashes leave.
-    fn stops(&self, words: &str) -> Answer {
+    fn crashes(&self, words: &str) -> Answer {
         let (choice, first) = first_word(words)?;
-        spell_stops(self.alloc, &self.disk, choice_of(choice)?, number(first)?)
+        spell_crashes(self.alloc, &self.disk, choice_of(choice)?, number(first)?)
     }
 
     /// Begins with a new cache, or reads through the present one.
@@ -93,8 +93,8 @@ impl Answers for Examples {
                 let bytes = read_hex(alloc, rest)?;
                 self.put(bytes)
             }
-            "stop" => self.stop(rest),
-            "stops" => self.stops(rest),
+            "crash" => self.crash(rest),
+            "crashes" => self.crashes(rest),
             "current" => spell_current(alloc, &mut self.disk),
             "other" => spell_other(alloc, &mut self.disk, rest),
             "extent" => spell_extent(alloc, rest),

@@ -6,7 +6,7 @@
 //! - `current` prints what is read as the current slot: its name, its epoch and the byte; or the
 //!   fault. `other SLOT` prints whether the slot besides this one is open, and the byte of its
 //!   content if it is, or else 09;
-//! - `stops CHOICE CALLS` prints which slot is current after CALLS changing calls, if a crash
+//! - `crashes CHOICE CALLS` prints which slot is current after CALLS changing calls, if a crash
 //!   leaves unsynced bytes `kept`, `lost` or replaced by a byte, and after each later call; lines
 //!   are counted from there on.
 
@@ -119,7 +119,7 @@ pub fn spell_other(alloc: Global, disk: &mut MemDisk, slot: &str) -> Answer {
 }
 
 /// Which slot is current after crashes.
-pub fn spell_stops(alloc: Global, disk: &MemDisk, choice: Choice, first: u64) -> Answer {
+pub fn spell_crashes(alloc: Global, disk: &MemDisk, choice: Choice, first: u64) -> Answer {
     let mut groups = Groups::new(alloc);
     for calls in first..=disk.changes() {
         let image = disk.image(calls.min(disk.changes()), choice)?;

@@ -10,13 +10,13 @@ use Rattle.disk_model.proofs.Images.{image_reading, settled_only}
 pub started : (old : Moments) (P : List ℕ → Type 0) → EachImage old.state P → LeavesOnly old old P
 started old P here = record { since = []; grows = refl; first = here; each = All-nil (λ s. EachImage s P) }
 
--- one call more, after which a stop leaves what has P
+-- one call more, after which a crash leaves what has P
 pub on_made : (old mid new : Moments) (P : List ℕ → Type 0) (s : DiskState) → LeavesOnly old mid P → new ≡ followed_by mid s → EachImage s P → LeavesOnly old new P
 on_made old mid new P s so_far made here =
     subst (λ (m : Moments). LeavesOnly old m P) (sym made)
     (record { since = s ∷ so_far.since; grows = ap (λ (l : List DiskState). s ∷ l) so_far.grows; first = so_far.first; each = All-cons (λ s. EachImage s P) s so_far.since here so_far.each })
 
--- what a stop leaves now
+-- what a crash leaves now
 pub at_end : (old new : Moments) (P : List ℕ → Type 0) → LeavesOnly old new P → EachImage new.state P
 at_end old new P run = last run.since run.grows run.each
   where
@@ -83,6 +83,6 @@ all_moments old new P before run =
     All-same (λ s. EachImage s P) (new.state ∷ new.past) (run.since ++ old.state ∷ old.past) run.grows
     (All-append (λ s. EachImage s P) run.since (old.state ∷ old.past) run.each (All-cons (λ s. EachImage s P) old.state old.past run.first before))
 
--- what a stop leaves at one of the moments since a disk was made
+-- what a crash leaves at one of the moments since a disk was made
 pub at_moment : (new : Moments) (first : List ℕ) (P : List ℕ → Type 0) (s : DiskState) → LeavesOnly (made first) new P → Contains (new.state ∷ new.past) s → EachImage s P
 at_moment new first P s run here = All-contains (λ t. EachImage t P) (new.state ∷ new.past) s (all_moments (made first) new P (All-nil (λ t. EachImage t P)) run) here

@@ -4,9 +4,10 @@ use Rattle.disk_model.specs.Disk.{Moments, raised_by}
 
 -- what is known of a device at one time
 pub record DiskView : Type 1 where
-  -- it keeps to what its calls promise of bytes and stops; of one that doesn't nothing else is known
+  -- it keeps to what its calls promise of bytes and crashes; of one that doesn't nothing else is
+  -- known
   pub is_honest : Type 0
-  -- what a read gives and what a stop may leave, now and at each moment before
+  -- what a read gives and what a crash may leave, now and at each moment before
   pub moments : Moments
   -- how many calls have failed; it has 64 bits
   pub failures : ℕ

@@ -69,7 +69,7 @@ pub fn rows_found<R: RowReader>(
         Question::Get(kind, id, date) => {
             rows_of(alloc, index.get(reader, kind, id, AsOf { date, pin })?)
         }
-        Question::Versions(kind, id) => index.history(reader, kind, id, pin),
+        Question::Versions(kind, id) => index.versions(reader, kind, id, pin),
         Question::Page(kind, date, after, limit) => {
             index.page(reader, kind, AsOf { date, pin }, after, limit)
         }

@@ -18,7 +18,7 @@ use Rattle.history_store.specs.Answers.{StemsWithinNew}
 use Rattle.history_store.proofs.Imported.{IsAt, welcome, none_after}
 use Rattle.history_store.proofs.WrittenWhere.{none_behind, one_behind}
 
--- what a stop leaves that comes after the known rows were read, which changes nothing
+-- what a crash leaves that comes after the known rows were read, which changes nothing
 pub after_reading : (old mid new : Moments) (h k : History) (s t : Catalog) (release : Release) → mid ≡ old → k ≡ h → t ≡ s → LeavesOnly mid new (λ c. IsImage mid.state c ⊎ StemsWithinNew k t release mid.state c)
     → LeavesOnly old new (λ c. IsImage old.state c ⊎ StemsWithinNew h s release old.state c)
 after_reading old mid new h k s t release first second third leaves =

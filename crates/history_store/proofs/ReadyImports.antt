@@ -47,7 +47,7 @@ module _ {D : Type 0} (honest : Type 0) (old mid : StoreValue D) (release : Rele
         subst (λ receipt. IsImportOnAnyDisk (Ok receipt) old new release) (sym is.receipt_is)
         (taken_by_key old old mid release is.fresh new.history new.catalog (mid.history.imports + 1) (length is.fresh.rows.items) refl (room_ready honest mid release ready is old still) still (brings_ready honest mid release ready is old still) (history_without new step.0) (catalog_without new step.1) refl refl, still.open_before, step.2)
 
-    -- what a stop leaves
+    -- what a crash leaves
     pub moments_without : (before between after : Moments) → between ≡ before → honest → LeavesOnly between after (λ c. RepresentsAs mid.catalog.layout mid.history c ⊎ RepresentsAs d.layout (with_imports mid.history d.imports) c) → LeavesOnly before after (IsBeforeOrAfter old.catalog.layout old.history release)
     moments_without before between after same up leaves =
         from_mid before between after old.history mid.history old.catalog mid.catalog release same still.history still.catalog

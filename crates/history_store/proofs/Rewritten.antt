@@ -358,7 +358,7 @@ module _ (d : DirectoryValue) (entry : Entry) (anew : IsAnew d entry) (lists : L
             (slot_beside (other slot) cache left (subst (λ (s : Slot). Forgets (is_in (slot_extent s)) cache left) slots forgets));
       })
 
-  -- a stop leaves the history
+  -- a crash leaves the history
   pub leaves_listed : (honest : Type 0) (old new : Moments) (cache : LruCache ℕ (List ℕ)) (slot : Slot) (e : DirectoryValue) → IsHeld honest old.state cache slot d lists false → honest → d.epoch + 1 < 2 ^ 64
       → ((rows : List StampedRow) → lists ≡ rows ∷ [] → BeginsWith (extent_of entry) (segment_in entry.form rows) old.state.now) → e ≡ only_listing d entry
       → LeavesWritten honest old new slot e → LeavesOnly old new (RepresentsAs d.layout (history_of d lists))

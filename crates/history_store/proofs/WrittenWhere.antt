@@ -32,7 +32,7 @@ in_slots slot old new same =
       same = λ i outside. same.same i (All-cons (IsOutside i) (slot_range slot) [] (slot_outside slot i (All-head (IsOutside i) slots_range [] outside)) (All-nil (IsOutside i)));
     }
 
--- and what a stop leaves
+-- and what a crash leaves
 but_slots : (slot : Slot) (d c : List ℕ) → SameBut (slot_range slot).0 (slot_range slot).1 d c → SameBut slots_range.0 slots_range.1 d c
 but_slots A d c same = record { no_shorter = same.no_shorter; no_longer = omega (arith, same.no_longer); below = λ i within less. absurd (omega (arith, less)); above = λ i within behind. same.above i within (omega (arith, behind)) }
 but_slots B d c same = record { no_shorter = same.no_shorter; no_longer = omega (arith, same.no_longer); below = λ i within less. absurd (omega (arith, less)); above = λ i within behind. same.above i within (omega (arith, behind)) }

@@ -41,7 +41,7 @@ pub record IsMaking {D : Type 0} (layout : Layout) (result : StoreOr D)
   -- a read of a new store returns its two slots, and nothing after them
   pub bytes : (view device).is_honest
       → IfOk result (λ s. IsNewStore layout (view s.disk).moments.state.now)
-  -- whatever a stop leaves from now on represents the empty history
+  -- whatever a crash leaves from now on represents the empty history
   pub acknowledged : (view device).is_honest → IfOk result (IsAcknowledged view)
   -- on every device the store begins with no block in memory
   pub cache : IfOk result (λ s. s.cache ≡ no_blocks)
@@ -65,7 +65,7 @@ pub record IsOpening {D : Type 0} (result : StoreOr D)
   pub synced : (view device).is_honest → SyncsOnce view result device
   pub read : (view device).is_honest
       → (view (device_of result)).moments.state.now ≡ (view device).moments.state.now
-  -- whatever a stop leaves from now on represents what the store holds
+  -- whatever a crash leaves from now on represents what the store holds
   pub acknowledged : (view device).is_honest → IfOk result (IsAcknowledged view)
   -- on every device the store begins with no block in memory
   pub cache : IfOk result (λ s. s.cache ≡ no_blocks)

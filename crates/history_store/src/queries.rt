@@ -68,7 +68,7 @@ impl<D: Disk> Store<D> {
     }
 
     /// All versions of the component that the first `pin` imports brought, ascending by time.
-    pub fn history(&mut self, kind: Kind, id: u128, pin: u32) -> Result<Vec<Row>, Refusal>
+    pub fn versions(&mut self, kind: Kind, id: u128, pin: u32) -> Result<Vec<Row>, Refusal>
         requires { pin ≤ self.old.history.imports }
         ensures answer { IsRowsQuery result (λ rows. rows.items) (versions kind id) pin
             D.view self.old self.new }
@@ -82,7 +82,7 @@ impl<D: Disk> Store<D> {
             &self.directory,
             &self.index,
         );
-        let read = self.index.places().history(&mut reader, kind, id, pin);
+        let read = self.index.places().versions(&mut reader, kind, id, pin);
         self.answered(read)
     }
 

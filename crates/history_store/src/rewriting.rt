@@ -175,7 +175,7 @@ fn write_and_list<D: Disk>(
     ensures held { IfErr result
         (λ e. IsHeld (D.view disk.new).is_honest (D.view disk.new).moments.state
         cache.new slot directory.now index.now (is_device e)) }
-    // A stop at any moment leaves the history.
+    // A crash at any moment leaves the history.
     ensures any_moment { (D.view disk.old).is_honest
         → LeavesOnly (D.view disk.old).moments (D.view disk.new).moments
         (RepresentsAs directory.now.layout (history_of directory.now index.now)) }

@@ -8,7 +8,7 @@ use test_support::image_before_end;
 /// Which image of a moment is chosen, and of which moments: those before the last `first` to `last`
 /// of the disk's changing calls.
 #[derive(Clone, Copy)]
-pub(crate) struct Stops<'a> {
+pub(crate) struct Crashes<'a> {
     pub(crate) choice: Choice,
     pub(crate) first: u64,
     pub(crate) last: u64,
@@ -16,9 +16,9 @@ pub(crate) struct Stops<'a> {
     pub(crate) rest: &'a str,
 }
 
-impl<'a> Stops<'a> {
+impl<'a> Crashes<'a> {
     /// Parses the choice, the first and the last number at the beginning of a text.
-    pub(crate) fn of(text: &'a str) -> Result<Stops<'a>, Fault> {
+    pub(crate) fn of(text: &'a str) -> Result<Crashes<'a>, Fault> {
         let (choice, rest) = two_words(text);
         let (first, rest) = two_words(rest);
         let (last, rest) = two_words(rest);
@@ -26,7 +26,7 @@ impl<'a> Stops<'a> {
         if first > last {
             return Err(Fault::Line("the first number is greater than the last"));
         }
-        Ok(Stops {
+        Ok(Crashes {
             choice: choice_of(choice)?,
             first,
             last,

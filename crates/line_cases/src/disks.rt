@@ -101,7 +101,7 @@ fn take_of_disk(
             Ok(())
         }
         "patch" => change(alloc, disk, rest),
-        "stop" => stop(alloc, disk, rest),
+        "crash" => crash(alloc, disk, rest),
         _ => Err(Fault::Line("no word of a case whose store is closed")),
     }
 }
@@ -156,7 +156,7 @@ fn change(alloc: Global, disk: &mut MemDisk, rest: &str) -> Result<(), Fault> {
 }
 
 /// Replaces the disk by what a crash leaves of it.
-fn stop(alloc: Global, disk: &mut MemDisk, rest: &str) -> Result<(), Fault> {
+fn crash(alloc: Global, disk: &mut MemDisk, rest: &str) -> Result<(), Fault> {
     let (choice, left) = two_words(rest);
     let image = image_at(disk, choice_of(choice)?, number(left)?)?;
     *disk = MemDisk::from_bytes(alloc, image);

@@ -1,6 +1,6 @@
 //! Carries out the lines of a case.
 
-use crate::choices::{Stops, image_at};
+use crate::choices::{Crashes, image_at};
 use crate::disks::CaseStore;
 use crate::saying::{says, says_in};
 use crate::turns::Turns;
@@ -111,22 +111,22 @@ impl Lines {
     }
 
     /// Sends the lines of a part to the stores that crashes leave.
-    fn ask_stopped(&mut self, rest: &str) -> Result<(), Fault> {
-        let stops = Stops::of(rest)?;
-        let place = self.place_of(stops.rest)?;
+    fn ask_after_crashes(&mut self, rest: &str) -> Result<(), Fault> {
+        let crashes = Crashes::of(rest)?;
+        let place = self.place_of(crashes.rest)?;
         self.has_sent = true;
-        for left in stops.first..=stops.last {
-            self.ask_after(stops, left, place)?;
+        for left in crashes.first..=crashes.last {
+            self.ask_after(crashes, left, place)?;
         }
         Ok(())
     }
 
     /// Sends the lines of the part at a position to the store that a crash leaves.
-    fn ask_after(&mut self, stops: Stops<'_>, left: u64, place: usize) -> Result<(), Fault> {
+    fn ask_after(&mut self, crashes: Crashes<'_>, left: u64, place: usize) -> Result<(), Fault> {
         let (Some(disk), Some(part)) = (&self.store.disk, self.parts.get(place)) else {
             return Err(Fault::Line("the store is open"));
         };
-        let image = image_at(disk, stops.choice, left)?;
+        let image = image_at(disk, crashes.choice, left)?;
         match Server::of_bytes(self.alloc, image.as_slice()) {
             Ok(mut server) => says(self.alloc, &mut server, &part.turns, &mut self.shown),
             Err(_) => Err(Fault::Line("the store is refused")),
@@ -138,7 +138,7 @@ impl Lines {
         self.send()?;
         match word {
             "ask" => self.ask(rest),
-            "stops" => self.ask_stopped(rest),
+            "crashes" => self.ask_after_crashes(rest),
             _ => self.store.take(word, rest, &mut self.shown),
         }
     }

@@ -42,7 +42,7 @@ pub(crate) fn answer_history<D: Disk>(
     ensures { IsQueried result D.view (History kind id) pin
         store.old store.new }
 {
-    let found = store.history(kind, id, pin)?;
+    let found = store.versions(kind, id, pin)?;
     Ok(reply_rows(alloc, &found)?)
 }
 

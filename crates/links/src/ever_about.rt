@@ -94,7 +94,7 @@ fn versions_of<R: RowReader>(
 {
     let mut rows = Vec::new(alloc);
     for id in ids {
-        let mut versions = index.history(reader, kind, *id, pin)?;
+        let mut versions = index.versions(reader, kind, *id, pin)?;
         rows.append(&mut versions)?;
     }
     Ok(rows)

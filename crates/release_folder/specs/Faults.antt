@@ -5,8 +5,8 @@ use Rattle.std.specs.declared.io.Error.{Error}
 use Rattle.std.specs.declared.io.ErrorKind.TheVariants as kinds
 use Rattle.release_folder.specs.declared.fault.FolderFault.{FolderFault}
 use Rattle.release_folder.specs.declared.fault.FolderFault.TheVariants as faults
-use Rattle.release_folder.specs.declared.obstacle.ReadFault.{ReadFault}
-use Rattle.release_folder.specs.declared.obstacle.ReadFault.TheVariants as reading
+use Rattle.release_folder.specs.declared.obstacle.FolderReadFault.{FolderReadFault}
+use Rattle.release_folder.specs.declared.obstacle.FolderReadFault.TheVariants as reading
 
 -- the system's "out of memory" is `OutOfMemory`, and every other error is `NoFolder`
 abbrev pub IsFaultOf : Error → FolderFault → Type 0
@@ -15,7 +15,7 @@ IsFaultOf error fault =
     ⊎ ((error_kind error ≢ kinds.OutOfMemory) × (fault ≡ faults.NoFolder))
 
 -- the fault without details
-abbrev pub folder_fault : ReadFault → FolderFault
+abbrev pub folder_fault : FolderReadFault → FolderFault
 folder_fault reading.OutOfMemory = faults.OutOfMemory
 folder_fault (reading.Met path obstacle) = faults.NoFolder
 folder_fault (reading.Misnamed folder name) = faults.NoFolder

@@ -14,7 +14,7 @@ use crate::guards::{
     nothing_in, unlisted,
 };
 use crate::names::{kind_to_take, shown_name};
-use crate::obstacle::{Obstacle, ReadFault};
+use crate::obstacle::{Obstacle, FolderReadFault};
 use crate::part::Part;
 use crate::passed_over::tell_passed_over;
 use crate::watcher::{Unwatched, Watcher};
@@ -60,7 +60,7 @@ pub fn read_release<R: Files<File = File> + AllocGlobal + Clone + Drop, W: Watch
     name: &str,
     scope: Scope,
     watcher: &mut W,
-) -> Result<Release, ReadFault>
+) -> Result<Release, FolderReadFault>
     ensures taken { IfOk result (λ release. All (IsTakenFile scope) release.files.items) }
     ensures some { IfOk result (λ release. release.files.items ≢ []) }
     ensures in_order { IfOk result (λ release. AreInOrder scope release.files.items) }
@@ -74,7 +74,7 @@ pub fn read_release<R: Files<File = File> + AllocGlobal + Clone + Drop, W: Watch
     let refset = parts_of(rt, alloc, &root, folders, scope, watcher)?;
     match release_of(terminology, refset) {
         Ok(release) => Ok(release),
-        Err(FolderFault::OutOfMemory) => Err(ReadFault::OutOfMemory),
+        Err(FolderFault::OutOfMemory) => Err(FolderReadFault::OutOfMemory),
         Err(FolderFault::NoFolder) => Err(nothing_in(rt, alloc, &root, scope)),
     }
 }
@@ -131,7 +131,7 @@ fn refset_folders<R: Files<File = File> + AllocGlobal + Clone + Drop>(
     alloc: Global,
     root: &str,
     scope: Scope,
-) -> Result<Vec<String>, ReadFault>
+) -> Result<Vec<String>, FolderReadFault>
     ensures { IfOk result (λ folders. AreFolders scope (length folders.items)) }
 {
     match scope {
@@ -146,7 +146,7 @@ fn all_refset_folders<R: Files<File = File> + AllocGlobal + Clone + Drop>(
     rt: &R,
     alloc: Global,
     root: &str,
-) -> Result<Vec<String>, ReadFault> {
+) -> Result<Vec<String>, FolderReadFault> {
     let mut folders = Vec::new(alloc);
     let refset = format!(in alloc; "{root}/{REFSET}")?;
     for name in names_in(rt, alloc, &refset)? {
@@ -166,7 +166,7 @@ fn parts_of<R: Files<File = File> + AllocGlobal + Clone + Drop, W: Watcher>(
     folders: Vec<String>,
     scope: Scope,
     watcher: &mut W,
-) -> Result<Vec<Part>, ReadFault>
+) -> Result<Vec<Part>, FolderReadFault>
     ensures taken { IfOk result (λ parts. All (IsTakenPart scope) parts.items) }
     ensures many { IfOk result (λ parts. length parts.items ≡ length folders.items) }
 {
@@ -187,7 +187,7 @@ fn files_of<R: Files<File = File> + AllocGlobal + Clone + Drop, W: Watcher>(
     part: &str,
     scope: Scope,
     watcher: &mut W,
-) -> Result<Vec<ReleaseFile>, ReadFault>
+) -> Result<Vec<ReleaseFile>, FolderReadFault>
     ensures { IfOk result (λ files. All (IsTakenFile scope) files.items) }
 {
     let folder = format!(in alloc; "{root}/{part}")?;
@@ -220,7 +220,7 @@ fn add_files<R: Files<File = File> + AllocGlobal + Clone + Drop, W: Watcher>(
     scope: Scope,
     files: &mut Vec<ReleaseFile>,
     watcher: &mut W,
-) -> Result<(), ReadFault>
+) -> Result<(), FolderReadFault>
     ensures { All (IsTakenFile scope) files.old.items
         → OnOk result (All (IsTakenFile scope) files.new.items) }
 {
@@ -240,12 +240,12 @@ fn names_in<R: Files<File = File> + AllocGlobal + Clone + Drop>(
     rt: &R,
     alloc: Global,
     folder: &str,
-) -> Result<Vec<String>, ReadFault> {
+) -> Result<Vec<String>, FolderReadFault> {
     let mut names = Vec::new(alloc);
     let entries = match fs::read_dir(rt, folder) {
         Ok(entries) => entries,
         Err(error) if error.kind() == ErrorKind::NotFound => return Ok(names),
-        Err(error) => return Err(ReadFault::said(alloc, folder, error)),
+        Err(error) => return Err(FolderReadFault::said(alloc, folder, error)),
     };
     for entry in entries {
         let entry = match entry {
@@ -263,16 +263,16 @@ fn whole_file<R: Files<File = File>>(
     rt: &R,
     alloc: Global,
     path: &str,
-) -> Result<Vec<u8>, ReadFault>
+) -> Result<Vec<u8>, FolderReadFault>
     ensures { IfOk result (λ bytes. length bytes.items ≤ LARGEST) }
 {
     check_file(rt, alloc, path)?;
     let mut bytes = Vec::new(alloc);
     if let Err(error) = read_up_to(rt, path, LARGEST + 1, &mut bytes) {
-        return Err(ReadFault::said(alloc, path, error));
+        return Err(FolderReadFault::said(alloc, path, error));
     }
     if bytes.len() as u64 > LARGEST {
-        return Err(ReadFault::met(alloc, path, Obstacle::TooLarge));
+        return Err(FolderReadFault::met(alloc, path, Obstacle::TooLarge));
     }
     Ok(bytes)
 }

@@ -6,7 +6,7 @@ ghost use Rattle.release_folder.specs.Faults.{folder_fault};
 ghost use Rattle.release_folder.specs.declared.fault.FolderFault.TheVariants.{NoFolder};
 
 use crate::listing::misnamed_in;
-use crate::obstacle::{Obstacle, ReadFault};
+use crate::obstacle::{Obstacle, FolderReadFault};
 use import_check::Scope;
 use std::alloc::{AllocError, Global};
 use std::fs::{self, File, Files, Metadata};
@@ -32,15 +32,15 @@ fn look<R: Files<File = File>>(
     rt: &R,
     alloc: Global,
     path: &str,
-) -> Result<Option<Metadata>, ReadFault> {
+) -> Result<Option<Metadata>, FolderReadFault> {
     match fs::metadata(rt, path) {
         Ok(metadata) => Ok(Some(metadata)),
         Err(error) if error.kind() == ErrorKind::NotFound => match fs::symlink_metadata(rt, path) {
-            Ok(_) => Err(ReadFault::met(alloc, path, Obstacle::LeadsNowhere)),
+            Ok(_) => Err(FolderReadFault::met(alloc, path, Obstacle::LeadsNowhere)),
             Err(error) if error.kind() == ErrorKind::NotFound => Ok(None),
-            Err(error) => Err(ReadFault::said(alloc, path, error)),
+            Err(error) => Err(FolderReadFault::said(alloc, path, error)),
         },
-        Err(error) => Err(ReadFault::said(alloc, path, error)),
+        Err(error) => Err(FolderReadFault::said(alloc, path, error)),
     }
 }
 
@@ -49,11 +49,11 @@ pub(crate) fn check_folder<R: Files<File = File>>(
     rt: &R,
     alloc: Global,
     path: &str,
-) -> Result<(), ReadFault> {
+) -> Result<(), FolderReadFault> {
     match look(rt, alloc, path)? {
         Some(metadata) if metadata.is_dir() => Ok(()),
-        Some(_) => Err(ReadFault::met(alloc, path, Obstacle::NotAFolder)),
-        None => Err(ReadFault::met(alloc, path, Obstacle::NoSuchFolder)),
+        Some(_) => Err(FolderReadFault::met(alloc, path, Obstacle::NotAFolder)),
+        None => Err(FolderReadFault::met(alloc, path, Obstacle::NoSuchFolder)),
     }
 }
 
@@ -62,7 +62,7 @@ pub(crate) fn check_parts<R: Files<File = File>>(
     rt: &R,
     alloc: Global,
     root: &str,
-) -> Result<(), ReadFault> {
+) -> Result<(), FolderReadFault> {
     for part in [TERMINOLOGY, REFSET, CONTENT] {
         let path = format!(in alloc; "{root}/{part}")?;
         let _ = look(rt, alloc, path.as_str())?;
@@ -75,7 +75,7 @@ pub(crate) fn is_folder<R: Files<File = File>>(
     rt: &R,
     alloc: Global,
     path: &str,
-) -> Result<bool, ReadFault> {
+) -> Result<bool, FolderReadFault> {
     match look(rt, alloc, path)? {
         Some(metadata) => Ok(metadata.is_dir()),
         None => Ok(false),
@@ -87,18 +87,18 @@ pub(crate) fn check_file<R: Files<File = File>>(
     rt: &R,
     alloc: Global,
     path: &str,
-) -> Result<(), ReadFault> {
+) -> Result<(), FolderReadFault> {
     match look(rt, alloc, path)? {
         Some(metadata) if !metadata.is_file() => {
-            Err(ReadFault::met(alloc, path, Obstacle::NotAFile))
+            Err(FolderReadFault::met(alloc, path, Obstacle::NotAFile))
         }
         Some(metadata) if metadata.len() > LARGEST => {
-            Err(ReadFault::met(alloc, path, Obstacle::TooLarge))
+            Err(FolderReadFault::met(alloc, path, Obstacle::TooLarge))
         }
         Some(_) => Ok(()),
         None => {
             let error = io::Error::from(ErrorKind::NotFound);
-            Err(ReadFault::said(alloc, path, error))
+            Err(FolderReadFault::said(alloc, path, error))
         }
     }
 }
@@ -109,21 +109,21 @@ pub(crate) fn unlisted<R: Files<File = File>>(
     alloc: Global,
     folder: &str,
     error: io::Error,
-) -> ReadFault {
+) -> FolderReadFault {
     match error.kind() {
         ErrorKind::InvalidFilename => misnamed(rt, alloc, folder),
-        _ => ReadFault::said(alloc, folder, error),
+        _ => FolderReadFault::said(alloc, folder, error),
     }
 }
 
 /// The fault for a name in a folder that isn't UTF-8, with that name.
-fn misnamed<R: Files<File = File>>(rt: &R, alloc: Global, folder: &str) -> ReadFault {
+fn misnamed<R: Files<File = File>>(rt: &R, alloc: Global, folder: &str) -> FolderReadFault {
     let Ok(Some(name)) = misnamed_in(rt, alloc, folder) else {
-        return ReadFault::met(alloc, folder, Obstacle::NotUtf8);
+        return FolderReadFault::met(alloc, folder, Obstacle::NotUtf8);
     };
     match String::from_str(alloc, folder) {
-        Ok(folder) => ReadFault::Misnamed { folder, name },
-        Err(_) => ReadFault::OutOfMemory,
+        Ok(folder) => FolderReadFault::Misnamed { folder, name },
+        Err(_) => FolderReadFault::OutOfMemory,
     }
 }
 
@@ -174,10 +174,10 @@ pub(crate) fn nothing_in<R: Files<File = File>>(
     alloc: Global,
     root: &str,
     scope: Scope,
-) -> ReadFault
+) -> FolderReadFault
     ensures { folder_fault result ≡ NoFolder }
 {
     let refset = refset_in(scope);
     let obstacle = lack_of(rt, alloc, root, scope).unwrap_or(Obstacle::NoParts { refset });
-    ReadFault::met(alloc, root, obstacle)
+    FolderReadFault::met(alloc, root, obstacle)
 }

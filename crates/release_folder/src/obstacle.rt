@@ -1,7 +1,7 @@
 //! Why a release can't be read, in detail.
 
 ghost use Rattle.std.specs.Prelude.{◌≡◌};
-ghost use Rattle.release_folder.specs.declared.obstacle.ReadFault.TheVariants.{OutOfMemory};
+ghost use Rattle.release_folder.specs.declared.obstacle.FolderReadFault.TheVariants.{OutOfMemory};
 
 use crate::fault::FolderFault;
 use shown_names::Shown;
@@ -47,7 +47,7 @@ pub enum Obstacle {
 
 /// Why a release wasn't read.
 #[derive(Debug, Drop)]
-pub enum ReadFault {
+pub enum FolderReadFault {
     OutOfMemory,
     /// The path is empty if there was no memory for it.
     Met { path: String, obstacle: Obstacle },
@@ -55,28 +55,28 @@ pub enum ReadFault {
     Misnamed { folder: String, name: Vec<u8> },
 }
 
-impl ReadFault {
+impl FolderReadFault {
     ghost use Rattle.release_folder.specs.Faults.{IsFaultOf, folder_fault};
     ghost use Rattle.release_folder.specs.declared.fault.FolderFault.TheVariants.{NoFolder};
 
     /// The fault for what is at a path.
-    pub(crate) fn met(alloc: Global, path: &str, obstacle: Obstacle) -> ReadFault
+    pub(crate) fn met(alloc: Global, path: &str, obstacle: Obstacle) -> FolderReadFault
         ensures { folder_fault result ≡ NoFolder }
     {
         let path = match String::from_str(alloc, path) {
             Ok(path) => path,
             Err(_) => String::new(alloc),
         };
-        ReadFault::Met { path, obstacle }
+        FolderReadFault::Met { path, obstacle }
     }
 
     /// The fault for an error of the system about a path.
-    pub(crate) fn said(alloc: Global, path: &str, error: io::Error) -> ReadFault
+    pub(crate) fn said(alloc: Global, path: &str, error: io::Error) -> FolderReadFault
         ensures { IsFaultOf error (folder_fault result) }
     {
         match FolderFault::from(error) {
-            FolderFault::OutOfMemory => ReadFault::OutOfMemory,
-            FolderFault::NoFolder => ReadFault::met(alloc, path, Obstacle::System(error)),
+            FolderFault::OutOfMemory => FolderReadFault::OutOfMemory,
+            FolderFault::NoFolder => FolderReadFault::met(alloc, path, Obstacle::System(error)),
         }
     }
 
@@ -85,22 +85,22 @@ impl ReadFault {
         ensures { result ≡ folder_fault self.now }
     {
         match self {
-            ReadFault::OutOfMemory => FolderFault::OutOfMemory,
-            ReadFault::Met { .. } | ReadFault::Misnamed { .. } => FolderFault::NoFolder,
+            FolderReadFault::OutOfMemory => FolderFault::OutOfMemory,
+            FolderReadFault::Met { .. } | FolderReadFault::Misnamed { .. } => FolderFault::NoFolder,
         }
     }
 }
 
-impl Display for ReadFault {
+impl Display for FolderReadFault {
     fn fmt<W: fmt::Write>(&self, f: &mut Formatter<W>) -> fmt::Result {
         match self {
-            ReadFault::OutOfMemory => f.write_str("out of memory"),
-            ReadFault::Met { path, obstacle } if path.is_empty() => write!(f, "{obstacle}"),
-            ReadFault::Met { path, obstacle } => {
+            FolderReadFault::OutOfMemory => f.write_str("out of memory"),
+            FolderReadFault::Met { path, obstacle } if path.is_empty() => write!(f, "{obstacle}"),
+            FolderReadFault::Met { path, obstacle } => {
                 let path = Shown(path.as_bytes());
                 write!(f, "{path}: {obstacle}")
             }
-            ReadFault::Misnamed { folder, name } => {
+            FolderReadFault::Misnamed { folder, name } => {
                 let (folder, name) = (Shown(folder.as_bytes()), Shown(name));
                 write!(f, "{folder}: the name of a file in it isn't UTF-8: {name}")
             }
@@ -108,18 +108,18 @@ impl Display for ReadFault {
     }
 }
 
-impl From<AllocError> for ReadFault {
+impl From<AllocError> for FolderReadFault {
     ghost from_gives = { λ _ e. e ≡ OutOfMemory };
 
-    fn from(_: AllocError) -> ReadFault {
-        ReadFault::OutOfMemory
+    fn from(_: AllocError) -> FolderReadFault {
+        FolderReadFault::OutOfMemory
     }
 }
 
-impl<T: Drop> From<AllocFailed<T>> for ReadFault {
+impl<T: Drop> From<AllocFailed<T>> for FolderReadFault {
     ghost from_gives = { λ _ e. e ≡ OutOfMemory };
 
-    fn from(_: AllocFailed<T>) -> ReadFault {
-        ReadFault::OutOfMemory
+    fn from(_: AllocFailed<T>) -> FolderReadFault {
+        FolderReadFault::OutOfMemory
     }
 }

@@ -5,7 +5,8 @@
 //! - `copy-from FAILURE CALLS IMPORTS` lets a call of the kept disk fail after CALLS others, and
 //!   `copy-reads IMPORTS` each of its reads in turn: a copy of all imports is then refused and
 //!   leaves no store, or it has that many imports;
-//! - `copy-stops IMPORTS` prints how many stores crashes during a copy leave, over all its moments
+//! - `copy-crashes IMPORTS` prints how many stores crashes during a copy leave, over all its
+//! moments
 //!   and the four choices of each, and `copy-fails FAILURE IMPORTS` the most of them if each call
 //!   of the copy's disk fails in turn. Each store has to have that many imports.
 //!
@@ -166,7 +167,7 @@ fn copy_onto(
 }
 
 /// How many stores crashes during a copy leave.
-fn copy_stops(alloc: Global, kept: &[u8], words: &str) -> Answer {
+fn copy_crashes(alloc: Global, kept: &[u8], words: &str) -> Answer {
     let mut target = MemDisk::new(alloc);
     match copy_onto(alloc, kept, &mut target, number(words)?)? {
         Some((stores, false)) => Ok(format!(in alloc; "{stores}")?),
@@ -196,7 +197,7 @@ pub fn try_copies(alloc: Global, kept: &[u8], word: &str, words: &str) -> Answer
     match word {
         "copy-from" => copy_from(alloc, kept, words),
         "copy-reads" => copy_reads(alloc, kept, words),
-        "copy-stops" => copy_stops(alloc, kept, words),
+        "copy-crashes" => copy_crashes(alloc, kept, words),
         "copy-fails" => copy_fails(alloc, kept, words),
         _ => Err(NoAnswer::NoQuestion),
     }

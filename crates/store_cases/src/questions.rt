@@ -53,7 +53,7 @@ fn find(
 ) -> Result<Vec<u8>, Refusal> {
     match question {
         Question::Get(kind, id, date) => store.line_at(kind, id, date.value(), pin),
-        Question::Versions(kind, id) => store.history(kind, id, pin),
+        Question::Versions(kind, id) => store.versions(kind, id, pin),
         Question::Replacements(id, date) => store.replacements(id.value(), date.value(), pin),
         Question::Replaces(id, date) => store.replaces(id.value(), date.value(), pin),
         Question::About(kind, id, date) => store.about(kind, id.value(), date.value(), pin),

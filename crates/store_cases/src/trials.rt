@@ -8,7 +8,8 @@
 //!   closed and opened again, is equal to the kept one, byte for byte. `create` makes a store on
 //!   the kept disk, which has to stay unchanged if that is refused.
 //! - `remember PIN PART` and `known PIN PART` ask the store as `scripts.rt` says.
-//! - `stops CHOICE SCRIPT LOOK` prints what a look shows of the store that each crash leaves, where
+//! - `crashes CHOICE SCRIPT LOOK` prints what a look shows of the store that each crash leaves,
+//! where
 //!   the choice says what becomes of unsynced bytes: `kept`, `lost`, or replaced by this byte. The
 //!   crashes are numbered by the changing calls before them.
 //! - `fails FAILURE SCRIPT SHUT LOOK` lets one call of the disk fail, each in turn: one that
@@ -212,7 +213,7 @@ impl Trials {
     }
 
     /// What each crash leaves.
-    fn stops(&mut self, words: &str) -> Answer {
+    fn crashes(&mut self, words: &str) -> Answer {
         let (choice, words) = first_word(words)?;
         let (script, look) = first_word(words)?;
         let choice = choice_of(choice)?;
@@ -391,7 +392,7 @@ impl Answers for Trials {
 
     fn answer(&mut self, word: &str, rest: &str) -> Answer {
         match word {
-            "stops" => self.stops(rest),
+            "crashes" => self.crashes(rest),
             "fails" => self.fails(rest),
             "refusals" => all_refusals(self.alloc),
             "remember" => self.scripts.remember(&mut self.examples, rest),

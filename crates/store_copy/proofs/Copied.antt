@@ -1,4 +1,4 @@
--- What a copy is once it is written, and what stops leave up to then.
+-- What a copy is once it is written, and what crashes leave up to then.
 use Rattle.std.specs.Prelude.{Option}
 use Rattle.std.proofs.Common.{◌≡◌, ◌⊎◌, inl, inr, ℕ, ◌<◌, List, refl, sym, ap, subst}
 use Rattle.disk_model.specs.Disk.{DiskState, IsImage, Moments, LeavesOnly}
@@ -23,7 +23,7 @@ use Rattle.store_copy.specs.Private.Writing.{IsPlan, IsPlanned, IsShut}
 use Rattle.store_copy.proofs.Gates.{NoStore, Whole, shut_is_none}
 use Rattle.store_copy.proofs.Listing.{copied_is_kept}
 
--- what a stop may leave of the target up to the end
+-- what a crash may leave of the target up to the end
 abbrev pub Leaves : DiskState → DirectoryValue → List (List StampedRow) → List ℕ → Type 0
 Leaves old copy lists c = IsImage old c ⊎ (NoStore c ⊎ HasStore A copy lists c)
 

@@ -1,4 +1,4 @@
--- What stops leave of a store, one after the other, and what is opened of it.
+-- What crashes leave of a store, one after the other, and what is opened of it.
 use Rattle.std.proofs.Common.{◌≡◌, ◌⊎◌, inl, inr, ⊎_elim, ℕ, ◌≤◌, ◌+◌, Bool, true, false, List, [], ◌∷◌, ◌++◌, length, map, Option, Some, None, Result, Ok, Err, refl, sym, ap, subst, ◌∙◌, arith, append_assoc, length-append}
 use Rattle.std.specs.Prelude.{All, MatchResult}
 use Rattle.std.specs.List.{Contains}
@@ -17,7 +17,7 @@ use Rattle.history_store.specs.StoreValue.{StoreValue, IsAcknowledged}
 use Rattle.history_store.specs.Answers.{IsOpeningOf}
 use Rattle.history_store.proofs.Reopened.{opened_is_what_is_represented, represented_is_opened}
 use Rattle.disk_model.specs.View.{DiskView}
-use Rattle.store_life.specs.Life.{Call, Imported, Failed, Other, taken, failing, TakesAll, RepresentsAround, IsCall, StopLeaves, IsStopped, IsReopened, Event, Called, Stopped, IsEvent, IsLife, MayRemain, AreKept, acknowledged, stops, IsSubsequence, RepresentsNext}
+use Rattle.store_life.specs.Life.{Call, Imported, Failed, Other, taken, failing, TakesAll, RepresentsAround, IsCall, CrashLeaves, HasCrashed, IsReopened, Event, Called, Crashed, IsEvent, IsLife, MayRemain, AreKept, acknowledged, crashes, IsSubsequence, RepresentsNext}
 use Rattle.store_life.specs.Laws.{EachLifeKeepsItsImports, KeptAreAcknowledged, EachLifeIsRepresented, EachLifeIsOpened, LivesCompose, EachStopIsOfALife}
 use Rattle.store_life.proofs.Made.{held}
 
@@ -32,8 +32,8 @@ opened_as : {D : Type 0} (h : History) (bytes : List ℕ) (P : History → Type 
 opened_as h bytes P stands p (Ok s) is = subst P (sym (opened_is_what_is_represented s bytes h stands.0 stands.1.0 stands.1.1 stands.1.2 is).0) p
 opened_as h bytes P stands p (Err e) is = represented_is_opened bytes h stands.0 stands.1.0 stands.1.1 stands.1.2 e.0 is
 
--- what a stop left has what each stop leaves
-left_has : (old new : Moments) (P : List ℕ → Type 0) (bytes : List ℕ) → LeavesOnly old new P → StopLeaves old new bytes → P bytes
+-- what a crash left has what each crash leaves
+left_has : (old new : Moments) (P : List ℕ → Type 0) (bytes : List ℕ) → LeavesOnly old new P → CrashLeaves old new bytes → P bytes
 left_has old new P bytes run left =
     let same = append_cancel_right run.since left.since (old.state ∷ old.past) (sym run.grows ∙ left.grows) in
     let each = All-cons (λ (s : DiskState). EachImage s P) old.state run.since run.first run.each in
@@ -92,7 +92,7 @@ module _ {D : Type 0} (view : D → DiskView) where
     by_state false still =
         subst (λ (f : Option Release). IsSince new (option_or f (failing call))) (sym (since.none_failed still)) (after_made old new since.up (since.acknowledged still) call is)
 
--- ---- one stop
+-- ---- one crash
 
 -- the bytes represent the history after these releases
 abbrev RepresentsAfter : History → List Release → List ℕ → Type 0
@@ -102,7 +102,7 @@ more_after : (h g : History) (xs ys : List Release) (c : List ℕ) → TakesAll 
 more_after h g xs ys c takes s = (s.0, takes_more h g s.0 xs ys takes s.1, s.2)
 
 module _ (failed : Option Release) (within : Option Call) (h : History) (bytes : List ℕ) where
-  -- what remains after the stop stands in the bytes
+  -- what remains after the crash stands in the bytes
   abbrev Remains : Type 0
   Remains = (other : List Release) × MayRemain failed within other × RepresentsAfter h other bytes
 
@@ -119,7 +119,7 @@ module _ (failed : Option Release) (within : Option Call) (h : History) (bytes :
   failed_remains (Some release) is (inl s) = none_remains s
   failed_remains (Some release) is (inr w) = one_remains release (inl is) w
 
-  -- the stop cut off a call
+  -- the crash cut off a call
   cut_remains : (call : Call) → within ≡ Some call → RepresentsAround h call bytes → Remains
   cut_remains (Imported release) is (inl s) = none_remains s
   cut_remains (Imported release) is (inr w) = one_remains release (inr (inl is)) w
@@ -130,21 +130,21 @@ module _ (failed : Option Release) (within : Option Call) (h : History) (bytes :
 module _ {D : Type 0} (view : D → DiskView) where
   module _ (s : StoreValue D) (failed : Option Release) (since : IsSince view s failed) (bytes : List ℕ) where
     -- no call was made
-    stays_remains : (within : Option Call) → StopLeaves (view s.disk).moments (view s.disk).moments bytes → Remains failed within s.history bytes
+    stays_remains : (within : Option Call) → CrashLeaves (view s.disk).moments (view s.disk).moments bytes → Remains failed within s.history bytes
     stays_remains within left =
         let m = (view s.disk).moments in
         failed_remains failed within s.history bytes failed refl (left_has m m (RepresentsBut s.history failed) bytes (started m (RepresentsBut s.history failed) since.left) left)
 
-    -- the store is open when the stop comes, or it isn't
-    by_state : (call : Call) (end : StoreValue D) → IsCall view s call end → StopLeaves (view s.disk).moments (view end.disk).moments bytes → (needs : Bool) → s.needs_reopen ≡ needs → Remains failed (Some call) s.history bytes
-    by_state call end is left true needs = stays_remains (Some call) (subst (λ (d : StoreValue D). StopLeaves (view s.disk).moments (view d.disk).moments bytes) (is.closed needs).0 left)
+    -- the store is open when the crash comes, or it isn't
+    by_state : (call : Call) (end : StoreValue D) → IsCall view s call end → CrashLeaves (view s.disk).moments (view end.disk).moments bytes → (needs : Bool) → s.needs_reopen ≡ needs → Remains failed (Some call) s.history bytes
+    by_state call end is left true needs = stays_remains (Some call) (subst (λ (d : StoreValue D). CrashLeaves (view s.disk).moments (view d.disk).moments bytes) (is.closed needs).0 left)
     by_state call end is left false still =
         cut_remains failed (Some call) s.history bytes call refl
         (left_has (view s.disk).moments (view end.disk).moments (RepresentsAround s.history call) bytes (is.any_moment since.up (since.acknowledged still)) left)
 
-    stop_remains : (within : Option Call) → IsStopped view s within bytes → Remains failed within s.history bytes
-    stop_remains None left = stays_remains None left
-    stop_remains (Some call) stopped = by_state call stopped.0 stopped.1 stopped.2 s.needs_reopen refl
+    crash_remains : (within : Option Call) → HasCrashed view s within bytes → Remains failed within s.history bytes
+    crash_remains None left = stays_remains None left
+    crash_remains (Some call) stopped = by_state call stopped.0 stopped.1 stopped.2 s.needs_reopen refl
 
   -- ---- openings
 
@@ -152,22 +152,22 @@ module _ {D : Type 0} (view : D → DiskView) where
   reopened : (openings : List (D × D)) (bytes : List ℕ) (s : StoreValue D) → IsReopened view bytes openings s → IsOpeningOf (Ok s) bytes × (view s.disk).is_honest × IsAcknowledged view s
   reopened [] bytes s r = (subst (λ (b : List ℕ). IsOpeningOf (Ok s) b) r.1.read r.1.exact, r.1.honesty, r.1.acknowledged)
   reopened (opening ∷ more) bytes s r =
-      let same : r.0 ≡ bytes = r.1.stop r.0 (left_has (view opening.0).moments (view opening.1).moments (IsImage (view opening.0).moments.state) r.0 r.1.any_moment r.1.is_left) in
+      let same : r.0 ≡ bytes = r.1.crash r.0 (left_has (view opening.0).moments (view opening.1).moments (IsImage (view opening.0).moments.state) r.0 r.1.any_moment r.1.is_left) in
       reopened more bytes s (subst (λ (b : List ℕ). IsReopened view b more s) same r.2)
 
   -- ---- lives
 
-  -- a stop, and the store that is opened after it
+  -- a crash, and the store that is opened after it
   record HasReopened (failed : Option Release) (h : History) (within : Option Call) (next : StoreValue D) : Type 0 where
     since : IsSince view next None
     other : List Release
     may : MayRemain failed within other
     takes : TakesAll h other next.history
 
-  after_stop : (s next : StoreValue D) (failed : Option Release) (within : Option Call) → IsSince view s failed → IsEvent view s (Stopped within) next → HasReopened failed s.history within next
-  after_stop s next failed within since e =
+  after_crash : (s next : StoreValue D) (failed : Option Release) (within : Option Call) → IsSince view s failed → IsEvent view s (Crashed within) next → HasReopened failed s.history within next
+  after_crash s next failed within since e =
       let opened = reopened e.1 e.0 next e.3 in
-      let r = stop_remains s failed since e.0 within e.2 in
+      let r = crash_remains s failed since e.0 within e.2 in
       record {
         since = since_opened view next opened.1 opened.2;
         other = r.0;
@@ -181,25 +181,25 @@ module _ {D : Type 0} (view : D → DiskView) where
   keeps (Called call ∷ events) s last failed since l =
       let more = keeps events l.0 last (option_or failed (failing call)) (after_call view s l.0 failed call since l.1) l.2 in
       (taken call ++ more.0, (more.0, refl, more.1), takes_more s.history l.0.history last.history (taken call) more.0 (l.1.history since.up) more.2)
-  keeps (Stopped within ∷ events) s last failed since l =
-      let r = after_stop s l.0 failed within since l.1 in
+  keeps (Crashed within ∷ events) s last failed since l =
+      let r = after_crash s l.0 failed within since l.1 in
       let more = keeps events l.0 last None r.since l.2 in
       (r.other ++ more.0, (r.other, more.0, refl, r.may, more.1), takes_more s.history l.0.history last.history r.other more.0 r.takes more.2)
 
-  opens : (events : List Event) (s last : StoreValue D) (failed : Option Release) → IsSince view s failed → IsLife view s events last → (within : Option Call) (bytes : List ℕ) → IsStopped view last within bytes
-      → (releases : List Release) × AreKept failed (events ++ Stopped within ∷ []) releases × RepresentsAfter s.history releases bytes
+  opens : (events : List Event) (s last : StoreValue D) (failed : Option Release) → IsSince view s failed → IsLife view s events last → (within : Option Call) (bytes : List ℕ) → HasCrashed view last within bytes
+      → (releases : List Release) × AreKept failed (events ++ Crashed within ∷ []) releases × RepresentsAfter s.history releases bytes
   opens [] s last failed since same within bytes stopped =
-      let r = stop_remains s failed since bytes within (subst (λ (d : StoreValue D). IsStopped view d within bytes) same stopped) in
+      let r = crash_remains s failed since bytes within (subst (λ (d : StoreValue D). HasCrashed view d within bytes) same stopped) in
       (r.0 ++ [], (r.0, [], refl, r.1, refl), more_after s.history r.2.0 r.0 [] bytes r.2.1 (r.2.0, refl, r.2.2))
   opens (Called call ∷ events) s last failed since l within bytes stopped =
       let more = opens events l.0 last (option_or failed (failing call)) (after_call view s l.0 failed call since l.1) l.2 within bytes stopped in
       (taken call ++ more.0, (more.0, refl, more.1), more_after s.history l.0.history (taken call) more.0 bytes (l.1.history since.up) more.2)
-  opens (Stopped cut ∷ events) s last failed since l within bytes stopped =
-      let r = after_stop s l.0 failed cut since l.1 in
+  opens (Crashed cut ∷ events) s last failed since l within bytes stopped =
+      let r = after_crash s l.0 failed cut since l.1 in
       let more = opens events l.0 last None r.since l.2 within bytes stopped in
       (r.other ++ more.0, (r.other, more.0, refl, r.may, more.1), more_after s.history l.0.history r.other more.0 bytes r.takes more.2)
 
-  -- ---- a stop while calls are made
+  -- ---- a crash while calls are made
 
   -- the states since old, the newest first
   abbrev Since : Moments → Moments → Type 0
@@ -219,13 +219,13 @@ module _ {D : Type 0} (view : D → DiskView) where
       let m = (view s.disk).moments in
       (more.0 ++ first.0, more.1 ∙ ap (λ (l : List DiskState). more.0 ++ l) first.1 ∙ sym (append_assoc more.0 first.0 (m.state ∷ m.past)))
 
-  -- where a stop came
+  -- where a crash came
   abbrev Came : StoreValue D → List Call → List ℕ → Type 0
   Came s calls bytes = (before : List Call) × (within : Option Call) × (behind : List Call) × (mid : StoreValue D)
-      × (calls ≡ before ++ option_to_list within ++ behind) × IsLife view s (map Called before) mid × IsStopped view mid within bytes
+      × (calls ≡ before ++ option_to_list within ++ behind) × IsLife view s (map Called before) mid × HasCrashed view mid within bytes
 
   module _ (s next last : StoreValue D) (call : Call) (calls : List Call) (bytes : List ℕ) (made : IsCall view s call next) (first : Since (view s.disk).moments (view next.disk).moments) (more : Since (view next.disk).moments (view last.disk).moments)
-      (left : StopLeaves (view s.disk).moments (view last.disk).moments bytes) (later : StopLeaves (view next.disk).moments (view last.disk).moments bytes → Came next calls bytes) where
+      (left : CrashLeaves (view s.disk).moments (view last.disk).moments bytes) (later : CrashLeaves (view next.disk).moments (view last.disk).moments bytes → Came next calls bytes) where
     abbrev m : Moments
     m = (view s.disk).moments
 
@@ -237,7 +237,7 @@ module _ {D : Type 0} (view : D → DiskView) where
     whole = append_cancel_right left.since (more.0 ++ first.0) (m.state ∷ m.past)
         (sym left.grows ∙ more.1 ∙ ap (λ (l : List DiskState). more.0 ++ l) first.1 ∙ sym (append_assoc more.0 first.0 (m.state ∷ m.past)))
 
-    -- the stop came in the first call or in one of the others
+    -- the crash came in the first call or in one of the others
     parts : Contains (m.state ∷ (more.0 ++ first.0)) left.state → Contains more.0 left.state ⊎ Contains (m.state ∷ first.0) left.state
     parts h = ⊎_elim
         (λ (at : Contains (m.state ∷ more.0) left.state). ⊎_elim
@@ -257,9 +257,9 @@ module _ {D : Type 0} (view : D → DiskView) where
     came_in = came_by (parts (subst (λ (l : List DiskState). Contains (m.state ∷ l) left.state) whole left.is_one))
 
   came : (calls : List Call) (s last : StoreValue D) (failed : Option Release) (bytes : List ℕ) → IsSince view s failed → IsLife view s (map Called calls) last
-      → StopLeaves (view s.disk).moments (view last.disk).moments bytes → Came s calls bytes
+      → CrashLeaves (view s.disk).moments (view last.disk).moments bytes → Came s calls bytes
   came [] s last failed bytes since same left =
-      ([], None, [], s, refl, refl, subst (λ (d : StoreValue D). StopLeaves (view s.disk).moments (view d.disk).moments bytes) same left)
+      ([], None, [], s, refl, refl, subst (λ (d : StoreValue D). CrashLeaves (view s.disk).moments (view d.disk).moments bytes) same left)
   came (call ∷ calls) s last failed bytes since l left =
       let next = after_call view s l.0 failed call since l.1 in
       let now = option_or failed (failing call) in
@@ -281,7 +281,7 @@ one_unacknowledged failed within other (inl none) = let n : length other ≡ 0 =
 one_unacknowledged failed within other (inr one) = let n : length other ≡ 1 = ap length one.1 in omega (arith, n)
 
 are_acknowledged : (events : List Event) (failed : Option Release) (releases : List Release) → AreKept failed events releases
-    → IsSubsequence (acknowledged events) releases × (length releases ≤ length (acknowledged events) + stops events)
+    → IsSubsequence (acknowledged events) releases × (length releases ≤ length (acknowledged events) + crashes events)
 are_acknowledged [] failed releases kept = let n : length releases ≡ 0 = ap length kept in (tt, omega (arith, n))
 are_acknowledged (Called call ∷ events) failed releases kept =
     let more = are_acknowledged events (option_or failed (failing call)) kept.0 kept.2 in
@@ -289,17 +289,17 @@ are_acknowledged (Called call ∷ events) failed releases kept =
     let n : length releases ≡ length (taken call) + length kept.0 = ap length kept.1 ∙ length-append (taken call) kept.0 in
     let m : length (acknowledged (Called call ∷ events)) ≡ length (taken call) + length (acknowledged events) = length-append (taken call) (acknowledged events) in (
       subst (λ (l : List Release). IsSubsequence (acknowledged (Called call ∷ events)) l) (sym kept.1) (part_with (taken call) (acknowledged events) kept.0 more.0),
-      counted (length releases) (length (taken call)) (length kept.0) (length (acknowledged events)) (length (acknowledged (Called call ∷ events))) (stops events) n m all,
+      counted (length releases) (length (taken call)) (length kept.0) (length (acknowledged events)) (length (acknowledged (Called call ∷ events))) (crashes events) n m all,
     ) where
       counted : (r t o a b s : ℕ) → r ≡ t + o → b ≡ t + a → o ≤ a + s → r ≤ b + s
       counted r t o a b s n m all = omega (arith, n, m, all)
-are_acknowledged (Stopped within ∷ events) failed releases kept =
+are_acknowledged (Crashed within ∷ events) failed releases kept =
     let more = are_acknowledged events None kept.1 kept.4 in
     let all = more.1 in
     let few = one_unacknowledged failed within kept.0 kept.3 in
     let n : length releases ≡ length kept.0 + length kept.1 = ap length kept.2 ∙ length-append kept.0 kept.1 in (
       subst (λ (l : List Release). IsSubsequence (acknowledged events) l) (sym kept.2) (part_after kept.0 (acknowledged events) kept.1 more.0),
-      counted (length releases) (length kept.0) (length kept.1) (length (acknowledged events)) (stops events) n few all,
+      counted (length releases) (length kept.0) (length kept.1) (length (acknowledged events)) (crashes events) n few all,
     ) where
       counted : (r u o a s : ℕ) → r ≡ u + o → u ≤ 1 → o ≤ a + s → r ≤ a + (s + 1)
       counted r u o a s n few all = omega (arith, n, few, all)
@@ -319,7 +319,7 @@ module _ (D : Type 0) (view : D → DiskView) where
   pub each_life_opens : EachLifeIsOpened D view
   each_life_opens first last events within bytes result up ack lives stopped is =
       let r = each_life_stands first last events within bytes up ack lives stopped in
-      opened_as r.1 bytes (λ (k : History). (releases : List Release) × AreKept None (events ++ Stopped within ∷ []) releases × TakesAll first.history releases k) r.4 (r.0, r.2, r.3) result is
+      opened_as r.1 bytes (λ (k : History). (releases : List Release) × AreKept None (events ++ Crashed within ∷ []) releases × TakesAll first.history releases k) r.4 (r.0, r.2, r.3) result is
 
   pub each_stop_came : EachStopIsOfALife D view
   each_stop_came first last calls bytes up ack lives left = came view calls first last None bytes (since_opened view first up ack) lives left

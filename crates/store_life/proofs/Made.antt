@@ -22,12 +22,12 @@ use Rattle.store_life.specs.Calls.{ImportIsACall, CheckIsACall, QueryIsACall, Un
 
 -- ---- calls that leave the history
 
--- what a stop leaves of an acknowledged store
+-- what a crash leaves of an acknowledged store
 pub held : {D : Type 0} (view : D → DiskView) (s : StoreValue D) → IsAcknowledged view s → EachImage (view s.disk).moments.state (RepresentsHistory s.history)
 held view s a c image = (s.catalog.layout, (s.catalog.epoch, s.catalog.entries, a.each c image))
 
 module _ {D : Type 0} (view : D → DiskView) (old new : StoreValue D) where
-  -- a stop at any moment leaves the history
+  -- a crash at any moment leaves the history
   kept : ((view old.disk).is_honest → new.history ≡ old.history) → (old.needs_reopen ≡ true → new ≡ old) → ((view old.disk).is_honest ↔ (view new.disk).is_honest)
       → ((view old.disk).is_honest → IsAcknowledged view old → LeavesOnly (view old.disk).moments (view new.disk).moments (RepresentsHistory old.history))
       → ((view old.disk).is_honest → IsAcknowledged view old → new.needs_reopen ≡ false → IsAcknowledged view new) → IsCall view old Other new
@@ -40,7 +40,7 @@ module _ {D : Type 0} (view : D → DiskView) (old new : StoreValue D) where
     acknowledged = ack;
   }
 
-  -- whatever a stop may leave stays
+  -- whatever a crash may leave stays
   still : new.history ≡ old.history → (old.needs_reopen ≡ true → new ≡ old) → ((view old.disk).is_honest ↔ (view new.disk).is_honest)
       → ((view old.disk).is_honest → (view new.disk).moments ≡ (view old.disk).moments) → ((view old.disk).is_honest → new.needs_reopen ≡ false → IsAcknowledged view new) → IsCall view old Other new
   still history closed honesty same ack =
@@ -53,7 +53,7 @@ module _ {D : Type 0} (view : D → DiskView) (old new : StoreValue D) where
   idle history disk closed ack =
       still history closed (λ h. subst (λ d. (view d).is_honest) (sym disk) h, λ h. subst (λ d. (view d).is_honest) disk h) (λ h. ap (λ d. (view d).moments) disk) ack
 
-  -- it is, and a stop leaves the history in the version from before
+  -- it is, and a crash leaves the history in the version from before
   busy : new.history ≡ old.history → ((view old.disk).is_honest → old.needs_reopen ≡ false → LeavesOnly (view old.disk).moments (view new.disk).moments (RepresentsAs old.catalog.layout old.history))
       → ((view old.disk).is_honest → new.needs_reopen ≡ false → IsAcknowledged view new) → (old.needs_reopen ≡ true → new ≡ old) → ((view old.disk).is_honest ↔ (view new.disk).is_honest) → IsCall view old Other new
   busy history any ack closed honesty =

@@ -16,9 +16,9 @@ use Rattle.history_store.specs.Answers.{IsImportOf, IsOpeningOf, StoreOr, device
 use Rattle.history_store.specs.Checking.{HasFailed}
 use Rattle.history_store.specs.Openings.{IsMaking, IsOpening}
 use Rattle.disk_model.specs.View.{DiskView}
-use Rattle.store_life.specs.Life.{Call, TakesAll, StopLeaves, IsStopped, Event, Called, Stopped}
+use Rattle.store_life.specs.Life.{Call, TakesAll, CrashLeaves, HasCrashed, Event, Called, Crashed}
 use Rattle.store_life.specs.Life.{IsOpenedFrom, OpeningLeaves, IsEvent, IsLife, AreKept}
-use Rattle.store_life.specs.Life.{IsSubsequence, acknowledged, stops}
+use Rattle.store_life.specs.Life.{IsSubsequence, acknowledged, crashes}
 
 -- ---- events
 
@@ -41,7 +41,7 @@ EachOpeningIsOfALife D view =
     → IfOk result (IsOpenedFrom view (view device).moments.state.now device)
     × ((left : List ℕ)
     → EachImage (view device).moments.state (λ c. c ≡ (view device).moments.state.now)
-    → StopLeaves (view device).moments (view (device_of result)).moments left
+    → CrashLeaves (view device).moments (view (device_of result)).moments left
     → OpeningLeaves view (view device).moments.state.now device (device_of result) left)
 
 -- Closing a store, and opening it again from its disk without a crash in between, is an event of a
@@ -50,7 +50,7 @@ EachOpeningIsOfALife D view =
 abbrev pub ClosedStoreIsOpened : (D : Type 0) → (D → DiskView) → Type 0
 ClosedStoreIsOpened D view = (old new : StoreValue D) → (view old.disk).is_honest
     → IsOpening (Ok new) view old.disk
-    → IsEvent view old (Stopped None) new
+    → IsEvent view old (Crashed None) new
     × (IsAcknowledged view old → (new.history ≡ old.history)
     × (new.catalog ≡ record old.catalog { merge = None }))
 
@@ -66,10 +66,10 @@ abbrev pub EachStopIsOfALife : (D : Type 0) → (D → DiskView) → Type 0
 EachStopIsOfALife D view = (first last : StoreValue D) (calls : List Call) (bytes : List ℕ)
     → (view first.disk).is_honest → IsAcknowledged view first
     → IsLife view first (map Called calls) last
-    → StopLeaves (view first.disk).moments (view last.disk).moments bytes
+    → CrashLeaves (view first.disk).moments (view last.disk).moments bytes
     → (before : List Call) × (within : Option Call) × (behind : List Call) × (mid : StoreValue D)
     × (calls ≡ before ++ option_to_list within ++ behind)
-    × IsLife view first (map Called before) mid × IsStopped view mid within bytes
+    × IsLife view first (map Called before) mid × HasCrashed view mid within bytes
 
 -- ---- what a life preserves
 
@@ -88,7 +88,7 @@ abbrev pub KeptAreAcknowledged : Type 0
 KeptAreAcknowledged = (events : List Event) (releases : List Release)
     → AreKept None events releases
     → IsSubsequence (acknowledged events) releases
-    × (length releases ≤ length (acknowledged events) + stops events)
+    × (length releases ≤ length (acknowledged events) + crashes events)
 
 -- Over any number of calls, crashes and openings, every image that the next crash may leave
 -- represents the history from the beginning with the releases that the life keeps.
@@ -96,9 +96,9 @@ abbrev pub EachLifeIsRepresented : (D : Type 0) → (D → DiskView) → Type 0
 EachLifeIsRepresented D view = (first last : StoreValue D) (events : List Event)
     (within : Option Call) (bytes : List ℕ)
     → (view first.disk).is_honest → IsAcknowledged view first
-    → IsLife view first events last → IsStopped view last within bytes
+    → IsLife view first events last → HasCrashed view last within bytes
     → (releases : List Release) × (after : History)
-    × AreKept None (events ++ Stopped within ∷ []) releases
+    × AreKept None (events ++ Crashed within ∷ []) releases
     × TakesAll first.history releases after × RepresentsHistory after bytes
 
 -- And it is opened with that history, unless memory runs out during the opening or the device
@@ -108,9 +108,9 @@ EachLifeIsOpened D view = (first last : StoreValue D) (events : List Event)
     (within : Option Call) (bytes : List ℕ) (result : StoreOr D)
     → (view first.disk).is_honest → IsAcknowledged view first
     → IsLife view first events last
-    → IsStopped view last within bytes → IsOpeningOf result bytes
+    → HasCrashed view last within bytes → IsOpeningOf result bytes
     → MatchResult result
-    (λ s. (releases : List Release) × AreKept None (events ++ Stopped within ∷ []) releases
+    (λ s. (releases : List Release) × AreKept None (events ++ Crashed within ∷ []) releases
     × TakesAll first.history releases s.history)
     (λ e. (e.0 ≡ store.OutOfMemory) ⊎ (e.0 ≡ store.DiskFault))
 

@@ -77,7 +77,7 @@ pub record IsCall {D : Type 0} (view : D → DiskView)
 -- ---- crashes
 
 -- a crash at some moment from the old ones to the new ones may leave these bytes
-pub record StopLeaves (old new : Moments) (bytes : List ℕ) : Type 0 where
+pub record CrashLeaves (old new : Moments) (bytes : List ℕ) : Type 0 where
   -- the states of the disk since old, the newest first
   pub since : List DiskState
   pub grows : new.state ∷ new.past ≡ since ++ old.state ∷ old.past
@@ -88,10 +88,10 @@ pub record StopLeaves (old new : Moments) (bytes : List ℕ) : Type 0 where
 
 -- A crash between two calls may leave these bytes, or one before, during or after the call, which
 -- is named by the result that it would have had.
-abbrev pub IsStopped : {D : Type 0} → (D → DiskView) → StoreValue D → Option Call → List ℕ → Type 0
-IsStopped view s None bytes = StopLeaves (view s.disk).moments (view s.disk).moments bytes
-IsStopped {D} view s (Some call) bytes = (end : StoreValue D) × IsCall view s call end
-    × StopLeaves (view s.disk).moments (view end.disk).moments bytes
+abbrev pub HasCrashed : {D : Type 0} → (D → DiskView) → StoreValue D → Option Call → List ℕ → Type 0
+HasCrashed view s None bytes = CrashLeaves (view s.disk).moments (view s.disk).moments bytes
+HasCrashed {D} view s (Some call) bytes = (end : StoreValue D) × IsCall view s call end
+    × CrashLeaves (view s.disk).moments (view end.disk).moments bytes
 
 -- ---- openings
 
@@ -111,10 +111,10 @@ pub record OpeningLeaves {D : Type 0} (view : D → DiskView)
     (bytes : List ℕ) (device after : D) (left : List ℕ) : Type 0 where
   pub is_honest : (view device).is_honest
   pub read : (view device).moments.state.now ≡ bytes
-  pub stop : EachImage (view device).moments.state (λ c. c ≡ bytes)
+  pub crash : EachImage (view device).moments.state (λ c. c ≡ bytes)
   pub any_moment : LeavesOnly (view device).moments (view after).moments
       (IsImage (view device).moments.state)
-  pub is_left : StopLeaves (view device).moments (view after).moments left
+  pub is_left : CrashLeaves (view device).moments (view after).moments left
 
 -- A store was opened from the bytes, perhaps after openings that were refused or interrupted by a
 -- crash. Of each of those the device before and after it is given.
@@ -132,12 +132,12 @@ IsReopened {D} view bytes (opening ∷ more) s =
 -- by an opening
 pub data Event : Type 0 where
   Called : Call → Event
-  Stopped : Option Call → Event
+  Crashed : Option Call → Event
 
 abbrev pub IsEvent : {D : Type 0} → (D → DiskView) → StoreValue D → Event → StoreValue D → Type 0
 IsEvent view old (Called call) new = IsCall view old call new
-IsEvent {D} view old (Stopped within) new = (bytes : List ℕ) × (openings : List (D × D))
-    × IsStopped view old within bytes × IsReopened view bytes openings new
+IsEvent {D} view old (Crashed within) new = (bytes : List ℕ) × (openings : List (D × D))
+    × HasCrashed view old within bytes × IsReopened view bytes openings new
 
 -- the events happened one after the other
 abbrev pub IsLife : {D : Type 0} → (D → DiskView) → StoreValue D → List Event → StoreValue D
@@ -163,19 +163,19 @@ abbrev pub AreKept : Option Release → List Event → List Release → Type 0
 AreKept failed [] releases = releases ≡ []
 AreKept failed (Called call ∷ events) releases = (more : List Release)
     × (releases ≡ taken call ++ more) × AreKept (option_or failed (failing call)) events more
-AreKept failed (Stopped within ∷ events) releases = (other : List Release) × (more : List Release)
+AreKept failed (Crashed within ∷ events) releases = (other : List Release) × (more : List Release)
     × (releases ≡ other ++ more) × MayRemain failed within other × AreKept None events more
 
 -- the releases whose import was acknowledged, in order
 abbrev pub acknowledged : List Event → List Release
 acknowledged [] = []
 acknowledged (Called call ∷ events) = taken call ++ acknowledged events
-acknowledged (Stopped within ∷ events) = acknowledged events
+acknowledged (Crashed within ∷ events) = acknowledged events
 
-abbrev pub stops : List Event → ℕ
-stops [] = 0
-stops (Called call ∷ events) = stops events
-stops (Stopped within ∷ events) = stops events + 1
+abbrev pub crashes : List Event → ℕ
+crashes [] = 0
+crashes (Called call ∷ events) = crashes events
+crashes (Crashed within ∷ events) = crashes events + 1
 
 -- the first list is the second without some of its items
 abbrev pub IsSubsequence : {X : Type 0} → List X → List X → Type 0

@@ -130,14 +130,14 @@ fn segments_after(
     if after > disk.changes() {
         return Ok(None);
     }
-    let mut stopped = MemDisk::from_bytes(alloc, disk.image(after, choice)?);
-    Ok(Some(segments_of(alloc, &mut stopped)?))
+    let mut crashed = MemDisk::from_bytes(alloc, disk.image(after, choice)?);
+    Ok(Some(segments_of(alloc, &mut crashed)?))
 }
 
 /// How many segments are loaded after a crash at the present moment.
 fn segments_now(alloc: Global, disk: &MemDisk, choice: Choice) -> Result<usize, Fail> {
-    let mut stopped = MemDisk::from_bytes(alloc, disk.image_now(choice)?);
-    Ok(segments_of(alloc, &mut stopped)?)
+    let mut crashed = MemDisk::from_bytes(alloc, disk.image_now(choice)?);
+    Ok(segments_of(alloc, &mut crashed)?)
 }
 
 /// Makes a store on an empty disk, and then tries to make another one there.
@@ -467,7 +467,7 @@ fn publish_both(alloc: Global, disk: &mut MemDisk) -> Result<(), Fail> {
 
 /// How many segments are loaded after a crash that follows this many changing calls: if the other
 /// gate is read as closed, and if it is read as open.
-const STOPS: [(u64, usize, usize); 10] = [
+const CRASHES: [(u64, usize, usize); 10] = [
     (25, 2, 2),
     (26, 2, 2),
     (27, 2, 2),
@@ -481,7 +481,7 @@ const STOPS: [(u64, usize, usize); 10] = [
 ];
 
 /// Whether this many segments are loaded after a crash, whatever it leaves of the unsynced changes.
-fn is_stopped_with(
+fn has_crashed_with(
     alloc: Global,
     disk: &MemDisk,
     (after, closed, opened): (u64, usize, usize),
@@ -500,10 +500,10 @@ fn is_stopped_with(
 }
 
 /// The number of calls before the first crash that leaves another number of segments.
-fn wrong_stop(alloc: Global, disk: &MemDisk) -> Result<Option<u64>, Fail> {
-    for stop in &STOPS {
-        if !is_stopped_with(alloc, disk, *stop)? {
-            return Ok(Some(stop.0));
+fn wrong_crash(alloc: Global, disk: &MemDisk) -> Result<Option<u64>, Fail> {
+    for crash in &CRASHES {
+        if !has_crashed_with(alloc, disk, *crash)? {
+            return Ok(Some(crash.0));
         }
     }
     Ok(None)
@@ -511,11 +511,11 @@ fn wrong_stop(alloc: Global, disk: &MemDisk) -> Result<Option<u64>, Fail> {
 
 /// Two writes ahead, one sync, and the six changing calls of a publication.
 #[test]
-fn a_stop_leaves_two_segments_or_the_one_of_both(rt: HostRuntime) -> Result<(), Fail> {
+fn a_crash_leaves_two_segments_or_the_one_of_both(rt: HostRuntime) -> Result<(), Fail> {
     let mut disk = MemDisk::new(rt.alloc());
     publish_both(rt.alloc(), &mut disk)?;
     assert_eq!(rt; disk.changes(), 34);
-    assert_eq!(rt; wrong_stop(rt.alloc(), &disk)?, None);
+    assert_eq!(rt; wrong_crash(rt.alloc(), &disk)?, None);
     Ok(())
 }
 
@@ -571,7 +571,7 @@ fn cut_off(rt: &impl Abort, disk: &mut MemDisk) {
 
 /// How many segments are loaded after a crash that follows the first `after` changing calls, for
 /// three choices of what it leaves.
-fn segments_of_stop(alloc: Global, disk: &MemDisk, after: u64) -> Result<[Option<usize>; 3], Fail> {
+fn segments_of_crash(alloc: Global, disk: &MemDisk, after: u64) -> Result<[Option<usize>; 3], Fail> {
     let lost = segments_after(alloc, disk, after, Choice::Lost)?;
     let kept = segments_after(alloc, disk, after, Choice::Kept)?;
     let filled = segments_after(alloc, disk, after, Choice::Filled(9))?;
@@ -583,7 +583,7 @@ fn what_no_segment_needs_is_cut_off(rt: HostRuntime) -> Result<(), Fail> {
     let mut disk = two_imports(rt.alloc(), &OTHER)?;
     cut_off(&rt, &mut disk);
     for after in [27, 28, 29] {
-        assert_eq!(rt; segments_of_stop(rt.alloc(), &disk, after)?, [Some(2); 3]);
+        assert_eq!(rt; segments_of_crash(rt.alloc(), &disk, after)?, [Some(2); 3]);
     }
     Ok(())
 }

@@ -110,7 +110,7 @@ fn ask(call: Call, store: &mut Example) -> Result<Answer, Refusal> {
     let pin = store.imports();
     match call {
         Call::Row(kind, id, date, pin) => Ok(Answer::Line(store.line_at(kind, id, date, pin)?)),
-        Call::History(kind, id, pin) => Ok(Answer::Lines(store.history(kind, id, pin)?)),
+        Call::History(kind, id, pin) => Ok(Answer::Lines(store.versions(kind, id, pin)?)),
         Call::Page(kind, date, limit) => {
             Ok(Answer::Lines(store.page(kind, date, None, limit, pin)?))
         }

@@ -81,10 +81,10 @@ impl Example {
     }
 
     /// The lines of the component's versions, each followed by an LF.
-    pub fn history(&mut self, kind: Kind, id: u128, pin: u32) -> Result<Vec<u8>, Refusal> {
+    pub fn versions(&mut self, kind: Kind, id: u128, pin: u32) -> Result<Vec<u8>, Refusal> {
         self.check_pin(pin)?;
         let pin = clamp_pin(&self.store, pin);
-        let rows = self.store.history(kind, id, pin)?;
+        let rows = self.store.versions(kind, id, pin)?;
         Ok(lines_of(self.alloc, &rows)?)
     }
 

@@ -73,7 +73,7 @@ fn versions(alloc: Global, kind: Kind, id: u128, imports: u32) -> Result<Vec<u8>
 fn shows(alloc: Global, store: &mut Example, pin: u32) -> Result<bool, Refusal> {
     for (_, kind, id, _) in &ROWS {
         let want = versions(alloc, *kind, *id, pin)?;
-        if store.history(*kind, *id, pin)?.as_slice() != want.as_slice() {
+        if store.versions(*kind, *id, pin)?.as_slice() != want.as_slice() {
             return Ok(false);
         }
     }

@@ -15,7 +15,7 @@ returns-then-is_set c =
         (
           word,
           sym (rows (codes "name")) ∙ sym c.in_ok-get_str.ensures,
-          subst (λ given. IsNamed given word c.place_of.result.0.now c.place_of.result.1.now) (c.get_str-2.ensures ∙ rows (codes "releases")) c.place_of.ensures,
+          subst (λ given. IsNamed given word c.folder_and_name.result.0.now c.folder_and_name.result.1.now) (c.get_str-2.ensures ∙ rows (codes "releases")) c.folder_and_name.ensures,
         ),
         c.is_set-quiet.ensures,
       ),
@@ -32,7 +32,7 @@ returns-else-is_set c =
         (
           word,
           sym (rows (codes "name")) ∙ sym c.in_ok-get_str.ensures,
-          subst (λ given. IsNamed given word c.place_of.result.0.now c.place_of.result.1.now) (c.get_str-2.ensures ∙ rows (codes "releases")) c.place_of.ensures,
+          subst (λ given. IsNamed given word c.folder_and_name.result.0.now c.folder_and_name.result.1.now) (c.get_str-2.ensures ∙ rows (codes "releases")) c.folder_and_name.ensures,
         ),
         c.is_set-quiet.ensures,
       ),

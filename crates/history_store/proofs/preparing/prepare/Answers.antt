@@ -24,13 +24,13 @@ place_all-requires-clause-from_one c =
 pub add-requires : goal.add-requires
 add-requires c =
     let some = subst (λ n. 1 ≤ n) (sym (ap length (c.deref.ensures.value ∙ c.in_ok-list.ensures) ∙ length-stamped _ c.args.fresh.items)) c.requires.some in
-    added_listing c.args.directory.now c.in_ok-next.next (merge_of c.args.merge.now) c.deref.result.now c.in_ok-entry.entry c.place.ensures.listing c.requires.not_spent some c.in_ok-entry.ensures.placed c.in_ok-next.ensures
+    added_listing c.args.directory.now c.in_ok-next.next (merge_of c.args.merge.now) c.deref.result.now c.in_ok-entry.entry c.find_room.ensures.listing c.requires.not_spent some c.in_ok-entry.ensures.placed c.in_ok-next.ensures
 
 pub returns-clause-prepared : goal.returns-clause-prepared
 returns-clause-prepared c =
     let list = c.in_ok-list.ensures ∙ ap (λ n. stamped (n + 1) c.args.fresh.items) c.imports.ensures in
     let some = subst (λ n. 1 ≤ n) (sym (ap length (c.deref.ensures.value ∙ c.in_ok-list.ensures) ∙ length-stamped _ c.args.fresh.items)) c.requires.some in
-    let listing = added_listing c.args.directory.now c.in_ok-next.next (merge_of c.args.merge.now) c.deref.result.now c.in_ok-entry.entry c.place.ensures.listing c.requires.not_spent some c.in_ok-entry.ensures.placed c.in_ok-next.ensures in
+    let listing = added_listing c.args.directory.now c.in_ok-next.next (merge_of c.args.merge.now) c.deref.result.now c.in_ok-entry.entry c.find_room.ensures.listing c.requires.not_spent some c.in_ok-entry.ensures.placed c.in_ok-next.ensures in
     let placed = subst (λ (l : List StampedRow). IsPlacedAt c.args.directory.now (merge_of c.args.merge.now) l c.in_ok-entry.entry) (c.deref.ensures.value ∙ list) c.in_ok-entry.ensures.placed in
     let segment = subst (λ (l : List StampedRow). IsSegmentIn c.in_ok-entry.entry.form l c.in_ok-bytes.field-0.bytes.items) list c.in_ok-bytes.ensures.segment in
     let index = c.in_ok-bytes.ensures.index ∙ list in

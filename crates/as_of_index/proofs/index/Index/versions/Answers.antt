@@ -12,8 +12,8 @@ use Rattle.as_of_index.proofs.Later.{version_row, versions_push, versions_skip, 
 use Rattle.rf2_values.specs.Key.{key_of}
 use Rattle.as_of_index.proofs.SameKeys.{key_there, keys_push}
 use Rattle.as_of_index.proofs.Reading.{not_read, reads_on, has_read, read_so, fails_on}
-use Rattle.as_of_index.proofs.index.Index.history.Goals as goal
-use Rattle.as_of_index.proofs.index.Index.history.Goals.{then-is_shown+in_ok-version+in_ok-push, else-is_shown}
+use Rattle.as_of_index.proofs.index.Index.versions.Goals as goal
+use Rattle.as_of_index.proofs.index.Index.versions.Goals.{then-is_shown+in_ok-version+in_ok-push, else-is_shown}
 
 beyond : (m n : ℕ) → (m ≤ n → ⊥) → n < m
 beyond m n apart = elim (nat_le m n) as (λ t. nat_le m n ≡ t → n < m) [ true ↦ λ e. absurd (apart (grind (arith, nat_tests, e))) | false ↦ λ e. grind (arith, nat_tests, e) ] refl
