@@ -86,10 +86,10 @@ module _ {D : Type 0} (honest : Type 0) (up : honest) (releases : Releases) (old
   undamaged session (Check name) r = (r.checked up).0.1
   undamaged session (Pin number) r = r
   undamaged session Unpin r = r
-  undamaged session Merge r = r.0.0
+  undamaged session Merge r = r.0.0.1.1
   undamaged session (Step rows) r = r.1 up refl
-  undamaged session Publish r = r.0.0
-  undamaged session Abandon r = r.0.0
+  undamaged session Publish r = r.0.0.1
+  undamaged session Abandon r = r.0.0.1
   undamaged session Trim r = r.0.0
   undamaged session Status r = closed_undamaged r
 

@@ -49,14 +49,14 @@ module _ {D : Type 0} (honest : Type 0) (releases : Releases) (none : GivesNoMem
   refused_never : (session : ℕ) (command : Command) → IsStoreRefusal honest releases session command store.LaterVersion old new → ⊥
   refused_never session (Ask question) r = asked_never (imports_seen old session) question r
   refused_never session (At number question) r = asked_never number question r.1
-  refused_never session (Import name) r = asked_rightly old.store.catalog.layout name r.release r.has r.at_all.0.2
-  refused_never session (Check name) r = asked_rightly old.store.catalog.layout name r.release r.has r.at_all.0.2
+  refused_never session (Import name) r = asked_rightly old.store.catalog.layout name r.release r.has r.at_all.0.1.1
+  refused_never session (Check name) r = asked_rightly old.store.catalog.layout name r.release r.has r.at_all.0.1.1
   refused_never session (Pin number) r = r
   refused_never session Unpin r = r
-  refused_never session Merge r = r.0.0
-  refused_never session (Step rows) r = r.0.0
-  refused_never session Publish r = r.0.0
-  refused_never session Abandon r = r.0.0
+  refused_never session Merge r = r.0.0.1.1
+  refused_never session (Step rows) r = r.0.0.1
+  refused_never session Publish r = r.0.0.1
+  refused_never session Abandon r = r.0.0.1
   refused_never session Trim r = r.0.0
   refused_never session Status r = closed_never r
 
