@@ -6,7 +6,7 @@
 use crate::caches::{ask_cache, make_cache, spell_extent, spell_slot, write_extent};
 use crate::disks::{ask_disk, image};
 use crate::slots::{
-    change_slots, choice_of, spell_changed, spell_current, spell_other, spell_crashes,
+    change_slots, choice_of, spell_changed, spell_crashes, spell_current, spell_other,
 };
 use blocks::{BlockCache, Current};
 use case_files::{Answer, Answers, NoAnswer};

@@ -14,7 +14,7 @@ use crate::guards::{
     nothing_in, unlisted,
 };
 use crate::names::{kind_to_take, shown_name};
-use crate::obstacle::{Obstacle, FolderReadFault};
+use crate::obstacle::{FolderReadFault, Obstacle};
 use crate::part::Part;
 use crate::passed_over::tell_passed_over;
 use crate::watcher::{Unwatched, Watcher};

@@ -6,7 +6,7 @@ ghost use Rattle.release_folder.specs.Faults.{folder_fault};
 ghost use Rattle.release_folder.specs.declared.fault.FolderFault.TheVariants.{NoFolder};
 
 use crate::listing::misnamed_in;
-use crate::obstacle::{Obstacle, FolderReadFault};
+use crate::obstacle::{FolderReadFault, Obstacle};
 use import_check::Scope;
 use std::alloc::{AllocError, Global};
 use std::fs::{self, File, Files, Metadata};

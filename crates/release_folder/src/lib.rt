@@ -18,6 +18,6 @@ pub use folder::{read_folder, read_release, release_of};
 pub use lacking::lacks;
 pub use names::kind_to_take;
 pub use nearly::is_nearly_to_take;
-pub use obstacle::{Obstacle, FolderReadFault};
+pub use obstacle::{FolderReadFault, Obstacle};
 pub use part::Part;
 pub use watcher::{Unwatched, Watcher};

@@ -571,7 +571,11 @@ fn cut_off(rt: &impl Abort, disk: &mut MemDisk) {
 
 /// How many segments are loaded after a crash that follows the first `after` changing calls, for
 /// three choices of what it leaves.
-fn segments_of_crash(alloc: Global, disk: &MemDisk, after: u64) -> Result<[Option<usize>; 3], Fail> {
+fn segments_of_crash(
+    alloc: Global,
+    disk: &MemDisk,
+    after: u64,
+) -> Result<[Option<usize>; 3], Fail> {
     let lost = segments_after(alloc, disk, after, Choice::Lost)?;
     let kept = segments_after(alloc, disk, after, Choice::Kept)?;
     let filled = segments_after(alloc, disk, after, Choice::Filled(9))?;
