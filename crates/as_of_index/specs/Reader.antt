@@ -22,7 +22,7 @@ pub record ReaderView : Type 1 where
   pub damages : ℕ
 
 -- what a call leaves of a reader, whatever it answers: its lists stay, an honest reader
--- stays honest, and a failure of the device or a damaged row is counted where it is answered
+-- stays honest, and a failure of the disk or a damaged row is counted where it is answered
 pub record LeavesReader {T : Type 0} (result : Result T ReadFault) (old new : ReaderView)
     : Type 0 where
   pub lists : new.lists ≡ old.lists

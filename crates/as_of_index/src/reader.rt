@@ -30,7 +30,7 @@ pub trait RowReader {
             → StandsAt (view self.old).lists segment at s → IfOk result (λ row. row ≡ s) }
         // Whatever it returns, a row has the key of its place.
         ensures keyed { IfOk result (λ row. key_of row.row ≡ at.key) }
-        // If there is a row at the place, an honest reader fails only because of the device or
+        // If there is a row at the place, an honest reader fails only because of the disk or
         // memory.
         ensures undamaged { (view self.old).is_honest → (s : StampedRow)
             → StandsAt (view self.old).lists segment at s

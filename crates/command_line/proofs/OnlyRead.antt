@@ -1,4 +1,4 @@
--- Devices on which calls were made that only read.
+-- Disks on which calls were made that only read.
 use Rattle.std.proofs.Common.{◌∙◌, ◌≤◌, ℕ, Result, Ok, Err, refl, arith}
 use Rattle.import_check.specs.declared.release.Release.{Release}
 use Rattle.import_check.specs.declared.contradicting.Contradictions.{Contradictions}
@@ -11,7 +11,7 @@ use Rattle.history_store.specs.Contradicting.{IsListing}
 use Rattle.disk_model.specs.View.{DiskView}
 use Rattle.command_line.specs.Checking.{IsOnlyRead}
 
--- the count of a device's failures never falls
+-- the count of a disk's failures never falls
 refused_rises : (e : Refusal) (old new : ℕ) → CountsRefusal e old new → old ≤ new
 refused_rises refusals.DiskFault old new risen = risen.0
 refused_rises _ old new same = omega (arith, same)
@@ -21,8 +21,8 @@ rises (Ok x) old new same = omega (arith, same)
 rises (Err e) old new counts = refused_rises e old new counts
 
 module _ {D : Type 0} (view : D → DiskView) where
-  pub not_read : (device : D) → IsOnlyRead view device device
-  not_read device = record {
+  pub not_read : (disk : D) → IsOnlyRead view disk disk
+  not_read disk = record {
     moments = λ up. refl;
     honesty = (λ up. up, λ up. up);
     failures = omega arith;

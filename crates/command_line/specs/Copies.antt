@@ -33,7 +33,7 @@ abbrev pub copy_told : Result DirectoryValue CopyFault → Result Answer LineRef
 copy_told (Ok copy) = Ok (AllDone [])
 copy_told (Err e) = Err (copy_refusal e)
 
--- The first imports of the store on one device, or all of them, were copied to another one; or the
+-- The first imports of the store on one disk, or all of them, were copied to another one; or the
 -- result says why not.
 pub record IsCopied {D : Type 0} (view : D → DiskView) (imports : Option ℕ)
     (result : Result DirectoryValue CopyFault) (source source_left target target_left : D)
@@ -77,8 +77,8 @@ abbrev pub IsKept : {D : Type 0} → (removes retains : Type 0) → Result Direc
 IsKept removes retains (Ok copy) made left = left ≡ Some made
 IsKept removes retains (Err e) made left = IsRemoved removes retains made left
 
--- A copy was made of the store on one device onto another one, or the result says why not. The
--- result was written, and each device was left in its state after that, except one that was made
+-- A copy was made of the store on one disk onto another one, or the result says why not. The
+-- result was written, and each disk was left in its state after that, except one that was made
 -- for a copy that failed.
 pub record IsCopyMade {D : Type 0} (view : D → DiskView) (removes retains : Type 0)
     (imports : Option ℕ) (source target : D) (left made : Option D) (report : Report)

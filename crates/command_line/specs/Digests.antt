@@ -10,8 +10,8 @@ abbrev pub digest_line : Option ℕ → List ℕ
 digest_line None = codes "0 DIGEST"
 digest_line (Some imports) = codes "0 AT " ++ decimal imports ++ codes " DIGEST"
 
--- the store was opened from this device, and the line that asks for its digest was answered
+-- the store was opened from this disk, and the line that asks for its digest was answered
 abbrev pub IsDigest : {D : Type 0} → (D → DiskView) → Option ℕ → D → D → Report → Type 0
-IsDigest view imports device left report = IsOnOpened view
-    (λ store. IsLineTold no_releases view (digest_line imports) store left report) device left
+IsDigest view imports disk left report = IsOnOpened view
+    (λ store. IsLineTold no_releases view (digest_line imports) store left report) disk left
     report

@@ -7,7 +7,7 @@ pub use Rattle.history_store.specs.Answers
 pub mod Endings
 pub mod Paths
 pub mod Words
-pub mod Devices
+pub mod Disks
 pub mod NamedDisks
 pub mod Tasks
 pub mod Merging

@@ -67,7 +67,7 @@ pub record IsMergedTo {D : Type 0} (view : D → DiskView) (most : ℕ) (old new
   pub checksums : most ≤ 1 → HasNoMerge old → old.store.catalog.layout ≡ layouts.Three
       → (HasOnlyPlain old.store.catalog → ⊥) → plain_count new.store.catalog.entries ≡ 0
 
--- Why merging segments ends early: because of memory, the device, its bytes or its room, or the
+-- Why merging segments ends early: because of memory, the disk, its bytes or its room, or the
 -- count of publications. Lines that are asked in this order are refused for no other reason.
 abbrev pub IsHalt : Result Answer LineRefusal → Type 0
 IsHalt (Err (refusals.Store store.OutOfMemory)) = Unit {0}
@@ -135,7 +135,7 @@ pub record TellsMerge {D : Type 0} (view : D → DiskView) (most : ℕ) (left : 
   pub call : IsCall view store Other mid
   pub goes_on : GoesOn view most left report result mid
 
--- the store was opened from this device, and its segments were merged
+-- the store was opened from this disk, and its segments were merged
 abbrev pub IsMergedOnDisk : {D : Type 0} → (D → DiskView) → ℕ → D → D → Report → Type 0
-IsMergedOnDisk view most device left report =
-    IsOnOpened view (TellsMerge view most left report) device left report
+IsMergedOnDisk view most disk left report =
+    IsOnOpened view (TellsMerge view most left report) disk left report

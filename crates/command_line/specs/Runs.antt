@@ -32,7 +32,7 @@ use Rattle.command_line.specs.Checking.{IsCheck}
 use Rattle.command_line.specs.Digests.{IsDigest}
 use Rattle.command_line.specs.Copies.{IsCopyMade, IsRemoved}
 
--- The system that the words refer to, as clauses see it: which device exists under a name or is
+-- The system that the words refer to, as clauses see it: which disk exists under a name or is
 -- made there, and when none can be opened; which one is made under a name that isn't in use, and
 -- when none can be; whether the name survives a crash; whether a new file is removed; whether there
 -- is a folder in which releases can be looked for; and the releases of each folder, if the folders
@@ -52,38 +52,38 @@ pub record SystemView (D : Type 0) : Type 1 where
   pub lacks : List ℕ → Type 0
   pub is_honest : Type 0
   pub releases : List ℕ → Releases
-  pub device : D → DiskView
+  pub disk : D → DiskView
 
 -- a folder of releases, as a source
 abbrev pub source_in : {D : Type 0} → SystemView D → List ℕ → SourceView
 source_in system dir = source_view system.is_honest (system.releases dir)
 
--- the outcome says that the device of a name can't be opened
+-- the outcome says that the disk of a name can't be opened
 abbrev pub IsMissing : Report → Type 0
 IsMissing report = Tells report (Err (Store DiskFault))
 
--- the task was done on the device of a name, which was left in this state; or the device can't be
+-- the task was done on the disk of a name, which was left in this state; or the disk can't be
 -- opened
 abbrev pub IsDoneAt : {D : Type 0} → (D → Type 0) → (D → D → Type 0) → Type 0 → Option D → Type 0
 IsDoneAt {D} had done missing left =
-    ((device : D) × (after : D) × had device × done device after × (left ≡ Some after))
+    ((disk : D) × (after : D) × had disk × done disk after × (left ≡ Some after))
     ⊎ (missing × (left ≡ None))
 
--- A store of this layout version was made on the device that exists or was made under a name, once
--- it was sure that the name survives a crash. If that isn't sure, the device was left unchanged,
--- and the failure was written; so it was if no device can be opened there.
+-- A store of this layout version was made on the disk that exists or was made under a name, once
+-- it was sure that the name survives a crash. If that isn't sure, the disk was left unchanged,
+-- and the failure was written; so it was if no disk can be opened there.
 abbrev pub IsMadeAt : {D : Type 0} → Layout → SystemView D → List ℕ → Option D → Report → Type 0
 IsMadeAt {D} layout system name left report =
-    ((device : D) × (after : D) × system.makes name device × system.keeps name
-    × IsMade layout system.device device after report × (left ≡ Some after))
-    ⊎ ((device : D) × system.makes name device × system.loses name × IsMissing report
-    × (left ≡ Some device))
+    ((disk : D) × (after : D) × system.makes name disk × system.keeps name
+    × IsMade layout system.disk disk after report × (left ≡ Some after))
+    ⊎ ((disk : D) × system.makes name disk × system.loses name × IsMissing report
+    × (left ≡ Some disk))
     ⊎ (system.denies name × IsMissing report × (left ≡ None))
 
--- The first imports of one device's store, or all, were copied to a device that was made under
+-- The first imports of one disk's store, or all, were copied to a disk that was made under
 -- another name, which wasn't in use, once it was sure that the new name survives a crash. If one of
 -- the two can't be opened or made, or the new name isn't sure to survive, that was written, the new
--- file is removed, and the other device is unchanged.
+-- file is removed, and the other disk is unchanged.
 abbrev pub IsCopiedAt : {D : Type 0} → SystemView D → (name to : List ℕ) → Option ℕ
     → (left made : Option D) → Report → Type 0
 IsCopiedAt {D} system name to imports left made report =
@@ -95,23 +95,23 @@ IsCopiedAt {D} system name to imports left made report =
     × IsRemoved (system.removes to) (system.retains to) target made)
     ⊎ ((source : D) × (target : D) × system.stands name source × system.creates to target
     × system.keeps to
-    × IsCopyMade system.device (system.removes to) (system.retains to) imports source target left
+    × IsCopyMade system.disk (system.removes to) (system.retains to) imports source target left
     made report)
 
--- The lines were served from the device of a name, with the releases of a folder that exists. If
--- there is no such folder, that was written, nothing was read, and the device is unchanged. If the
--- device can't be opened, that was written, and nothing was read.
+-- The lines were served from the disk of a name, with the releases of a folder that exists. If
+-- there is no such folder, that was written, nothing was read, and the disk is unchanged. If the
+-- disk can't be opened, that was written, and nothing was read.
 abbrev pub IsServedAt : {D : Type 0} → SystemView D → List ℕ → List ℕ → Option D
     → Result Ending ServeFault → Streams → Type 0
 IsServedAt {D} system name releases left ended streams =
     IsDoneAt (system.stands name)
-    (λ device after. system.finds releases
-    × IsServing (source_in system releases) system.device device after ended streams)
+    (λ disk after. system.finds releases
+    × IsServing (source_in system releases) system.disk disk after ended streams)
     (IsMissing (report ended streams.old streams.new) × (streams.rest ≡ streams.input)
     × system.withholds name) left
-    ⊎ ((device : D) × system.stands name device × system.lacks releases
+    ⊎ ((disk : D) × system.stands name disk × system.lacks releases
     × Tells (report ended streams.old streams.new) (Err NoFolder) × (streams.rest ≡ streams.input)
-    × (left ≡ Some device))
+    × (left ≡ Some disk))
 
 -- the lines of the script were served like those of an input, from a new store in memory and the
 -- sample releases
@@ -133,10 +133,10 @@ pub record IsDemonstration (script : List ℕ) (status : ℕ) (old new : Option 
   pub kept : Keeps written new
   pub done : status ≡ 0 → ended ≡ Ok Done
 
--- How each task is done, and how its device is left, and the one that it made for a copy: `init`
--- makes a store on the device that exists or is made under its name, and all other tasks use the
--- device that exists under the name. Only `serve` reads the input, and the demonstration has no
--- device.
+-- How each task is done, and how its disk is left, and the one that it made for a copy: `init`
+-- makes a store on the disk that exists or is made under its name, and all other tasks use the
+-- disk that exists under the name. Only `serve` reads the input, and the demonstration has no
+-- disk.
 abbrev pub Does : {D : Type 0} → SystemView D → List ℕ → Task → (left made : Option D)
     → Result Ending ServeFault → Streams → Type 0
 Does system script (tasks.Init store layout) left made ended streams =
@@ -144,26 +144,26 @@ Does system script (tasks.Init store layout) left made ended streams =
     × (streams.rest ≡ streams.input) × (made ≡ None)
 Does system script (tasks.Import store releases name quiet) left made ended streams =
     IsDoneAt (system.stands store.now)
-    (λ device after. IsImport (source_in system releases.now) system.device name.now device after
+    (λ disk after. IsImport (source_in system releases.now) system.disk name.now disk after
     (report ended streams.old streams.new))
     (IsMissing (report ended streams.old streams.new) × system.withholds store.now) left
     × (streams.rest ≡ streams.input) × (made ≡ None)
 Does system script (tasks.Check store releases name quiet) left made ended streams =
     IsDoneAt (system.stands store.now)
-    (λ device after. IsCheck (source_in system releases.now) system.device name.now device after
+    (λ disk after. IsCheck (source_in system releases.now) system.disk name.now disk after
     (report ended streams.old streams.new))
     (IsMissing (report ended streams.old streams.new) × system.withholds store.now) left
     × (streams.rest ≡ streams.input) × (made ≡ None)
 Does system script (tasks.Status store) left made ended streams =
     IsDoneAt (system.stands store.now)
-    (λ device after. IsStatus system.device device after (report ended streams.old streams.new))
+    (λ disk after. IsStatus system.disk disk after (report ended streams.old streams.new))
     (IsMissing (report ended streams.old streams.new) × system.withholds store.now) left
     × (streams.rest ≡ streams.input) × (made ≡ None)
 Does system script (tasks.Serve store releases) left made ended streams =
     IsServedAt system store.now releases.now left ended streams × (made ≡ None)
 Does system script (tasks.Merge store segments) left made ended streams =
     IsDoneAt (system.stands store.now)
-    (λ device after. IsMergedOnDisk system.device segments device after
+    (λ disk after. IsMergedOnDisk system.disk segments disk after
     (report ended streams.old streams.new))
     (IsMissing (report ended streams.old streams.new) × system.withholds store.now) left
     × (streams.rest ≡ streams.input) × (made ≡ None)
@@ -172,25 +172,25 @@ Does system script (tasks.Copy store to imports) left made ended streams =
     × (streams.rest ≡ streams.input)
 Does system script (tasks.Digest store imports) left made ended streams =
     IsDoneAt (system.stands store.now)
-    (λ device after. IsDigest system.device imports device after
+    (λ disk after. IsDigest system.disk imports disk after
     (report ended streams.old streams.new))
     (IsMissing (report ended streams.old streams.new) × system.withholds store.now) left
     × (streams.rest ≡ streams.input) × (made ≡ None)
 Does system script (tasks.Upgrade store) left made ended streams =
     IsDoneAt (system.stands store.now)
-    (λ device after. IsUpgrade system.device device after (report ended streams.old streams.new))
+    (λ disk after. IsUpgrade system.disk disk after (report ended streams.old streams.new))
     (IsMissing (report ended streams.old streams.new) × system.withholds store.now) left
     × (streams.rest ≡ streams.input) × (made ≡ None)
 Does system script tasks.Demo left made ended streams =
     IsDemonstrated script (report ended streams.old streams.new) × (left ≡ None)
     × (streams.rest ≡ streams.input) × (made ≡ None)
 
--- a copy asks for a second device if it has opened the store that it copies
+-- a copy asks for a second disk if it has opened the store that it copies
 abbrev pub AsksForPair : {D : Type 0} → Option D → ℕ → ℕ → Type 0
 AsksForPair None old new = new ≡ raised_by old 1
 AsksForPair (Some source) old new = new ≡ raised_by (raised_by old 1) 1
 
--- how often a task asks for a device: the demonstration never, a copy once for each of the two, and
+-- how often a task asks for a disk: the demonstration never, a copy once for each of the two, and
 -- any other task once
 abbrev pub AsksFor : {D : Type 0} → Task → Option D → ℕ → ℕ → Type 0
 AsksFor tasks.Demo left old new = new ≡ old
@@ -198,12 +198,12 @@ AsksFor (tasks.Copy store to imports) left old new = AsksForPair left old new
 AsksFor _ left old new = new ≡ raised_by old 1
 
 -- The words ask for a task, and it was done. The status is 0 only if it ended with success.
--- `before` and `after` count how often a device was asked for.
+-- `before` and `after` count how often a disk was asked for.
 pub record IsRun {D : Type 0} (system : SystemView D) (script : List ℕ) (words : List (List ℕ))
     (left made : Option D) (status : ℕ) (known : Streams) (before after : ℕ) : Type 0 where
   pub task : Task
   pub asked : AskFor words task
-  pub devices : AsksFor task left before after
+  pub disks : AsksFor task left before after
   pub ended : Result Ending ServeFault
   -- what was written, and flushed at the end
   pub written : Option (List ℕ)
@@ -224,7 +224,7 @@ IsExplained (refusals.Words error) status old new =
     (IsFaulty (kind_of error) → (status ≡ 2) × (new ≡ old))
     × ((IsFaulty (kind_of error) → ⊥) → status ≤ 1)
 
--- the words ask for no task, and that was written; no device was asked for, and none is left
+-- the words ask for no task, and that was written; no disk was asked for, and none is left
 pub record IsNoTask {D : Type 0} (words : List (List ℕ)) (left made : Option D) (status : ℕ)
     (known : Streams) (before after : ℕ) : Type 0 where
   pub refused : Refused

@@ -6,7 +6,7 @@ use Rattle.disk_model.specs.View.{DiskView}
 use Rattle.store_life.specs.Life.{IsCall, Other}
 use Rattle.history_store.specs.declared.refusal.Refusal.{Refusal}
 use Rattle.history_store.specs.StoreValue.{StoreValue}
-use Rattle.history_store.specs.Answers.{StoreOr, device_of}
+use Rattle.history_store.specs.Answers.{StoreOr, disk_of}
 use Rattle.history_store.specs.Openings.{IsMaking, IsOpening}
 use Rattle.history_store.specs.Upgrading.{IsUpgradingOf}
 use Rattle.line_commands.specs.Requests.{import_line}
@@ -31,18 +31,18 @@ abbrev pub making_told : {D : Type 0} → StoreOr D → Result Answer LineRefusa
 making_told (Ok store) = Ok (AllDone [])
 making_told (Err e) = Err (Store e.0)
 
--- a store of this layout version was made, the outcome was written, and the device was left in its
+-- a store of this layout version was made, the outcome was written, and the disk was left in its
 -- state after that
-pub record IsMade {D : Type 0} (layout : Layout) (view : D → DiskView) (device left : D)
+pub record IsMade {D : Type 0} (layout : Layout) (view : D → DiskView) (disk left : D)
     (report : Report) : Type 0 where
   pub had : StoreOr D
-  pub making : IsMaking layout had view device
-  pub left_so : left ≡ device_of had
+  pub making : IsMaking layout had view disk
+  pub left_so : left ≡ disk_of had
   pub told : Tells report (making_told had)
 
 -- ---- one line
 
--- The line was answered, with no session pinned, the reply was written, and the device was left in
+-- The line was answered, with no session pinned, the reply was written, and the disk was left in
 -- its state after that.
 pub record IsLineTold {D : Type 0} (source : SourceView) (view : D → DiskView) (line : List ℕ)
     (store : StoreValue D) (left : D) (report : Report) : Type 0 where
@@ -52,25 +52,25 @@ pub record IsLineTold {D : Type 0} (source : SourceView) (view : D → DiskView)
       (λ turn. Tells report turn.outcome)
   pub left_so : left ≡ after.disk
 
--- the task was done on the store; or the outcome says why there is no store, and the device was
+-- the task was done on the store; or the outcome says why there is no store, and the disk was
 -- left as the opening left it
 abbrev pub OnStore : {D : Type 0} → (StoreValue D → Type 0) → StoreOr D → D → Report → Type 0
 OnStore done (Ok store) left report = done store
 OnStore done (Err e) left report = Tells report (Err (Store e.0)) × (left ≡ e.1)
 
--- the store was opened from this device, and the task was done on it
+-- the store was opened from this disk, and the task was done on it
 pub record IsOnOpened {D : Type 0} (view : D → DiskView) (done : StoreValue D → Type 0)
-    (device left : D) (report : Report) : Type 0 where
+    (disk left : D) (report : Report) : Type 0 where
   pub had : StoreOr D
-  pub opening : IsOpening had view device
+  pub opening : IsOpening had view disk
   pub does : OnStore done had left report
 
 -- ---- import
 
--- the store was opened from this device, and the line that imports the release was answered
+-- the store was opened from this disk, and the line that imports the release was answered
 abbrev pub IsImport : {D : Type 0} → SourceView → (D → DiskView) → List ℕ → D → D → Report → Type 0
-IsImport source view name device left report = IsOnOpened view
-    (λ store. IsLineTold source view (import_line name) store left report) device left report
+IsImport source view name disk left report = IsOnOpened view
+    (λ store. IsLineTold source view (import_line name) store left report) disk left report
 
 -- ---- status
 
@@ -78,10 +78,10 @@ IsImport source view name device left report = IsOnOpened view
 abbrev pub status_line : List ℕ
 status_line = codes "0 STATUS"
 
--- the store was opened from this device, and the line that asks for the status was answered
+-- the store was opened from this disk, and the line that asks for the status was answered
 abbrev pub IsStatus : {D : Type 0} → (D → DiskView) → D → D → Report → Type 0
-IsStatus view device left report = IsOnOpened view
-    (λ store. IsLineTold no_releases view status_line store left report) device left report
+IsStatus view disk left report = IsOnOpened view
+    (λ store. IsLineTold no_releases view status_line store left report) disk left report
 
 -- ---- upgrade
 
@@ -90,7 +90,7 @@ abbrev pub upgrade_told : Result (Unit {0}) Refusal → Result Answer LineRefusa
 upgrade_told (Ok done) = Ok (AllDone [])
 upgrade_told (Err e) = Err (Store e)
 
--- the store was upgraded to version 3, or that was refused; the outcome was written, and the device
+-- the store was upgraded to version 3, or that was refused; the outcome was written, and the disk
 -- was left in its state after that
 pub record Upgrades {D : Type 0} (view : D → DiskView) (left : D) (report : Report)
     (store : StoreValue D) : Type 0 where
@@ -101,10 +101,10 @@ pub record Upgrades {D : Type 0} (view : D → DiskView) (left : D) (report : Re
   pub told : Tells report (upgrade_told result)
   pub left_so : left ≡ after.disk
 
--- the store was opened from this device, and upgraded to version 3
+-- the store was opened from this disk, and upgraded to version 3
 abbrev pub IsUpgrade : {D : Type 0} → (D → DiskView) → D → D → Report → Type 0
-IsUpgrade view device left report =
-    IsOnOpened view (Upgrades view left report) device left report
+IsUpgrade view disk left report =
+    IsOnOpened view (Upgrades view left report) disk left report
 
 -- ---- serve
 
@@ -117,7 +117,7 @@ ended_by (Err fault) = Err fault
 abbrev pub most_reads : ℕ
 most_reads = 4294967295
 
--- the lines of the input were served, and the device was left in its state after that
+-- the lines of the input were served, and the disk was left in its state after that
 pub record IsInputServed {D : Type 0} (source : SourceView) (view : D → DiskView)
     (store : StoreValue D) (left : D) (ended : Result Ending ServeFault) (streams : Streams)
     : Type 0 where
@@ -137,16 +137,16 @@ Serves source view (Err e) left ended streams =
     IsTold ended (Err (Store e.0)) streams.old streams.new × (streams.rest ≡ streams.input)
     × (left ≡ e.1)
 
--- the store was opened from this device, and the lines were served from it
-pub record IsServing {D : Type 0} (source : SourceView) (view : D → DiskView) (device left : D)
+-- the store was opened from this disk, and the lines were served from it
+pub record IsServing {D : Type 0} (source : SourceView) (view : D → DiskView) (disk left : D)
     (ended : Result Ending ServeFault) (streams : Streams) : Type 0 where
   pub had : StoreOr D
-  pub opening : IsOpening had view device
+  pub opening : IsOpening had view disk
   pub serves : Serves source view had left ended streams
 
--- the store was made on this device, and the lines were served from it
-pub record IsServingNew {D : Type 0} (source : SourceView) (view : D → DiskView) (device left : D)
+-- the store was made on this disk, and the lines were served from it
+pub record IsServingNew {D : Type 0} (source : SourceView) (view : D → DiskView) (disk left : D)
     (ended : Result Ending ServeFault) (streams : Streams) : Type 0 where
   pub had : StoreOr D
-  pub making : IsMaking layouts.Two had view device
+  pub making : IsMaking layouts.Two had view disk
   pub serves : Serves source view had left ended streams

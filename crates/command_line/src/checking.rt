@@ -34,25 +34,25 @@ fn check_in<D: Disk + Drop, F: Folders, E: Write, O: Write>(
     ended
 }
 
-/// Checks a release against the store of a device, and writes the reply. Returns the device.
+/// Checks a release against the store of a disk, and writes the reply. Returns the disk.
 pub(crate) fn check<D: Disk + Drop, F: Folders, E: Write, O: Write>(
     alloc: Global,
-    device: D,
+    disk: D,
     name: &str,
     source: &mut CheckSource<'_, F, E>,
     output: &mut O,
 ) -> (Result<Ending, ServeFault>, D)
     ensures { IsCheck (source_view (F.is_honest source.old.folder.folders.now)
         (F.releases source.old.folder.folders.now source.old.folder.dir.now))
-        D.view name.now device result.1
+        D.view name.now disk result.1
         (report result.0 (O.contents output.old) (O.contents output.new)) }
 {
-    match Store::open(alloc, device) {
+    match Store::open(alloc, disk) {
         Ok(store) => {
             let mut store = store;
             let ended = check_in(alloc, name, source, &mut store, output);
             (ended, store.close())
         }
-        Err((refusal, device)) => (refuse(alloc, output, refusal), device),
+        Err((refusal, disk)) => (refuse(alloc, output, refusal), disk),
     }
 }

@@ -1,11 +1,11 @@
-//! Copies a store to a new device.
+//! Copies a store to a new disk.
 
 ghost use Rattle.std.specs.Prelude.{◌≡◌, Err};
 ghost use Rattle.command_line.specs.Copies.{IsCopyMade, IsKept, IsRemoved, copy_refusal, copy_told};
 ghost use Rattle.command_line.specs.Endings.{IsTold, report};
 ghost use Rattle.command_line.specs.Runs.{AsksForPair, IsCopiedAt};
 
-use crate::devices::Devices;
+use crate::disks::Disks;
 use crate::endings::{Ending, Performed, refuse, tell_done, tell_refusal};
 use crate::folders::Folders;
 use crate::telling::{Context, tell_why};
@@ -50,27 +50,27 @@ fn tell_copy<O: Write>(
 
 /// The name and the last system error of the file at which a copy failed: the new file, or the
 /// store that is copied.
-fn context_of<'a, V: Devices>(
-    devices: &V,
+fn context_of<'a, V: Disks>(
+    disks: &V,
     path: &'a str,
     to: &'a str,
-    source: &V::Device,
-    target: &V::Device,
+    source: &V::Disk,
+    target: &V::Disk,
     copied: &Result<Directory, CopyFault>,
 ) -> Context<'a> {
     match copied {
         Err(CopyFault::NotEmpty | CopyFault::TargetFailed) => Context {
             store: to,
-            last_error: devices.last_error(target),
+            last_error: disks.last_error(target),
         },
         _ => Context {
             store: path,
-            last_error: devices.last_error(source),
+            last_error: disks.last_error(source),
         },
     }
 }
 
-/// Removes the file that was made for a copy. Returns its device if that fails.
+/// Removes the file that was made for a copy. Returns its disk if that fails.
 fn discard<F: Folders, D: Drop, E: Write>(
     folders: &F,
     to: &str,
@@ -85,7 +85,7 @@ fn discard<F: Folders, D: Drop, E: Write>(
     }
 }
 
-/// Returns the device of a copy; none if the copy failed and its file was removed.
+/// Returns the disk of a copy; none if the copy failed and its file was removed.
 fn keep<F: Folders, D: Drop, E: Write>(
     folders: &F,
     to: &str,
@@ -102,28 +102,28 @@ fn keep<F: Folders, D: Drop, E: Write>(
     }
 }
 
-/// Copies the first imports of the store of a device, or all, to a new device with the name `to`,
+/// Copies the first imports of the store of a disk, or all, to a new disk with the name `to`,
 /// and writes the result.
-fn copy_onto<V: Devices, F: Folders, O: Write, E: Write>(
-    devices: &V,
+fn copy_onto<V: Disks, F: Folders, O: Write, E: Write>(
+    disks: &V,
     folders: &F,
     alloc: Global,
     path: &str,
     to: &str,
     imports: Option<u32>,
-    source: V::Device,
-    target: V::Device,
+    source: V::Disk,
+    target: V::Disk,
     output: &mut O,
     faults: &mut E,
-) -> Performed<V::Device>
-    ensures { IsCopyMade V.Device.view
+) -> Performed<V::Disk>
+    ensures { IsCopyMade V.Disk.view
         (F.removes folders.now to.now) (F.retains folders.now to.now) imports source target
         result.1 result.2 (report result.0 (O.contents output.old) (O.contents output.new)) }
 {
     let (mut source, mut target) = (source, target);
     let copied = copy(alloc, &mut source, &mut target, imports);
     let ended = tell_copy(alloc, &copied, output);
-    let context = context_of(devices, path, to, &source, &target, &copied);
+    let context = context_of(disks, path, to, &source, &target, &copied);
     tell_why(ended, &context, faults);
     (
         ended,
@@ -132,10 +132,10 @@ fn copy_onto<V: Devices, F: Folders, O: Write, E: Write>(
     )
 }
 
-/// Copies the first imports of the store with this name, or all, to a new device with another name.
+/// Copies the first imports of the store with this name, or all, to a new disk with another name.
 /// Before anything is written, it makes sure that the new name survives a crash.
-pub(crate) fn copy_at<V: Devices, F: Folders, O: Write, E: Write>(
-    devices: &mut V,
+pub(crate) fn copy_at<V: Disks, F: Folders, O: Write, E: Write>(
+    disks: &mut V,
     folders: &F,
     alloc: Global,
     path: &str,
@@ -143,14 +143,14 @@ pub(crate) fn copy_at<V: Devices, F: Folders, O: Write, E: Write>(
     imports: Option<u32>,
     output: &mut O,
     faults: &mut E,
-) -> Performed<V::Device>
+) -> Performed<V::Disk>
     ensures copied { IsCopiedAt (record {
-      stands = V.stands devices.old;
-      withholds = V.withholds devices.old;
-      makes = V.makes devices.old;
-      denies = V.denies devices.old;
-      creates = V.creates devices.old;
-      occupies = V.occupies devices.old;
+      stands = V.stands disks.old;
+      withholds = V.withholds disks.old;
+      makes = V.makes disks.old;
+      denies = V.denies disks.old;
+      creates = V.creates disks.old;
+      occupies = V.occupies disks.old;
       keeps = F.keeps folders.now;
       loses = F.loses folders.now;
       removes = F.removes folders.now;
@@ -159,15 +159,15 @@ pub(crate) fn copy_at<V: Devices, F: Folders, O: Write, E: Write>(
       lacks = F.lacks folders.now;
       is_honest = F.is_honest folders.now;
       releases = F.releases folders.now;
-      device = V.Device.view;
+      disk = V.Disk.view;
     }) path.now to.now imports result.1 result.2
         (report result.0 (O.contents output.old) (O.contents output.new)) }
-    ensures asked { AsksForPair result.1 (V.asked devices.old) (V.asked devices.new) }
+    ensures asked { AsksForPair result.1 (V.asked disks.old) (V.asked disks.new) }
 {
-    let Ok(source) = devices.device(path, faults) else {
+    let Ok(source) = disks.open(path, faults) else {
         return (refuse(alloc, output, Refusal::DiskFault), None, None);
     };
-    let Ok(target) = devices.new_device(to, faults) else {
+    let Ok(target) = disks.make_new(to, faults) else {
         let ended = refuse(alloc, output, Refusal::DiskFault);
         return (ended, Some(source), None);
     };
@@ -176,6 +176,6 @@ pub(crate) fn copy_at<V: Devices, F: Folders, O: Write, E: Write>(
         return (ended, Some(source), discard(folders, to, target, faults));
     }
     copy_onto(
-        devices, folders, alloc, path, to, imports, source, target, output, faults,
+        disks, folders, alloc, path, to, imports, source, target, output, faults,
     )
 }

@@ -35,17 +35,17 @@ fn digest_command(imports: Option<u32>) -> Command<'static>
     }
 }
 
-/// Writes the digest of the store of a device. Returns the device.
+/// Writes the digest of the store of a disk. Returns the disk.
 pub(crate) fn digest<D: Disk + Drop, O: Write>(
     alloc: Global,
-    device: D,
+    disk: D,
     imports: Option<u32>,
     output: &mut O,
 ) -> (Result<Ending, ServeFault>, D)
-    ensures { IsDigest D.view imports device
+    ensures { IsDigest D.view imports disk
         result.1 (report result.0 (O.contents output.old) (O.contents output.new)) }
 {
-    match Store::open(alloc, device) {
+    match Store::open(alloc, disk) {
         Ok(store) => {
             let mut store = store;
             let request = Request {
@@ -55,6 +55,6 @@ pub(crate) fn digest<D: Disk + Drop, O: Write>(
             let ended = answer_read(alloc, &Ok(request), &mut NoReleases, &mut store, output);
             (ended, store.close())
         }
-        Err((refusal, device)) => (refuse(alloc, output, refusal), device),
+        Err((refusal, disk)) => (refuse(alloc, output, refusal), disk),
     }
 }

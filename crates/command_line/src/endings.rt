@@ -23,10 +23,10 @@ pub enum Ending {
     Refused(LineRefusal),
 }
 
-/// How a task ended, and its device, if it has one.
+/// How a task ended, and its disk, if it has one.
 pub(crate) type Ended<D> = (Result<Ending, ServeFault>, Option<D>);
 
-/// The same, and the device that was made for a copy, if there is one.
+/// The same, and the disk that was made for a copy, if there is one.
 pub(crate) type Performed<D> = (Result<Ending, ServeFault>, Option<D>, Option<D>);
 
 /// Flushes the output, and returns the exit status.

@@ -13,24 +13,24 @@ use line_server::{ServeFault, Source};
 use std::alloc::Global;
 use std::io::Write;
 
-/// Imports a release into the store of a device, and tells the reply. The device comes back.
+/// Imports a release into the store of a disk, and tells the reply. The disk comes back.
 pub(crate) fn import<D: Disk + Drop, S: Source, O: Write>(
     alloc: Global,
-    device: D,
+    disk: D,
     name: &str,
     source: &mut S,
     output: &mut O,
 ) -> (Result<Ending, ServeFault>, D)
     ensures { IsImport (source_view (S.is_honest source.old) (S.releases source.old))
-        D.view name.now device result.1
+        D.view name.now disk result.1
         (report result.0 (O.contents output.old) (O.contents output.new)) }
 {
-    match Store::open(alloc, device) {
+    match Store::open(alloc, disk) {
         Ok(store) => {
             let mut store = store;
             let ended = answer_read(alloc, &import_request(name), source, &mut store, output);
             (ended, store.close())
         }
-        Err((refusal, device)) => (refuse(alloc, output, refusal), device),
+        Err((refusal, disk)) => (refuse(alloc, output, refusal), disk),
     }
 }

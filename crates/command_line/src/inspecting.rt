@@ -48,17 +48,17 @@ impl Source for NoReleases {
     fn note_refusal(&mut self, _alloc: Global, _name: &str, _scope: Scope, _refusal: Refusal) {}
 }
 
-/// Writes the status of the store of a device, and returns the device and more figures about the
-/// store, to be shown to people. No call is made on the device except to open the store.
+/// Writes the status of the store of a disk, and returns the disk and more figures about the
+/// store, to be shown to people. No call is made on the disk except to open the store.
 pub(crate) fn status<D: Disk + Drop, O: Write>(
     alloc: Global,
-    device: D,
+    disk: D,
     output: &mut O,
 ) -> (Result<Ending, ServeFault>, D, Option<Figures>)
-    ensures { IsStatus D.view device result.1
+    ensures { IsStatus D.view disk result.1
         (report result.0 (O.contents output.old) (O.contents output.new)) }
 {
-    match Store::open(alloc, device) {
+    match Store::open(alloc, disk) {
         Ok(store) => {
             let mut store = store;
             let figures = Figures {
@@ -76,6 +76,6 @@ pub(crate) fn status<D: Disk + Drop, O: Write>(
             );
             (ended, store.close(), Some(figures))
         }
-        Err((refusal, device)) => (refuse(alloc, output, refusal), device, None),
+        Err((refusal, disk)) => (refuse(alloc, output, refusal), disk, None),
     }
 }

@@ -11,18 +11,18 @@ use line_server::ServeFault;
 use std::alloc::Global;
 use std::io::Write;
 
-/// Makes a store of this layout version on a device, and writes the reply. Returns the device.
+/// Makes a store of this layout version on a disk, and writes the reply. Returns the disk.
 pub(crate) fn init<D: Disk + Drop, O: Write>(
     alloc: Global,
-    device: D,
+    disk: D,
     layout: Layout,
     output: &mut O,
 ) -> (Result<Ending, ServeFault>, D)
-    ensures { IsMade layout D.view device result.1
+    ensures { IsMade layout D.view disk result.1
         (report result.0 (O.contents output.old) (O.contents output.new)) }
 {
-    match Store::create_in(alloc, device, layout) {
+    match Store::create_in(alloc, disk, layout) {
         Ok(store) => (tell_done(alloc, output), store.close()),
-        Err((refusal, device)) => (refuse(alloc, output, refusal), device),
+        Err((refusal, disk)) => (refuse(alloc, output, refusal), disk),
     }
 }

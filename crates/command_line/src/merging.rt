@@ -167,24 +167,24 @@ fn merge_all<D: Disk, O: Write, E: Write>(
     }
 }
 
-/// Merges the segments of the store of a device. Returns the device.
+/// Merges the segments of the store of a disk. Returns the disk.
 pub(crate) fn merge<D: Disk + Drop, O: Write, E: Write>(
     alloc: Global,
-    device: D,
+    disk: D,
     path: &str,
     most: u32,
     output: &mut O,
     faults: &mut E,
 ) -> (Result<Ending, ServeFault>, D)
-    ensures { IsMergedOnDisk D.view most device result.1
+    ensures { IsMergedOnDisk D.view most disk result.1
         (report result.0 (O.contents output.old) (O.contents output.new)) }
 {
-    match Store::open(alloc, device) {
+    match Store::open(alloc, disk) {
         Ok(store) => {
             let mut store = store;
             let ended = merge_all(alloc, path, most, &mut store, output, faults);
             (ended, store.close())
         }
-        Err((refusal, device)) => (refuse(alloc, output, refusal), device),
+        Err((refusal, disk)) => (refuse(alloc, output, refusal), disk),
     }
 }

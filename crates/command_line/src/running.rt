@@ -17,15 +17,15 @@ use crate::check_source::CheckSource;
 use crate::checking::check;
 use crate::copying::copy_at;
 use crate::demonstration::{SCRIPT, Samples};
-use crate::devices::Devices;
 use crate::digesting::digest;
+use crate::disks::Disks;
 use crate::endings::{Ended, Ending, Performed, fail, finish, refuse, tell_refusal};
 use crate::folders::{FolderSource, Folders};
 use crate::importing::import;
 use crate::inspecting::status;
 use crate::making::init;
 use crate::merging::merge;
-use crate::serving::{serve_device, serve_new};
+use crate::serving::{serve_disk, serve_new};
 use crate::telling::{Context, tell_figures, tell_why};
 use crate::told_lines::ToldLines;
 use crate::upgrading::upgrade;
@@ -39,27 +39,27 @@ use std::io::{Read, Write};
 
 /// Carries out a command line, whose first word is the program's name, and returns the exit status:
 /// 0 if it was done; 1 if it was refused, or a stream or memory failed; 2 if the words are no
-/// command. Also returns the device of the task, as it was left, and the device that was made for a
+/// command. Also returns the disk of the task, as it was left, and the disk that was made for a
 /// copy.
-pub fn run<V: Devices, F: Folders, I: Read, O: Write, E: Write>(
-    devices: &mut V,
+pub fn run<V: Disks, F: Folders, I: Read, O: Write, E: Write>(
+    disks: &mut V,
     folders: &F,
     alloc: Global,
     words: &[String],
     input: &mut I,
     output: &mut O,
     faults: &mut E,
-) -> (u8, Option<V::Device>, Option<V::Device>)
+) -> (u8, Option<V::Disk>, Option<V::Disk>)
     ensures status { result.0 ≤ 2 }
     // Words that are no command only cause a message.
     ensures no_command { result.0 ≡ 2 → (input.new ≡ input.old) × (output.new ≡ output.old) }
     ensures done { IsRun (record {
-      stands = V.stands devices.old;
-      withholds = V.withholds devices.old;
-      makes = V.makes devices.old;
-      denies = V.denies devices.old;
-      creates = V.creates devices.old;
-      occupies = V.occupies devices.old;
+      stands = V.stands disks.old;
+      withholds = V.withholds disks.old;
+      makes = V.makes disks.old;
+      denies = V.denies disks.old;
+      creates = V.creates disks.old;
+      occupies = V.occupies disks.old;
       keeps = F.keeps folders.now;
       loses = F.loses folders.now;
       removes = F.removes folders.now;
@@ -68,21 +68,19 @@ pub fn run<V: Devices, F: Folders, I: Read, O: Write, E: Write>(
       lacks = F.lacks folders.now;
       is_honest = F.is_honest folders.now;
       releases = F.releases folders.now;
-      device = V.Device.view;
+      disk = V.Disk.view;
     }) SCRIPT.now (map string_bytes words.now) result.1 result.2 result.0
         (streams (I.remaining input.old) (I.remaining input.new)
         (O.contents output.old) (O.contents output.new))
-        (V.asked devices.old) (V.asked devices.new)
+        (V.asked disks.old) (V.asked disks.new)
         ⊎ IsNoTask (map string_bytes words.now) result.1 result.2 result.0
         (streams (I.remaining input.old) (I.remaining input.new)
         (O.contents output.old) (O.contents output.new))
-        (V.asked devices.old) (V.asked devices.new) }
+        (V.asked disks.old) (V.asked disks.new) }
 {
     match task_of(alloc, words) {
         Ok(task) => {
-            let (ended, left, made) = perform(
-                devices, folders, alloc, &task, input, output, faults,
-            );
+            let (ended, left, made) = perform(disks, folders, alloc, &task, input, output, faults);
             (finish(ended, output, faults), left, made)
         }
         Err(refused) => (explain(&refused, output, faults), None, None),
@@ -90,22 +88,22 @@ pub fn run<V: Devices, F: Folders, I: Read, O: Write, E: Write>(
 }
 
 /// Carries out a task. If it is refused, the reason goes to `faults`.
-fn perform<V: Devices, F: Folders, I: Read, O: Write, E: Write>(
-    devices: &mut V,
+fn perform<V: Disks, F: Folders, I: Read, O: Write, E: Write>(
+    disks: &mut V,
     folders: &F,
     alloc: Global,
     task: &Task<'_>,
     input: &mut I,
     output: &mut O,
     faults: &mut E,
-) -> Performed<V::Device>
+) -> Performed<V::Disk>
     ensures does { Does (record {
-      stands = V.stands devices.old;
-      withholds = V.withholds devices.old;
-      makes = V.makes devices.old;
-      denies = V.denies devices.old;
-      creates = V.creates devices.old;
-      occupies = V.occupies devices.old;
+      stands = V.stands disks.old;
+      withholds = V.withholds disks.old;
+      makes = V.makes disks.old;
+      denies = V.denies disks.old;
+      creates = V.creates disks.old;
+      occupies = V.occupies disks.old;
       keeps = F.keeps folders.now;
       loses = F.loses folders.now;
       removes = F.removes folders.now;
@@ -114,15 +112,15 @@ fn perform<V: Devices, F: Folders, I: Read, O: Write, E: Write>(
       lacks = F.lacks folders.now;
       is_honest = F.is_honest folders.now;
       releases = F.releases folders.now;
-      device = V.Device.view;
+      disk = V.Disk.view;
     }) SCRIPT.now task.now result.1 result.2 result.0
         (streams (I.remaining input.old) (I.remaining input.new)
         (O.contents output.old) (O.contents output.new)) }
-    ensures asked { AsksFor task.now result.1 (V.asked devices.old) (V.asked devices.new) }
+    ensures asked { AsksFor task.now result.1 (V.asked disks.old) (V.asked disks.new) }
 {
     match task {
         Task::Init { store, layout } => {
-            alone(init_at(devices, folders, alloc, *store, *layout, output, faults))
+            alone(init_at(disks, folders, alloc, *store, *layout, output, faults))
         }
         Task::Import {
             store,
@@ -130,7 +128,7 @@ fn perform<V: Devices, F: Folders, I: Read, O: Write, E: Write>(
             name,
             quiet,
         } => alone(import_at(
-            devices, folders, alloc, *store, *releases, *name, *quiet, output, faults,
+            disks, folders, alloc, *store, *releases, *name, *quiet, output, faults,
         )),
         Task::Check {
             store,
@@ -138,22 +136,22 @@ fn perform<V: Devices, F: Folders, I: Read, O: Write, E: Write>(
             name,
             quiet,
         } => alone(check_at(
-            devices, folders, alloc, *store, *releases, *name, *quiet, output, faults,
+            disks, folders, alloc, *store, *releases, *name, *quiet, output, faults,
         )),
         Task::Serve { store, releases } => alone(serve_at(
-            devices, folders, alloc, *store, *releases, input, output, faults,
+            disks, folders, alloc, *store, *releases, input, output, faults,
         )),
-        Task::Status { store } => alone(status_at(devices, alloc, *store, output, faults)),
+        Task::Status { store } => alone(status_at(disks, alloc, *store, output, faults)),
         Task::Merge { store, segments } => {
-            alone(merge_at(devices, alloc, *store, *segments, output, faults))
+            alone(merge_at(disks, alloc, *store, *segments, output, faults))
         }
         Task::Copy { store, to, imports } => copy_at(
-            devices, folders, alloc, *store, *to, *imports, output, faults,
+            disks, folders, alloc, *store, *to, *imports, output, faults,
         ),
         Task::Digest { store, imports } => {
-            alone(digest_at(devices, alloc, *store, *imports, output, faults))
+            alone(digest_at(disks, alloc, *store, *imports, output, faults))
         }
-        Task::Upgrade { store } => alone(upgrade_at(devices, alloc, *store, output, faults)),
+        Task::Upgrade { store } => alone(upgrade_at(disks, alloc, *store, output, faults)),
         Task::Demo => (demo(alloc, output), None, None),
     }
 }
@@ -167,22 +165,22 @@ fn alone<D: Drop>(ended: Ended<D>) -> Performed<D>
 
 /// Makes a store of this layout version under a name. Before anything is written, it makes sure
 /// that the name survives a crash, so that the store is found after one.
-fn init_at<V: Devices, F: Folders, O: Write, E: Write>(
-    devices: &mut V,
+fn init_at<V: Disks, F: Folders, O: Write, E: Write>(
+    disks: &mut V,
     folders: &F,
     alloc: Global,
     path: &str,
     layout: Layout,
     output: &mut O,
     faults: &mut E,
-) -> Ended<V::Device>
+) -> Ended<V::Disk>
     ensures made { IsMadeAt layout (record {
-      stands = V.stands devices.old;
-      withholds = V.withholds devices.old;
-      makes = V.makes devices.old;
-      denies = V.denies devices.old;
-      creates = V.creates devices.old;
-      occupies = V.occupies devices.old;
+      stands = V.stands disks.old;
+      withholds = V.withholds disks.old;
+      makes = V.makes disks.old;
+      denies = V.denies disks.old;
+      creates = V.creates disks.old;
+      occupies = V.occupies disks.old;
       keeps = F.keeps folders.now;
       loses = F.loses folders.now;
       removes = F.removes folders.now;
@@ -191,29 +189,29 @@ fn init_at<V: Devices, F: Folders, O: Write, E: Write>(
       lacks = F.lacks folders.now;
       is_honest = F.is_honest folders.now;
       releases = F.releases folders.now;
-      device = V.Device.view;
+      disk = V.Disk.view;
     }) path.now result.1 (report result.0 (O.contents output.old) (O.contents output.new)) }
-    ensures asked { V.asked devices.new ≡ raised_by (V.asked devices.old) 1 }
+    ensures asked { V.asked disks.new ≡ raised_by (V.asked disks.old) 1 }
 {
-    let Ok(device) = devices.device_or_new(path, faults) else {
+    let Ok(disk) = disks.open_or_make(path, faults) else {
         return (refuse(alloc, output, Refusal::DiskFault), None);
     };
     if folders.settle(alloc, path, faults).is_err() {
         let ended = refuse(alloc, output, Refusal::DiskFault);
-        return (ended, Some(device));
+        return (ended, Some(disk));
     }
-    let (ended, left) = init(alloc, device, layout, output);
+    let (ended, left) = init(alloc, disk, layout, output);
     let context = Context {
         store: path,
-        last_error: devices.last_error(&left),
+        last_error: disks.last_error(&left),
     };
     tell_why(ended, &context, faults);
     (ended, Some(left))
 }
 
 /// Imports a release into the store with this name.
-fn import_at<V: Devices, F: Folders, O: Write, E: Write>(
-    devices: &mut V,
+fn import_at<V: Disks, F: Folders, O: Write, E: Write>(
+    disks: &mut V,
     folders: &F,
     alloc: Global,
     path: &str,
@@ -222,18 +220,18 @@ fn import_at<V: Devices, F: Folders, O: Write, E: Write>(
     quiet: bool,
     output: &mut O,
     faults: &mut E,
-) -> Ended<V::Device>
-    ensures done { IsDoneAt (V.stands devices.old path.now)
-        (λ device after. IsImport
-        (source_view (F.is_honest folders.now) (F.releases folders.now dir.now)) V.Device.view
-        name.now device after (report result.0 (O.contents output.old) (O.contents output.new)))
+) -> Ended<V::Disk>
+    ensures done { IsDoneAt (V.stands disks.old path.now)
+        (λ disk after. IsImport
+        (source_view (F.is_honest folders.now) (F.releases folders.now dir.now)) V.Disk.view
+        name.now disk after (report result.0 (O.contents output.old) (O.contents output.new)))
         (IsMissing (report result.0 (O.contents output.old) (O.contents output.new))
-        × V.withholds devices.old path.now) result.1 }
-    ensures asked { V.asked devices.new ≡ raised_by (V.asked devices.old) 1 }
+        × V.withholds disks.old path.now) result.1 }
+    ensures asked { V.asked disks.new ≡ raised_by (V.asked disks.old) 1 }
 {
-    let had = devices.device(path, faults);
+    let had = disks.open(path, faults);
     match had {
-        Ok(device) => {
+        Ok(disk) => {
             let mut source = FolderSource {
                 folders,
                 dir,
@@ -241,8 +239,8 @@ fn import_at<V: Devices, F: Folders, O: Write, E: Write>(
                 doing: "importing",
                 quiet,
             };
-            let (ended, left) = import(alloc, device, name, &mut source, output);
-            source.tell_why(ended, path, devices.last_error(&left));
+            let (ended, left) = import(alloc, disk, name, &mut source, output);
+            source.tell_why(ended, path, disks.last_error(&left));
             (ended, Some(left))
         }
         Err(_) => (refuse(alloc, output, Refusal::DiskFault), None),
@@ -250,8 +248,8 @@ fn import_at<V: Devices, F: Folders, O: Write, E: Write>(
 }
 
 /// Checks a release against the store with this name.
-fn check_at<V: Devices, F: Folders, O: Write, E: Write>(
-    devices: &mut V,
+fn check_at<V: Disks, F: Folders, O: Write, E: Write>(
+    disks: &mut V,
     folders: &F,
     alloc: Global,
     path: &str,
@@ -260,17 +258,17 @@ fn check_at<V: Devices, F: Folders, O: Write, E: Write>(
     quiet: bool,
     output: &mut O,
     faults: &mut E,
-) -> Ended<V::Device>
-    ensures done { IsDoneAt (V.stands devices.old path.now)
-        (λ device after. IsCheck
-        (source_view (F.is_honest folders.now) (F.releases folders.now dir.now)) V.Device.view
-        name.now device after (report result.0 (O.contents output.old) (O.contents output.new)))
+) -> Ended<V::Disk>
+    ensures done { IsDoneAt (V.stands disks.old path.now)
+        (λ disk after. IsCheck
+        (source_view (F.is_honest folders.now) (F.releases folders.now dir.now)) V.Disk.view
+        name.now disk after (report result.0 (O.contents output.old) (O.contents output.new)))
         (IsMissing (report result.0 (O.contents output.old) (O.contents output.new))
-        × V.withholds devices.old path.now) result.1 }
-    ensures asked { V.asked devices.new ≡ raised_by (V.asked devices.old) 1 }
+        × V.withholds disks.old path.now) result.1 }
+    ensures asked { V.asked disks.new ≡ raised_by (V.asked disks.old) 1 }
 {
-    match devices.device(path, faults) {
-        Ok(device) => {
+    match disks.open(path, faults) {
+        Ok(disk) => {
             let folder = FolderSource {
                 folders,
                 dir,
@@ -282,10 +280,8 @@ fn check_at<V: Devices, F: Folders, O: Write, E: Write>(
                 folder,
                 refused: None,
             };
-            let (ended, left) = check(alloc, device, name, &mut source, output);
-            source
-                .folder
-                .tell_why(ended, path, devices.last_error(&left));
+            let (ended, left) = check(alloc, disk, name, &mut source, output);
+            source.folder.tell_why(ended, path, disks.last_error(&left));
             (ended, Some(left))
         }
         Err(_) => (refuse(alloc, output, Refusal::DiskFault), None),
@@ -295,8 +291,8 @@ fn check_at<V: Devices, F: Folders, O: Write, E: Write>(
 /// Answers the lines of the input from the store with this name. If there is no folder in which
 /// releases could be looked for, it refuses before the store is opened, since each import would be
 /// refused.
-fn serve_at<V: Devices, F: Folders, I: Read, O: Write, E: Write>(
-    devices: &mut V,
+fn serve_at<V: Disks, F: Folders, I: Read, O: Write, E: Write>(
+    disks: &mut V,
     folders: &F,
     alloc: Global,
     path: &str,
@@ -304,14 +300,14 @@ fn serve_at<V: Devices, F: Folders, I: Read, O: Write, E: Write>(
     input: &mut I,
     output: &mut O,
     faults: &mut E,
-) -> Ended<V::Device>
+) -> Ended<V::Disk>
     ensures done { IsServedAt (record {
-      stands = V.stands devices.old;
-      withholds = V.withholds devices.old;
-      makes = V.makes devices.old;
-      denies = V.denies devices.old;
-      creates = V.creates devices.old;
-      occupies = V.occupies devices.old;
+      stands = V.stands disks.old;
+      withholds = V.withholds disks.old;
+      makes = V.makes disks.old;
+      denies = V.denies disks.old;
+      creates = V.creates disks.old;
+      occupies = V.occupies disks.old;
       keeps = F.keeps folders.now;
       loses = F.loses folders.now;
       removes = F.removes folders.now;
@@ -320,17 +316,17 @@ fn serve_at<V: Devices, F: Folders, I: Read, O: Write, E: Write>(
       lacks = F.lacks folders.now;
       is_honest = F.is_honest folders.now;
       releases = F.releases folders.now;
-      device = V.Device.view;
+      disk = V.Disk.view;
     }) path.now dir.now result.1 result.0 (streams (I.remaining input.old) (I.remaining input.new)
         (O.contents output.old) (O.contents output.new)) }
-    ensures asked { V.asked devices.new ≡ raised_by (V.asked devices.old) 1 }
+    ensures asked { V.asked disks.new ≡ raised_by (V.asked disks.old) 1 }
 {
-    match devices.device(path, faults) {
-        Ok(device) => {
+    match disks.open(path, faults) {
+        Ok(disk) => {
             if !folders.has_folder(dir, faults) {
                 return (
                     tell_refusal(alloc, output, LineRefusal::NoFolder),
-                    Some(device),
+                    Some(disk),
                 );
             }
             let mut source = FolderSource {
@@ -340,8 +336,8 @@ fn serve_at<V: Devices, F: Folders, I: Read, O: Write, E: Write>(
                 doing: "importing",
                 quiet: true,
             };
-            let (ended, left) = serve_device(alloc, device, &mut source, input, output);
-            source.tell_why(ended, path, devices.last_error(&left));
+            let (ended, left) = serve_disk(alloc, disk, &mut source, input, output);
+            source.tell_why(ended, path, disks.last_error(&left));
             (ended, Some(left))
         }
         Err(_) => (refuse(alloc, output, Refusal::DiskFault), None),
@@ -349,28 +345,28 @@ fn serve_at<V: Devices, F: Folders, I: Read, O: Write, E: Write>(
 }
 
 /// Writes the status of the store with this name.
-fn status_at<V: Devices, O: Write, E: Write>(
-    devices: &mut V,
+fn status_at<V: Disks, O: Write, E: Write>(
+    disks: &mut V,
     alloc: Global,
     path: &str,
     output: &mut O,
     faults: &mut E,
-) -> Ended<V::Device>
-    ensures done { IsDoneAt (V.stands devices.old path.now)
-        (λ device after. IsStatus V.Device.view device after
+) -> Ended<V::Disk>
+    ensures done { IsDoneAt (V.stands disks.old path.now)
+        (λ disk after. IsStatus V.Disk.view disk after
         (report result.0 (O.contents output.old) (O.contents output.new)))
         (IsMissing (report result.0 (O.contents output.old) (O.contents output.new))
-        × V.withholds devices.old path.now) result.1 }
-    ensures asked { V.asked devices.new ≡ raised_by (V.asked devices.old) 1 }
+        × V.withholds disks.old path.now) result.1 }
+    ensures asked { V.asked disks.new ≡ raised_by (V.asked disks.old) 1 }
 {
-    let found = devices.device(path, faults);
+    let found = disks.open(path, faults);
     match found {
-        Ok(device) => {
-            let size = devices.size(path);
-            let (ended, left, figures) = status(alloc, device, output);
+        Ok(disk) => {
+            let size = disks.size(path);
+            let (ended, left, figures) = status(alloc, disk, output);
             let context = Context {
                 store: path,
-                last_error: devices.last_error(&left),
+                last_error: disks.last_error(&left),
             };
             tell_why(ended, &context, faults);
             tell_figures(path, figures, size, faults);
@@ -381,28 +377,28 @@ fn status_at<V: Devices, O: Write, E: Write>(
 }
 
 /// Merges the segments of the store with this name.
-fn merge_at<V: Devices, O: Write, E: Write>(
-    devices: &mut V,
+fn merge_at<V: Disks, O: Write, E: Write>(
+    disks: &mut V,
     alloc: Global,
     path: &str,
     most: u32,
     output: &mut O,
     faults: &mut E,
-) -> Ended<V::Device>
-    ensures done { IsDoneAt (V.stands devices.old path.now)
-        (λ device after. IsMergedOnDisk V.Device.view most device after
+) -> Ended<V::Disk>
+    ensures done { IsDoneAt (V.stands disks.old path.now)
+        (λ disk after. IsMergedOnDisk V.Disk.view most disk after
         (report result.0 (O.contents output.old) (O.contents output.new)))
         (IsMissing (report result.0 (O.contents output.old) (O.contents output.new))
-        × V.withholds devices.old path.now) result.1 }
-    ensures asked { V.asked devices.new ≡ raised_by (V.asked devices.old) 1 }
+        × V.withholds disks.old path.now) result.1 }
+    ensures asked { V.asked disks.new ≡ raised_by (V.asked disks.old) 1 }
 {
-    let stands = devices.device(path, faults);
+    let stands = disks.open(path, faults);
     match stands {
-        Ok(device) => {
-            let (ended, left) = merge(alloc, device, path, most, output, faults);
+        Ok(disk) => {
+            let (ended, left) = merge(alloc, disk, path, most, output, faults);
             let context = Context {
                 store: path,
-                last_error: devices.last_error(&left),
+                last_error: disks.last_error(&left),
             };
             tell_why(ended, &context, faults);
             (ended, Some(left))
@@ -412,27 +408,27 @@ fn merge_at<V: Devices, O: Write, E: Write>(
 }
 
 /// Writes the digest of the store with this name.
-fn digest_at<V: Devices, O: Write, E: Write>(
-    devices: &mut V,
+fn digest_at<V: Disks, O: Write, E: Write>(
+    disks: &mut V,
     alloc: Global,
     path: &str,
     imports: Option<u32>,
     output: &mut O,
     faults: &mut E,
-) -> Ended<V::Device>
-    ensures done { IsDoneAt (V.stands devices.old path.now)
-        (λ device after. IsDigest V.Device.view imports device after
+) -> Ended<V::Disk>
+    ensures done { IsDoneAt (V.stands disks.old path.now)
+        (λ disk after. IsDigest V.Disk.view imports disk after
         (report result.0 (O.contents output.old) (O.contents output.new)))
         (IsMissing (report result.0 (O.contents output.old) (O.contents output.new))
-        × V.withholds devices.old path.now) result.1 }
-    ensures asked { V.asked devices.new ≡ raised_by (V.asked devices.old) 1 }
+        × V.withholds disks.old path.now) result.1 }
+    ensures asked { V.asked disks.new ≡ raised_by (V.asked disks.old) 1 }
 {
-    match devices.device(path, faults) {
-        Ok(device) => {
-            let (ended, left) = digest(alloc, device, imports, output);
+    match disks.open(path, faults) {
+        Ok(disk) => {
+            let (ended, left) = digest(alloc, disk, imports, output);
             let context = Context {
                 store: path,
-                last_error: devices.last_error(&left),
+                last_error: disks.last_error(&left),
             };
             tell_why(ended, &context, faults);
             (ended, Some(left))
@@ -442,27 +438,27 @@ fn digest_at<V: Devices, O: Write, E: Write>(
 }
 
 /// Upgrades the store with this name to version 3.
-fn upgrade_at<V: Devices, O: Write, E: Write>(
-    devices: &mut V,
+fn upgrade_at<V: Disks, O: Write, E: Write>(
+    disks: &mut V,
     alloc: Global,
     path: &str,
     output: &mut O,
     faults: &mut E,
-) -> Ended<V::Device>
-    ensures done { IsDoneAt (V.stands devices.old path.now)
-        (λ device after. IsUpgrade V.Device.view device after
+) -> Ended<V::Disk>
+    ensures done { IsDoneAt (V.stands disks.old path.now)
+        (λ disk after. IsUpgrade V.Disk.view disk after
         (report result.0 (O.contents output.old) (O.contents output.new)))
         (IsMissing (report result.0 (O.contents output.old) (O.contents output.new))
-        × V.withholds devices.old path.now) result.1 }
-    ensures asked { V.asked devices.new ≡ raised_by (V.asked devices.old) 1 }
+        × V.withholds disks.old path.now) result.1 }
+    ensures asked { V.asked disks.new ≡ raised_by (V.asked disks.old) 1 }
 {
-    let before = devices.device(path, faults);
+    let before = disks.open(path, faults);
     match before {
-        Ok(device) => {
-            let (ended, left) = upgrade(alloc, device, output);
+        Ok(disk) => {
+            let (ended, left) = upgrade(alloc, disk, output);
             let context = Context {
                 store: path,
-                last_error: devices.last_error(&left),
+                last_error: disks.last_error(&left),
             };
             tell_why(ended, &context, faults);
             (ended, Some(left))

@@ -34,48 +34,48 @@ fn serve_all<D: Disk + Drop, S: Source, I: Read, O: Write>(
     }
 }
 
-/// Answers the lines of the input from the store of a device. Returns the device.
-pub(crate) fn serve_device<D: Disk + Drop, S: Source, I: Read, O: Write>(
+/// Answers the lines of the input from the store of a disk. Returns the disk.
+pub(crate) fn serve_disk<D: Disk + Drop, S: Source, I: Read, O: Write>(
     alloc: Global,
-    device: D,
+    disk: D,
     source: &mut S,
     input: &mut I,
     output: &mut O,
 ) -> (Result<Ending, ServeFault>, D)
     ensures { IsServing (source_view (S.is_honest source.old) (S.releases source.old))
-        D.view device result.1 result.0
+        D.view disk result.1 result.0
         (streams (I.remaining input.old) (I.remaining input.new)
         (O.contents output.old) (O.contents output.new)) }
 {
-    match Store::open(alloc, device) {
+    match Store::open(alloc, disk) {
         Ok(store) => {
             let mut store = store;
             let ended = serve_all(alloc, source, &mut store, input, output);
             (ended, store.close())
         }
-        Err((refusal, device)) => (refuse(alloc, output, refusal), device),
+        Err((refusal, disk)) => (refuse(alloc, output, refusal), disk),
     }
 }
 
-/// Answers the lines of the input from a new store on a device. Returns the device.
+/// Answers the lines of the input from a new store on a disk. Returns the disk.
 pub(crate) fn serve_new<D: Disk + Drop, S: Source, I: Read, O: Write>(
     alloc: Global,
-    device: D,
+    disk: D,
     source: &mut S,
     input: &mut I,
     output: &mut O,
 ) -> (Result<Ending, ServeFault>, D)
     ensures { IsServingNew (source_view (S.is_honest source.old) (S.releases source.old))
-        D.view device result.1 result.0
+        D.view disk result.1 result.0
         (streams (I.remaining input.old) (I.remaining input.new)
         (O.contents output.old) (O.contents output.new)) }
 {
-    match Store::create(alloc, device) {
+    match Store::create(alloc, disk) {
         Ok(store) => {
             let mut store = store;
             let ended = serve_all(alloc, source, &mut store, input, output);
             (ended, store.close())
         }
-        Err((refusal, device)) => (refuse(alloc, output, refusal), device),
+        Err((refusal, disk)) => (refuse(alloc, output, refusal), disk),
     }
 }

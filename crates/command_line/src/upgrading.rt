@@ -25,21 +25,21 @@ fn upgrade_store<D: Disk, O: Write>(
     }
 }
 
-/// Upgrades the store of a device to version 3, and writes the reply. Returns the device.
+/// Upgrades the store of a disk to version 3, and writes the reply. Returns the disk.
 pub(crate) fn upgrade<D: Disk + Drop, O: Write>(
     alloc: Global,
-    device: D,
+    disk: D,
     output: &mut O,
 ) -> (Result<Ending, ServeFault>, D)
-    ensures { IsUpgrade D.view device result.1
+    ensures { IsUpgrade D.view disk result.1
         (report result.0 (O.contents output.old) (O.contents output.new)) }
 {
-    match Store::open(alloc, device) {
+    match Store::open(alloc, disk) {
         Ok(store) => {
             let mut store = store;
             let ended = upgrade_store(alloc, &mut store, output);
             (ended, store.close())
         }
-        Err((refusal, device)) => (refuse(alloc, output, refusal), device),
+        Err((refusal, disk)) => (refuse(alloc, output, refusal), disk),
     }
 }

@@ -1,8 +1,8 @@
--- What a device shows, and what a call on it did of failures, reads and other calls.
+-- What a disk shows, and what a call on it did of failures, reads and other calls.
 use Rattle.std.specs.Prelude.{◌≡◌, ◌↔◌, ℕ, ◌+◌, ◌≤◌}
 use Rattle.disk_model.specs.Disk.{Moments, raised_by}
 
--- what is known of a device at one time
+-- what is known of a disk at one time
 pub record DiskView : Type 1 where
   -- it keeps to what its calls promise of bytes and crashes; of one that doesn't nothing else is
   -- known
@@ -38,7 +38,7 @@ AtMost n old new = new ≤ old + n
 abbrev pub Unsaid : ℕ → ℕ → Type 0
 Unsaid old new = Unit {0}
 
--- the device was read and nothing else, with these counts of failures and of bytes
+-- the disk was read and nothing else, with these counts of failures and of bytes
 pub record OnlyReads (fails reads : ℕ → ℕ → Type 0) (old new : DiskView) : Type 0 where
   pub moments : old.is_honest → new.moments ≡ old.moments
   pub honesty : old.is_honest ↔ new.is_honest
@@ -46,7 +46,7 @@ pub record OnlyReads (fails reads : ℕ → ℕ → Type 0) (old new : DiskView)
   pub bytes_read : reads old.bytes_read new.bytes_read
   pub other_calls : new.other_calls ≡ old.other_calls
 
--- the device was called, with these counts of failures, of bytes that were read, and of other calls
+-- the disk was called, with these counts of failures, of bytes that were read, and of other calls
 pub record Calls (fails reads calls : ℕ → ℕ → Type 0) (old new : DiskView) : Type 0 where
   pub honesty : old.is_honest ↔ new.is_honest
   pub failures : fails old.failures new.failures

@@ -48,7 +48,7 @@ impl FileDisk {
         FileDisk::of(file)
     }
 
-    /// Locks the file, and waits until the device has what earlier processes wrote, before anything
+    /// Locks the file, and waits until the disk has what earlier processes wrote, before anything
     /// is read. Refuses anything but a regular file.
     fn of(opened: io::Result<File>) -> Result<FileDisk, OpenFault>
         ensures unused { IfOk result (λ disk. IsUnused (file_view disk)) }

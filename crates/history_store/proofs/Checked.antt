@@ -38,13 +38,13 @@ use Rattle.history_store.proofs.TakenByKey.{taken_by_key}
 
 -- ---- refusals
 
--- a refusal that isn't the device's leaves the count of its failures
+-- a refusal that isn't the disk's leaves the count of its failures
 pub counted_but : (e : Refusal) (old new : ℕ) → (e ≡ refusals.DiskFault → ⊥) → new ≡ old → CountsRefusal e old new
 counted_but refusals.DiskFault old new other same = absurd (other refl)
 counted_but _ old new other same = same
 
-pub not_device : (rows : List StampedRow) (catalog : Catalog) (e : Refusal) → IsUnprepared e rows catalog → e ≡ refusals.DiskFault → ⊥
-not_device rows catalog e why device = subst (λ x. IsUnprepared x rows catalog) device why
+pub not_disk : (rows : List StampedRow) (catalog : Catalog) (e : Refusal) → IsUnprepared e rows catalog → e ≡ refusals.DiskFault → ⊥
+not_disk rows catalog e why disk = subst (λ x. IsUnprepared x rows catalog) disk why
 
 -- ---- the new rows of a release are not had
 

@@ -177,7 +177,7 @@ closed_refusal : {D : Type 0} (s : StoreValue D) (release : Release) (f : Refusa
 closed_refusal s release refusals.ReopenNeeded closed why = refl
 closed_refusal s release _ closed why = absurd (false≢true (sym why.0 ∙ closed))
 
--- a refusal but for the device says what the store was, and the store stays
+-- a refusal but for the disk says what the store was, and the store stays
 stays_so : {D : Type 0} (old checked : StoreValue D) (release : Release) (e : Refusal) → IsRefused e old checked → (e ≡ refusals.DiskFault → ⊥) → IsRefusedFor (IsNotTaken old.history old.catalog release) e old → IsRefusedFor (IsNotTaken checked.history checked.catalog release) e checked
 stays_so old checked release e refused other why = each e refused other why where
   moved : (x : Refusal) → IsRefused x old checked → IsNotTaken old.history old.catalog release x → IsNotTaken checked.history checked.catalog release x
@@ -205,11 +205,11 @@ module _ {D : Type 0} (checked : StoreValue D) (release : Release) where
   pub not_taken_then : (new : StoreValue D) (e : Refusal) (q : Receipt) → IsRefusedFor (IsNotTaken checked.history checked.catalog release) e checked → IsImportOf (Ok q) checked new release → HasFailed (Err e)
   not_taken_then new e q why is = taken_anyway checked.history checked.catalog release (would_be checked.history new.history checked.catalog new.catalog release q is.0) e (open_refusal checked release e is.1 why)
 
--- the device failed, or it didn't
-device_or : (e : Refusal) → HasFailed (Err e) ⊎ (e ≡ refusals.DiskFault → ⊥)
-device_or refusals.DiskFault = inl tt
-device_or refusals.OutOfMemory = inl tt
-device_or _ = inr (λ same. absurd (cc))
+-- the disk failed, or it didn't
+disk_or : (e : Refusal) → HasFailed (Err e) ⊎ (e ≡ refusals.DiskFault → ⊥)
+disk_or refusals.DiskFault = inl tt
+disk_or refusals.OutOfMemory = inl tt
+disk_or _ = inr (λ same. absurd (cc))
 
 pub checked_is_imported : {D : Type 0} → CheckedIsImported D
 checked_is_imported {D} old checked new release (Ok r) result is imported = each result imported where
@@ -222,7 +222,7 @@ checked_is_imported {D} old checked new release (Ok r) result is imported = each
   each : (x : Result Receipt Refusal) → IsImportOf x checked new release → (x ≡ Ok r) ⊎ (HasFailed (Ok r) ⊎ HasFailed x)
   each (Ok q) so = inl (ap Ok (one_receipt checked.history is.0.0 new.history checked.catalog is.0.1 new.catalog release r q (here checked.history checked.catalog still.history still.catalog) so.0))
   each (Err f) so = inr (inr (taken_anyway checked.history checked.catalog release (would_be checked.history is.0.0 checked.catalog is.0.1 release r (here checked.history checked.catalog still.history still.catalog)) f (open_refusal checked release f still.open_still so.0)))
-checked_is_imported {D} old checked new release (Err e) result is imported = elim (device_or e) [
+checked_is_imported {D} old checked new release (Err e) result is imported = elim (disk_or e) [
   | inl failed ↦ inr (inl failed)
   | inr other ↦ each other result imported
 ] where

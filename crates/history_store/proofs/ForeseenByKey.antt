@@ -121,9 +121,9 @@ cause s release refusals.Damaged why = inr (why.0, inr tt)
 cause s release (refusals.Contradiction file line) why = inr (why.0, inr tt)
 cause s release _ why = absurd why.1
 
-device_or : (e : Refusal) → DependsOnReading (Err e) ⊎ (e ≡ refusals.DiskFault → ⊥)
-device_or refusals.DiskFault = inl tt
-device_or _ = inr (λ same. absurd (cc))
+disk_or : (e : Refusal) → DependsOnReading (Err e) ⊎ (e ≡ refusals.DiskFault → ⊥)
+disk_or refusals.DiskFault = inl tt
+disk_or _ = inr (λ same. absurd (cc))
 
 module _ {D : Type 0} (checked new : StoreValue D) (release : Release) where
   abbrev IsForeseen : Result Receipt Refusal → Result Receipt Refusal → Type 0
@@ -164,7 +164,7 @@ checked_is_imported_on_any_disk {D} old checked new release (Ok receipt) result 
     let P : History → Catalog → Type 0 = λ h catalog. IsTakenByKey h is.0.0 catalog is.0.1 release receipt in
     let taken : P checked.history checked.catalog = subst (λ (h : History). P h checked.catalog) (sym is.1.history) (subst (λ (x : Catalog). P old.history x) (sym is.1.catalog) is.0.2) in
     taken_then checked new release is.0.0 is.0.1 receipt is.1.open_still taken result imported
-checked_is_imported_on_any_disk {D} old checked new release (Err e) result is imported = elim (device_or e) [
+checked_is_imported_on_any_disk {D} old checked new release (Err e) result is imported = elim (disk_or e) [
   | inl read ↦ inr (inl read)
   | inr other ↦ each (is.1.still other) (cause old release e is.0)
 ] where

@@ -54,7 +54,7 @@ counted_so (Err (importfault.Known readfault.Damaged)) result before after is co
 counted_so (Err (importfault.Row file line fault)) result before after is counts = subst (λ r. Counts r before after) (sym is) counts
 counted_so (Err (importfault.Contradiction file line key)) result before after is counts = subst (λ r. Counts r before after) (sym is) counts
 
--- whatever device and whatever cache the store has, it is left the same
+-- whatever disk and whatever cache the store has, it is left the same
 left_so : {D : Type 0} (result : Result Contradictions Refusal) (old new : StoreValue D) (disk : D) (cache : LruCache ℕ (List ℕ)) → MatchResult result (λ found. IsStill (record old { disk = disk; cache = cache }) new) (λ e. IsRefused e (record old { disk = disk; cache = cache }) new)
     → MatchResult result (λ found. IsStill old new) (λ e. IsRefused e old new)
 left_so (Ok x) old new disk cache r = record { history = r.history; catalog = r.catalog; open_before = r.open_before; open_still = r.open_still }

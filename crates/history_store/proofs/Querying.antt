@@ -56,7 +56,7 @@ counted_answer (Err readfault.Damaged) before after counts = counts
 refused_beside : {D : Type 0} (e : Refusal) (old new : StoreValue D) (disk : D) (cache : LruCache ℕ (List ℕ)) → IsRefused e (record old { disk = disk; cache = cache }) new → IsRefused e old new
 refused_beside e old new disk cache r = record { history = r.history; catalog = r.catalog; closed = r.closed; still = r.still }
 
--- whatever device and whatever cache the store has, the answer is the same
+-- whatever disk and whatever cache the store has, the answer is the same
 read_beside : {T D : Type 0} (read : Result T ReadFault) (old new : StoreValue D) (disk : D) (cache : LruCache ℕ (List ℕ)) → IsReadingOf (answer_of read) (record old { disk = disk; cache = cache }) new → IsReadingOf (answer_of read) old new
 read_beside (Ok x) old new disk cache r = record { history = r.history; catalog = r.catalog; open_before = r.open_before; open_still = r.open_still }
 read_beside (Err readfault.OutOfMemory) old new disk cache r = (r.0, refused_beside _ old new disk cache r.1)
@@ -101,7 +101,7 @@ row_items rows = rows.items
 
 -- rows were read by a reader to which the disk, the cache and the segments were lent, and what was read is answered
 module _ {T D : Type 0} (view : D → DiskView) (rows_of : T → List RowValue) (wanted : List RowValue → List RowValue) (pin : ℕ) where
-  -- what a reader shows to which a device is lent
+  -- what a reader shows to which a disk is lent
   abbrev pub shown_of : D → List (List StampedRow) → Type 0 → ℕ → ReaderView
   shown_of disk lists is_honest damages = record { lists = lists; is_honest = is_honest; work = (view disk).bytes_read; disk_faults = (view disk).failures; damages = damages }
 

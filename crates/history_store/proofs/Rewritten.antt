@@ -55,7 +55,7 @@ use Rattle.history_store.specs.MergeInProgress.{IsMergingOf, HasMerge}
 use Rattle.history_store.specs.StoreValue.{IsHeld}
 use Rattle.history_store.specs.Rewriting.{checked_at}
 use Rattle.history_store.specs.Private.Stepping.{StandsIn, AreAscending, bytes_at, cost_at, IsUnread}
-use Rattle.history_store.specs.Private.Rewriting.{as_taken, IsAnew, only_listing, is_device}
+use Rattle.history_store.specs.Private.Rewriting.{as_taken, IsAnew, only_listing, is_disk_fault}
 use Rattle.history_store.proofs.Held.{slot_beside}
 use Rattle.history_store.proofs.MergePublished.{PublishesWritten, LeavesWritten}
 use Rattle.history_store.proofs.ReadRows.{places_ascend, cost_sum}
@@ -376,7 +376,7 @@ no_merge_of_one d lists (Some m) old alone is = absurd (let one : length d.entri
 pub has_no_merge : (honest : Type 0) (now : List ℕ) (d : DirectoryValue) (lists : List (List StampedRow)) (merge : Option MergeInProgress) (needs : Bool) → merge ≡ None → HasMerge honest now d lists merge needs
 has_no_merge honest now d lists merge needs none = subst (λ (m : Option MergeInProgress). HasMerge honest now d lists m needs) (sym none) (record { merging = tt; written = λ up still. tt })
 
--- ---- a refusal that isn't of the device
+-- ---- a refusal that isn't of the disk
 
-pub no_device : (e : Refusal) → IsUnread e → e ≢ refusals.DiskFault → is_device e ≡ false
-no_device e why other = elim why [ inl memory ↦ ap is_device memory | inr rest ↦ elim rest [ inl device ↦ absurd (other device) | inr damage ↦ ap is_device damage ] ]
+pub no_disk : (e : Refusal) → IsUnread e → e ≢ refusals.DiskFault → is_disk_fault e ≡ false
+no_disk e why other = elim why [ inl memory ↦ ap is_disk_fault memory | inr rest ↦ elim rest [ inl disk ↦ absurd (other disk) | inr damage ↦ ap is_disk_fault damage ] ]

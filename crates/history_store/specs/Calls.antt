@@ -19,7 +19,7 @@ MakesImportCalls result old new = MatchResult result
     (λ _. call_count new ≤ call_count old + 8)
 
 -- On every disk an import makes at most these calls, besides reads, and a refused one none of them
--- unless the device failed.
+-- unless the disk failed.
 abbrev pub MakesNoOtherCalls : Result Receipt Refusal → (before after : ℕ) → Type 0
 MakesNoOtherCalls (Ok receipt) before after = after ≤ before + import_calls receipt.new
 MakesNoOtherCalls (Err e) before after =

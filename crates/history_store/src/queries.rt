@@ -24,7 +24,7 @@ impl<D: Disk> Store<D> {
     ghost use Rattle.history_store.specs.StoreValue.{IsAcknowledged};
     ghost use Rattle.history_store.specs.declared.refusal.Refusal.TheVariants as refusals;
 
-    /// Turns the result of reading rows into the result of the store's call. After a device
+    /// Turns the result of reading rows into the result of the store's call. After a disk
     /// failure, the store has to be opened again.
     pub(crate) fn answered<T>(&mut self, read: Result<T, ReadFault>) -> Result<T, Refusal>
         requires still { self.old.needs_reopen ≡ false }

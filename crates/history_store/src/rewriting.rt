@@ -23,7 +23,7 @@ ghost use Rattle.history_store.specs.StoreValue.{IsHeld};
 ghost use Rattle.history_store.specs.Rewriting.{IsOnlyPlain, place_beside};
 ghost use Rattle.history_store.specs.Private.Stepping.{IsUnread, is_fault};
 ghost use Rattle.history_store.specs.Private.Rewriting.{IsAnew, MayListAnew, IsReadyToRewrite};
-ghost use Rattle.history_store.specs.Private.Rewriting.{as_taken, only_listing, is_device};
+ghost use Rattle.history_store.specs.Private.Rewriting.{as_taken, only_listing, is_disk_fault};
 ghost use Rattle.history_store.specs.declared.refusal.Refusal.TheVariants as refusals;
 
 use crate::counting::is_plain;
@@ -174,7 +174,7 @@ fn write_and_list<D: Disk>(
         cache.new s next.now index.now false) }
     ensures held { IfErr result
         (λ e. IsHeld (D.view disk.new).is_honest (D.view disk.new).moments.state
-        cache.new slot directory.now index.now (is_device e)) }
+        cache.new slot directory.now index.now (is_disk_fault e)) }
     // A crash at any moment leaves the history.
     ensures any_moment { (D.view disk.old).is_honest
         → LeavesOnly (D.view disk.old).moments (D.view disk.new).moments

@@ -91,7 +91,7 @@ impl<D: Disk> Store<D> {
     ghost use Rattle.store_image.specs.Kept.{bytes_listed};
     ghost use Rattle.history_store.specs.Written.{added_entries, added_ranges, StemsWithinAll};
     ghost use Rattle.history_store.specs.Calls.{MakesImportCalls, MakesNoOtherCalls};
-    ghost use Rattle.history_store.specs.Answers.{Counts, device_of};
+    ghost use Rattle.history_store.specs.Answers.{Counts, disk_of};
     ghost use Rattle.history_store.specs.Private.Answers.{IsStep, IsNotFresh};
     ghost use Rattle.history_store.specs.Openings.{IsMaking, IsOpening, StopsIn};
     ghost use Rattle.history_store.specs.Answers.{IsStill, IsRefused};
@@ -104,8 +104,8 @@ impl<D: Disk> Store<D> {
     /// Makes a store of version 2 on an empty disk, as `create_in` does.
     pub fn create(alloc: Global, disk: D) -> Result<Store<D>, (Refusal, D)>
         ensures made { IsMaking layouts.Two result D.view disk }
-        ensures bytes_read { (D.view (device_of result)).bytes_read ≡ (D.view disk).bytes_read }
-        ensures other_calls { (D.view (device_of result)).other_calls
+        ensures bytes_read { (D.view (disk_of result)).bytes_read ≡ (D.view disk).bytes_read }
+        ensures other_calls { (D.view (disk_of result)).other_calls
             ≤ (D.view disk).other_calls + 11 }
         ensures looked { IfErr result (λ e. e.0 ≢ refusals.DiskFault
             → (D.view e.1).other_calls ≤ (D.view disk).other_calls + 2) }
@@ -118,10 +118,10 @@ impl<D: Disk> Store<D> {
     pub fn create_in(alloc: Global, disk: D, layout: Layout) -> Result<Store<D>, (Refusal, D)>
         ensures made { IsMaking layout result D.view disk }
         // On every disk and whatever the result: reads no bytes, asks for the length at most twice,
-        // and makes at most nine other calls; if it is refused for a reason other than a device
+        // and makes at most nine other calls; if it is refused for a reason other than a disk
         // failure, none of the nine.
-        ensures bytes_read { (D.view (device_of result)).bytes_read ≡ (D.view disk).bytes_read }
-        ensures other_calls { (D.view (device_of result)).other_calls
+        ensures bytes_read { (D.view (disk_of result)).bytes_read ≡ (D.view disk).bytes_read }
+        ensures other_calls { (D.view (disk_of result)).other_calls
             ≤ (D.view disk).other_calls + 11 }
         ensures looked { IfErr result (λ e. e.0 ≢ refusals.DiskFault
             → (D.view e.1).other_calls ≤ (D.view disk).other_calls + 2) }
@@ -162,9 +162,9 @@ impl<D: Disk> Store<D> {
             ≤ (D.view disk).other_calls + 2 + length s.catalog.entries) }
         // Whatever the result: makes one call before the first read. A sync that failed isn't tried
         // again.
-        ensures synced_once { ((D.view (device_of result)).other_calls
+        ensures synced_once { ((D.view (disk_of result)).other_calls
             ≤ (D.view disk).other_calls + 1)
-            ⊎ (raised_by (D.view disk).bytes_read 1 ≤ (D.view (device_of result)).bytes_read) }
+            ⊎ (raised_by (D.view disk).bytes_read 1 ≤ (D.view (disk_of result)).bytes_read) }
         // After an error it has read no further than the fault, on every disk.
         ensures stops { IfErr result
             (λ e. StopsIn e.0 (D.view disk).bytes_read (D.view e.1).bytes_read
@@ -345,7 +345,7 @@ impl<D: Disk> Store<D> {
         // After `Ok` every crash leaves the new history.
         ensures acknowledged { (D.view self.old.disk).is_honest → self.new.needs_reopen ≡ false
             → IsAcknowledged D.view self.new }
-        // If it is refused for a reason other than a device failure, the images that a crash may
+        // If it is refused for a reason other than a disk failure, the images that a crash may
         // leave are unchanged.
         ensures refused { (D.view self.old.disk).is_honest
             → KeepsMoments D.view result self.old self.new }
@@ -369,7 +369,7 @@ impl<D: Disk> Store<D> {
         ensures calls { (D.view self.old.disk).is_honest → MakesImportCalls result
             (D.view self.old.disk).moments (D.view self.new.disk).moments }
         // On every disk it makes no other calls than reads and these; if it is refused for a reason
-        // other than a device failure, none of these.
+        // other than a disk failure, none of these.
         ensures meters { Calls (Counts result) Unsaid (MakesNoOtherCalls result)
             (D.view self.old.disk) (D.view self.new.disk) }
         // On every disk and whatever the result: reads only blocks of listed segments, through the
@@ -446,7 +446,7 @@ impl<D: Disk> Store<D> {
         latest_time(self.index.places())
     }
 
-    /// Whether the device failed in a call, so that the store has to be opened again.
+    /// Whether the disk failed in a call, so that the store has to be opened again.
     pub fn needs_reopen(&self) -> bool
         ensures { result ≡ self.now.needs_reopen }
     {

@@ -104,7 +104,7 @@ module _ {D : Type 0} (honest : Type 0) (up : honest) (seen : ℕ) (old new : Se
   answer_found Digest answer q a = (a.0, a.1, a.2.3 up)
   answer_found question answer q a = (a.0, a.1, a.2.2 up)
 
-  -- an open store refuses it only for want of memory or the device
+  -- an open store refuses it only for want of memory or the disk
   unfound : (refusal : Refusal) → IsSure (Err (refusals.Store refusal)) → IsUnfound honest refusal old new → IsShut (Err (refusals.Store refusal)) old × Same old new
   unfound store.ReopenNeeded sure u = (
     (u.cause, refl),

@@ -6,7 +6,7 @@
 
 use crate::calls::{call, spell_receipt, store_of};
 use crate::contradicting::ask_contradictions;
-use crate::devices::{ask_disk, changed, reopens};
+use crate::disks::{ask_disk, changed, reopens};
 use crate::plain::{Plain, count_lookups, refuse, spell_sample};
 use crate::questions::ask_at;
 use crate::releases::Releases;

@@ -6,7 +6,7 @@ mod calls;
 mod contents;
 mod contradicting;
 mod copies;
-mod devices;
+mod disks;
 mod examples;
 mod failures;
 mod kept;

@@ -24,7 +24,7 @@ use Rattle.store_image.proofs.Standing.{represents_one}
 use Rattle.store_image.specs.Images.{Represents}
 use Rattle.store_copy.specs.Copying.{chosen, first_imports, up_to}
 use Rattle.store_copy.specs.Answers.{copy_of, imports_of, lists_of}
-use Rattle.store_copy.specs.Laws.{CopyRepresents, EachStopLeavesACopy, FirstImportsAreReleases, AllImportsAreAll, PinsStay, ReceiptsStay}
+use Rattle.store_copy.specs.Laws.{CopyRepresents, EachCrashLeavesACopy, FirstImportsAreReleases, AllImportsAreAll, PinsStay, ReceiptsStay}
 use Rattle.store_copy.proofs.UpTo.{Has-up_to, Has-up_to_from, up_to_ascends, listed_up_to}
 
 -- ---- what a copy represents
@@ -45,8 +45,8 @@ copy_represents asked file c h layout is rep =
     let all : P (history_of d of.lists) = (is.within, subst Q (sym one.1) there) in
     subst P (sym one.0) all
 
-pub each_stop_leaves_a_copy : EachStopLeavesACopy
-each_stop_leaves_a_copy asked file copy state has c image =
+pub each_crash_leaves_a_copy : EachCrashLeavesACopy
+each_crash_leaves_a_copy asked file copy state has c image =
     let on = has.on_disk in
     let same = has.copy_is in
     record {

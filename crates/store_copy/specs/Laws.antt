@@ -18,8 +18,8 @@ CopyRepresents = (asked : Option ℕ) (file c : List ℕ) (h : History) (layout 
     × RepresentsAs layout (first_imports (chosen asked h.imports) h) c
 
 -- every image that a crash may leave of a disk with a copy is a copy
-abbrev pub EachStopLeavesACopy : Type 0
-EachStopLeavesACopy = (asked : Option ℕ) (file : List ℕ) (copy : DirectoryValue)
+abbrev pub EachCrashLeavesACopy : Type 0
+EachCrashLeavesACopy = (asked : Option ℕ) (file : List ℕ) (copy : DirectoryValue)
     (state : DiskState) → HasCopy asked file copy state → EachImage state (IsCopyOf asked file)
 
 -- the first imports of a history are those of the first releases

@@ -112,7 +112,7 @@ pub fn copy<S: Disk, T: Disk>(
     ensures refused { (S.view source.old).is_honest → (T.view target.old).is_honest → IfErr result
         (λ e. IsNotCopied e imports (S.view source.old).moments.state.now
         (T.view target.old).moments.state.now) }
-    // If it is refused for a reason other than a device failure or lack of memory, the target is
+    // If it is refused for a reason other than a disk failure or lack of memory, the target is
     // unchanged.
     ensures stays { (S.view source.old).is_honest → (T.view target.old).is_honest
         → StaysUnlessFailed result (T.view target.old).moments (T.view target.new).moments }

@@ -1,6 +1,6 @@
 //! Laws of the definitions, each the contract of a function that does nothing.
 
-ghost use Rattle.store_copy.specs.Laws.{CopyRepresents, EachStopLeavesACopy};
+ghost use Rattle.store_copy.specs.Laws.{CopyRepresents, EachCrashLeavesACopy};
 ghost use Rattle.store_copy.specs.Laws.{AllImportsAreAll, FirstImportsAreReleases};
 ghost use Rattle.store_copy.specs.Laws.{PinsStay, ReceiptsStay};
 
@@ -10,8 +10,8 @@ pub fn copy_represents()
 {}
 
 /// Every image that a crash may leave of a disk with a copy is a copy.
-pub fn each_stop_leaves_a_copy()
-    ensures { EachStopLeavesACopy }
+pub fn each_crash_leaves_a_copy()
+    ensures { EachCrashLeavesACopy }
 {}
 
 /// The first imports of a history are those of the first releases.

@@ -1,4 +1,4 @@
--- What an opening asks a device for.
+-- What an opening asks a disk for.
 use Rattle.std.proofs.Common.{◌≡◌, ◌⊎◌, inl, inr, ℕ, ◌+◌, ◌<◌, ◌≤◌, List, [], length, get_or, take, drop, refl, sym, ap, subst, arith, length-take}
 use Rattle.std.proofs.lemmas.List.{append-nil, take-append-drop}
 use Rattle.blocks.specs.declared.slots.Current.{Current}

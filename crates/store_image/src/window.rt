@@ -87,7 +87,7 @@ impl Window {
     }
 
     /// Reads the bytes that follow in the segment, until the buffer is full or the segment ends. No
-    /// more bytes of a segment are requested than it has, whatever the device returns.
+    /// more bytes of a segment are requested than it has, whatever the disk returns.
     fn fill<D: Disk>(&mut self, disk: &mut D) -> Result<(), DiskFault>
         ensures extent { self.new.extent ≡ self.old.extent }
         ensures form { self.new.form ≡ self.old.form }

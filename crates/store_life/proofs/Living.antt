@@ -18,7 +18,7 @@ use Rattle.history_store.specs.Answers.{IsOpeningOf}
 use Rattle.history_store.proofs.Reopened.{opened_is_what_is_represented, represented_is_opened}
 use Rattle.disk_model.specs.View.{DiskView}
 use Rattle.store_life.specs.Life.{Call, Imported, Failed, Other, taken, failing, TakesAll, RepresentsAround, IsCall, CrashLeaves, HasCrashed, IsReopened, Event, Called, Crashed, IsEvent, IsLife, MayRemain, AreKept, acknowledged, crashes, IsSubsequence, RepresentsNext}
-use Rattle.store_life.specs.Laws.{EachLifeKeepsItsImports, KeptAreAcknowledged, EachLifeIsRepresented, EachLifeIsOpened, LivesCompose, EachStopIsOfALife}
+use Rattle.store_life.specs.Laws.{EachLifeKeepsItsImports, KeptAreAcknowledged, EachLifeIsRepresented, EachLifeIsOpened, LivesCompose, EachCrashIsOfALife}
 use Rattle.store_life.proofs.Made.{held}
 
 -- the releases of some calls, and then those of others
@@ -42,7 +42,7 @@ left_has old new P bytes run left =
 
 -- ---- since an opening
 
--- the bytes represent the history, or that with the release in whose import the device failed
+-- the bytes represent the history, or that with the release in whose import the disk failed
 abbrev RepresentsBut : History → Option Release → List ℕ → Type 0
 RepresentsBut h None c = RepresentsHistory h c
 RepresentsBut h (Some release) c = RepresentsHistory h c ⊎ RepresentsNext h release c
@@ -113,7 +113,7 @@ module _ (failed : Option Release) (within : Option Call) (h : History) (bytes :
   one_remains release why w =
       (release ∷ [], inr (release, refl, why), (after_release h w.1.0.rows, (w.1.0, refl), (w.0, w.1.1)))
 
-  -- the device failed before, or it didn't
+  -- the disk failed before, or it didn't
   failed_remains : (f : Option Release) → failed ≡ f → RepresentsBut h f bytes → Remains
   failed_remains None is s = none_remains s
   failed_remains (Some release) is (inl s) = none_remains s
@@ -321,8 +321,8 @@ module _ (D : Type 0) (view : D → DiskView) where
       let r = each_life_stands first last events within bytes up ack lives stopped in
       opened_as r.1 bytes (λ (k : History). (releases : List Release) × AreKept None (events ++ Crashed within ∷ []) releases × TakesAll first.history releases k) r.4 (r.0, r.2, r.3) result is
 
-  pub each_stop_came : EachStopIsOfALife D view
-  each_stop_came first last calls bytes up ack lives left = came view calls first last None bytes (since_opened view first up ack) lives left
+  pub each_crash_came : EachCrashIsOfALife D view
+  each_crash_came first last calls bytes up ack lives left = came view calls first last None bytes (since_opened view first up ack) lives left
 
   pub lives_compose : LivesCompose D view
   lives_compose first mid last [] more same lives = subst (λ (s : StoreValue D). IsLife view s more last) same lives

@@ -1,4 +1,4 @@
--- One store and one release give one answer, unless memory lacks or the device fails.
+-- One store and one release give one answer, unless memory lacks or the disk fails.
 use Rattle.std.proofs.Common.{◌≡◌, ℕ, ◌++◌, Bool, List, [], ◌∷◌, sym, ap, subst, ◌∙◌, Result, Ok, Err, inl, inr, Option, Some}
 use Rattle.std.specs.Prelude.{unwrap_or}
 use Rattle.list_lemmas.proofs.Tests.{one_value}
@@ -42,7 +42,7 @@ module _ (D : Type 0) (needs : Bool) (h : History) (catalog : Catalog) (release 
   same_rows : {after next : History} {c d : Catalog} {r q : Receipt} (t : IsTaken h after catalog c release r) (u : IsTaken h next catalog d release q) → u.accepted.rows ≡ t.accepted.rows
   same_rows t u = one_list release u.accepted.rows t.accepted.rows u.accepted.is_release t.accepted.is_release
 
-  -- a refusal that isn't the device's leaves the store as it was
+  -- a refusal that isn't the disk's leaves the store as it was
   stays : (e : Refusal) (c after : StoreValue D) → (HasFailed (Err e) → ⊥) → IsRefused e (store_of c) after → after.needs_reopen ≡ needs
   stays e c after sure refused = refused.still (λ fault. sure (subst (λ (f : Refusal). HasFailed (Err f)) (sym fault) tt))
 

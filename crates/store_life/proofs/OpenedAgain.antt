@@ -11,23 +11,23 @@ use Rattle.disk_model.specs.View.{DiskView}
 use Rattle.store_life.specs.Life.{IsOpenedFrom}
 use Rattle.store_life.specs.Laws.{EachLifeBegins, EachOpeningIsOfALife, ClosedStoreIsOpened}
 
-module _ {D : Type 0} (view : D → DiskView) (device : D) (up : (view device).is_honest) where
-  begins : (layout : Layout) (result : StoreOr D) → (IsMaking layout result view device ⊎ IsOpening result view device)
+module _ {D : Type 0} (view : D → DiskView) (disk : D) (up : (view disk).is_honest) where
+  begins : (layout : Layout) (result : StoreOr D) → (IsMaking layout result view disk ⊎ IsOpening result view disk)
       → IfOk result (λ s. (view s.disk).is_honest × IsAcknowledged view s)
   begins layout (Ok s) (inl made) = (made.honesty.0 up, made.acknowledged up)
   begins layout (Ok s) (inr opened) = (opened.honesty.0 up, opened.acknowledged up)
   begins layout (Err e) had = tt
 
-  opened_from : (result : StoreOr D) → IsOpening result view device
-      → IfOk result (IsOpenedFrom view (view device).moments.state.now device)
+  opened_from : (result : StoreOr D) → IsOpening result view disk
+      → IfOk result (IsOpenedFrom view (view disk).moments.state.now disk)
   opened_from (Ok s) opening = record { is_honest = up; read = refl; exact = opening.exact up; acknowledged = opening.acknowledged up; honesty = opening.honesty.0 up }
   opened_from (Err e) opening = tt
 
 pub each_life_begins : (D : Type 0) (view : D → DiskView) → EachLifeBegins D view
-each_life_begins D view device layout result up had = begins view device up layout result had
+each_life_begins D view disk layout result up had = begins view disk up layout result had
 
 pub each_opening_is_of_a_life : (D : Type 0) (view : D → DiskView) → EachOpeningIsOfALife D view
-each_opening_is_of_a_life D view device result up opening = (opened_from view device up result opening, λ left stop is_left. record { is_honest = up; read = refl; stop = stop; any_moment = opening.any_moment up; is_left = is_left })
+each_opening_is_of_a_life D view disk result up opening = (opened_from view disk up result opening, λ left stop is_left. record { is_honest = up; read = refl; stop = stop; any_moment = opening.any_moment up; is_left = is_left })
 
 pub closed_store_is_opened : (D : Type 0) (view : D → DiskView) → ((disk : D) → (view disk).is_honest → IsImage (view disk).moments.state (view disk).moments.state.now) → ClosedStoreIsOpened D view
 closed_store_is_opened D view now_is_image old new up opening =

@@ -12,7 +12,7 @@ use Rattle.store_image.specs.Images.{RepresentsHistory}
 use Rattle.history_store.specs.declared.refusal.Refusal.{Refusal}
 use Rattle.history_store.specs.declared.refusal.Refusal.TheVariants as store
 use Rattle.history_store.specs.StoreValue.{StoreValue, IsAcknowledged}
-use Rattle.history_store.specs.Answers.{IsImportOf, IsOpeningOf, StoreOr, device_of}
+use Rattle.history_store.specs.Answers.{IsImportOf, IsOpeningOf, StoreOr, disk_of}
 use Rattle.history_store.specs.Checking.{HasFailed}
 use Rattle.history_store.specs.Openings.{IsMaking, IsOpening}
 use Rattle.disk_model.specs.View.{DiskView}
@@ -22,27 +22,27 @@ use Rattle.store_life.specs.Life.{IsSubsequence, acknowledged, crashes}
 
 -- ---- events
 
--- a life may begin with a store that was made or opened on an honest device
+-- a life may begin with a store that was made or opened on an honest disk
 abbrev pub EachLifeBegins : (D : Type 0) → (D → DiskView) → Type 0
-EachLifeBegins D view = (device : D) (layout : Layout) (result : StoreOr D)
-    → (view device).is_honest
-    → (IsMaking layout result view device
-    ⊎ IsOpening result view device)
+EachLifeBegins D view = (disk : D) (layout : Layout) (result : StoreOr D)
+    → (view disk).is_honest
+    → (IsMaking layout result view disk
+    ⊎ IsOpening result view disk)
     → IfOk result (λ s. (view s.disk).is_honest × IsAcknowledged view s)
 
--- An opening of an honest device is one of the openings that the definition of a life has: a store
+-- An opening of an honest disk is one of the openings that the definition of a life has: a store
 -- that is opened is the one in the bytes that a read returns; and whatever the result, if a crash
 -- before the opening leaves what a read returns, a crash within it leaves what it might have left
 -- before.
 abbrev pub EachOpeningIsOfALife : (D : Type 0) → (D → DiskView) → Type 0
 EachOpeningIsOfALife D view =
-    (device : D) (result : StoreOr D) → (view device).is_honest
-    → IsOpening result view device
-    → IfOk result (IsOpenedFrom view (view device).moments.state.now device)
+    (disk : D) (result : StoreOr D) → (view disk).is_honest
+    → IsOpening result view disk
+    → IfOk result (IsOpenedFrom view (view disk).moments.state.now disk)
     × ((left : List ℕ)
-    → EachImage (view device).moments.state (λ c. c ≡ (view device).moments.state.now)
-    → CrashLeaves (view device).moments (view (device_of result)).moments left
-    → OpeningLeaves view (view device).moments.state.now device (device_of result) left)
+    → EachImage (view disk).moments.state (λ c. c ≡ (view disk).moments.state.now)
+    → CrashLeaves (view disk).moments (view (disk_of result)).moments left
+    → OpeningLeaves view (view disk).moments.state.now disk (disk_of result) left)
 
 -- Closing a store, and opening it again from its disk without a crash in between, is an event of a
 -- life. If no call had failed, history, layout version, epoch and entries are the same, and no
@@ -62,8 +62,8 @@ LivesCompose D view = (first mid last : StoreValue D) (events more : List Event)
 
 -- A crash at any moment while calls are made, one after the other, comes between two of them or
 -- interrupts one: those before it were made, and those after it weren't.
-abbrev pub EachStopIsOfALife : (D : Type 0) → (D → DiskView) → Type 0
-EachStopIsOfALife D view = (first last : StoreValue D) (calls : List Call) (bytes : List ℕ)
+abbrev pub EachCrashIsOfALife : (D : Type 0) → (D → DiskView) → Type 0
+EachCrashIsOfALife D view = (first last : StoreValue D) (calls : List Call) (bytes : List ℕ)
     → (view first.disk).is_honest → IsAcknowledged view first
     → IsLife view first (map Called calls) last
     → CrashLeaves (view first.disk).moments (view last.disk).moments bytes
@@ -101,7 +101,7 @@ EachLifeIsRepresented D view = (first last : StoreValue D) (events : List Event)
     × AreKept None (events ++ Crashed within ∷ []) releases
     × TakesAll first.history releases after × RepresentsHistory after bytes
 
--- And it is opened with that history, unless memory runs out during the opening or the device
+-- And it is opened with that history, unless memory runs out during the opening or the disk
 -- fails.
 abbrev pub EachLifeIsOpened : (D : Type 0) → (D → DiskView) → Type 0
 EachLifeIsOpened D view = (first last : StoreValue D) (events : List Event)
@@ -134,7 +134,7 @@ EachLifeKeepsItsPins D view = (first last : StoreValue D) (events : List Event) 
 -- ---- one import
 
 -- a release is answered alike by stores that are alike, and leaves them alike, unless memory runs
--- out or the device fails
+-- out or the disk fails
 abbrev pub OneImport : Type 0 → Type 0
 OneImport D = (release : Release) (result also : Result Receipt Refusal)
     (a b after next : StoreValue D) → b.history ≡ a.history → b.catalog ≡ a.catalog

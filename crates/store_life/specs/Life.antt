@@ -15,7 +15,7 @@ use Rattle.disk_model.specs.View.{DiskView}
 
 -- ---- calls
 
--- How a call on a store changed its history: it imported a release, or the device failed in the
+-- How a call on a store changed its history: it imported a release, or the disk failed in the
 -- import of one. Every other call leaves the history unchanged.
 pub data Call : Type 0 where
   Imported : Release → Call
@@ -28,7 +28,7 @@ taken (Imported release) = release ∷ []
 taken (Failed release) = []
 taken Other = []
 
--- the release in whose import the device failed
+-- the release in whose import the disk failed
 abbrev pub failing : Call → Option Release
 failing (Imported release) = None
 failing (Failed release) = Some release
@@ -42,7 +42,7 @@ TakesAll h (release ∷ releases) after =
     × TakesAll (after_release h accepted.rows) releases after
 
 -- whether the store has to be opened again after the call: not after an import, and always if the
--- device failed in one
+-- disk failed in one
 abbrev pub NeedsReopenAfter : Call → Bool → Type 0
 NeedsReopenAfter (Imported release) needs_reopen = needs_reopen ≡ false
 NeedsReopenAfter (Failed release) needs_reopen = needs_reopen ≡ true
@@ -95,33 +95,33 @@ HasCrashed {D} view s (Some call) bytes = (end : StoreValue D) × IsCall view s 
 
 -- ---- openings
 
--- the store was opened from an honest device, and a read of that returned these bytes
+-- the store was opened from an honest disk, and a read of that returned these bytes
 pub record IsOpenedFrom {D : Type 0} (view : D → DiskView) (bytes : List ℕ)
-    (device : D) (s : StoreValue D) : Type 0 where
-  pub is_honest : (view device).is_honest
-  pub read : (view device).moments.state.now ≡ bytes
-  pub exact : IsOpeningOf (Ok s) (view device).moments.state.now
+    (disk : D) (s : StoreValue D) : Type 0 where
+  pub is_honest : (view disk).is_honest
+  pub read : (view disk).moments.state.now ≡ bytes
+  pub exact : IsOpeningOf (Ok s) (view disk).moments.state.now
   pub acknowledged : IsAcknowledged view s
   pub honesty : (view s.disk).is_honest
 
--- An opening of a device with these bytes, which both a read and a crash give, was refused or
+-- An opening of a disk with these bytes, which both a read and a crash give, was refused or
 -- interrupted by a crash, and left the bytes `left`: at each moment of an opening a crash leaves
 -- what it might have left before.
 pub record OpeningLeaves {D : Type 0} (view : D → DiskView)
-    (bytes : List ℕ) (device after : D) (left : List ℕ) : Type 0 where
-  pub is_honest : (view device).is_honest
-  pub read : (view device).moments.state.now ≡ bytes
-  pub crash : EachImage (view device).moments.state (λ c. c ≡ bytes)
-  pub any_moment : LeavesOnly (view device).moments (view after).moments
-      (IsImage (view device).moments.state)
-  pub is_left : CrashLeaves (view device).moments (view after).moments left
+    (bytes : List ℕ) (disk after : D) (left : List ℕ) : Type 0 where
+  pub is_honest : (view disk).is_honest
+  pub read : (view disk).moments.state.now ≡ bytes
+  pub crash : EachImage (view disk).moments.state (λ c. c ≡ bytes)
+  pub any_moment : LeavesOnly (view disk).moments (view after).moments
+      (IsImage (view disk).moments.state)
+  pub is_left : CrashLeaves (view disk).moments (view after).moments left
 
 -- A store was opened from the bytes, perhaps after openings that were refused or interrupted by a
--- crash. Of each of those the device before and after it is given.
+-- crash. Of each of those the disk before and after it is given.
 abbrev pub IsReopened : {D : Type 0} → (D → DiskView) → List ℕ → List (D × D)
     → StoreValue D → Type 0
 IsReopened {D} view bytes [] s =
-    (device : D) × IsOpenedFrom view bytes device s
+    (disk : D) × IsOpenedFrom view bytes disk s
 IsReopened {D} view bytes (opening ∷ more) s =
     (left : List ℕ) × OpeningLeaves view bytes opening.0 opening.1 left
     × IsReopened view left more s
@@ -146,7 +146,7 @@ IsLife view first [] last = last ≡ first
 IsLife {D} view first (event ∷ events) last =
     (mid : StoreValue D) × IsEvent view first event mid × IsLife view mid events last
 
--- the device failed in the import of the release, or the crash interrupted the call that imports it
+-- the disk failed in the import of the release, or the crash interrupted the call that imports it
 abbrev pub IsUnacknowledged : Option Release → Option Call → Release → Type 0
 IsUnacknowledged failed within release = (failed ≡ Some release)
     ⊎ (within ≡ Some (Imported release)) ⊎ (within ≡ Some (Failed release))
@@ -157,7 +157,7 @@ MayRemain failed within releases = (releases ≡ [])
     ⊎ ((release : Release) × (releases ≡ release ∷ []) × IsUnacknowledged failed within release)
 
 -- The releases that these events add to a history, in order: all that were imported, and at each
--- crash perhaps one more. The first argument is the release in whose import the device has failed
+-- crash perhaps one more. The first argument is the release in whose import the disk has failed
 -- since the last crash, if it did.
 abbrev pub AreKept : Option Release → List Event → List Release → Type 0
 AreKept failed [] releases = releases ≡ []

@@ -6,7 +6,7 @@ ghost use Rattle.store_life.specs.Calls.{MergeBeginIsACall, MergeStepIsACall, Up
 ghost use Rattle.store_life.specs.Calls.{MergePublishIsACall, MergeAbandonIsACall, TrimIsACall};
 ghost use Rattle.store_life.specs.Calls.{RewriteIsACall};
 ghost use Rattle.store_life.specs.Laws.{EachLifeBegins, EachOpeningIsOfALife};
-ghost use Rattle.store_life.specs.Laws.{ClosedStoreIsOpened, LivesCompose, EachStopIsOfALife};
+ghost use Rattle.store_life.specs.Laws.{ClosedStoreIsOpened, LivesCompose, EachCrashIsOfALife};
 ghost use Rattle.store_life.specs.Laws.{EachLifeKeepsItsImports, KeptAreAcknowledged};
 ghost use Rattle.store_life.specs.Laws.{EachLifeIsRepresented, EachLifeIsOpened};
 ghost use Rattle.store_life.specs.Laws.{EachLifeKeepsItsPins, OneImport};
@@ -90,8 +90,8 @@ pub fn lives_compose<D: Disk>()
 {}
 
 /// A crash while calls are made comes between two of them or interrupts one.
-pub fn each_stop_is_of_a_life<D: Disk>()
-    ensures { EachStopIsOfALife D D.view }
+pub fn each_crash_is_of_a_life<D: Disk>()
+    ensures { EachCrashIsOfALife D D.view }
 {}
 
 /// Over any number of calls, crashes and openings no acknowledged import is lost, and of the others
@@ -122,7 +122,7 @@ pub fn each_life_keeps_its_pins<D: Disk>()
     ensures { EachLifeKeepsItsPins D D.view }
 {}
 
-/// An import of a release has the same result in equal stores, unless memory runs out or the device
+/// An import of a release has the same result in equal stores, unless memory runs out or the disk
 /// fails.
 pub fn one_import<D: Disk>()
     ensures { OneImport D }

@@ -28,7 +28,7 @@ use Rattle.store_image.specs.declared.window.Window.{Window}
 use Rattle.store_image.specs.Kept.{HasKind, AreSegments}
 use Rattle.store_image.specs.Reading.{AreNumbered, IsAt}
 
--- the count of failures has risen if the device failed, and otherwise is unchanged
+-- the count of failures has risen if the disk failed, and otherwise is unchanged
 abbrev pub CountsFault : {T : Type 0} → Result T RowsFault → ℕ → ℕ → Type 0
 CountsFault (Ok done) old new = new ≡ old
 CountsFault (Err faults.OutOfMemory) old new = new ≡ old

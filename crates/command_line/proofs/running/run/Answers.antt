@@ -5,7 +5,7 @@ pub returns-in-Ok-clause-done : goal.returns-in-Ok-clause-done
 returns-in-Ok-clause-done g c = inl (record {
   task = c.in-Ok.task;
   asked = c.in-Ok.ensures.task;
-  devices = c.perform-ended.ensures.asked;
+  disks = c.perform-ended.ensures.asked;
   ended = c.perform-ended.result.0;
   written = g.O.Write.contents c.perform-ended.new.output;
   does = c.perform-ended.ensures.does;

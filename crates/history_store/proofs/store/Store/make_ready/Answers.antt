@@ -8,7 +8,7 @@ use Rattle.history_store.specs.declared.refusal.Refusal.TheVariants as refusals
 use Rattle.history_store.proofs.Held.{held_stands}
 use Rattle.history_store.proofs.Imported.{at_mid, not_prepared, unprepared_refused}
 use Rattle.history_store.proofs.TakenByKey.{not_prepared_at_all}
-use Rattle.history_store.proofs.Checked.{admitted, not_later, turned_back, ready_at, foreseen, foreseen_at_all, checked_after, counted_but, not_device}
+use Rattle.history_store.proofs.Checked.{admitted, not_later, turned_back, ready_at, foreseen, foreseen_at_all, checked_after, counted_but, not_disk}
 use Rattle.history_store.proofs.store.Store.make_ready.Goals as goal
 
 pub returns-then-is_empty-clause-ready : goal.returns-then-is_empty-clause-ready
@@ -58,7 +58,7 @@ returns-in_err-prepared-clause-checking g c =
     let e = c.in_ok-fresh.ensures in
     let why = c.in_err-prepared.ensures.refused in
     let refused = unprepared_refused c.args.self.now _ _ _ _ e.still why in
-    let other : c.in_err-prepared.field-0.0 ≡ refusals.DiskFault → ⊥ = not_device _ _ _ why in
+    let other : c.in_err-prepared.field-0.0 ≡ refusals.DiskFault → ⊥ = not_disk _ _ _ why in
     let standing : (g.D.Disk.view c.find_new_rows.new.self.disk).is_honest → c.find_new_rows.new.self.needs_reopen ≡ false → IsAcknowledged g.D.Disk.view c.find_new_rows.new.self =
     rw (← c.self-2.view_is) (λ honest still. record { open_still = still; each = held_stands _ _ _ _ _ _ _ c.self-2.invariant.0 honest still }) in
     rw (p.1, p.2) (checked_after g.D.Disk.view c.args.self.now c.find_new_rows.new.self c.args.release _

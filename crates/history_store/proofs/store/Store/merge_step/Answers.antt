@@ -63,8 +63,8 @@ returns-in-Ok-clause-acknowledged g c =
 
 pub returns-then-matches-clause-answer : goal.returns-then-matches-clause-answer
 returns-then-matches-clause-answer g c =
-    let device : c.in-Err.refusal ≡ refusals.DiskFault = elim c.match-matches.branch [ in-DiskFault w ↦ w.in-DiskFault.is | in_default-matches w ↦ absurd (let on = c.if-matches.true in let off = w.matches-is in cc) ] in
-    rw (← c.self.view_is) (stepping_refused c.in-Err.refusal _ _ c.args.n c.self.inside.directory c.self.inside.merge c.in-Some.merge c.step-stepped.new.merge c.in-Some.ensures.value c.if-self.false refl refl (ap (λ l. history_of c.self.inside.directory l) c.step-stepped.ensures.index) c.in-Err.ensures.step (λ is. refl) (λ other. absurd (other device)))
+    let disk : c.in-Err.refusal ≡ refusals.DiskFault = elim c.match-matches.branch [ in-DiskFault w ↦ w.in-DiskFault.is | in_default-matches w ↦ absurd (let on = c.if-matches.true in let off = w.matches-is in cc) ] in
+    rw (← c.self.view_is) (stepping_refused c.in-Err.refusal _ _ c.args.n c.self.inside.directory c.self.inside.merge c.in-Some.merge c.step-stepped.new.merge c.in-Some.ensures.value c.if-self.false refl refl (ap (λ l. history_of c.self.inside.directory l) c.step-stepped.ensures.index) c.in-Err.ensures.step (λ is. refl) (λ other. absurd (other disk)))
 
 pub returns-else-matches-clause-answer : goal.returns-else-matches-clause-answer
 returns-else-matches-clause-answer g c =

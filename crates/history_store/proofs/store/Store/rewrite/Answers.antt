@@ -3,7 +3,7 @@ use Rattle.disk_model.proofs.MomentSteps.{stayed}
 use Rattle.history_store.specs.declared.refusal.Refusal.TheVariants as refusals
 use Rattle.history_store.proofs.Held.{held_stands}
 use Rattle.history_store.proofs.SteppedStore.{held_back}
-use Rattle.history_store.proofs.Rewritten.{no_merge_of_one, has_no_merge, no_device}
+use Rattle.history_store.proofs.Rewritten.{no_merge_of_one, has_no_merge, no_disk}
 use Rattle.history_store.proofs.store.Store.rewrite.Goals as goal
 use Rattle.history_store.proofs.store.Store.rewrite.Goals.{in-DiskFault, in_default-matches, then-matches, else-matches}
 
@@ -50,7 +50,7 @@ invariant_of-self-else-matches g c =
     let new = c.write_and_list.new in
     let other : c.in-Err.refusal ≢ refusals.DiskFault = elim c.match-matches.branch [ in-DiskFault w ↦ absurd (let off = c.if-matches.false in let on = w.matches-is in cc) | in_default-matches w ↦ λ is. w.in_default-matches.not-DiskFault is ] in
     let none = no_merge_of_one s.directory s.index s.merge c.in-Some.old c.in-Some.ensures.found.alone c.self.invariant.1.merging in (
-      held_back (g.D.Disk.view new.disk).is_honest (g.D.Disk.view new.disk).moments.state new.cache s.slot s.directory s.index _ s.needs_reopen c.in-Err.ensures.held (no_device c.in-Err.refusal c.in-Err.ensures.refused other ∙ sym c.if-self.false),
+      held_back (g.D.Disk.view new.disk).is_honest (g.D.Disk.view new.disk).moments.state new.cache s.slot s.directory s.index _ s.needs_reopen c.in-Err.ensures.held (no_disk c.in-Err.refusal c.in-Err.ensures.refused other ∙ sym c.if-self.false),
       has_no_merge (g.D.Disk.view new.disk).is_honest (g.D.Disk.view new.disk).moments.state.now s.directory s.index s.merge s.needs_reopen none,
     )
 
@@ -69,6 +69,6 @@ returns-after-matches-clause-acknowledged g c =
           let s = c.self.inside in
           let new = c.write_and_list.new in
           let other : c.in-Err.refusal ≢ refusals.DiskFault = elim c.match-matches.branch [ in-DiskFault v ↦ absurd (let off = w.if-matches.false in let on = v.matches-is in cc) | in_default-matches v ↦ λ is. v.in_default-matches.not-DiskFault is ] in
-          let held = held_back (g.D.Disk.view new.disk).is_honest (g.D.Disk.view new.disk).moments.state new.cache s.slot s.directory s.index _ s.needs_reopen c.in-Err.ensures.held (no_device c.in-Err.refusal c.in-Err.ensures.refused other ∙ sym c.if-self.false) in
+          let held = held_back (g.D.Disk.view new.disk).is_honest (g.D.Disk.view new.disk).moments.state new.cache s.slot s.directory s.index _ s.needs_reopen c.in-Err.ensures.held (no_disk c.in-Err.refusal c.in-Err.ensures.refused other ∙ sym c.if-self.false) in
           rw (w.self-is, ← c.self.view_is) (λ honest still. record { open_still = still; each = held_stands _ _ _ _ _ _ _ held (c.in-Err.ensures.meters.honesty.0 honest) still })
     ]

@@ -1,8 +1,8 @@
-//! The devices of stores, by name.
+//! The disks of stores, by name.
 
 ghost use Rattle.std.specs.Prelude.{◌≡◌, ℕ, List, IfOk, IfErr};
 ghost use Rattle.disk_model.specs.Disk.{raised_by};
-ghost use Rattle.command_line.specs.Devices.{files_asked};
+ghost use Rattle.command_line.specs.Disks.{files_asked};
 
 use crate::file_names::{FileName, name_disk};
 use crate::holders::holder_of;
@@ -13,60 +13,56 @@ use std::fs::{self, File, Files, OpenOptions};
 use std::io::{self, Write};
 use std::os::unix::fs::OpenOptionsExt;
 
-/// The devices of stores, by name. It counts how often it was asked for one.
-pub trait Devices {
-    /// The device of a store.
-    type Device: Disk + Drop;
-    /// How often it was asked for a device, whatever the result. It is a number of 64 bits, and
+/// The disks of stores, by name. It counts how often it was asked for one.
+pub trait Disks {
+    /// The disk of a store.
+    type Disk: Disk + Drop;
+    /// How often it was asked for a disk, whatever the result. It is a number of 64 bits, and
     /// stays at its greatest value.
     ghost asked: { Self → ℕ };
-    /// This device exists under the name, and can be opened.
-    ghost stands: { Self → List ℕ → Self.Device → Type 0 };
+    /// This disk exists under the name, and can be opened.
+    ghost stands: { Self → List ℕ → Self.Disk → Type 0 };
     /// There is no file of this name, or it can't be opened.
     ghost withholds: { Self → List ℕ → Type 0 };
-    /// This device exists under the name, or was made because there was none.
-    ghost makes: { Self → List ℕ → Self.Device → Type 0 };
+    /// This disk exists under the name, or was made because there was none.
+    ghost makes: { Self → List ℕ → Self.Disk → Type 0 };
     /// There is no file of this name that can be opened, and none can be created.
     ghost denies: { Self → List ℕ → Type 0 };
-    /// This device was made under the name, where there was none.
-    ghost creates: { Self → List ℕ → Self.Device → Type 0 };
+    /// This disk was made under the name, where there was none.
+    ghost creates: { Self → List ℕ → Self.Disk → Type 0 };
     /// There is something under the name already, or nothing can be made there.
     ghost occupies: { Self → List ℕ → Type 0 };
 
-    /// Opens the device with this name. On failure, the reason goes to `faults`.
-    fn device<E: Write>(&mut self, path: &str, faults: &mut E) -> Result<Self::Device, DiskFault>
+    /// Opens the disk with this name. On failure, the reason goes to `faults`.
+    fn open<E: Write>(&mut self, path: &str, faults: &mut E) -> Result<Self::Disk, DiskFault>
         ensures had { IfOk result (stands self.old path.now) }
         ensures missing { IfErr result (λ _. withholds self.old path.now) }
-        // The devices under other names, and where new ones can be made, are unchanged.
-        ensures creates { (name : List ℕ) (device : Self.Device)
-            → creates self.new name device → creates self.old name device }
+        // The disks under other names, and where new ones can be made, are unchanged.
+        ensures creates { (name : List ℕ) (disk : Self.Disk)
+            → creates self.new name disk → creates self.old name disk }
         ensures occupies { (name : List ℕ) → occupies self.new name → occupies self.old name }
         ensures asked { asked self.new ≡ raised_by (asked self.old) 1 };
 
-    /// Opens the device with this name, or makes one if there is none. On failure, the reason goes
+    /// Opens the disk with this name, or makes one if there is none. On failure, the reason goes
     /// to `faults`.
-    fn device_or_new<E: Write>(
+    fn open_or_make<E: Write>(
         &mut self,
         path: &str,
         faults: &mut E,
-    ) -> Result<Self::Device, DiskFault>
+    ) -> Result<Self::Disk, DiskFault>
         ensures had { IfOk result (makes self.old path.now) }
         ensures denied { IfErr result (λ _. denies self.old path.now) }
         ensures asked { asked self.new ≡ raised_by (asked self.old) 1 };
 
-    /// Makes a new device under a name that isn't in use. On failure, the reason goes to `faults`,
+    /// Makes a new disk under a name that isn't in use. On failure, the reason goes to `faults`,
     /// also if the name is in use.
-    fn new_device<E: Write>(
-        &mut self,
-        path: &str,
-        faults: &mut E,
-    ) -> Result<Self::Device, DiskFault>
+    fn make_new<E: Write>(&mut self, path: &str, faults: &mut E) -> Result<Self::Disk, DiskFault>
         ensures had { IfOk result (creates self.old path.now) }
         ensures occupied { IfErr result (λ _. occupies self.old path.now) }
         ensures asked { asked self.new ≡ raised_by (asked self.old) 1 };
 
-    /// The system error of the last call on the device that failed, if one has failed.
-    fn last_error(&self, device: &Self::Device) -> Option<io::Error>;
+    /// The system error of the last call on the disk that failed, if one has failed.
+    fn last_error(&self, disk: &Self::Disk) -> Option<io::Error>;
 
     /// The length of the file with this name, in bytes, if it can be read.
     fn size(&self, path: &str) -> Option<u64>;
@@ -91,8 +87,8 @@ impl<'a, R: Files<File = File> + AllocGlobal> FileDisks<'a, R> {
 /// A disk in a file, with the file's name.
 type NamedFile<'a, R> = NamedDisk<FileDisk, FileName<'a, R>>;
 
-impl<'a, R: Files<File = File> + AllocGlobal> Devices for FileDisks<'a, R> {
-    type Device = NamedFile<'a, R>;
+impl<'a, R: Files<File = File> + AllocGlobal> Disks for FileDisks<'a, R> {
+    type Disk = NamedFile<'a, R>;
 
     ghost asked = { files_asked };
 
@@ -108,7 +104,7 @@ impl<'a, R: Files<File = File> + AllocGlobal> Devices for FileDisks<'a, R> {
 
     ghost occupies = { λ _ _. Unit {0} };
 
-    fn device<E: Write>(
+    fn open<E: Write>(
         &mut self,
         path: &str,
         faults: &mut E,
@@ -116,10 +112,10 @@ impl<'a, R: Files<File = File> + AllocGlobal> Devices for FileDisks<'a, R> {
         self.asked = self.asked.saturating_add(1);
         let name = FileName::of(self.rt, path);
         let named = name_disk(name, FileDisk::open(self.rt, path));
-        device_or_told(self.rt, named, path, faults)
+        disk_or_told(self.rt, named, path, faults)
     }
 
-    fn device_or_new<E: Write>(
+    fn open_or_make<E: Write>(
         &mut self,
         path: &str,
         faults: &mut E,
@@ -129,10 +125,10 @@ impl<'a, R: Files<File = File> + AllocGlobal> Devices for FileDisks<'a, R> {
         let _ = make_private(self.rt, path);
         let name = FileName::of(self.rt, path);
         let named = name_disk(name, FileDisk::open_or_make(self.rt, path));
-        device_or_told(self.rt, named, path, faults)
+        disk_or_told(self.rt, named, path, faults)
     }
 
-    fn new_device<E: Write>(
+    fn make_new<E: Write>(
         &mut self,
         path: &str,
         faults: &mut E,
@@ -145,13 +141,13 @@ impl<'a, R: Files<File = File> + AllocGlobal> Devices for FileDisks<'a, R> {
             }
             Err(error) => Err(OpenFault::System(error)),
         };
-        device_or_told(self.rt, named, path, faults)
+        disk_or_told(self.rt, named, path, faults)
     }
 
-    fn last_error(&self, device: &NamedFile<'a, R>) -> Option<io::Error> {
-        match device.missed() {
+    fn last_error(&self, disk: &NamedFile<'a, R>) -> Option<io::Error> {
+        match disk.missed() {
             Some(error) => Some(error),
-            None => device.disk().fault(),
+            None => disk.disk().fault(),
         }
     }
 
@@ -189,7 +185,7 @@ fn make_private<R: Files<File = File>>(rt: &R, path: &str) -> io::Result<()> {
 }
 
 /// The disk of a file; if it couldn't be opened, writes the reason.
-fn device_or_told<'a, R: Files<File = File> + AllocGlobal, E: Write>(
+fn disk_or_told<'a, R: Files<File = File> + AllocGlobal, E: Write>(
     rt: &R,
     named: Result<NamedFile<'a, R>, OpenFault>,
     path: &str,

@@ -1,5 +1,0 @@
-use Rattle.store_copy.proofs.CopyLaws.{each_stop_leaves_a_copy}
-use Rattle.store_copy.proofs.laws.each_stop_leaves_a_copy.Goals as goal
-
-pub returns : goal.returns
-returns c = each_stop_leaves_a_copy

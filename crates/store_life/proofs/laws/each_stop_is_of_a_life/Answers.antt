@@ -1,5 +1,0 @@
-use Rattle.store_life.proofs.Living.{each_stop_came}
-use Rattle.store_life.proofs.laws.each_stop_is_of_a_life.Goals as goal
-
-pub returns : goal.returns
-returns g c = each_stop_came _ g.D.Disk.view
