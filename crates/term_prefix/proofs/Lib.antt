@@ -1,3 +1,4 @@
+pub mod Ascii
 pub mod Prefixed
 pub mod FirstKept
 pub mod Terming
