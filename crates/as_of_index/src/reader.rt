@@ -18,7 +18,7 @@ pub trait RowReader {
     /// What it shows at one time.
     ghost view: { Self → ReaderView };
 
-    /// The most that reading a row takes, in the measure of its work.
+    /// The most that reading this row costs, in the measure of `work`.
     ghost cost: { RowValue → ℕ };
 
     /// A relation between the reader before and after a call, for what calls leave unchanged.
@@ -30,7 +30,7 @@ pub trait RowReader {
             → StandsAt (view self.old).lists segment at s → IfOk result (λ row. row ≡ s) }
         // Whatever it returns, a row has the key of its place.
         ensures keyed { IfOk result (λ row. key_of row.row ≡ at.key) }
-        // If there is a row at the place, an honest reader fails only because of the device or
+        // If there is a row at the place, an honest reader fails only because of the disk or
         // memory.
         ensures undamaged { (view self.old).is_honest → (s : StampedRow)
             → StandsAt (view self.old).lists segment at s

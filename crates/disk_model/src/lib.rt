@@ -1,6 +1,6 @@
 //! A disk: what a read returns, and what a crash at any moment may leave.
 //!
-//! The trait `Disk` says this of any device, for five calls. `MemDisk` is a disk in memory that is
+//! The trait `Disk` says this of any disk, for five calls. `MemDisk` is a disk in memory that is
 //! proved to keep it; it also returns the images of each of its moments, and fails when a test asks
 //! it to. `FileDisk` is a file of the system, of which nothing is specified.
 #![tactic(auto)]

@@ -26,7 +26,7 @@ use replay::Replay;
 use std::alloc::{AllocError, Global};
 
 /// A disk in memory. It records each call that changed it, so that it can return the images of each
-/// moment. If there is no memory for a call or its record, that is a failure of the device, and
+/// moment. If there is no memory for a call or its record, that is a failure of the disk, and
 /// nothing changes.
 #[derive(Drop)]
 pub struct MemDisk {

@@ -34,7 +34,7 @@ impl Watched<'_> {
         }
     }
 
-    /// How often a row was requested, how often the device failed, and how often a row was damaged.
+    /// How often a row was requested, how often the disk failed, and how often a row was damaged.
     pub fn counts(&self) -> (u64, u64, u64) {
         (self.reads, self.disk_faults, self.damages)
     }

@@ -12,14 +12,14 @@ abbrev pub import_calls : ℕ → ℕ
 import_calls zero = 6
 import_calls (suc more) = 8
 
--- an import made exactly so many changing calls; a refused one at most eight
+-- an import made exactly that number of changing calls, and a refused one at most eight
 abbrev pub MakesImportCalls : {E : Type 0} → Result Receipt E → Moments → Moments → Type 0
 MakesImportCalls result old new = MatchResult result
     (λ receipt. call_count new ≡ call_count old + import_calls receipt.new)
     (λ _. call_count new ≤ call_count old + 8)
 
 -- On every disk an import makes at most these calls, besides reads, and a refused one none of them
--- unless the device failed.
+-- unless the disk failed.
 abbrev pub MakesNoOtherCalls : Result Receipt Refusal → (before after : ℕ) → Type 0
 MakesNoOtherCalls (Ok receipt) before after = after ≤ before + import_calls receipt.new
 MakesNoOtherCalls (Err e) before after =

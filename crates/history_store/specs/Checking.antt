@@ -20,8 +20,9 @@ use Rattle.history_store.specs.Answers.{Counts, IsTaken, IsTakenByKey, IsRefused
 use Rattle.history_store.specs.Answers.{IsRefusedFor, IsNotTaken, IsNotTakenByKey}
 use Rattle.history_store.specs.Answers.{IsImportOf, IsImportOnAnyDisk}
 
--- The receipt and the reasons are those of an import, but nothing is taken. A disk that is full, or
--- that refuses a write, isn't found out. A failure of the device alone closes the store.
+-- The receipt and the reasons are those of an import, but nothing is imported. Since nothing is
+-- written, a full file system, or a disk that refuses a write, isn't noticed. Only a disk failure
+-- closes the store.
 abbrev pub IsCheckingOf : {D : Type 0} → Result Receipt Refusal → StoreValue D → StoreValue D
     → Release → Type 0
 IsCheckingOf (Ok receipt) old new release =
@@ -39,7 +40,7 @@ IsCheckingOnAnyDisk (Ok receipt) old new release =
 IsCheckingOnAnyDisk (Err e) old new release =
     IsRefusedFor (IsNotTakenByKey old.history old.catalog release) e old × IsRefused e old new
 
--- A release was checked. Whatever the result, history and catalog are unchanged, and only a device
+-- A release was checked. Whatever the result, history and catalog are unchanged, and only a disk
 -- failure closes the store. The store is left unchanged if it has to be opened again, or if the
 -- release is for a later version. Only reads are made: each stored row whose key is in the release
 -- is read at most once, through the cache, and no other row; if a file isn't a valid release file,
@@ -64,21 +65,21 @@ pub record IsChecking {D : Type 0} (result : Result Receipt Refusal) (release : 
 
 -- ---- an import returns what a check returned
 
--- memory ran out, or the device failed
+-- memory ran out, or the disk failed
 abbrev pub HasFailed : Result Receipt Refusal → Type 0
 HasFailed (Err refusals.OutOfMemory) = Unit {0}
 HasFailed (Err refusals.DiskFault) = Unit {0}
 HasFailed _ = ⊥
 
 -- An import of the release that was checked just before returns the same receipt or the same
--- refusal, unless memory runs out or the device fails in one of the two calls.
+-- refusal, unless memory runs out or the disk fails in one of the two calls.
 abbrev pub CheckedIsImported : Type 0 → Type 0
 CheckedIsImported D = (old checked new : StoreValue D) (release : Release)
     (answer result : Result Receipt Refusal)
     → IsCheckingOf answer old checked release → IsImportOf result checked new release
     → (result ≡ answer) ⊎ (HasFailed answer ⊎ HasFailed result)
 
--- memory ran out, the device failed, or a stored row was read as damaged or as contradicting the
+-- memory ran out, the disk failed, or a stored row was read as damaged or as contradicting the
 -- release
 abbrev pub DependsOnReading : Result Receipt Refusal → Type 0
 DependsOnReading (Err refusals.Damaged) = Unit {0}

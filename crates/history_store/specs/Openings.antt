@@ -41,9 +41,9 @@ pub record IsMaking {D : Type 0} (layout : Layout) (result : StoreOr D)
   -- a read of a new store returns its two slots, and nothing after them
   pub bytes : (view device).is_honest
       → IfOk result (λ s. IsNewStore layout (view s.disk).moments.state.now)
-  -- whatever a crash leaves from now on represents the empty history
+  -- every image that a crash may leave represents the empty history
   pub acknowledged : (view device).is_honest → IfOk result (IsAcknowledged view)
-  -- on every device the store begins with no block in memory
+  -- on every device the store's cache is empty
   pub cache : IfOk result (λ s. s.cache ≡ no_blocks)
   pub honesty : (view device).is_honest ↔ (view (device_of result)).is_honest
   pub failures : CountsOpening result (view device).failures (view (device_of result)).failures
@@ -65,9 +65,9 @@ pub record IsOpening {D : Type 0} (result : StoreOr D)
   pub synced : (view device).is_honest → SyncsOnce view result device
   pub read : (view device).is_honest
       → (view (device_of result)).moments.state.now ≡ (view device).moments.state.now
-  -- whatever a crash leaves from now on represents what the store holds
+  -- every image that a crash may leave represents what the store holds
   pub acknowledged : (view device).is_honest → IfOk result (IsAcknowledged view)
-  -- on every device the store begins with no block in memory
+  -- on every device the store's cache is empty
   pub cache : IfOk result (λ s. s.cache ≡ no_blocks)
   pub honesty : (view device).is_honest ↔ (view (device_of result)).is_honest
   pub failures : CountsOpening result (view device).failures (view (device_of result)).failures

@@ -13,8 +13,8 @@ use Rattle.lru.specs.LruCache.{LruCache, lru_cache}
 use Rattle.blocks.specs.Cache.{AgreesWith}
 use Rattle.history_store.specs.Catalog.{Catalog}
 
--- the device, the history, the catalog, whether the store has to be opened again because a call
--- failed, and the cached blocks of the device
+-- the disk, the history, the catalog, whether the store has to be opened again because a call
+-- failed, and the cached blocks of the disk
 pub record StoreValue (D : Type 0) : Type 0 where
   pub disk : D
   pub history : History
@@ -22,7 +22,7 @@ pub record StoreValue (D : Type 0) : Type 0 where
   pub needs_reopen : Bool
   pub cache : LruCache ℕ (List ℕ)
 
--- no block is kept, and there is room for 1,024
+-- the empty cache, with a capacity of 1,024 blocks
 abbrev pub no_blocks : LruCache ℕ (List ℕ)
 no_blocks = lru_cache [] 1024
 

@@ -17,7 +17,7 @@ impl<D: Disk> Store<D> {
     ghost use Rattle.history_store.specs.StoreValue.{IsAcknowledged};
     ghost use Rattle.history_store.specs.Contradicting.{IsBroughtBy, IsListing};
 
-    /// Turns the result of reading a release into the result of the store's call. After a device
+    /// Turns the result of reading a release into the result of the store's call. After a disk
     /// failure, the store has to be opened again.
     fn listed(
         &mut self,

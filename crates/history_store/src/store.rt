@@ -118,7 +118,7 @@ impl<D: Disk> Store<D> {
     pub fn create_in(alloc: Global, disk: D, layout: Layout) -> Result<Store<D>, (Refusal, D)>
         ensures made { IsMaking layout result D.view disk }
         // On every disk and whatever the result: reads no bytes, asks for the length at most twice,
-        // and makes at most nine other calls; if it is refused for a reason other than a device
+        // and makes at most nine other calls; if it is refused for a reason other than a disk
         // failure, none of the nine.
         ensures bytes_read { (D.view (device_of result)).bytes_read ≡ (D.view disk).bytes_read }
         ensures other_calls { (D.view (device_of result)).other_calls
@@ -153,10 +153,11 @@ impl<D: Disk> Store<D> {
     /// returns the disk.
     pub fn open(alloc: Global, disk: D) -> Result<Store<D>, (Refusal, D)>
         ensures opened { IsOpening result D.view disk }
-        // On every disk it reads the slots, and each byte of the listed segments once, at most.
+        // After `Ok`, on every disk: it has read the slots, and each byte of the listed segments
+        // once, at most.
         ensures bytes_read { IfOk result (λ s. (D.view s.disk).bytes_read
             ≤ (D.view disk).bytes_read + slots_read + bytes_listed s.catalog.entries) }
-        // Besides its reads it makes one sync, and asks for the length once for the slots and once
+        // Besides its reads it made one sync, and asked for the length once for the slots and once
         // for each segment, at most.
         ensures other_calls { IfOk result (λ s. (D.view s.disk).other_calls
             ≤ (D.view disk).other_calls + 2 + length s.catalog.entries) }
@@ -345,7 +346,7 @@ impl<D: Disk> Store<D> {
         // After `Ok` every crash leaves the new history.
         ensures acknowledged { (D.view self.old.disk).is_honest → self.new.needs_reopen ≡ false
             → IsAcknowledged D.view self.new }
-        // If it is refused for a reason other than a device failure, the images that a crash may
+        // If it is refused for a reason other than a disk failure, the images that a crash may
         // leave are unchanged.
         ensures refused { (D.view self.old.disk).is_honest
             → KeepsMoments D.view result self.old self.new }
@@ -369,7 +370,7 @@ impl<D: Disk> Store<D> {
         ensures calls { (D.view self.old.disk).is_honest → MakesImportCalls result
             (D.view self.old.disk).moments (D.view self.new.disk).moments }
         // On every disk it makes no other calls than reads and these; if it is refused for a reason
-        // other than a device failure, none of these.
+        // other than a disk failure, none of these.
         ensures meters { Calls (Counts result) Unsaid (MakesNoOtherCalls result)
             (D.view self.old.disk) (D.view self.new.disk) }
         // On every disk and whatever the result: reads only blocks of listed segments, through the
@@ -446,7 +447,7 @@ impl<D: Disk> Store<D> {
         latest_time(self.index.places())
     }
 
-    /// Whether the device failed in a call, so that the store has to be opened again.
+    /// Whether the disk failed in a call, so that the store has to be opened again.
     pub fn needs_reopen(&self) -> bool
         ensures { result ≡ self.now.needs_reopen }
     {

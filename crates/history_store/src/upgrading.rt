@@ -50,7 +50,7 @@ impl<D: Disk> Store<D> {
             → IsAcknowledged D.view self.new }
         // A store of version 3 is left unchanged, without a call on the disk.
         ensures idle { self.old.catalog.layout ≡ layouts.Three → self.new ≡ self.old }
-        // If it is refused for a reason other than a device failure, the images that a crash may
+        // If it is refused for a reason other than a disk failure, the images that a crash may
         // leave are unchanged.
         ensures refused { (D.view self.old.disk).is_honest
             → KeepsMoments D.view result self.old self.new }
@@ -75,9 +75,9 @@ impl<D: Disk> Store<D> {
         ensures uncalled { IfErr result (λ e. e ≢ refusals.DiskFault
             → (D.view self.new.disk).other_calls ≡ (D.view self.old.disk).other_calls) }
         ensures capacity { self.new.cache.cap ≡ self.old.cache.cap }
-        // On every disk it reads the gate of a slot, and nothing else.
-        // On every disk it makes no other calls than that read and these six; if it is refused for
-        // a reason other than a device failure, none of the six.
+        // On every disk it reads the gate of a slot, and nothing else. On every disk it makes no
+        // other calls than that read and these six; if it is refused for a reason other than a disk
+        // failure, none of the six.
         ensures meters { Calls (Counts result) (AtMost 1) (AtMost 6)
             (D.view self.old.disk) (D.view self.new.disk) }
     {

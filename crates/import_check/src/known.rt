@@ -18,7 +18,7 @@ pub trait Known {
     /// What it shows at one time.
     ghost view: { Self → KnownView };
 
-    /// The most that reading a row takes, in the measure of its work.
+    /// The most that reading this row costs, in the measure of `work`.
     ghost cost: { RowValue → ℕ };
 
     /// A relation between the value before and after a call, for what calls leave unchanged.
@@ -28,7 +28,7 @@ pub trait Known {
     fn row(&mut self, alloc: Global, key: &Key) -> Result<Option<Row>, ReadFault>
         ensures found { (view self.old).is_honest
             → IfOk result (IsRowAt (view self.old).rows key.now) }
-        // An honest one fails only because of the device or memory.
+        // An honest one fails only because of the disk or memory.
         ensures undamaged { (view self.old).is_honest → IfErr result (λ e. e ≢ readfault.Damaged) }
         // It returns no row exactly if no known row has the key.
         ensures absent { (view self.old).is_sound

@@ -25,7 +25,7 @@ use Rattle.store_life.specs.Laws.{AgreeUpTo, BroughtAlike}
 use Rattle.line_server.specs.Turns.{Turn, IsTurn, Run}
 use Rattle.line_server.specs.Pinning.{IsPinnedTo, LeavesPin, StaysPinned}
 
--- the outcome says neither that memory ran out nor that the device failed
+-- the outcome says neither that memory ran out nor that the disk failed
 abbrev pub IsSure : Result Answer LineRefusal → Type 0
 IsSure (Err (refusals.Store store.OutOfMemory)) = ⊥
 IsSure (Err (refusals.Store store.DiskFault)) = ⊥
@@ -68,7 +68,7 @@ LinesAreCalls {D} source view = (old new : Server D) (turns : List Turn)
     → Run source view old turns new
     → IsLife view old.store (map (λ turn. Called turn.call) turns) new.store
 
--- the servers are equal, except perhaps for the devices of their stores
+-- the servers are equal, except perhaps for the disks of their stores
 abbrev pub AreAlike : {D : Type 0} → Server D → Server D → Type 0
 AreAlike a b = Same a b × (b.met_damage ≡ a.met_damage)
 

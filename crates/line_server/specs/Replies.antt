@@ -51,13 +51,13 @@ server state store = record {
   met_damage = state.met_damage;
 }
 
--- the store is unchanged, except perhaps its device
+-- the store is unchanged, except perhaps its disk
 pub record SameStore {D : Type 0} (old new : StoreValue D) : Type 0 where
   pub history : new.history ≡ old.history
   pub catalog : new.catalog ≡ old.catalog
   pub needs_reopen : new.needs_reopen ≡ old.needs_reopen
 
--- pins and store are unchanged, except perhaps the store's device
+-- pins and store are unchanged, except perhaps the store's disk
 pub record Same {D : Type 0} (old new : Server D) : Type 0 where
   pub pins : new.pins ≡ old.pins
   pub store : SameStore old.store new.store
@@ -317,7 +317,7 @@ IsRefusal honest releases session command (refusals.Store refusal) old new =
     IsStoreRefusal honest releases session command refusal old new
 
 -- The command, carried out, has this outcome. `ERR 1` and `ERR 2` say that memory ran out or the
--- device failed; if it is neither, there is only one possible outcome on an honest disk.
+-- disk failed; if it is neither, there is only one possible outcome on an honest disk.
 abbrev pub IsOutcome : {D : Type 0} → Type 0 → Releases → ℕ → Command → Result Answer LineRefusal
     → Server D → Server D → Type 0
 IsOutcome honest releases session command (Ok answer) old new =

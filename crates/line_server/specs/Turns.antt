@@ -38,8 +38,8 @@ IsAskedFor releases scope line release =
     (session : ℕ) × (name : List ℕ) × Asks line session (Import name)
     × (releases scope name ≡ Some (files_of release))
 
--- the release that was imported, or in whose import the device failed, is the one that the line
--- asks for
+-- the release that was imported, or in whose import the disk failed, is the one that the line asks
+-- for
 abbrev pub IsOfAsked : Releases → Scope → List ℕ → Call → Type 0
 IsOfAsked releases scope line (Imported release) = IsAskedFor releases scope line release
 IsOfAsked releases scope line (Failed release) = IsAskedFor releases scope line release
@@ -52,7 +52,7 @@ pub record GoesBy {D : Type 0} (honest : Type 0) (releases : Releases) (old : Se
   pub replies : Replies honest releases turn.line turn.outcome old new
   pub asked : IsOfAsked releases (scope_of old.store.catalog.layout) turn.line turn.call
 
--- the count of the device's failures: it has risen if the outcome is `ERR 2`, and otherwise is
+-- the count of the disk's failures: it has risen if the outcome is `ERR 2`, and otherwise is
 -- unchanged
 abbrev pub CountsOutcome : Result Answer LineRefusal → ℕ → ℕ → Type 0
 CountsOutcome (Err (refusals.Store refusal)) old new = CountsRefusal refusal old new
@@ -83,7 +83,7 @@ LeavesQueried view old new =
     ((view old.disk).is_honest → (view new.disk).moments ≡ (view old.disk).moments)
     × ReadsThroughCache view old new
 
--- what a question about the first `seen` imports leaves of the disk: the device is unchanged if the
+-- what a question about the first `seen` imports leaves of the disk, which is unchanged if the
 -- index alone answers it
 abbrev pub LeavesAsked : {D : Type 0} → (D → DiskView) → ℕ → Question → Result Answer LineRefusal
     → StoreValue D → StoreValue D → Type 0
@@ -102,12 +102,12 @@ LeavesAsked view seen question outcome old new =
     × ReadsFor outcome (view old.disk).bytes_read (view new.disk).bytes_read
 
 -- What a command leaves of the disk. On an honest one IMPORT, STEP and PUBLISH may change what a
--- crash leaves, but not if they are refused for a reason other than a device failure. After TRIM a
+-- crash leaves, but not if they are refused for a reason other than a disk failure. After TRIM a
 -- read returns what it returned before, up to the last block that is listed or reserved, and
 -- nothing after it. CHECK and STEP look up blocks as a question does, and STEP may then drop those
 -- from the cache that the merge reserved; PUBLISH reads one byte at most, and TRIM none. A question
 -- in a session that sees `seen` imports leaves the disk as `LeavesAsked` says, and every other
--- command leaves the device unchanged.
+-- command leaves the disk unchanged.
 abbrev pub LeavesDisk : {D : Type 0} → (D → DiskView) → ℕ → Command → Result Answer LineRefusal
     → StoreValue D → StoreValue D → Type 0
 LeavesDisk view seen (Ask question) outcome old new = LeavesAsked view seen question outcome old new

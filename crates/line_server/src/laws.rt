@@ -30,13 +30,13 @@ pub fn lines_are_calls<S: Source, D: Disk>()
         D.view }
 {}
 
-/// A line has one reply, unless memory runs out or the device fails.
+/// A line has one reply, unless memory runs out or the disk fails.
 pub fn one_reply<D: Disk>()
     ensures { OneReply D D.view }
 {}
 
 /// An IMPORT gets the reply that a CHECK of the same release just got, unless memory runs out or
-/// the device fails.
+/// the disk fails.
 pub fn check_foretells<D: Disk>()
     ensures { CheckForetells D D.view }
 {}

@@ -76,7 +76,7 @@ IsNotCopied faults.NoRoom asked file target =
     (of : Shown file) × (block_limit < end_from 4 (lists_of asked of))
 IsNotCopied faults.TargetFailed asked file target = Unit {0}
 
--- a device failed, or memory ran out
+-- a disk failed, or memory ran out
 abbrev pub IsFailure : CopyFault → Type 0
 IsFailure faults.OutOfMemory = Unit {0}
 IsFailure faults.SourceFailed = Unit {0}

@@ -1,4 +1,4 @@
--- How much of a device an opening reads, whatever its result.
+-- How much of a disk an opening reads, whatever its result.
 use Rattle.std.specs.Prelude.{◌≡◌, ℕ, ◌+◌, ◌≤◌, List, [], ◌++◌, length}
 use Rattle.blocks.specs.Slots.{slots_read}
 use Rattle.directory.specs.declared.entry.Entry.{Entry}

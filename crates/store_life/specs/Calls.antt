@@ -40,7 +40,7 @@ ImportIsACall D view =
     → ((view old.disk).is_honest ↔ (view new.disk).is_honest)
     → IsCall view old (call_of result release) new
 
--- by `Store::check · answer`: it imports nothing, even if the device fails
+-- by `Store::check · answer`: it imports nothing, even if the disk fails
 abbrev pub CheckIsACall : (D : Type 0) → (D → DiskView) → Type 0
 CheckIsACall D view =
     (old new : StoreValue D) (release : Release) (result : Result Receipt Refusal)

@@ -15,7 +15,7 @@ use Rattle.disk_model.specs.View.{DiskView}
 
 -- ---- calls
 
--- How a call on a store changed its history: it imported a release, or the device failed in the
+-- How a call on a store changed its history: it imported a release, or the disk failed in the
 -- import of one. Every other call leaves the history unchanged.
 pub data Call : Type 0 where
   Imported : Release → Call
@@ -28,7 +28,7 @@ taken (Imported release) = release ∷ []
 taken (Failed release) = []
 taken Other = []
 
--- the release in whose import the device failed
+-- the release in whose import the disk failed
 abbrev pub failing : Call → Option Release
 failing (Imported release) = None
 failing (Failed release) = Some release
@@ -42,7 +42,7 @@ TakesAll h (release ∷ releases) after =
     × TakesAll (after_release h accepted.rows) releases after
 
 -- whether the store has to be opened again after the call: not after an import, and always if the
--- device failed in one
+-- disk failed in one
 abbrev pub NeedsReopenAfter : Call → Bool → Type 0
 NeedsReopenAfter (Imported release) needs_reopen = needs_reopen ≡ false
 NeedsReopenAfter (Failed release) needs_reopen = needs_reopen ≡ true
@@ -146,7 +146,7 @@ IsLife view first [] last = last ≡ first
 IsLife {D} view first (event ∷ events) last =
     (mid : StoreValue D) × IsEvent view first event mid × IsLife view mid events last
 
--- the device failed in the import of the release, or the crash interrupted the call that imports it
+-- the disk failed in the import of the release, or the crash interrupted the call that imports it
 abbrev pub IsUnacknowledged : Option Release → Option Call → Release → Type 0
 IsUnacknowledged failed within release = (failed ≡ Some release)
     ⊎ (within ≡ Some (Imported release)) ⊎ (within ≡ Some (Failed release))
@@ -157,7 +157,7 @@ MayRemain failed within releases = (releases ≡ [])
     ⊎ ((release : Release) × (releases ≡ release ∷ []) × IsUnacknowledged failed within release)
 
 -- The releases that these events add to a history, in order: all that were imported, and at each
--- crash perhaps one more. The first argument is the release in whose import the device has failed
+-- crash perhaps one more. The first argument is the release in whose import the disk has failed
 -- since the last crash, if it did.
 abbrev pub AreKept : Option Release → List Event → List Release → Type 0
 AreKept failed [] releases = releases ≡ []

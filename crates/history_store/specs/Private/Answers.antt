@@ -12,7 +12,7 @@ use Rattle.history_store.specs.Catalog.{Catalog}
 use Rattle.history_store.specs.StoreValue.{StoreValue}
 use Rattle.history_store.specs.Answers.{IsRefused}
 
--- the store advances to this history and catalog; or the device failed, they are unchanged, and the
+-- the store advances to this history and catalog; or the disk failed, they are unchanged, and the
 -- store has to be opened again
 abbrev pub IsStep : {D : Type 0} → Result (Unit {0}) Refusal → StoreValue D → StoreValue D → History
     → Catalog → Type 0

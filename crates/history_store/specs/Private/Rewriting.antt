@@ -43,7 +43,7 @@ pub record IsReadyToRewrite (honest : Type 0) (state : DiskState) (cache : LruCa
   pub held : IsHeld honest state cache slot d lists false
   pub anew : IsAnew d entry
 
--- the device failed
+-- the disk failed
 abbrev pub is_device : Refusal → Bool
 is_device refusals.DiskFault = true
 is_device _ = false

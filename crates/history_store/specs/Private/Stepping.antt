@@ -64,12 +64,12 @@ IsOneWrite result at bytes old new = MatchResult result
     (λ _. new ≡ followed_by old (after_write old.state at bytes))
     (λ _. Fails old (after_write old.state at bytes) new)
 
--- whether the call failed because of the device
+-- whether the call failed because of the disk
 abbrev pub is_fault : Result (Unit {0}) Refusal → Bool
 is_fault (Err refusals.DiskFault) = true
 is_fault _ = false
 
--- the fact holds, unless the device failed
+-- the fact holds, unless the disk failed
 abbrev pub UnlessFault : Result (Unit {0}) Refusal → Type 0 → Type 0
 UnlessFault (Err refusals.DiskFault) P = Unit {0}
 UnlessFault _ P = P

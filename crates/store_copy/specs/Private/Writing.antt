@@ -80,7 +80,7 @@ in_segment number (Read reading.DiskFault) = faults.SourceFailed
 in_segment number (Read reading.Damaged) = faults.Damaged (damages.Segment number)
 in_segment number Write = faults.TargetFailed
 
--- a device failed, or memory ran out
+-- a disk failed, or memory ran out
 abbrev pub IsNoDamage : SegmentCopyFault → Type 0
 IsNoDamage (Read reading.OutOfMemory) = Unit {0}
 IsNoDamage (Read reading.DiskFault) = Unit {0}
