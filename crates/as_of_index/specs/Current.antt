@@ -18,7 +18,7 @@ rows_seen as_of lists = rows_at as_of.pin (listed lists)
 abbrev pub IsPlaceOfRow : List (List StampedRow) → ℕ → ℕ → RowPlace → Type 0
 IsPlaceOfRow lists n i at = item_at (map places_of lists) n i ≡ Some at
 
--- the version that stands at the place is the one at the date, of those that the question sees
+-- the version at the place is the one at the date, among those that the question sees
 abbrev pub IsCurrentAt : List (List StampedRow) → AsOf → ℕ → RowPlace → Type 0
 IsCurrentAt lists as_of n at = (s : StampedRow) × StandsAt lists n at s
     × (get at.key.kind at.key.id as_of.date (rows_seen as_of lists) ≡ Some s.row)

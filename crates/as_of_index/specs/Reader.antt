@@ -1,4 +1,4 @@
--- What a reader of rows shows, and what a question that is answered from its rows does.
+-- What a reader of rows shows, and what a query that reads rows through it does.
 use Rattle.std.specs.Prelude.{◌≡◌, ◌≢◌, ◌+◌, ◌≤◌, ℕ, List, map, Result, IfOk, IfErr}
 use Rattle.std.specs.List.{sum_by}
 use Rattle.rf2_values.specs.Row.{RowValue}
@@ -8,21 +8,21 @@ use Rattle.fault_counts.specs.Counting.{Counts, CountsDiskFault, CountsDamage}
 use Rattle.fault_counts.specs.declared.fault.ReadFault.{ReadFault}
 use Rattle.fault_counts.specs.declared.fault.ReadFault.TheVariants as readfault
 
--- what is known of a reader of rows at one time
+-- a reader of rows at one time, as clauses see it
 pub record ReaderView : Type 1 where
   -- its lists of rows
   pub lists : List (List StampedRow)
-  -- what it gives are the rows of its lists
+  -- the rows that it returns are those of its lists
   pub is_honest : Type 0
-  -- how much it has read, in a measure of its own: bytes, or rows
+  -- how much has been read, in a measure that the reader chooses: bytes, or rows
   pub work : ℕ
-  -- how often it answered `DiskFault`
+  -- how often a call failed with `DiskFault`
   pub disk_faults : ℕ
-  -- how often it answered `Damaged`
+  -- how often a call failed with `Damaged`
   pub damages : ℕ
 
--- what a call leaves of a reader, whatever it answers: its lists stay, an honest reader
--- stays honest, and a failure of the disk or a damaged row is counted where it is answered
+-- the effect of a call on a reader, whatever the result: its lists are unchanged, an honest reader
+-- stays honest, and each count of errors rises if its error is returned, and otherwise is unchanged
 pub record LeavesReader {T : Type 0} (result : Result T ReadFault) (old new : ReaderView)
     : Type 0 where
   pub lists : new.lists ≡ old.lists
@@ -30,9 +30,10 @@ pub record LeavesReader {T : Type 0} (result : Result T ReadFault) (old new : Re
   pub disk_faults : Counts CountsDiskFault result old.disk_faults new.disk_faults
   pub damages : Counts CountsDamage result old.damages new.damages
 
--- These rows are wanted, and `rows_of` says which rows an answer has. Of an honest reader it has
--- the wanted ones, and no row is damaged. Whatever was read, it has their keys. Whatever is
--- answered, no more is read than the wanted rows take, each counted once.
+-- The result of a query for the wanted rows; `rows_of` gives the rows in it. With an honest reader
+-- these are the wanted ones, and no row is reported as damaged. Whatever the reader returned, they
+-- have the keys of the wanted ones. Whatever the result, no more is read than the wanted rows take,
+-- each counted once.
 pub record AnswersRows {T : Type 0} (result : Result T ReadFault) (rows_of : T → List RowValue)
     (wanted : List RowValue) (cost : RowValue → ℕ) (old new : ReaderView) : Type 0 where
   pub found : old.is_honest → IfOk result (λ x. rows_of x ≡ wanted)
@@ -40,8 +41,9 @@ pub record AnswersRows {T : Type 0} (result : Result T ReadFault) (rows_of : T �
   pub undamaged : old.is_honest → IfErr result (λ e. e ≢ readfault.Damaged)
   pub work_always : new.work ≤ old.work + sum_by cost wanted
 
--- A question for rows: which are wanted, in the lists of a reader, where what was kept of these
--- lists is right. No more is read than the rows of the answer take, each read once.
+-- A query for rows: `wanted` gives the wanted ones, from the reader's lists. This holds if
+-- `is_kept` does, which says that the index and the postings in memory are those of these lists. In
+-- any case no more is read than the returned rows take, each read once.
 pub record IsRowsRead {T : Type 0} (result : Result T ReadFault) (rows_of : T → List RowValue)
     (wanted : List (List StampedRow) → List RowValue) (is_kept : List (List StampedRow) → Type 0)
     (cost : RowValue → ℕ) (old new : ReaderView) : Type 0 where

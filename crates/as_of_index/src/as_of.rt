@@ -1,13 +1,13 @@
-//! What a question is asked as of.
+//! The date and the pin of a query.
 
 use rf2_values::EffectiveTime;
 
-/// What a question is asked as of: a date, and how many imports it sees. A public function is given
-/// it, and lends it to private ones.
+/// The date of a query, and how many imports it sees. Public functions take it by value, and
+/// private ones mostly by reference.
 #[derive(Clone, Copy)]
 pub struct AsOf {
-    /// Of each component the latest version up to this day counts.
+    /// The latest version of each component up to this day counts.
     pub date: EffectiveTime,
-    /// Only what the first so many imports brought is seen.
+    /// Only the rows that the first `pin` imports brought are seen.
     pub pin: u32,
 }

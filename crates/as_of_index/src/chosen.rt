@@ -19,9 +19,11 @@ pub struct Chosen {
     pub segment: usize,
     /// Its place.
     pub at: RowPlace,
-    /// The reference set of an association, as an SCTID; otherwise 0.
+    /// The reference set of an association or another member, as an SCTID; 0 in queries that don't
+    /// sort or search by it.
     pub refset: u64,
-    /// The target of an association, as an SCTID; otherwise 0.
+    /// The component by which members of a reference set are sorted, as an SCTID: the target of an
+    /// association, or the component that a member refers to; 0 in queries that don't use it.
     pub target: u64,
 }
 
@@ -35,7 +37,7 @@ pub fn read_all<R: RowReader>(
         → StandAtAll (R.view reader.old).lists places.now rows
         → AnswersRows result (λ found. found.items) (map (λ s. s.row) rows) R.cost
         (R.view reader.old) (R.view reader.new) }
-    // No more is read than the rows that it answers take, each read once.
+    // No more is read than the returned rows take, each read once.
     ensures work { IfOk result (λ found.
         (R.view reader.new).work ≤ (R.view reader.old).work + sum_by R.cost found.items) }
     ensures reader { LeavesReader result (R.view reader.old) (R.view reader.new) }

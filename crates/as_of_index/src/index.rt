@@ -223,7 +223,7 @@ impl Index {
         ensures { (lists : List (List StampedRow)) → Lists self.now lists
             → IsTrue result ↔ IsCurrentAt lists as_of.now segment at.now }
     {
-        // Its contract says that no key is listed twice.
+        // The contract of `lists` says that no key is listed twice.
         let _listed = self.lists();
         if !is_early(at, as_of) {
             return false;

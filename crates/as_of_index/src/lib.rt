@@ -1,5 +1,5 @@
 //! Answers queries at a date and a pin from lists of places; rows are read through a reader that
-//! the caller lends.
+//! the caller passes.
 #![tactic(auto)]
 
 mod as_of;

@@ -5,7 +5,7 @@ use Rattle.std.specs.Prelude.{Bool, nat_le, nat_lt, Option, Some, None}
 use Rattle.lru.specs.LruCache.{LruCache}
 use Rattle.blocks.specs.Cache.{LooksUp}
 
--- the file begins with n bytes that are all zero
+-- the file begins with `n` bytes that are all zero
 pub record BeginsWithZeros (n : ℕ) (file : List ℕ) : Type 0 where
   pub long : n ≤ length file
   pub zeros : (i : ℕ) → i < n → slice_index file i ≡ 0
@@ -21,7 +21,7 @@ abbrev pub is_within : ℕ → Option ℕ → ℕ → Bool
 is_within from None block = nat_le from block
 is_within from (Some end) block = nat_le from block && nat_lt block end
 
--- what the reading of one block says of the cache, and of what the disk was asked for
+-- one block was looked up: how the cache changed, and how many bytes were requested from the disk
 pub record IsLookUp (block : ℕ) (old new : LruCache ℕ (List ℕ)) (before after : ℕ) : Type 0 where
   pub missing : ℕ
   pub looks_up : LooksUp block missing old new

@@ -3,8 +3,8 @@
 /// What the records of a segment begin with.
 #[derive(Clone, Copy, Debug, PartialEq, Eq)]
 pub enum Form {
-    /// With their lengths.
+    /// Their lengths: they have no checksums.
     Plain,
-    /// With the checksums of the bytes that follow.
+    /// The checksums of the bytes that follow.
     Checked,
 }

@@ -76,7 +76,7 @@ pub struct FileDisks<'a, R: Files<File = File>> {
 }
 
 impl<'a, R: Files<File = File> + AllocGlobal> FileDisks<'a, R> {
-    /// No file was asked for yet.
+    /// No file has been requested yet.
     pub fn new(rt: &'a R) -> FileDisks<'a, R>
         ensures { files_asked result ≡ 0 }
     {

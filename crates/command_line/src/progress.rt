@@ -99,8 +99,10 @@ fn common_kinds(scope: Scope) -> &'static [Kind] {
     }
 }
 
-/// Reports which files of a release were read and what is done with it now, and warns if files are
-/// missing that a release usually has.
+/// Prints which files of a release were read, and what is done with the release now (`doing`);
+/// neither if `quiet`. In any case it warns if the release has no file of concepts, descriptions or
+/// relationships, and if it has a Full file of concepts but lacks another kind of file that a Full
+/// release usually has.
 pub(crate) fn tell_taken<E: Write>(
     release: &Release,
     doing: &str,
@@ -148,8 +150,8 @@ fn rows_of(file: &ReleaseFile) -> usize {
     }
 }
 
-/// Whether the kind is that of concepts, descriptions or relationships. Nearly every release has a
-/// file of one of these.
+/// Whether files of this kind have concepts, descriptions or relationships; those with concrete
+/// values don't count. Nearly every release has such a file.
 fn is_of_terminology(kind: Kind) -> bool {
     match kind {
         Kind::Concept | Kind::Description | Kind::Relationship => true,

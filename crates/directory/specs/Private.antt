@@ -1,4 +1,4 @@
--- Words that private functions need, of this crate or of one above it. No public clause cites them.
+-- Definitions for private functions, of this crate or of one above it. No public clause cites them.
 use Rattle.std.specs.Prelude.{◌≡◌, ℕ, ◌+◌, List, ◌++◌, length}
 use Rattle.std.specs.List.{AllByRecursion, flat_map}
 use Rattle.directory.specs.declared.entry.Entry.{Entry}
@@ -15,7 +15,7 @@ pub record IsTable (bytes : List ℕ) (count : ℕ) (entries : List Entry) : Typ
   pub each : AllByRecursion IsEntry entries
   pub apart : AreApart (extents_of entries)
 
--- the directory of the next epoch, in this version
+-- the directory at the next epoch, in this layout version
 abbrev pub next_in : Layout → DirectoryValue → DirectoryValue
 next_in layout d = record d { layout = layout; epoch = d.epoch + 1 }
 
@@ -23,6 +23,7 @@ next_in layout d = record d { layout = layout; epoch = d.epoch + 1 }
 abbrev pub after_import : DirectoryValue → DirectoryValue
 after_import d = record (next_in (next_layout d.layout) d) { imports = d.imports + 1 }
 
--- the directory after a merge, whose output is the entry at place i, and takes that of the one at j
+-- the directory after a merge, with the entry of the output at position `i`, and without the one at
+-- position `j`
 abbrev pub after_merge : DirectoryValue → ℕ → ℕ → Entry → DirectoryValue
 after_merge d i j entry = with_two_replaced (next_in (next_layout d.layout) d) i j entry

@@ -52,10 +52,10 @@ impl Model for Directory {
 pub enum DirectoryFault {
     #[error("out of memory")]
     OutOfMemory,
-    /// Epoch 0; an unknown mark; a non-zero byte where zeros have to be; too many entries; an entry
-    /// without bytes or rows, in the slots, past the last block, or of a form that is unknown or
-    /// not allowed in its version; two entries that share a block; or in version 3 a wrong
-    /// checksum.
+    /// Epoch 0; an unknown mark; a non-zero byte in the last eight of the header; more entries than
+    /// the version allows; an entry without bytes or rows, in the slots, past the last block, or of
+    /// a form that is unknown or not allowed in the version; two entries that share a block; or, in
+    /// version 3, a wrong checksum.
     #[error("the block lists no directory")]
     BadDirectory,
 }
@@ -106,8 +106,9 @@ impl Directory {
         })
     }
 
-    /// Decodes the directory that a content block lists. The bytes after the last entry aren't
-    /// interpreted; in version 3 the checksum covers them.
+    /// Decodes the directory that a content block lists. In versions 1 and 2 the bytes after the
+    /// last entry are ignored. In version 3 the last four bytes of the block have to be the
+    /// checksum of all others.
     pub fn decode(alloc: Global, block: &[u8; 4096]) -> Result<Directory, DirectoryFault>
         ensures found { IfOk result (λ d. Lists block.now d) }
         // A block that lists a directory is never refused as bad.

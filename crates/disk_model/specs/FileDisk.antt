@@ -1,4 +1,4 @@
--- What the disk of a file shows, and what was said of the last of its calls that failed.
+-- What clauses see of a file's disk, and the error of its last call that failed.
 use Rattle.std.specs.Prelude.{[], Option}
 use Rattle.std.specs.declared.io.Error.{Error}
 use Rattle.disk_model.specs.declared.file.FileDisk.{FileDisk}
@@ -8,7 +8,7 @@ use Rattle.disk_model.specs.View.{DiskView}
 abbrev pub fault_of : FileDisk → Option Error
 fault_of d = d.last
 
--- of what a file holds nothing is claimed, so it doesn't count as honest
+-- nothing is specified about the bytes of a file, and so its disk doesn't count as honest
 abbrev pub file_view : FileDisk → DiskView
 file_view d =
     record {

@@ -15,12 +15,12 @@ pub struct DiskFault;
 /// No write reaches beyond this length, in bytes: 4,194,304 blocks of 4,096 bytes.
 pub const MAX_END: u64 = 17_179_869_184;
 
-/// A disk with bytes, at offsets from 0 up to its length. It is used by five calls only, and
+/// A disk has bytes, at offsets from 0 up to its length. It is used by five calls only, and
 /// everything above relies on what these promise, before and after a crash.
 ///
 /// **A crash** is a loss of power, a crash of the system, or the end of the process, at any time.
-/// What it leaves is one of the disk's *images*: the bytes that the disk then has. So code that
-/// has to survive crashes has to be right for each image.
+/// What it leaves is one of the disk's *images*: the bytes that it then has. So code that has to
+/// survive crashes has to be right for each image.
 ///
 /// **A moment** is the time before the first call, or after a call that may change the disk:
 /// `write_at`, `cut` and `sync`. `moments` has the state at the present moment and at all earlier
@@ -41,17 +41,17 @@ pub const MAX_END: u64 = 17_179_869_184;
 /// leave is then as before, or as if the call had succeeded, and a read returns one of these
 /// images. `failures` rises with each call that fails; at 2^64 - 1 it stays.
 ///
-/// **Reads and other calls.** On every disk and whatever the results, `bytes_read` rises with
-/// each read by the number of requested bytes, and `other_calls` by one with each call of another
-/// kind. Nothing else changes them.
+/// **Reads and other calls.** On every disk and whatever the results, `bytes_read` rises with each
+/// read by the number of requested bytes, and `other_calls` by one with each call of another kind.
+/// Nothing else changes them.
 ///
-/// **Honesty.** An honest disk behaves in this way, and no call ends that. The clauses about
-/// bytes and moments assume it, since no program can see whether a disk lies. Of a disk that
-/// isn't honest, only the clauses without that assumption are known: calls return, report no more
-/// bytes than the buffer has, and their failures, the bytes requested by reads, and the other calls
-/// are counted.
+/// **Honesty.** An honest disk behaves in this way, and no call ends that. The clauses about bytes
+/// and moments assume it, since no program can see whether a disk lies. Of a disk that isn't
+/// honest, only the clauses without that assumption are known: calls return, report no more bytes
+/// than the buffer has, and their failures, the bytes requested by reads, and the other calls are
+/// counted.
 pub trait Disk {
-    /// What it shows at one time. Each count has 64 bits; at its last value it stays.
+    /// What it shows at one time. Each count has 64 bits, and stays at its greatest value.
     ghost view: { Self → DiskView };
 
     /// The length, in bytes.
@@ -89,8 +89,8 @@ pub trait Disk {
         ensures meters { Calls (CountsEach result) Stays (RisesBy 1)
             (view self.old) (view self.new) };
 
-    /// Cuts the disk to `len` bytes, if it is longer. Until a sync, a crash may leave what was
-    /// cut off, or a part of it.
+    /// Cuts the disk to `len` bytes, if it is longer. Until a sync, a crash may leave what was cut
+    /// off, or a part of it.
     fn cut(&mut self, len: u64) -> Result<(), DiskFault>
         ensures made { (view self.old).is_honest → OnOk result ((view self.new).moments
             ≡ followed_by (view self.old).moments

@@ -48,8 +48,8 @@ impl FileDisk {
         FileDisk::of(file)
     }
 
-    /// Locks the file, and waits until the disk has what earlier processes wrote, before anything
-    /// is read. Refuses anything but a regular file.
+    /// Locks the file, and waits until the storage disk has what earlier processes wrote, before
+    /// anything is read. Refuses anything but a regular file.
     fn of(opened: io::Result<File>) -> Result<FileDisk, OpenFault>
         ensures unused { IfOk result (λ disk. IsUnused (file_view disk)) }
     {

@@ -35,8 +35,8 @@ fn folder_of(path: &str) -> &str {
     }
 }
 
-/// Waits until the disk has the name of a file that was made, by syncing the folder that contains
-/// the file. If the name is a link, this is the folder of the file that it refers to.
+/// Waits until the storage disk has the name of a file that was made, by syncing the folder that
+/// contains the file. If the name is a link, this is the folder of the file that it refers to.
 pub fn sync_folder_of<R: Files<File = File>>(rt: &R, alloc: Global, path: &str) -> io::Result<()> {
     let folder = if fs::symlink_metadata(rt, path)?.is_symlink() {
         let file = rt.canonicalize(alloc, path)?;

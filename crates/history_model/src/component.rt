@@ -8,8 +8,8 @@ use rf2_values::{Body, Row, Sctid};
 /// The concept that is the type of an "is a" relationship.
 pub const IS_A: u64 = 116_680_003;
 
-/// The component that the row is about, from the column of its kind that names it; a concept is
-/// about none.
+/// The component that the row is about: the concept of a description, the source of a relationship,
+/// or the component that a member of a reference set refers to; none for a concept.
 pub fn subject_of(row: &Row) -> Option<Sctid>
     ensures { result ≡ subject_of row.now }
 {

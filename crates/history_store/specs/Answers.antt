@@ -28,7 +28,7 @@ use Rattle.history_store.specs.Prepared.{IsNotSpent, IsForLater, IsAdmitted}
 use Rattle.history_store.specs.Written.{added_ranges, StemsWithinAll}
 use Rattle.history_store.specs.Refusals.{of_loading}
 
--- a store; or why there is none, with the disk
+-- a store; or why there is none, and the disk
 abbrev pub StoreOr : Type 0 → Type 0
 StoreOr D = Result (StoreValue D) (Refusal × D)
 
@@ -63,13 +63,13 @@ pub record IsNew {D : Type 0} (layout : Layout) (s : StoreValue D) : Type 0 wher
   pub catalog : s.catalog ≡ catalog_of (empty_listing layout) None
   pub open_still : s.needs_reopen ≡ false
 
--- unless the disk failed, a refusal returns the disk unchanged, and what a crash may leave of
--- it
+-- unless the disk failed, a refusal returns it unchanged, as to what reads return and what a crash
+-- may leave
 abbrev pub HandsBack : {D : Type 0} → (D → DiskView) → StoreOr D → D → Type 0
 HandsBack view (Ok store) disk = Unit {0}
 HandsBack view (Err e) disk = e.0 ≢ refusals.DiskFault → (view e.1).moments ≡ (view disk).moments
 
--- the disk was synced once and otherwise is unchanged; if the disk failed, maybe not even synced
+-- the disk was synced once and otherwise is unchanged; if it failed, maybe not even synced
 abbrev pub SyncsOnce : {D : Type 0} → (D → DiskView) → StoreOr D → D → Type 0
 SyncsOnce view (Ok store) disk = (view store.disk).moments ≡ synced (view disk).moments
 SyncsOnce view (Err e) disk = ((view e.1).moments ≡ synced (view disk).moments)
@@ -104,8 +104,9 @@ abbrev pub IsOpeningOf : {D : Type 0} → StoreOr D → List ℕ → Type 0
 IsOpeningOf (Ok store) bytes = IsOpened store bytes
 IsOpeningOf (Err e) bytes = IsNotOpened e.0 bytes
 
--- a release that is taken: it is accepted, the history goes on with its rows, which the receipt
--- counts, and a segment of the new ones is added, if there are any
+-- A release that is accepted: each file is a valid release file, its rows and those of the history
+-- are consistent, the next history has the release's rows, which the receipt counts, and the next
+-- catalog has a segment of the new rows if there are any.
 pub record IsTaken (h after : History) (catalog next : Catalog) (release : Release)
     (receipt : Receipt) : Type 0 where
   pub room : IsAdmitted h catalog release
@@ -153,9 +154,10 @@ pub record WouldBeTaken (h : History) (catalog : Catalog) (release : Release) : 
   pub next : Catalog
   pub catalog_is : IsCatalogAfter (new_rows h accepted.rows) catalog next
 
--- Why a release isn't taken at a history and a catalog. `Lacks` says what its new rows lack,
--- `Contradicts` that the row of a line contradicts another one, and `Damaged` when a known row may
--- be damaged. The disk is asked for known rows once each file is a release file, and not before.
+-- Why a release isn't accepted with this history and catalog. `Lacks` says what its new rows lack,
+-- `Contradicts` that the row of a line contradicts another one, and `Damaged` when a stored row may
+-- be damaged. Stored rows are read only once each file is known to be a valid release file, and so
+-- a disk failure implies that.
 abbrev pub WhyNotTaken : (Lacks : (List StampedRow → Catalog → Type 0) → Type 0)
     → (Contradicts : ℕ → ℕ → Type 0) → (Damaged : Type 0)
     → History → Catalog → Release → Refusal → Type 0
@@ -176,20 +178,22 @@ WhyNotTaken Lacks Contradicts Damaged h catalog release refusals.Full = Lacks Ha
 WhyNotTaken Lacks Contradicts Damaged h catalog release refusals.Damaged = Damaged
 WhyNotTaken Lacks Contradicts Damaged h catalog release _ = ⊥
 
--- on an honest disk
+-- why a release isn't accepted, on an honest disk
 abbrev pub IsNotTaken : History → Catalog → Release → Refusal → Type 0
 IsNotTaken h catalog release e = WhyNotTaken (WouldBeTakenBut h catalog release)
     (λ file line. (key : Key) × HasContradiction (full h) release file line key) ⊥
     h catalog release e
 
--- On every disk: whether a row contradicts the known ones is said on an honest one alone.
+-- Why a release isn't accepted, as far as that can be said on every disk. Whether a line
+-- contradicts, and whether a stored row is damaged, depends on what the disk returns: these reasons
+-- only imply that each file is a valid release file.
 abbrev pub IsNotTakenByKey : History → Catalog → Release → Refusal → Type 0
 IsNotTakenByKey h catalog release e = WhyNotTaken (LacksByKey h catalog release)
     (λ file line. IsRead release) (IsAdmitted h catalog release × IsRead release)
     h catalog release e
 
--- why a call is refused: after a failed one the store has to be opened again first, and else this
--- is why
+-- why a call is refused: the store has to be opened again; or it doesn't have to be, and `Why` says
+-- why
 abbrev pub IsRefusedFor : {D : Type 0} → (Refusal → Type 0) → Refusal → StoreValue D → Type 0
 IsRefusedFor Why refusals.ReopenNeeded s = s.needs_reopen ≡ true
 IsRefusedFor Why e s = (s.needs_reopen ≡ false) × Why e
@@ -255,7 +259,7 @@ abbrev pub IsReadingOf : {T D : Type 0} → Result T Refusal → StoreValue D �
 IsReadingOf (Ok x) old new = IsStill old new
 IsReadingOf (Err e) old new = IsReadRefusal e old × IsRefused e old new
 
--- what an import answers on every disk, and the store after it
+-- the result of an import on every disk, and the store after it
 abbrev pub IsImportOnAnyDisk : {D : Type 0} → Result Receipt Refusal → StoreValue D → StoreValue D
     → Release → Type 0
 IsImportOnAnyDisk (Ok receipt) old new release =

@@ -12,7 +12,7 @@ abbrev pub import_calls : ℕ → ℕ
 import_calls zero = 6
 import_calls (suc more) = 8
 
--- an import made exactly so many changing calls; a refused one at most eight
+-- an import made exactly that number of changing calls, and a refused one at most eight
 abbrev pub MakesImportCalls : {E : Type 0} → Result Receipt E → Moments → Moments → Type 0
 MakesImportCalls result old new = MatchResult result
     (λ receipt. call_count new ≡ call_count old + import_calls receipt.new)

@@ -20,8 +20,9 @@ use Rattle.history_store.specs.Answers.{Counts, IsTaken, IsTakenByKey, IsRefused
 use Rattle.history_store.specs.Answers.{IsRefusedFor, IsNotTaken, IsNotTakenByKey}
 use Rattle.history_store.specs.Answers.{IsImportOf, IsImportOnAnyDisk}
 
--- The receipt and the reasons are those of an import, but nothing is taken. A disk that is full, or
--- that refuses a write, isn't found out. A failure of the disk alone closes the store.
+-- The receipt and the reasons are those of an import, but nothing is imported. Since nothing is
+-- written, a full file system, or a disk that refuses a write, isn't noticed. Only a disk failure
+-- closes the store.
 abbrev pub IsCheckingOf : {D : Type 0} → Result Receipt Refusal → StoreValue D → StoreValue D
     → Release → Type 0
 IsCheckingOf (Ok receipt) old new release =

@@ -36,11 +36,11 @@ IsUnlisted honest e release =
 
 -- The contradictions of a release were listed, unless the store has to be opened again, a file
 -- isn't a valid release file, or a row can't be read. Whatever the result, history and catalog are
--- unchanged, and only a disk failure closes the store. A store that has to be opened again is
--- left unchanged. Only reads are made: each stored row whose key is in the release is read at most
--- once, through the cache, and no other row; if a file isn't a valid release file, nothing is read.
--- What a crash may leave is unchanged, and as long as no call has failed it represents what the
--- store holds.
+-- unchanged, and only a disk failure closes the store. A store that has to be opened again is left
+-- unchanged. Only reads are made: each stored row whose key is in the release is read at most once,
+-- through the cache, and no other row; if a file isn't a valid release file, nothing is read. What
+-- a crash may leave is unchanged, and as long as no call has failed it represents what the store
+-- holds.
 pub record IsListing {D : Type 0} (result : Result Contradictions Refusal) (release : Release)
     (limit : ℕ) (view : D → DiskView) (old new : StoreValue D) : Type 0 where
   pub found : (view old.disk).is_honest

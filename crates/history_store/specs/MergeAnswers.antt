@@ -31,7 +31,8 @@ abbrev pub IsBeginningOf : {D : Type 0} → Result ℕ Refusal → StoreValue D 
 IsBeginningOf (Ok left) old new = IsBegun old.catalog new.catalog left × IsDone old new
 IsBeginningOf (Err e) old new = IsRefusedFor (IsNotBegun old.catalog) e old × IsRefused e old new
 
--- why a step is refused: for memory, the disk or damage only if there are rows to merge
+-- why a step is refused: for lack of memory, a disk failure or damage only if there are rows to
+-- merge
 abbrev pub IsNotStepped : ℕ → Catalog → Refusal → Type 0
 IsNotStepped n catalog refusals.NoMerge = catalog.merge ≡ None
 IsNotStepped n catalog refusals.OutOfMemory = IsUnfinished catalog × (1 ≤ n)

@@ -41,9 +41,9 @@ pub record IsMaking {D : Type 0} (layout : Layout) (result : StoreOr D)
   -- a read of a new store returns its two slots, and nothing after them
   pub bytes : (view disk).is_honest
       → IfOk result (λ s. IsNewStore layout (view s.disk).moments.state.now)
-  -- whatever a crash leaves from now on represents the empty history
+  -- every image that a crash may leave represents the empty history
   pub acknowledged : (view disk).is_honest → IfOk result (IsAcknowledged view)
-  -- on every disk the store begins with no block in memory
+  -- on every disk the store's cache is empty
   pub cache : IfOk result (λ s. s.cache ≡ no_blocks)
   pub honesty : (view disk).is_honest ↔ (view (disk_of result)).is_honest
   pub failures : CountsOpening result (view disk).failures (view (disk_of result)).failures
@@ -65,9 +65,9 @@ pub record IsOpening {D : Type 0} (result : StoreOr D)
   pub synced : (view disk).is_honest → SyncsOnce view result disk
   pub read : (view disk).is_honest
       → (view (disk_of result)).moments.state.now ≡ (view disk).moments.state.now
-  -- whatever a crash leaves from now on represents what the store holds
+  -- every image that a crash may leave represents what the store holds
   pub acknowledged : (view disk).is_honest → IfOk result (IsAcknowledged view)
-  -- on every disk the store begins with no block in memory
+  -- on every disk the store's cache is empty
   pub cache : IfOk result (λ s. s.cache ≡ no_blocks)
   pub honesty : (view disk).is_honest ↔ (view (disk_of result)).is_honest
   pub failures : CountsOpening result (view disk).failures (view (disk_of result)).failures

@@ -25,8 +25,8 @@ use Rattle.history_store.specs.Answers.{Counts, IsReadingOf}
 abbrev pub is_listed : List Entry → ℕ → Bool
 is_listed entries block = list_any (λ entry. is_in (extent_of entry) block) entries
 
--- Blocks of listed segments were looked up in the cache, which otherwise is unchanged. The disk
--- was read at most 4,096 bytes for each of these blocks that wasn't cached at that time.
+-- Blocks of listed segments were looked up in the cache, which otherwise is unchanged. At most
+-- 4,096 bytes were read from the disk for each of these blocks that wasn't cached at that time.
 abbrev pub ReadsThroughCache : {D : Type 0} → (D → DiskView) → StoreValue D → StoreValue D → Type 0
 ReadsThroughCache view old new = LooksUpSome (is_listed old.catalog.entries)
     old.cache new.cache (view old.disk).bytes_read (view new.disk).bytes_read
@@ -71,10 +71,10 @@ pub record ImportsThroughCache {T D : Type 0} (result : Result T Refusal) (view 
       (ForgetsWritten (added_entries old.catalog new.catalog) looked_up new.cache)
   pub keeps : OnErr result (new.cache ≡ looked_up)
 
--- Whatever the result, history and catalog are unchanged, and only a disk failure closes the
--- store. A store that has to be opened again is left unchanged. On an honest disk nothing is
--- reported as damaged, what a crash may leave is unchanged, and as long as no call has failed it
--- represents what the store holds.
+-- Whatever the result, history and catalog are unchanged, and only a disk failure closes the store.
+-- A store that has to be opened again is left unchanged. On an honest disk nothing is reported as
+-- damaged, what a crash may leave is unchanged, and as long as no call has failed it represents
+-- what the store holds.
 pub record IsQuery {T D : Type 0} (result : Result T Refusal) (view : D → DiskView)
     (old new : StoreValue D) : Type 0 where
   pub undamaged : (view old.disk).is_honest → IfErr result (λ e. e ≢ refusals.Damaged)

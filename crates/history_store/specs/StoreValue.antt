@@ -22,7 +22,7 @@ pub record StoreValue (D : Type 0) : Type 0 where
   pub needs_reopen : Bool
   pub cache : LruCache ℕ (List ℕ)
 
--- no block is kept, and there is room for 1,024
+-- the empty cache, with a capacity of 1,024 blocks
 abbrev pub no_blocks : LruCache ℕ (List ℕ)
 no_blocks = lru_cache [] 1024
 

@@ -121,7 +121,8 @@ impl<D: Disk> Store<D> {
     }
 
     /// What changed from one date to another: the first rows of a kind at the date that are later
-    /// than `from`, at most `limit`, ascending by id and with ids above `after`.
+    /// than `from`, at most `limit`, ascending by id and with ids greater than `after`, if that is
+    /// given.
     pub fn delta(
         &mut self,
         kind: Kind,

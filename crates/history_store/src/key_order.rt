@@ -12,8 +12,8 @@ impl<D: Disk> Store<D> {
     ghost use Rattle.history_model.specs.KeyOrder.{rows_after};
     ghost use Rattle.history_store.specs.Queries.{IsRowsQuery};
 
-    /// The first rows whose keys are greater than `after`, or the first of all where none is given,
-    /// in key order and of any date, among those that the first `pin` imports brought.
+    /// The first `limit` rows whose keys are greater than `after`, if that is given, in key order,
+    /// whatever their dates, among those that the first `pin` imports brought.
     pub fn rows_after(
         &mut self,
         after: Option<Key>,

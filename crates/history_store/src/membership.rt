@@ -16,7 +16,7 @@ impl<D: Disk> Store<D> {
     ghost use Rattle.history_store.specs.Queries.{IsRowsQuery};
 
     /// The first members of a reference set at a date, active or not, at most `limit`, ascending by
-    /// id and with ids above `after`.
+    /// id and with ids greater than `after`, if that is given.
     pub fn members(
         &mut self,
         refset: Sctid,
@@ -50,9 +50,9 @@ impl<D: Disk> Store<D> {
         self.answered(read)
     }
 
-    /// The active members of a reference set at a date that refer to a component above `after`,
-    /// ascending by that component, then by id: the first `limit`, and with the last of them all
-    /// that refer to the same component.
+    /// The active members of a reference set at a date that refer to a component greater than
+    /// `after`, if that is given, ascending by that component, then by id: the first `limit`, and
+    /// with the last of them all that refer to the same component.
     pub fn values(
         &mut self,
         refset: Sctid,

@@ -24,8 +24,8 @@ impl<D: Disk> Store<D> {
     ghost use Rattle.history_store.specs.StoreValue.{IsAcknowledged};
     ghost use Rattle.history_store.specs.declared.refusal.Refusal.TheVariants as refusals;
 
-    /// Turns the result of reading rows into the result of the store's call. After a disk
-    /// failure, the store has to be opened again.
+    /// Turns the result of reading rows into the result of the store's call. After a disk failure,
+    /// the store has to be opened again.
     pub(crate) fn answered<T>(&mut self, read: Result<T, ReadFault>) -> Result<T, Refusal>
         requires still { self.old.needs_reopen ≡ false }
         ensures same { MatchResult read (λ found. result ≡ Ok found)
@@ -86,8 +86,8 @@ impl<D: Disk> Store<D> {
         self.answered(read)
     }
 
-    /// The first rows of a kind at the date, at most `limit`, ascending by id and with ids above
-    /// `after`.
+    /// The first rows of a kind at the date, at most `limit`, ascending by id and with ids greater
+    /// than `after`, if that is given.
     pub fn page(
         &mut self,
         kind: Kind,
@@ -146,7 +146,7 @@ impl<D: Disk> Store<D> {
     }
 
     /// Active descriptions whose term begins with the prefix, ignoring case, ascending by id and
-    /// with ids above `after`, at most `limit`.
+    /// with ids greater than `after`, if that is given, at most `limit`.
     pub fn search(
         &mut self,
         prefix: &str,

@@ -62,7 +62,7 @@ fn only_plain(directory: &Directory) -> Option<Entry>
 }
 
 /// The entry for the rewritten segment, which has checksums, at the first extent with room for it
-/// beside the old one.
+/// besides the old one.
 fn place_anew(directory: &Directory, old: Entry) -> Result<Entry, Refusal>
     requires { IsOnlyPlain directory.now.layout directory.now.entries old }
     ensures placed { IfOk result (IsAnew directory.now) }

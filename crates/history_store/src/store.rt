@@ -153,10 +153,11 @@ impl<D: Disk> Store<D> {
     /// returns the disk.
     pub fn open(alloc: Global, disk: D) -> Result<Store<D>, (Refusal, D)>
         ensures opened { IsOpening result D.view disk }
-        // On every disk it reads the slots, and each byte of the listed segments once, at most.
+        // After `Ok`, on every disk: it has read the slots, and each byte of the listed segments
+        // once, at most.
         ensures bytes_read { IfOk result (λ s. (D.view s.disk).bytes_read
             ≤ (D.view disk).bytes_read + slots_read + bytes_listed s.catalog.entries) }
-        // Besides its reads it makes one sync, and asks for the length once for the slots and once
+        // Besides its reads it made one sync, and asked for the length once for the slots and once
         // for each segment, at most.
         ensures other_calls { IfOk result (λ s. (D.view s.disk).other_calls
             ≤ (D.view disk).other_calls + 2 + length s.catalog.entries) }

@@ -75,9 +75,9 @@ impl<D: Disk> Store<D> {
         ensures uncalled { IfErr result (λ e. e ≢ refusals.DiskFault
             → (D.view self.new.disk).other_calls ≡ (D.view self.old.disk).other_calls) }
         ensures capacity { self.new.cache.cap ≡ self.old.cache.cap }
-        // On every disk it reads the gate of a slot, and nothing else.
-        // On every disk it makes no other calls than that read and these six; if it is refused for
-        // a reason other than a disk failure, none of the six.
+        // On every disk it reads the gate of a slot, and nothing else. On every disk it makes no
+        // other calls than that read and these six; if it is refused for a reason other than a disk
+        // failure, none of the six.
         ensures meters { Calls (Counts result) (AtMost 1) (AtMost 6)
             (D.view self.old.disk) (D.view self.new.disk) }
     {

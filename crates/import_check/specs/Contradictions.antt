@@ -59,7 +59,8 @@ pub record AreContradictionsOf (known : List RowValue) (release : Release) (limi
   pub listed : found.listed.items ≡ take limit all
   pub further : found.further ≡ length all - limit
 
--- why contradictions are not listed: as a release is refused, but not for a contradiction
+-- why contradictions are not listed: for a reason for which a release is refused, except a
+-- contradiction
 abbrev pub IsNotListed : (honest : Type 0) → Release → ImportFault → Type 0
 IsNotListed honest release (importfault.Contradiction file line key) = ⊥
 IsNotListed honest release fault = IsRefusal honest [] release fault

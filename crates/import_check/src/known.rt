@@ -18,7 +18,7 @@ pub trait Known {
     /// What it shows at one time.
     ghost view: { Self → KnownView };
 
-    /// The most that reading a row takes, in the measure of its work.
+    /// The most that reading this row costs, in the measure of `work`.
     ghost cost: { RowValue → ℕ };
 
     /// A relation between the value before and after a call, for what calls leave unchanged.

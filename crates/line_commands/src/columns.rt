@@ -50,7 +50,8 @@ pub(crate) fn limit(text: &[u8], most: u32) -> Option<u32>
     }
 }
 
-/// A number below 2^32: that of an import, or a number of imports.
+/// A number from 0 to 2^32 - 1, without leading zeros: the number of an import, or how many
+/// imports. Whether there are as many imports is checked elsewhere.
 pub(crate) fn import_number(text: &[u8]) -> Option<u32>
     ensures { MatchOption result ((n : ℕ) → n < 2 ^ 32 → text.now ≢ decimal n)
         (λ n. (n < 2 ^ 32) × (text.now ≡ decimal n)) }

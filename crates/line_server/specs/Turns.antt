@@ -38,8 +38,8 @@ IsAskedFor releases scope line release =
     (session : ℕ) × (name : List ℕ) × Asks line session (Import name)
     × (releases scope name ≡ Some (files_of release))
 
--- the release that was imported, or in whose import the disk failed, is the one that the line
--- asks for
+-- the release that was imported, or in whose import the disk failed, is the one that the line asks
+-- for
 abbrev pub IsOfAsked : Releases → Scope → List ℕ → Call → Type 0
 IsOfAsked releases scope line (Imported release) = IsAskedFor releases scope line release
 IsOfAsked releases scope line (Failed release) = IsAskedFor releases scope line release
@@ -83,7 +83,7 @@ LeavesQueried view old new =
     ((view old.disk).is_honest → (view new.disk).moments ≡ (view old.disk).moments)
     × ReadsThroughCache view old new
 
--- what a question about the first `seen` imports leaves of the disk: the disk is unchanged if the
+-- what a question about the first `seen` imports leaves of the disk, which is unchanged if the
 -- index alone answers it
 abbrev pub LeavesAsked : {D : Type 0} → (D → DiskView) → ℕ → Question → Result Answer LineRefusal
     → StoreValue D → StoreValue D → Type 0

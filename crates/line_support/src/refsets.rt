@@ -165,8 +165,8 @@ fn file_of(alloc: Global, part: Part) -> Result<ReleaseFile, AllocError> {
     })
 }
 
-/// The release of several files with this name, if there is one. For a store below version 3 it has
-/// no members, unless it is one that has them unasked.
+/// The release of several files with this name, if there is one. It has the files of members in the
+/// whole scope, and in any scope if its name begins with `unasked`.
 pub(crate) fn refsets_of(
     alloc: Global,
     name: &str,

@@ -34,7 +34,8 @@ pub(crate) enum Wanted {
     About(u128),
 }
 
-/// Which members are asked for: of this reference set, as of this.
+/// Which members a query looks for: those of this reference set that are wanted, at this date and
+/// pin.
 #[derive(Clone, Copy)]
 pub(crate) struct Asked {
     pub(crate) refset: u64,

@@ -139,7 +139,7 @@ pub(crate) fn about_of<R: RowReader>(
         (R.view reader.new) }
     ensures stays { R.stays reader.old reader.new }
 {
-    // Its contract says that no key is listed twice.
+    // The contract of `lists` says that no key is listed twice.
     let _listed = index.lists();
     let kept = chosen_all(alloc, links.as_slice(), index, kind, id, as_of)?;
     read_all(alloc, reader, kept.as_slice())

@@ -25,10 +25,12 @@ struct Walk {
     passed: Vec<Vec<u8>>,
 }
 
-/// Tells the watcher which files below a release's folder aren't read, in the order of their paths.
-/// A folder that can't be listed, or isn't visited because there are too many, is named like a
-/// file, with a slash at its end. Links aren't followed, except where the folders that are read
-/// have to be.
+/// Reports to the watcher which files below a release's folder aren't read, in the byte order of
+/// their paths. For this it visits `MOST_FOLDERS` folders at most. A folder below it that can't be
+/// listed, or wasn't visited, is reported like a file, with a slash at the end of its path.
+/// Anything that isn't a folder counts as a file, and so does a folder whose name isn't UTF-8. A
+/// link to a folder counts as one only where `read_release` follows it: at `Terminology`, at
+/// `Refset`, and at the folders of `Refset` that are read.
 pub(crate) fn tell_passed_over<R: Files<File = File>, W: Watcher>(
     rt: &R,
     alloc: Global,

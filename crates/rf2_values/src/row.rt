@@ -18,7 +18,8 @@ use crate::{allowed, length};
 use std::alloc::{AllocError, Global};
 use std::marker::Model;
 
-/// The kind of the rows in a release file. The kinds are in the order of keys.
+/// The kind of the rows in a release file. The kinds are declared in the order in which keys are
+/// sorted.
 #[derive(Clone, Copy, Debug, PartialEq, Eq, PartialOrd, Ord)]
 pub enum Kind {
     Concept,
@@ -28,7 +29,7 @@ pub enum Kind {
     Association,
     /// A relationship whose destination is a value: a number, a text or a boolean.
     Concrete,
-    /// A member of a reference set of any other pattern.
+    /// A member of any other reference set, whatever further columns it has.
     Member,
 }
 
@@ -234,7 +235,7 @@ impl Row {
         }
     }
 
-    /// The row's kind.
+    /// The row's kind, which is that of its own columns.
     pub fn kind(&self) -> Kind
         ensures kind { result ≡ kind_of self.now }
         ensures is_row { IsVersion self.now }
@@ -242,7 +243,7 @@ impl Row {
         self.body.kind()
     }
 
-    /// The row's key, which identifies it.
+    /// The row's key: its kind, its id and its effective time.
     pub fn key(&self) -> Key
         ensures key { result ≡ key_of self.now }
         ensures is_row { IsVersion self.now }

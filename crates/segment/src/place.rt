@@ -16,7 +16,8 @@ pub struct RowPlace {
     pub import: u32,
     /// The offset of the record in the segment.
     pub at: u32,
-    /// The length of the record, with the four bytes that it begins with.
+    /// The length of the record in bytes, which is the same with and without checksums. It includes
+    /// the four bytes at its beginning: the length, or the checksum.
     pub bytes: u32,
 }
 

@@ -59,7 +59,7 @@ fn effective_time(value: u32) -> Result<EffectiveTime, SegmentFault>
     EffectiveTime::of(value).ok_or(SegmentFault::BadSegment)
 }
 
-/// Checks an import number, which begins with 1.
+/// Checks an import number: they are counted from 1.
 fn import_number(value: u32) -> Result<u32, SegmentFault>
     ensures { Finds (λ n. 1 ≤ n) (λ n. (1 ≤ n) × (n ≡ value)) result }
 {
@@ -101,7 +101,8 @@ fn read_body(alloc: Global, kind: Kind, bytes: &[u8]) -> Result<Body, SegmentFau
     }
 }
 
-/// The row that the fields of a record encode.
+/// The row that the fields of a record encode. `bytes` are the fields alone, without the four bytes
+/// before them: a checksum there isn't verified here.
 pub(crate) fn read_row(alloc: Global, bytes: &[u8]) -> Result<StampedRow, SegmentFault>
     ensures { Finds IsStamped (IsRowIn bytes.now) result }
 {

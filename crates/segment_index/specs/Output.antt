@@ -29,7 +29,7 @@ left_rows m = drop m.taken (union m.a m.b)
 abbrev pub left_count : OutputRows → ℕ
 left_count m = length m.a + length m.b - m.taken
 
--- up to n rows more are taken
+-- up to `n` more rows are taken
 abbrev pub with_more : ℕ → OutputRows → OutputRows
 with_more n m = record m { taken = m.taken + min n (left_count m) }
 

@@ -1,5 +1,6 @@
-//! The index of a store's segments, in memory: the place of each row, and its postings, which are
-//! its folded term, its link or reference, and its subject.
+//! The index of a store's segments, in memory: the place of each row, and its postings: the folded
+//! term of a description (`term_prefix`), and links, references, targets, subjects and memberships
+//! (`links`).
 #![tactic(auto)]
 
 mod added_places;

@@ -14,7 +14,8 @@ use std::alloc::{AllocError, Global};
 pub(crate) struct OutputPostings {
     /// The folded terms of the descriptions.
     pub(crate) terms: term_prefix::Sealed,
-    /// The postings of relationships and associations, and of what rows are about.
+    /// The postings of relationships and associations, of what rows are about, and of members of
+    /// reference sets.
     pub(crate) links: links::Sealed,
 }
 

@@ -15,7 +15,8 @@ pub struct SegmentIndex {
     pub(crate) places: PlaceList,
     /// The folded terms of its descriptions.
     pub(crate) terms: term_prefix::Sealed,
-    /// The postings of its relationships and associations, and of what its rows are about.
+    /// The postings of its relationships and associations, of what its rows are about, and of
+    /// members of reference sets.
     pub(crate) links: links::Sealed,
     /// The rows, which only clauses can see.
     pub(crate) rows: GhostRows,

@@ -172,7 +172,8 @@ impl StoreIndex {
         &self.terms
     }
 
-    /// The postings of relationships and associations, and of what rows are about.
+    /// The postings of relationships and associations, of what rows are about, and of members of
+    /// reference sets.
     pub fn links(&self) -> &Links
         ensures { EachPosted self.now result.now }
     {

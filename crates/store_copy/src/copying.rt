@@ -86,11 +86,12 @@ fn read_and_plan<S: Disk>(
 }
 
 /// Copies the first imports of a store, or all if no number is given, to an empty disk, and returns
-/// the directory of the copy. The copy has the same rows with the same import numbers and the
-/// store's layout version. It has the same segments, without those that would have no row, one
-/// directly after the other; in version 3 all of them have checksums. The store is read twice:
-/// first like an opening reads it, and then row by row, where each row has to be the one of its
-/// place. No calls are made on its disk but reads, a sync and requests for its length.
+/// the directory of the copy. The copy has the store's layout version, and the rows that these
+/// imports brought, with their import numbers. It has one segment for each of the store's segments
+/// in which there are such rows, one directly after the other; in version 3 all of them have
+/// checksums. The store is read twice: first as an opening reads it, and then row by row, where
+/// each row has to have the key, the import number and the length of its place. The calls on its
+/// disk are reads, one sync and requests for its length.
 pub fn copy<S: Disk, T: Disk>(
     alloc: Global,
     source: &mut S,

@@ -23,7 +23,7 @@ pub record IsSegmentOf (entry : Entry) (rows : List StampedRow) : Type 0 where
   pub bytes : length (segment_of rows) ≡ entry.bytes
   pub count : length rows ≡ entry.rows
 
--- the segment of these rows in this form, from this block on
+-- the entry of a segment of these rows in this form, from block `first` on
 abbrev pub entry_at : Form → ℕ → List StampedRow → Entry
 entry_at form first rows =
     record { first = first; bytes = length (segment_of rows); rows = length rows; form = form }

@@ -14,7 +14,7 @@ EndBelow len entries = AllByRecursion (λ extent. 4096 * end_block extent ≤ le
 abbrev pub cut_to : ℕ → Moments → Moments
 cut_to len old = followed_by old (after_cut old.state len)
 
--- One cut and then one sync changed the disk; if the disk failed, at most the cut.
+-- One cut and then one sync changed the disk; if it failed, at most the cut.
 abbrev pub IsTrimmed : {T E : Type 0} → Result T E → ℕ → Moments → Moments → Type 0
 IsTrimmed (Ok done) len old new = new ≡ synced (cut_to len old)
 IsTrimmed (Err fault) len old new = Fails old (after_cut old.state len) new ⊎ (new ≡ cut_to len old)

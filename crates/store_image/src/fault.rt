@@ -24,8 +24,8 @@ pub enum Damage {
     /// A gate is open, and neither slot is the current one.
     #[error("the slots (the file ends within them, or both have one epoch)")]
     Slots,
-    /// The content of the current slot is no valid directory, or the other slot can't have been
-    /// published before it.
+    /// The content of the current slot lists no directory; or the gate of the other slot is open,
+    /// and its content can't have been published before that directory.
     #[error("the directory")]
     Directory,
     /// The disk doesn't have a segment as this entry, counted from 1, describes it.

@@ -66,7 +66,7 @@ pub fn make<D: Disk>(alloc: Global, disk: &mut D, layout: Layout) -> Result<Made
         → OnOk result (IsNewStore layout (D.view disk.new).moments.state.now) }
     ensures refused { (D.view disk.old).is_honest
         → StaysIfRefused result (D.view disk.old).moments (D.view disk.new).moments }
-    // A disk that isn't empty is unchanged, whatever the result, even if the disk fails.
+    // A disk that isn't empty is unchanged, whatever the result, even if it fails.
     ensures untouched { (D.view disk.old).is_honest → 1 ≤ length (D.view disk.old).moments.state.now
         → (D.view disk.new).moments ≡ (D.view disk.old).moments }
     // Whatever the result, a crash changes nothing after the slots.

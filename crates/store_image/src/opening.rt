@@ -61,8 +61,9 @@ pub fn load<D: Disk, B: SegmentBuilder>(
     ensures on_disk { (D.view disk.old).is_honest
         → IfOk result (λ l. IsOnDisk (D.view disk.new).moments.state l.slot l.directory
         (map B.sealed l.segments.items)) }
-    // On every disk it reads the slots, and each byte of the listed segments once. Beside its reads
-    // it makes one sync, and asks for the length once for the slots and once for each segment.
+    // After `Ok`, on every disk: it has read the slots, and each byte of the listed segments once,
+    // at most. Besides its reads it made one sync, and asked for the length once for the slots and
+    // once for each segment, at most.
     ensures meters { Calls (CountsLoading result)
         (λ before after. IfOk result
         (λ l. after ≤ before + slots_read + bytes_listed l.directory.entries))

@@ -101,7 +101,7 @@ impl Window {
             → Sees self.old (D.view disk.old).moments.state.now
             → OnOk result (IsFull self.new (D.view disk.old).moments.state.now) }
         ensures goes_on { raised_by (D.view disk.old).bytes_read 0 ≤ (D.view disk.new).bytes_read }
-        // Whatever it answers, its reads are asked for no more bytes than `asked` grows by.
+        // Whatever the result: no more bytes are requested than `asked` grows by.
         ensures meters { OnlyReads (CountsEach result)
             (λ before after. after + self.old.asked ≤ before + self.new.asked)
             (D.view disk.old) (D.view disk.new) }
@@ -162,7 +162,7 @@ impl Window {
             → Sees self.old (D.view disk.old).moments.state.now
             → IfOk result (λ _. Sees self.new (D.view disk.old).moments.state.now) }
         ensures goes_on { raised_by (D.view disk.old).bytes_read 0 ≤ (D.view disk.new).bytes_read }
-        // Whatever it answers, its reads are asked for no more bytes than `asked` grows by.
+        // Whatever the result: no more bytes are requested than `asked` grows by.
         ensures meters { OnlyReads (CountsFault result)
             (λ before after. after + self.old.asked ≤ before + self.new.asked)
             (D.view disk.old) (D.view disk.new) }

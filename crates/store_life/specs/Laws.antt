@@ -101,8 +101,7 @@ EachLifeIsRepresented D view = (first last : StoreValue D) (events : List Event)
     × AreKept None (events ++ Crashed within ∷ []) releases
     × TakesAll first.history releases after × RepresentsHistory after bytes
 
--- And it is opened with that history, unless memory runs out during the opening or the disk
--- fails.
+-- And it is opened with that history, unless memory runs out during the opening or the disk fails.
 abbrev pub EachLifeIsOpened : (D : Type 0) → (D → DiskView) → Type 0
 EachLifeIsOpened D view = (first last : StoreValue D) (events : List Event)
     (within : Option Call) (bytes : List ℕ) (result : StoreOr D)
@@ -133,8 +132,8 @@ EachLifeKeepsItsPins D view = (first last : StoreValue D) (events : List Event) 
 
 -- ---- one import
 
--- a release is answered alike by stores that are alike, and leaves them alike, unless memory runs
--- out or the disk fails
+-- An import of a release has the same result in two stores that are equal apart from their disks
+-- and caches, and leaves them equal in this sense, unless memory runs out or the disk fails.
 abbrev pub OneImport : Type 0 → Type 0
 OneImport D = (release : Release) (result also : Result Receipt Refusal)
     (a b after next : StoreValue D) → b.history ≡ a.history → b.catalog ≡ a.catalog

@@ -122,8 +122,8 @@ pub fn each_life_keeps_its_pins<D: Disk>()
     ensures { EachLifeKeepsItsPins D D.view }
 {}
 
-/// An import of a release has the same result in equal stores, unless memory runs out or the disk
-/// fails.
+/// An import of a release has the same result in two stores that are equal apart from their disks
+/// and caches, unless memory runs out or the disk fails.
 pub fn one_import<D: Disk>()
     ensures { OneImport D }
 {}

@@ -25,8 +25,8 @@ use rf2_values::Row;
 use segment::RowPlace;
 use std::alloc::{AllocError, Global};
 
-/// What a search asks for beside the text: active descriptions as of this, with an id above `after`
-/// if that is given, the first so many by id.
+/// The conditions of a search besides the prefix: active descriptions at this date and pin, with
+/// ids greater than `after`, if that is given; the first `limit` of them by id.
 #[derive(Clone, Copy)]
 pub struct Search {
     pub as_of: AsOf,
@@ -278,11 +278,12 @@ fn keep_all(
     Ok(kept)
 }
 
-/// The first rows by id, greater than `after` if that is given, of active descriptions at the date
-/// whose folded term begins with the folded prefix, among the rows that the pin shows. For a posted
-/// term that begins so it makes at most one binary search in each list if its id is greater than
-/// `after`, and otherwise none. If a list has fewer than 128 times `limit + 1` such terms, they are
-/// first sorted by their rows, which needs memory for as many.
+/// The first `limit` active descriptions at the date, by id, whose folded term begins with the
+/// folded prefix, with ids greater than `after`, if that is given, among the rows that the pin
+/// shows. For each posted term that begins with the prefix, it makes at most one binary search in
+/// each list of the index, and none if the id isn't greater than `after`. If a list has fewer than
+/// 128 · (`limit` + 1) such terms, they are sorted by their rows first, which needs memory for a
+/// copy of them.
 pub fn find<R: RowReader>(
     alloc: Global,
     terms: &Terms,

@@ -16,7 +16,8 @@ pub enum Call {
     MergePublish,
     MergeAbandon,
     Trim,
-    /// The row of a component at a date, among the rows of the first so many imports.
+    /// The row of a component at a date, among the rows that the first imports brought: their
+    /// number comes last.
     Row(Kind, u128, u32, u32),
     History(Kind, u128, u32),
     Page(Kind, u32, u32),

@@ -15,7 +15,7 @@ directory_of s = record {
   entries = s.catalog.entries;
 }
 
--- the history with so many imports
+-- the history with this number of imports
 abbrev pub with_imports : History → ℕ → History
 with_imports h imports = record { imports = imports; rows = h.rows }
 

@@ -118,11 +118,11 @@ IsNotReadAt faults.Damaged imports entry file =
 
 -- ---- places
 
--- the row is that of the place
+-- the row has the key and the import number of the place
 abbrev pub IsRowOf : StampedRow → RowPlace → Type 0
 IsRowOf s p = (key_of s.row ≡ p.key) × (s.import ≡ p.import)
 
--- the row may be written, and has the key, the number and the length of the place
+-- the row may be stored, and has the key, the import number and the length of the place
 pub record IsOfPlace (s : StampedRow) (p : RowPlace) : Type 0 where
   pub stamped : IsStamped s
   pub is : IsRowOf s p
