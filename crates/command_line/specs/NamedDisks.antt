@@ -20,5 +20,6 @@ named_view view named =
 abbrev pub WritesNamed : {D N T E : Type 0} → (leads misses : N → ℕ → Type 0) → (D → DiskView)
     → Result T E → NamedDisk D N → NamedDisk D N → Type 0
 WritesNamed leads misses view result old new =
-    (leads old.name old.length × ((view new.disk).other_calls ≡ raised_by (view old.disk).other_calls 1))
+    (leads old.name old.length
+    × ((view new.disk).other_calls ≡ raised_by (view old.disk).other_calls 1))
     ⊎ (misses old.name old.length × IsErr result × (new.disk ≡ old.disk))

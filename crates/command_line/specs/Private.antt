@@ -56,7 +56,8 @@ pub record IsStoppedBy {D : Type 0} (view : D → DiskView) (most : ℕ) (last :
   pub cause : 1 ≤ most → IsHalt last.outcome
 
 -- a line of a merge was refused for this reason
-abbrev pub IsStopped : {D : Type 0} → (D → DiskView) → ℕ → LineRefusal → Server D → Server D → Type 0
+abbrev pub IsStopped : {D : Type 0} → (D → DiskView) → ℕ → LineRefusal → Server D → Server D
+    → Type 0
 IsStopped view most refusal old new =
     (last : Turn) × (last.outcome ≡ Err refusal) × IsStoppedBy view most last old new
 

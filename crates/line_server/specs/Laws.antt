@@ -120,7 +120,8 @@ GivesNoMembers releases = (name : List ℕ) (release : Release)
 abbrev pub NoneIsLater : (D : Type 0) → (D → DiskView) → Type 0
 NoneIsLater D view = (releases : Releases) (line : List ℕ) (outcome : Result Answer LineRefusal)
     (old new : Server D)
-    → GivesNoMembers releases → Replies (view old.store.disk).is_honest releases line outcome old new
+    → GivesNoMembers releases
+    → Replies (view old.store.disk).is_honest releases line outcome old new
     → outcome ≢ Err (refusals.Store store.LaterVersion)
 
 -- an import that was answered OK is the one that its turn records

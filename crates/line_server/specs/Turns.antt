@@ -114,13 +114,16 @@ LeavesDisk view seen (Ask question) outcome old new = LeavesAsked view seen ques
 LeavesDisk view seen (At number question) outcome old new =
     LeavesAsked view number question outcome old new
 LeavesDisk view seen (Import name) outcome old new =
-    (view old.disk).is_honest → IfRefused outcome ((view new.disk).moments ≡ (view old.disk).moments)
+    (view old.disk).is_honest
+    → IfRefused outcome ((view new.disk).moments ≡ (view old.disk).moments)
 LeavesDisk view seen (Check name) outcome old new = LeavesQueried view old new
 LeavesDisk view seen (Step rows) outcome old new =
-    ((view old.disk).is_honest → IfRefused outcome ((view new.disk).moments ≡ (view old.disk).moments))
+    ((view old.disk).is_honest
+    → IfRefused outcome ((view new.disk).moments ≡ (view old.disk).moments))
     × StepsThroughCache view old new
 LeavesDisk view seen Publish outcome old new =
-    ((view old.disk).is_honest → IfRefused outcome ((view new.disk).moments ≡ (view old.disk).moments))
+    ((view old.disk).is_honest
+    → IfRefused outcome ((view new.disk).moments ≡ (view old.disk).moments))
     × ((view new.disk).bytes_read ≤ (view old.disk).bytes_read + 1)
 LeavesDisk view seen Trim outcome old new =
     ((view old.disk).is_honest

@@ -25,7 +25,7 @@ call_of (Ok receipt) release = Imported release
 call_of (Err refusals.DiskFault) release = Failed release
 call_of (Err refusal) release = Other
 
--- by `Store::import · answer, kept, any_moment, acknowledged, refused, closed, honesty`
+-- by `Store::import · answer, kept, any_moment, acknowledged, refused, closed, meters`
 abbrev pub ImportIsACall : (D : Type 0) → (D → DiskView) → Type 0
 ImportIsACall D view =
     (old new : StoreValue D) (release : Release) (result : Result Receipt Refusal)
@@ -46,9 +46,10 @@ CheckIsACall D view =
     (old new : StoreValue D) (release : Release) (result : Result Receipt Refusal)
     → IsChecking result release view old new → IsCall view old Other new
 
--- by `query` of the answers of `get`, `history`, `page`, `about`, `search`, `terms`,
--- `replacements`, `replaces`, `timeline` and `delta` (`IsRowsQuery`), and of `ancestors`
--- (`IsAncestorsQuery`), and of `store_digest::digest` (`IsDigestQuery`)
+-- by `query` of the answers of `get`, `versions`, `page`, `about`, `search`, `terms`,
+-- `replacements`, `replaces`, `timeline`, `delta`, `members`, `values` and `called`
+-- (`IsRowsQuery`), of `ancestors` (`IsAncestorsQuery`), and of `store_digest::digest`
+-- (`IsDigestQuery`)
 abbrev pub QueryIsACall : (T D : Type 0) → (D → DiskView) → Type 0
 QueryIsACall T D view = (result : Result T Refusal) (old new : StoreValue D)
     → IsQuery result view old new
@@ -68,7 +69,7 @@ MergeBeginIsACall D view = (result : Result ℕ Refusal) (old new : StoreValue D
     → ((view old.disk).is_honest → new.needs_reopen ≡ false → IsAcknowledged view new)
     → IsCall view old Other new
 
--- by `Store::merge_step · answer, any_moment, acknowledged, closed, honesty`
+-- by `Store::merge_step · answer, any_moment, acknowledged, closed, meters`
 abbrev pub MergeStepIsACall : (D : Type 0) → (D → DiskView) → Type 0
 MergeStepIsACall D view = (result : Result ℕ Refusal) (rows : ℕ) (old new : StoreValue D)
     → IsSteppingOf result old new rows
@@ -80,7 +81,7 @@ MergeStepIsACall D view = (result : Result ℕ Refusal) (rows : ℕ) (old new : 
     → ((view old.disk).is_honest ↔ (view new.disk).is_honest)
     → IsCall view old Other new
 
--- by `Store::merge_publish · history, any_moment, acknowledged, closed, honesty`
+-- by `Store::merge_publish · history, any_moment, acknowledged, closed, meters`
 abbrev pub MergePublishIsACall : (D : Type 0) → (D → DiskView) → Type 0
 MergePublishIsACall D view = (old new : StoreValue D)
     → new.history ≡ old.history
@@ -93,7 +94,7 @@ MergePublishIsACall D view = (old new : StoreValue D)
     → ((view old.disk).is_honest ↔ (view new.disk).is_honest)
     → IsCall view old Other new
 
--- by `Store::upgrade · history, any_moment, acknowledged, closed, honesty`
+-- by `Store::upgrade · history, any_moment, acknowledged, closed, meters`
 abbrev pub UpgradeIsACall : (D : Type 0) → (D → DiskView) → Type 0
 UpgradeIsACall D view = (old new : StoreValue D)
     → new.history ≡ old.history
@@ -106,7 +107,7 @@ UpgradeIsACall D view = (old new : StoreValue D)
     → ((view old.disk).is_honest ↔ (view new.disk).is_honest)
     → IsCall view old Other new
 
--- by `Store::rewrite · history, any_moment, acknowledged, closed, honesty`
+-- by `Store::rewrite · history, any_moment, acknowledged, closed, meters`
 abbrev pub RewriteIsACall : (D : Type 0) → (D → DiskView) → Type 0
 RewriteIsACall D view = (old new : StoreValue D)
     → new.history ≡ old.history
@@ -127,7 +128,7 @@ MergeAbandonIsACall D view = (result : Result (Unit {0}) Refusal) (old new : Sto
     → ((view old.disk).is_honest → new.needs_reopen ≡ false → IsAcknowledged view new)
     → IsCall view old Other new
 
--- by `Store::trim · answer, any_moment, acknowledged, closed, honesty`
+-- by `Store::trim · answer, any_moment, acknowledged, closed, meters`
 abbrev pub TrimIsACall : (D : Type 0) → (D → DiskView) → Type 0
 TrimIsACall D view = (result : Result ℕ Refusal) (old new : StoreValue D)
     → IsTrimmingOf result old new
