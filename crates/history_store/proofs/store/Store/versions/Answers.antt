@@ -3,24 +3,24 @@ use Rattle.history_model.specs.Queries.{versions}
 use Rattle.as_of_index.specs.Places.{Lists}
 use Rattle.history_store.proofs.Lent.{reader_honest, held_after}
 use Rattle.history_store.proofs.Querying.{row_items, rows_answered, closed_rows}
-use Rattle.history_store.proofs.store.Store.history.Goals as goal
+use Rattle.history_store.proofs.store.Store.versions.Goals as goal
 
 pub invariant_of-self : goal.invariant_of-self
 invariant_of-self g c =
     let r = c.new-reader.ensures in
-    let now = c.history-read.new.reader in
-    held_after g.D.Disk.view _ _ _ _ _ _ _ _ _ _ c.self.invariant.0 r.disk r.cache r.entries r.shown c.self.inside.merge now.disk.now now.cache.now now.entries.now now.shown.now c.self.invariant.1 c.history-read.ensures.stays.0
-    (g.met.D.Disk.now_is_image c.self.inside.disk) c.history-read.ensures.answer.reader.honesty
+    let now = c.versions-read.new.reader in
+    held_after g.D.Disk.view _ _ _ _ _ _ _ _ _ _ c.self.invariant.0 r.disk r.cache r.entries r.shown c.self.inside.merge now.disk.now now.cache.now now.entries.now now.shown.now c.self.invariant.1 c.versions-read.ensures.stays.0
+    (g.met.D.Disk.now_is_image c.self.inside.disk) c.versions-read.ensures.answer.reader.honesty
 
 pub returns : goal.returns
 returns g c = record {
   answer = rw (← c.self.view_is) (
       let r = c.new-reader.ensures in
-      let e = c.history-read.ensures in
+      let e = c.versions-read.ensures in
       let a = c.answered.ensures in
       rows_answered g.D.Disk.view row_items (versions c.args.kind c.args.id) c.args.pin
       (Lists c.places.result.now) _ c.answered.new.self c.self.inside.index c.new-reader.result.shown.now c.new-reader.result.entries.now
-      c.new-reader.result.disk.now c.history-read.new.reader.disk.now c.new-reader.result.cache.now c.history-read.new.reader.cache.now c.history-read.result c.answered.result
+      c.new-reader.result.disk.now c.versions-read.new.reader.disk.now c.new-reader.result.cache.now c.versions-read.new.reader.cache.now c.versions-read.result c.answered.result
       refl c.if-self.false r.disk r.cache r.entries r.shown
       c.places.ensures (λ up. reader_honest g.D.Disk.view _ _ _ _ _ _ _ _ _ _ c.self.invariant.0 r.disk r.cache r.entries r.shown up c.if-self.false (g.met.D.Disk.now_is_image c.self.inside.disk up))
       e.answer e.stays.0 e.stays.5 e.stays.6 a.same a.left a.disk a.cache a.acknowledged);
