@@ -27,6 +27,7 @@ ROOT = os.path.dirname(os.path.dirname(os.path.dirname(os.path.abspath(__file__)
 QUOTED = re.compile(r"`([^`]+)`")
 NAMED = re.compile(r"(?<![\w:])(\w+)::((?:\w+::)*)(\{[^}]*\}|\w+)")
 PATH = re.compile(r"[\w.-]+(?:/[\w.-]+)+\.(?:rt|antt|py|md|rs|service)$")
+FUNCTION = re.compile(r"\bfn (\w+)")
 ITEM = re.compile(r"^\s*(?:pub(?:\([a-z]+\))? )?(mod|struct|enum|trait|type) (\w+)", re.M)
 # (The proofs of what a type does for a trait stand under both names, put together.)
 MEETS = re.compile(r"^impl(?:<.*?>)? (?:\w+::)*(\w+)(?:<.*?>)? for (\w+)", re.M)
@@ -84,14 +85,22 @@ def impls_of(crate: str) -> set[str]:
             for trait, kind in MEETS.findall(text_of(path))}
 
 
+def functions_of(crate: str) -> set[str]:
+    """The names of a crate's functions."""
+    return {name
+            for path in glob.glob(ROOT + "/crates/" + crate + "/src/**/*.rt", recursive=True)
+            for name in FUNCTION.findall(text_of(path))}
+
+
 def proofs_of_nothing(words: dict[str, set[str]]) -> Iterator[str]:
     """The folders of proofs/ whose module, type or function is gone."""
     for crate in sorted(words):
-        known = words[crate] | impls_of(crate)
+        known, functions = words[crate] | impls_of(crate), functions_of(crate)
         top = os.path.join(ROOT, "crates", crate)
         for path in sorted(glob.glob(top + "/proofs/*/**/", recursive=True)):
             folder = os.path.relpath(path, top)
-            if os.path.basename(folder) not in known:
+            has_answers = os.path.exists(os.path.join(path, "Answers.antt"))
+            if os.path.basename(folder) not in (functions if has_answers else known):
                 yield "crates/%s/%s: there is no such item" % (crate, folder)
 
 
