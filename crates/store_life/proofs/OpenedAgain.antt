@@ -27,7 +27,7 @@ pub each_life_begins : (D : Type 0) (view : D → DiskView) → EachLifeBegins D
 each_life_begins D view disk layout result up had = begins view disk up layout result had
 
 pub each_opening_is_of_a_life : (D : Type 0) (view : D → DiskView) → EachOpeningIsOfALife D view
-each_opening_is_of_a_life D view disk result up opening = (opened_from view disk up result opening, λ left stop is_left. record { is_honest = up; read = refl; stop = stop; any_moment = opening.any_moment up; is_left = is_left })
+each_opening_is_of_a_life D view disk result up opening = (opened_from view disk up result opening, λ left crash is_left. record { is_honest = up; read = refl; crash = crash; any_moment = opening.any_moment up; is_left = is_left })
 
 pub closed_store_is_opened : (D : Type 0) (view : D → DiskView) → ((disk : D) → (view disk).is_honest → IsImage (view disk).moments.state (view disk).moments.state.now) → ClosedStoreIsOpened D view
 closed_store_is_opened D view now_is_image old new up opening =
