@@ -1,6 +1,7 @@
 -- What is posted of rows, each with its number in its list: any of what a version may be looked for
 -- by.
 use Rattle.std.specs.Prelude.{ℕ, ◌+◌, List, [], ◌∷◌, ◌++◌}
+use Rattle.std.specs.List.{AllZip}
 use Rattle.std.specs.List.Sorted.{IsPermutation}
 use Rattle.rf2_values.specs.Row.{RowValue}
 use Rattle.history_model.specs.declared.stamped.StampedRow.{StampedRow}
@@ -13,8 +14,5 @@ posted_all posted i (s ∷ rows) = posted s.row i ++ posted_all posted (i + 1) r
 -- the lists are the postings of these lists' rows, each row pushed with its number in its list
 abbrev pub AllPosted : {X : Type 0} → (RowValue → ℕ → List X) → List (List StampedRow)
     → List (List X) → Type 0
-AllPosted posted [] [] = Unit {0}
-AllPosted posted [] (ts ∷ postings) = ⊥
-AllPosted posted (rows ∷ lists) [] = ⊥
-AllPosted posted (rows ∷ lists) (ts ∷ postings) =
-    IsPermutation (posted_all posted 0 rows) ts × AllPosted posted lists postings
+AllPosted posted lists postings =
+    AllZip (λ rows ts. IsPermutation (posted_all posted 0 rows) ts) lists postings

@@ -1,5 +1,6 @@
 -- Lists of which all rows are posted.
 use Rattle.std.specs.Prelude.{◌≡◌, ℕ, List, [], ◌∷◌, ◌++◌, length, slice_set, remove}
+use Rattle.std.specs.List.{AllZip}
 use Rattle.history_model.specs.declared.stamped.StampedRow.{StampedRow}
 use Rattle.links.specs.Edges.{Edges, AreSameEdges, edges_of, joined_edges, posted_edges}
 
@@ -9,10 +10,7 @@ ArePostingsOf rows edges = AreSameEdges (posted_edges rows) edges
 
 -- there is one list of postings for each list of rows, and it has the postings of these rows
 abbrev pub EachPosted : List (List StampedRow) → List Edges → Type 0
-EachPosted [] [] = Unit {0}
-EachPosted [] (e ∷ edges) = ⊥
-EachPosted (rows ∷ lists) [] = ⊥
-EachPosted (rows ∷ lists) (e ∷ edges) = ArePostingsOf rows e × EachPosted lists edges
+EachPosted lists edges = AllZip ArePostingsOf lists edges
 
 -- what is posted of rows and of one row more is what is posted of them, and then of that one
 abbrev pub PushedOneByOne : Type 0
