@@ -159,9 +159,9 @@ class Store:
         # Held by a merge of the hub's own. Who waits for several of these has them in the order
         # imports, merges, changes.
         self.merges = asyncio.Lock()
-        # There may be more segments than wanted.
+        # There may be more segments than wanted. (It is not set at the start: a merge that finds
+        # no space ends the hub, and the next one would do so again before it answered anything.)
         self.may_merge = asyncio.Event()
-        self.may_merge.set()
         # The client's session that has begun a merge.
         self.merging: Optional[int] = None
         self.copying: Optional[Copying] = None

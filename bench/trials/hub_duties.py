@@ -313,6 +313,21 @@ def nights(place, store):
         same("merges", len(merges) >= NIGHTS - MERGE_ABOVE, True)
 
 
+def no_merge_at_start(place, store):
+    """A hub that is started merges nothing before the first import. If there was no space for a
+    merge, each hub would otherwise end as the one before did."""
+    own, releases = place.make_store("own"), place.path("releases")
+    lines = write_nights(releases, 4)
+    import_alone(place, own, releases, lines[:3])
+    with Hub(place, own, "--merge-above", "1", releases=releases) as hub:
+        client = Client(hub.socket)
+        time.sleep(0.2)
+        same("the state after the start", client.ask("STATUS"), ["OK 3 3 3 -"])
+        same("an import", client.ask(lines[3]), ["OK 4 1 0"])
+        until("one segment", lambda: client.ask("STATUS") == ["OK 4 4 1 -"])
+        same("the end of the hub", hub.stop("a hub that is stopped"), 0)
+
+
 def import_alone(place, store, releases, lines):
     """Imports without a hub, and so without merges."""
     done = subprocess.run(
@@ -525,4 +540,4 @@ def members(place, _store):
 
 
 TRIALS = [questions_alone, what_arrives, members, pins_apart, rights, other_users, the_log,
-          no_reply, nights, full_store, steps, units, system_calls, types]
+          no_reply, nights, no_merge_at_start, full_store, steps, units, system_calls, types]
