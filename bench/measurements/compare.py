@@ -55,8 +55,6 @@ INDEXES = (
     "CREATE INDEX descriptions ON description (concept) WHERE active = 1",
     "CREATE INDEX relationships ON relationship (source) WHERE active = 1",
 )
-
-
 IMPORTS = (("import the Full release", "full"), ("import a Delta of 100 rows", "delta"))
 
 

@@ -28,7 +28,6 @@ from try_gateway import GATEWAY, ROOT, python_with_h11
 NOT_RUN = 3
 DESK, PHONE = 1000, 360
 LEAST_CONTRAST = 4.5
-PICTURE_BYTES = 600_000
 # The events that a page may not cause.
 UNWANTED = (
     "Runtime.consoleAPICalled",

@@ -232,7 +232,6 @@ class Comparison:
         )
         self.counts["$translate"] += 1
 
-
     def expand_refset(self, snapshot: Snapshot, refset: str) -> None:
         """A reference set page by page, and one concept of it and one of all."""
         url = "%s?fhir_vs=refset/%s" % (version(snapshot.day), refset)

@@ -112,7 +112,6 @@ class Turns(unittest.IsolatedAsyncioTestCase):
                 for _, writer in (many, other):
                     writer.close()
 
-
     async def test_a_client_that_leaves_while_it_waits(self) -> None:
         app = App(Pool("/nowhere"), Edition(EDITION))
         # Where nothing has to be waited for, who sends no more is answered.

@@ -15,7 +15,6 @@ MEMBER_PARAMETERS = frozenset(
     ("url system systemVersion " + OF_A_CODE).replace(" version", "").split()
 )
 
-
 # What a code isn't that is outside a value set.
 OUTSIDE = {
     Sort.WITHIN: "%s and isn't below it",
