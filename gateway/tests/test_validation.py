@@ -95,6 +95,18 @@ class Validate(unittest.TestCase):
             said = self.member("limb", "wrist", systemVersion=version(day))
             self.assertEqual(told(said, "result"), [valid], day)
 
+    def test_member_of_another_code_system(self) -> None:
+        """It isn't in the value set, however it is named."""
+        path, url = "ValueSet/$validate-code", "%s?fhir_vs=isa/%s" % (SCT, self.codes["limb"])
+        other = {"system": "http://hl7.org/fhir/sid/icd-10", "code": "S52"}
+        parts = {"name": "url", "valueUri": url}, {"name": "coding", "valueCoding": other}
+        for status, said in (
+            self.house.gateway.fhir(path, url=url, **other),
+            self.house.gateway.posted(path, *parts),
+        ):
+            self.assertEqual((status, told(said, "result")), (200, [False]), said)
+            self.assertEqual(told(said, "message"), ["no code is one of " + SCT])
+
     def test_member_of_the_reference_sets(self) -> None:
         """Of which this store has none."""
         for what in ("=refset", "=refset/" + self.codes["limb"]):

@@ -24,8 +24,8 @@ OUTSIDE = {
 
 
 async def validate_code(request: Request) -> Json:
-    names = CodeNames(system="url")
-    return await validated(request, names, None)
+    request.query.code_system("url")
+    return await validated(request, CodeNames(system="url"), None)
 
 
 async def validate_member(request: Request) -> Json:
