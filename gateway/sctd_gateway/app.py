@@ -111,16 +111,16 @@ class App:
         if found is None:
             raise not_found("there is no such path")
         pin, path = int(found[1]) if found[1] else None, found[2]
-        if path in self.files:
-            return self.files[path]
-        given = pairs_of(words)
         if path.startswith(FHIR_BASE) or path + "/" == FHIR_BASE:
+            given = pairs_of(words)
             return await self.fhir(request, pin, path.removeprefix(FHIR_BASE), given)
-        if path not in PAGES:
+        if path not in self.files and path not in PAGES:
             raise not_found("there is no such page")
         if request.method == "POST":
             raise Problem(405, "not-supported", "a page is asked for by GET", READS)
-        return await self.page(request, pin, path, given)
+        if path in self.files:
+            return self.files[path]
+        return await self.page(request, pin, path, pairs_of(words))
 
     @asynccontextmanager
     async def view(

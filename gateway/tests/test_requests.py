@@ -188,7 +188,7 @@ class Requests(unittest.TestCase):
             self.assertEqual(
                 (answer.status, answer.headers["allow"]), (405, "GET, HEAD, POST"), method
             )
-        for target in ("/fhir/metadata", "/", "/health"):
+        for target in ("/fhir/metadata", "/", "/health", "/page.css"):
             answer = self.gateway.send("POST", target, b"{}")
             self.assertEqual((answer.status, answer.headers["allow"]), (405, "GET, HEAD"), target)
 
