@@ -4,7 +4,6 @@
 import asyncio
 import json
 import re
-import sys
 import traceback
 from collections.abc import AsyncIterator, Awaitable
 from contextlib import asynccontextmanager
@@ -18,6 +17,7 @@ from .fhir.outputs import dumped
 from .fhir.request import Request
 from .fhir.versions import Edition
 from .hub import OUT_OF_MEMORY, HubGone, HubRefused, TooCostly
+from .logs import tell
 from .pool import Moved, NoSuchPin, Pool
 from .problems import Problem, invalid, missing, not_found, too_costly
 from .store import View
@@ -249,9 +249,9 @@ def problem_of(error: Exception) -> Problem:
         why = str(error) or "it is busy, perhaps with an import"
         return Problem(503, "transient", "the terminology can't be asked at the moment: %s" % why)
     if isinstance(error, HubRefused):
-        print("sctd_gateway: the hub said %s" % error, file=sys.stderr, flush=True)
+        tell("sctd_gateway: the hub said %s" % error)
         return Problem(503 if error.number == OUT_OF_MEMORY else 500, "exception", str(error))
-    traceback.print_exception(error)
+    tell("".join(traceback.format_exception(error)).rstrip("\n"))
     return Problem(500, "exception", "the gateway has a fault; its log says which")
 
 
