@@ -195,6 +195,8 @@ def is_clear(path: str) -> bool:
         print("hub: %s: there is something that is no socket" % path, file=sys.stderr)
         return False
     with socket.socket(socket.AF_UNIX) as earlier:
+        # (A program that hangs, and takes no more connections, isn't waited for.)
+        earlier.setblocking(False)
         if earlier.connect_ex(path) != errno.ECONNREFUSED:
             print("hub: %s: another program listens on it" % path, file=sys.stderr)
             return False

@@ -206,6 +206,12 @@ def sockets(place, store):
     refused_path(place, store, place.path("no", "folder"), "No such file or directory")
     with open(store, "rb") as file:
         same("the store", file.read() == content, True)
+    taken = place.path("taken")
+    with socket.socket(socket.AF_UNIX) as full, socket.socket(socket.AF_UNIX) as first:
+        full.bind(taken)
+        full.listen(0)
+        first.connect(taken)
+        refused_path(place, store, taken, "another program listens")
     another_store = place.make_store("another")
     with Hub(place, store) as hub:
         refused_path(place.below("beside"), another_store, hub.socket, "another program listens")
