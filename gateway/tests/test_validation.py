@@ -3,6 +3,8 @@
 import unittest
 from typing import Any
 
+from sctd_gateway import limits
+
 from .house import SCT, Json, Shared, issue, told, version
 
 
@@ -78,6 +80,11 @@ class Validate(unittest.TestCase):
 
     def test_concept_without_codings(self) -> None:
         self.assertEqual(self.concept()[0], 400)
+
+    def test_concept_with_many_codings(self) -> None:
+        unknown = {"system": SCT, "code": "999"}
+        for count, status in ((limits.CODINGS, 200), (limits.CODINGS + 1, 400)):
+            self.assertEqual(self.concept(*[unknown] * count)[0], status, count)
 
     def test_other_code_system(self) -> None:
         status, _ = self.house.gateway.fhir(

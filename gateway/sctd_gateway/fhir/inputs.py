@@ -119,6 +119,8 @@ class Query:
         found = concept.get("coding") if isinstance(concept, dict) else None
         if not isinstance(found, list) or not found:
             raise invalid("codeableConcept has no coding")
+        if len(found) > limits.CODINGS:
+            raise invalid("codeableConcept has more than %d codings" % limits.CODINGS)
         return [coding_of(one) for one in found]
 
 
