@@ -8,13 +8,16 @@ are run with it. One that no test fails for is said to be NOT SEEN, and the stat
 takes some minutes. Standard library alone; the gateway needs h11.
 """
 
+from __future__ import annotations
+
 import os
 import re
 import shutil
 import subprocess
 import sys
 import tempfile
-from collections import namedtuple
+from collections.abc import Sequence
+from typing import NamedTuple
 
 ROOT = os.path.dirname(os.path.dirname(os.path.dirname(os.path.abspath(__file__))))
 sys.path.insert(0, os.path.join(ROOT, "bench", "trials"))
@@ -23,8 +26,18 @@ from try_gateway import python_with_h11  # noqa: E402
 SECONDS = 300
 PAGE = "try_page.py"
 MEMBERS = "test_members"
-# What is wrong, the file below sctd_gateway, its text, what stands there instead, and the tests.
-Fault = namedtuple("Fault", "what file old new tests")
+
+
+class Fault(NamedTuple):
+    """What is wrong, the file below sctd_gateway, its text, what stands there instead, and the
+    tests."""
+
+    what: str
+    file: str
+    old: str
+    new: str
+    tests: str
+
 
 FAULTS = [
     Fault(
@@ -706,18 +719,15 @@ FAULTS = [
 ]
 
 
-def failed(root, python, program, tests):
+def failed(root: str, python: str, program: str, tests: str) -> list[str]:
     """The tests that fail, or what the browser's trial says."""
-    found = []
+    found: list[str] = []
     for test in tests.split():
-        if test == PAGE:
-            page = os.path.join(root, "bench", "trials", PAGE)
-            words, folder = [sys.executable, page, program], root
-        else:
+        words, folder = [sys.executable, os.path.join("bench", "trials", PAGE), program], root
+        if test != PAGE:
             hub = os.path.join(root, "examples", "hub.py")
-            words, folder = [python, "-m", "tests", program, hub, test], os.path.join(
-                root, "gateway"
-            )
+            words = [python, "-m", "tests", program, hub, test]
+            folder = os.path.join(root, "gateway")
         try:
             done = subprocess.run(
                 words,
@@ -738,7 +748,7 @@ def failed(root, python, program, tests):
     return list(dict.fromkeys(found))
 
 
-def tried(number, fault, python, program):
+def tried(number: int, fault: Fault, python: str, program: str) -> bool:
     """Whether a test fails with the fault."""
     with tempfile.TemporaryDirectory() as root:
         for name in ("gateway", "bench", "examples", "docs"):
@@ -763,9 +773,9 @@ def tried(number, fault, python, program):
     return bool(found)
 
 
-def main(words):
+def main(words: Sequence[str]) -> int:
     if not words:
-        print(__doc__.strip(), file=sys.stderr)
+        print((__doc__ or "").strip(), file=sys.stderr)
         return 2
     python, program = python_with_h11(), os.path.abspath(words[0])
     if python is None:
