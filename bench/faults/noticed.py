@@ -3,15 +3,16 @@
 
 noticed.py [--by CRATE,..] [--keep FOLDER] [--alone] CRATE[/EDIT] ..
 
-An edit of must-fail/ or edits/ is refused by the prover. It may leave must-fail/ once something that
-CI runs is seen to fail with it too. So the functions that the edits change get a copy each with the
-edit, in a copy of this repository; a function calls its copy while the edit's number is in a byte of
-the built program. There each crate of `--by` (default: the programs of cases, and the tests of
-stores, images and the program) is built once by `rt try`, which proves nothing, and run once as it
-is and once with each edit's number in the byte. A line for each edit tells what failed. An edit of
-what is no function of its own (a constant, a function of a trait) can't be planted so, which is
-told: put it in by hand. The last line counts the edits, and those that nothing noticed; the status
-is 1 where there are any. A build takes about two minutes of one processor. Standard library alone.
+An edit of must-fail/ or edits/ is refused by the prover. It may leave must-fail/ once something
+that CI runs is seen to fail with it too. So the functions that the edits change get a copy each
+with the edit, in a copy of this repository; a function calls its copy while the edit's number is in
+a byte of the built program. There each crate of `--by` (default: the programs of cases, and the
+tests of stores, images and the program) is built once by `rt try`, which proves nothing, and run
+once as it is and once with each edit's number in the byte. A line for each edit tells what failed.
+An edit of what is no function of its own (a constant, a function of a trait) can't be planted so,
+which is told: put it in by hand. The last line counts the edits, and those that nothing noticed;
+the status is 1 where there are any. A build takes about two minutes of one processor. Standard
+library alone.
 """
 
 from __future__ import annotations
@@ -97,7 +98,8 @@ def is_of_trait(lines: list[str], start: int) -> bool:
     """Whether the function is one of a trait, or of an `impl` of a trait."""
     if not lines[start].startswith(" "):
         return False
-    owner = next(line for line in reversed(lines[:start]) if re.match(r"(impl|(pub )?trait)\b", line))
+    above = reversed(lines[:start])
+    owner = next(line for line in above if re.match(r"(impl|(pub )?trait)\b", line))
     return " for " in owner or "trait " in owner
 
 
