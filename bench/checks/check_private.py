@@ -42,7 +42,6 @@ STRING = re.compile(r'"(?:[^"\\\n]|\\.)*"')
 QUOTED = re.compile(STRING.pattern + r"|(?:^|(?<=\s))--.*$", re.M)
 CONSTRUCTORS = re.compile(r"^  (?P<names>[^\s:(){}]+(?: [^\s:(){}]+)*) :", re.M)
 
-
 # A word: its crate, its module and its name.
 Key = tuple[str, str, str]
 
