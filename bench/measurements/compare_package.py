@@ -34,8 +34,8 @@ from typing import Iterable, Iterator, NamedTuple, Sequence
 
 import make_release as rf2
 from compare import DAYS, DEFAULT_ROWS, Sctd, Served
-from compare_shell import HEAD, SETTINGS, Table, rows_alone
-from measure_harness import Cost, made_release, ran
+from compare_shell import HEAD, Shell, Table, rows_alone
+from measure_harness import made_release
 
 KEPT_SORTS = {**rf2.BASIC_SORTS, **rf2.FURTHER_SORTS}
 # The columns that the shell keeps as numbers, beside those of SCTIDs.
@@ -45,6 +45,7 @@ LAST_DAY = "20261231"
 # So many members are asked for by pages of so many, so many by their ids, and so many concepts.
 MEMBERS, LIMIT, LOOKUPS, CALLED = 100_000, 1_000, 100_000, 10_000
 SEED = 7
+SHELL = "package.shell"
 NEWEST = (" AND {0}.effectiveTime <= {1} AND NOT EXISTS (SELECT 1 FROM {2} y WHERE y.id = {0}.id"
           " AND y.effectiveTime > {0}.effectiveTime AND y.effectiveTime <= {1})")
 INDEXES = (
@@ -94,32 +95,6 @@ def table_of(sort: str) -> str:
         columns.append("%s %s NOT NULL" % (column, "INTEGER" if is_number else "TEXT"))
     columns.append("PRIMARY KEY (id, effectiveTime)")
     return "CREATE TABLE %s (%s) WITHOUT ROWID;" % (sort, ", ".join(columns))
-
-
-class Shell:
-    """SQLite's shell on a file, with a table for each sort of files."""
-
-    def __init__(self, place: Path) -> None:
-        self.place, self.path = place, place / "package.shell"
-        for end in ("", "-wal", "-shm"):
-            Path(str(self.path) + end).unlink(missing_ok=True)
-        self.kept = 0
-        self.run([*SETTINGS, *map(table_of, KEPT_SORTS)])
-
-    def run(self, lines: Sequence[str]) -> tuple[bytes, Cost]:
-        """What it prints for these lines, and what they cost."""
-        cache = "PRAGMA cache_size = -%d;" % (self.kept // 1024)
-        head = ["PRAGMA synchronous = FULL;", cache] if self.kept else []
-        text = "\n".join([*head, *lines]) + "\n"
-        return ran(["sqlite3", "-batch", "-bail", str(self.path)], text.encode(), str(self.place))
-
-    def take(self, folder: Path, indexes: Sequence[str] = ()) -> Cost:
-        """Imports the files of a release, whose rows are trusted to be new."""
-        lines = ['.import --skip 1 "%s" %s' % (path, sort) for sort, path in files_of(folder)]
-        return self.run([".mode tabs", "BEGIN;", *lines, *indexes, "COMMIT;"])[1]
-
-    def asked(self, queries: Iterable[str]) -> tuple[bytes, Cost]:
-        return self.run([".mode list", '.separator "\\t" "\\n"', *queries])
 
 
 def snapshot(rows: Iterable[list[str]], date: str) -> dict[str, list[str]]:
@@ -250,15 +225,16 @@ def compare(program: str, folder: Path, count: int) -> bool:
     place = folder / ("package%d" % count)
     full, delta = place / "full", place / "delta"
     made_release(str(place), count, is_package=True)
-    table, shell = Table(count), Shell(place)
+    table, shell = Table(count), Shell(str(place), SHELL, map(table_of, KEPT_SORTS))
     basic, sctd = (Sctd(program, str(place), "package%d.store" % layout, layout)
                    for layout in (2, 3))
     ground = held_by(sctd)
     told, ours = sctd.take("full")
-    table.show("import the Full release, with its indexes", ours, shell.take(full, INDEXES))
+    theirs = shell.take(files_of(full), INDEXES)
+    table.show("import the Full release, with its indexes", ours, theirs)
     rows = rows_in(told)
     told, ours = sctd.take("delta")
-    table.show("import a Delta of 100 rows", ours, shell.take(delta))
+    table.show("import a Delta of 100 rows", ours, shell.take(files_of(delta)))
     served = Served(sctd)
     table.show("open", served.opening, None)
     shell.kept = served.held()

@@ -74,6 +74,7 @@ HEAD = """| Rows | Work | sctd: wall | processor | peak, MB | SQLite's shell: wa
 
 # A list of lines, with its title.
 Asked = tuple[str, list[str]]
+SHELL = "compared.shell"
 SETTINGS = ("PRAGMA journal_mode = WAL;", "PRAGMA synchronous = FULL;")
 
 
@@ -95,54 +96,56 @@ def draw_rows(folder: str, chance: random.Random) -> tuple[int, Rows]:
 
 
 class Shell:
-    """SQLite's shell on a file."""
+    """SQLite's shell on a new file, in which statements make tables."""
 
-    def __init__(self, place: str) -> None:
-        self.place = place
-        self.path = os.path.join(place, "compared.shell")
+    def __init__(self, place: str, name: str, tables: Iterable[str]) -> None:
+        self.place, self.path = place, os.path.join(place, name)
         for end in ("", "-wal", "-shm"):
             if os.path.exists(self.path + end):
                 os.remove(self.path + end)
         self.kept = 0
-        self.run(list(SETTINGS) + [self.table(kind, TABLES[kind]) for kind in TABLES])
-
-    @staticmethod
-    def table(kind: str, name: str) -> str:
-        texts = (*TEXTS, *["id"] * (kind == "A"))
-        columns = ["%s %s NOT NULL" % (c, "TEXT" if c in texts else "INTEGER")
-                   for c in COLUMNS[kind]]
-        columns.append("PRIMARY KEY (id, time)")
-        return "CREATE TABLE %s (%s) WITHOUT ROWID;" % (name, ", ".join(columns))
+        self.run([*SETTINGS, *tables])
 
     def run(self, lines: Sequence[str]) -> tuple[bytes, Cost]:
-        """What it prints for these lines."""
+        """What it prints for these lines, and what they cost."""
         cache = "PRAGMA cache_size = -%d;" % (self.kept // 1024)
         head = ["PRAGMA synchronous = FULL;", cache] if self.kept else []
         text = "\n".join([*head, *lines]) + "\n"
         return ran(["sqlite3", "-batch", "-bail", self.path], text.encode(), self.place)
 
-    def take(self, folder: str, indexes: bool) -> Cost:
-        """Imports the files of a release, whose rows are trusted to be new."""
-        lines = ['.import --skip 1 "%s" %s' % (path, TABLES[kind])
-                 for kind, path in files_of(folder)]
-        made = INDEXES if indexes else ()
-        return self.run([".mode tabs", "BEGIN;", *lines, *made, "COMMIT;"])[1]
+    def take(self, files: Iterable[tuple[str, object]], indexes: Sequence[str] = ()) -> Cost:
+        """Imports files, each into a table, and makes indexes. The rows are trusted to be new."""
+        lines = ['.import --skip 1 "%s" %s' % (path, table) for table, path in files]
+        return self.run([".mode tabs", "BEGIN;", *lines, *indexes, "COMMIT;"])[1]
 
-    def take_again(self, folder: str) -> Cost:
-        """Imports the files of a release, of which what is known is passed over."""
-        lines = [".mode tabs", "PRAGMA temp_store = MEMORY;", "BEGIN;"]
-        for kind, path in files_of(folder):
-            staged = "temp.staged_" + TABLES[kind]
-            columns = ", ".join(COLUMNS[kind])
-            lines += ["CREATE TABLE %s (%s);" % (staged, columns),
-                      '.import --skip 1 --schema temp "%s" staged_%s' % (path, TABLES[kind]),
-                      "INSERT OR IGNORE INTO %s SELECT %s FROM %s;"
-                      % (TABLES[kind], columns, staged)]
-        return self.run([*lines, "COMMIT;"])[1]
-
-    def asked(self, queries: Sequence[str]) -> tuple[bytes, Cost]:
+    def asked(self, queries: Iterable[str]) -> tuple[bytes, Cost]:
         """The lines that it prints for queries, and what they cost."""
         return self.run([".mode list", '.separator "\\t" "\\n"', *queries])
+
+
+def table_of(kind: str) -> str:
+    """The statement that makes the table of a kind."""
+    texts = (*TEXTS, *["id"] * (kind == "A"))
+    columns = ["%s %s NOT NULL" % (c, "TEXT" if c in texts else "INTEGER") for c in COLUMNS[kind]]
+    columns.append("PRIMARY KEY (id, time)")
+    return "CREATE TABLE %s (%s) WITHOUT ROWID;" % (TABLES[kind], ", ".join(columns))
+
+
+def tables_and_files(folder: str) -> Iterator[tuple[str, str]]:
+    """The files of a release, each with the table of its kind."""
+    yield from ((TABLES[kind], path) for kind, path in files_of(folder))
+
+
+def take_again(shell: Shell, folder: str) -> Cost:
+    """Imports the files of a release, of which what is known is passed over."""
+    lines = [".mode tabs", "PRAGMA temp_store = MEMORY;", "BEGIN;"]
+    for kind, path in files_of(folder):
+        table, columns = TABLES[kind], ", ".join(COLUMNS[kind])
+        lines += ["CREATE TABLE temp.staged_%s (%s);" % (table, columns),
+                  '.import --skip 1 --schema temp "%s" staged_%s' % (path, table),
+                  "INSERT OR IGNORE INTO %s SELECT %s FROM temp.staged_%s;"
+                  % (table, columns, table)]
+    return shell.run([*lines, "COMMIT;"])[1]
 
 
 def query_of(line: str) -> str:
@@ -396,7 +399,7 @@ def ask_in_a_tree(table: Table, sctd: Sctd, shell: Shell, asked: Iterable[Asked]
     if not os.path.isdir(os.path.join(sctd.place, "tree")):
         make_tree(sctd.place)
     ours = sctd.take("tree")[1]
-    theirs = shell.take(os.path.join(sctd.place, "tree"), False)
+    theirs = shell.take(tables_and_files(os.path.join(sctd.place, "tree")))
     table.show("import other parents of each concept", ours, theirs)
     served = Served(sctd)
     ask_both(table, served, shell, asked)
@@ -408,11 +411,12 @@ def import_all(table: Table, sctd: Sctd, shell: Shell) -> dict[int, bytes]:
     full, delta = (os.path.join(sctd.place, name) for name in ("full", "delta"))
     told: dict[int, bytes] = {}
     told[1], ours = sctd.take("full")
-    table.show("import the Full release, with its indexes", ours, shell.take(full, True))
+    theirs = shell.take(tables_and_files(full), INDEXES)
+    table.show("import the Full release, with its indexes", ours, theirs)
     told[2], ours = sctd.take("full")
-    table.show("import it over itself", ours, shell.take_again(full))
+    table.show("import it over itself", ours, take_again(shell, full))
     told[3], ours = sctd.take("delta")
-    table.show("import a Delta of 100 rows", ours, shell.take(delta, False))
+    table.show("import a Delta of 100 rows", ours, shell.take(tables_and_files(delta)))
     return told
 
 
@@ -420,7 +424,8 @@ def compare(program: str, folder: str, count: int) -> bool:
     """Whether all replies and answers were the same."""
     place = os.path.join(folder, str(count))
     made_release(place, count)
-    table, shell, sctd = Table(count), Shell(place), Sctd(program, place)
+    table, sctd = Table(count), Sctd(program, place)
+    shell = Shell(place, SHELL, map(table_of, TABLES))
     told = import_all(table, sctd, shell)
     chance = random.Random(SEED)
     of_full, rows = draw_rows(os.path.join(place, "full"), chance)
