@@ -24,6 +24,7 @@ sys.path.insert(0, os.path.join(ROOT, "bench", "trials"))
 from try_gateway import python_with_h11  # noqa: E402
 
 SECONDS = 300
+NOT_RUN = 3
 PAGE = "try_page.py"
 MEMBERS = "test_members"
 
@@ -436,6 +437,48 @@ FAULTS = [
         "test_hub",
     ),
     Fault(
+        "a program that takes no more connections is waited for",
+        "__main__.py",
+        "        earlier.setblocking(False)\n",
+        "",
+        "test_hub",
+    ),
+    Fault(
+        "a code of another code system is refused, and isn't outside a value set",
+        "fhir/inputs.py",
+        "        if forms == [names.code]:\n",
+        "        if forms == [names.code]:\n            self.code_system(names.system)\n",
+        "test_validation",
+    ),
+    Fault(
+        "a concept has any number of codings",
+        "fhir/inputs.py",
+        "        if len(found) > limits.CODINGS:\n",
+        "        if False:\n",
+        "test_validation",
+    ),
+    Fault(
+        "the page's style may be posted to",
+        "app.py",
+        "        if request.method == \"POST\":\n            raise Problem(405",
+        "        if request.method == \"POST\" and path in PAGES:\n            raise Problem(405",
+        "test_requests",
+    ),
+    Fault(
+        "what can't be logged ends a request",
+        "logs.py",
+        "    with contextlib.suppress(OSError):\n",
+        "    if True:\n",
+        "test_requests",
+    ),
+    Fault(
+        "the capabilities claim $closure",
+        "fhir/capabilities.py",
+        '        "translation": {"needsMap": True},\n',
+        '        "translation": {"needsMap": True},\n        "closure": {"translation": False},\n',
+        "test_value_sets",
+    ),
+    Fault(
         "a style that the policy forbids",
         "page.html",
         "<header>",
@@ -780,7 +823,7 @@ def main(words: Sequence[str]) -> int:
     python, program = python_with_h11(), os.path.abspath(words[0])
     if python is None:
         print("not run: h11 is missing")
-        return 3
+        return NOT_RUN
     chosen = [int(word) for word in words[1:]] or range(len(FAULTS))
     seen = [tried(number, FAULTS[number], python, program) for number in chosen]
     print("%d faults, %d not seen" % (len(seen), seen.count(False)))
