@@ -55,6 +55,8 @@ KEPT_SESSIONS = 23
 UNREAD_LIMIT = 256 << 20
 # How long clients have time to read what was answered when the hub ends.
 LAST_SECONDS = 2
+# Connections that the system keeps until they are taken.
+BACKLOG = 1024
 
 
 class Client:
@@ -230,7 +232,7 @@ class Listener:
 async def listen(hub: Hub, listeners: list[tuple[Listener, bool]]) -> list[asyncio.Server]:
     return [
         await asyncio.start_unix_server(
-            functools.partial(hub.connected, may_change), sock=listener.socket, backlog=1024)
+            functools.partial(hub.connected, may_change), sock=listener.socket, backlog=BACKLOG)
         for listener, may_change in listeners]
 
 
