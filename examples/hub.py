@@ -55,6 +55,8 @@ KEPT_SESSIONS = 23
 UNREAD_LIMIT = 256 << 20
 # How long clients have time to read what was answered when the hub ends.
 LAST_SECONDS = 2
+# Connections that the system keeps until they are taken.
+BACKLOG = 1024
 
 
 class Client:
@@ -195,6 +197,8 @@ def is_clear(path: str) -> bool:
         print("hub: %s: there is something that is no socket" % path, file=sys.stderr)
         return False
     with socket.socket(socket.AF_UNIX) as earlier:
+        # (A program that hangs, and takes no more connections, isn't waited for.)
+        earlier.setblocking(False)
         if earlier.connect_ex(path) != errno.ECONNREFUSED:
             print("hub: %s: another program listens on it" % path, file=sys.stderr)
             return False
@@ -228,7 +232,7 @@ class Listener:
 async def listen(hub: Hub, listeners: list[tuple[Listener, bool]]) -> list[asyncio.Server]:
     return [
         await asyncio.start_unix_server(
-            functools.partial(hub.connected, may_change), sock=listener.socket, backlog=1024)
+            functools.partial(hub.connected, may_change), sock=listener.socket, backlog=BACKLOG)
         for listener, may_change in listeners]
 
 

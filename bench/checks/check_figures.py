@@ -5,25 +5,42 @@ check_figures.py [--renew]
 
 FIGURES names each of them with the command that prints it: the document, the text around the
 number, and the command, which bash runs at the top of the repository. The text stands in its
-document just once, and its number has to be the one that is printed. TABLES names commands that print rows
-of a table: each row has to stand in its document as it is printed. And a number of edits, tests,
-cases in files or crates that stands in a document without being in FIGURES is an error, but for the
-rows of dated measurements. --renew writes what the commands print into the documents. Nothing is
-built, and it takes a second or two; what there is to say goes to standard error. The status is 1
-where a figure isn't so. Standard library alone.
+document just once, and its number has to be the one that is printed. TABLES names commands that
+print rows of a table: each row has to stand in its document as it is printed. And a number of
+edits, tests, cases in files or crates that stands in a document without being in FIGURES is an
+error, but for the rows of dated measurements. --renew writes what the commands print into the
+documents. Nothing is built, and it takes a second or two; what there is to say goes to standard
+error. The status is 1 where a figure isn't so. Standard library alone.
 """
+
+from __future__ import annotations
 
 import glob
 import os
 import re
 import subprocess
 import sys
-from collections import namedtuple
+from collections.abc import Iterator, Sequence
+from typing import NamedTuple
 
 ROOT = os.path.dirname(os.path.dirname(os.path.dirname(os.path.abspath(__file__))))
 
-# A document, a text in which {} stands for the number, and the command that prints it.
-Figure = namedtuple("Figure", "document text command")
+
+class Figure(NamedTuple):
+    """A document, a text in which {} stands for the number, and the command that prints it."""
+
+    document: str
+    text: str
+    command: str
+
+
+class Table(NamedTuple):
+    """A document, and a command that prints rows of a table in it: what is counted, and its
+    numbers."""
+
+    document: str
+    command: str
+
 
 PERFORMANCE, RELIABILITY = "docs/PERFORMANCE.md", "docs/RELIABILITY.md"
 EDITS = "ls crates/*/must-fail/*.edit crates/*/edits/*.edit | wc -l"
@@ -44,12 +61,12 @@ FUNCTIONS = (
 )
 
 
-def number_in(path, text):
+def number_in(path: str, text: str) -> str:
     """A command that prints the number which stands behind a text in a file of crates/."""
     return "sed -nE 's/.*%s([0-9_]+).*/\\1/p' crates/%s | head -n 1 | tr -d _" % (text, path)
 
 
-def reckoned(command, sum_of):
+def reckoned(command: str, sum_of: str) -> str:
     """A command that prints a sum of what another one prints, `n`, or nothing as that one."""
     return "n=$(%s) && echo $(( %s ))" % (command, sum_of.replace("n", "${n:?}"))
 
@@ -60,14 +77,14 @@ DAMAGE = "store_cases/data/cases/damage.txt"
 OLD = "store_cases/data/cases/old.txt"
 
 
-def failures_in(asked):
+def failures_in(asked: str) -> str:
     """A command that prints how many failures the first case has that asks this."""
     return number_in(CRASHES, "^fails %s -> " % asked)
 
 
 # The last crash of the script is behind all its calls, and behind the one of an opening.
-SCRIPT_CALLS = "n=$(sed -nE 's/^= [0-9]+ to ([0-9]+): 3, yes, none, done, yes$/\\1/p' crates/%s" \
-    " | head -n 1) && echo $(( ${n:?} - 1 ))" % CRASHES
+SCRIPT_CALLS = ("n=$(sed -nE 's/^= [0-9]+ to ([0-9]+): 3, yes, none, done, yes$/\\1/p' crates/%s"
+                " | head -n 1) && echo $(( ${n:?} - 1 ))" % CRASHES)
 BREAKS = failures_in("change script shut held")
 ALL_BREAKS = failures_in("all script-and-questions shut held")
 READS = failures_in("read script-and-questions shut held")
@@ -78,7 +95,8 @@ IMAGES = "awk '/^byte / {s += $NF} END {print s}' crates/%s" % DAMAGE
 OLD_CRASHES = ("awk '/^crashes lost / {asked = 1; next}"
              " asked && /^= / {n = $2 ~ /:$/ ? $2 : $4; sub(\":\", \"\", n); last = n; next}"
              " asked {s += last + 1; asked = 0} END {print s}' crates/%s" % OLD)
-FIELDS = ("sed -n '/^case a field that is changed/,/^asked/p' crates/%s | grep -c '^with '" % DAMAGE)
+FIELDS = ("sed -n '/^case a field that is changed/,/^asked/p' crates/%s"
+          " | grep -c '^with '" % DAMAGE)
 MEMORY = "test_program/src/call_growths.rt"
 MEMORY_CALLS = number_in(MEMORY, "const CALLS: \\[\\(Call, Wanted, u32\\); ")
 # The last number of each call stands behind the other two, or in a line of its own.
@@ -87,7 +105,7 @@ MEMORY_REFUSALS = ("sed -n '/^const CALLS/,/^];/p' crates/%s"
                    " | tr -dc '0-9\\n' | awk '{s += $1} END {print s}'" % MEMORY)
 
 
-def asked_for(path, what, behind):
+def asked_for(path: str, what: str, behind: str) -> str:
     """A command that prints the number that an assertion with this text behind it asks for."""
     return ("sed -nE 's/.*%s >= ([0-9_]+)%s.*/\\1/p' crates/%s | head -n 1 | tr -d _"
             % (what, behind, path))
@@ -131,8 +149,6 @@ FIGURES = [
            " | sed -nE 's/^keep -> //p'" % DAMAGE),
 ]
 
-# A document, and a command that prints rows of a table in it: what is counted, and its numbers.
-Table = namedtuple("Table", "document command")
 TABLES = [Table("docs/ARCHITECTURE.md", "python3 bench/checks/count_reach.py")]
 
 # What has to be in FIGURES wherever it stands, and the rows that say what was so on a day.
@@ -142,7 +158,7 @@ COUNTED = re.compile(
 DATED = re.compile(r"\| (?:20[0-9]{2}-|the same )")
 
 
-def printed(command, known):
+def printed(command: str, known: dict[str, str | None]) -> str | None:
     """The number that a command prints, as the documents write it; None where it prints none."""
     if command not in known:
         done = subprocess.run(["bash", "-c", command], cwd=ROOT, stdout=subprocess.PIPE,
@@ -152,19 +168,16 @@ def printed(command, known):
     return known[command]
 
 
-def pattern_of(figure):
+def pattern_of(figure: Figure) -> re.Pattern[str]:
     """The text of a figure, with a group for its number."""
     front, behind = map(re.escape, figure.text.split("{}"))
     return re.compile("(%s)([0-9][0-9,]*)(?=%s)" % (front, behind))
 
 
-def unlisted(name, text):
+def unlisted(name: str, text: str) -> Iterator[tuple[int, str]]:
     """The counts in a document that no figure covers, each with its line's number."""
-    spans = [
-        pattern_of(figure).search(text).span(2)
-        for figure in FIGURES
-        if figure.document == name and pattern_of(figure).search(text)
-    ]
+    found = (pattern_of(figure).search(text) for figure in FIGURES if figure.document == name)
+    spans = [match.span(2) for match in found if match]
     for match in COUNTED.finditer(text):
         start = text.rfind("\n", 0, match.start()) + 1
         covered = any(first <= match.start() < last for first, last in spans)
@@ -172,7 +185,7 @@ def unlisted(name, text):
             yield text.count("\n", 0, match.start()) + 1, match.group()
 
 
-def checked(name, text, known, wrong):
+def checked(name: str, text: str, known: dict[str, str | None], wrong: list[str]) -> str:
     """The document with its figures as they are; what isn't so is added to `wrong`."""
     for figure in FIGURES:
         if figure.document != name:
@@ -183,20 +196,20 @@ def checked(name, text, known, wrong):
             continue
         number = printed(figure.command, known)
         if number is None:
-            what = (name, figure.text, figure.command)
-            wrong.append("%s: %r: no number is printed by: %s" % what)
+            wrong.append("%s: %r: no number is printed by: %s"
+                         % (name, figure.text, figure.command))
             continue
-        if found[0][1] != number:
-            sentence = figure.text.replace("{}", found[0][1])
-            what = (name, sentence, number, figure.command)
-            wrong.append("%s: %r, and %s is printed by: %s" % what)
-        text = pattern_of(figure).sub(lambda match: match.group(1) + number, text)
+        before, after = (figure.text.replace("{}", one) for one in (found[0][1], number))
+        if before != after:
+            wrong.append("%s: %r, and %s is printed by: %s"
+                         % (name, before, number, figure.command))
+        text = text.replace(before, after)
     for line, count in unlisted(name, text):
         wrong.append("%s:%d: %r has no command" % (name, line, count))
     return text
 
 
-def checked_table(table, text, wrong):
+def checked_table(table: Table, text: str, wrong: list[str]) -> str:
     """The document with the rows of a table as they are; what isn't so is added to `wrong`."""
     done = subprocess.run(["bash", "-c", table.command], cwd=ROOT, stdout=subprocess.PIPE,
                           check=False, text=True)
@@ -213,11 +226,12 @@ def checked_table(table, text, wrong):
     return text
 
 
-def main(words):
+def main(words: Sequence[str]) -> int:
     if words not in ([], ["--renew"]):
-        print(__doc__.strip(), file=sys.stderr)
+        print((__doc__ or "").strip(), file=sys.stderr)
         return 2
-    known, wrong = {}, []
+    known: dict[str, str | None] = {}
+    wrong: list[str] = []
     names = ["README.md"] + sorted(os.path.relpath(n, ROOT) for n in glob.glob(ROOT + "/docs/*.md"))
     for name in names:
         path = os.path.join(ROOT, name)

@@ -12,12 +12,15 @@ system's Python: where that is missing its commands are left out, and the last l
 Standard library alone.
 """
 
+from __future__ import annotations
+
 import difflib
 import os
 import signal
 import subprocess
 import sys
 import tempfile
+from collections.abc import Iterator, Mapping, Sequence
 
 ROOT = os.path.dirname(os.path.dirname(os.path.dirname(os.path.abspath(__file__))))
 
@@ -30,16 +33,16 @@ SYSTEM_PYTHON = "/usr/bin/python3"
 class Example:
     """A command of the guide, its chapter, the line it stands in, and what it has to print."""
 
-    def __init__(self, chapter, number, command):
+    def __init__(self, chapter: str, number: int, command: str) -> None:
         self.chapter = chapter
         self.number = number
         self.command = command
         self.wanted = ""
 
 
-def examples(text):
+def examples(text: str) -> list[Example]:
     """The commands of all console blocks, in order."""
-    found = []
+    found: list[Example] = []
     in_block, chapter = False, ""
     for number, line in enumerate(text.split("\n"), 1):
         if line.startswith("```"):
@@ -59,7 +62,7 @@ def examples(text):
     return found
 
 
-def run(command, folder, around):
+def run(command: str, folder: str, around: Mapping[str, str]) -> str:
     """What a command prints, and with it all that it started; behind that, what it ends with, where
     it doesn't end in time or with the status 0."""
     made = subprocess.Popen(
@@ -76,7 +79,7 @@ def run(command, folder, around):
     return printed.decode("utf-8", "backslashreplace") + end
 
 
-def has_h11():
+def has_h11() -> bool:
     try:
         return not subprocess.run([SYSTEM_PYTHON, "-c", "import h11"], stderr=subprocess.DEVNULL,
                                   check=False).returncode
@@ -84,31 +87,40 @@ def has_h11():
         return False
 
 
-def main(words):
+def wrong_in(wanted: Sequence[Example], program: str, place: str) -> Iterator[Example]:
+    """The examples that don't print what they have to, run in a folder; each is told."""
+    tools, work = os.path.join(place, "tools"), os.path.join(place, "work")
+    os.mkdir(tools)
+    os.mkdir(work)
+    os.symlink(program, os.path.join(tools, "sctd"))
+    path = tools + os.pathsep + os.environ["PATH"]
+    around = dict(os.environ, SCTD=ROOT, PATH=path, LC_ALL="C")
+    for example in wanted:
+        printed = run(example.command, work, around)
+        if printed != example.wanted:
+            tell(example, printed)
+            yield example
+
+
+def tell(example: Example, printed: str) -> None:
+    """Tells in what an example differs from what it prints."""
+    print("line %d: %s" % (example.number, example.command.split("\n")[0]))
+    wanted, found = example.wanted.splitlines(), printed.splitlines()
+    for line in difflib.unified_diff(wanted, found, "guide", "printed", lineterm=""):
+        print("    " + line)
+
+
+def main(words: Sequence[str]) -> int:
     if len(words) not in (1, 2):
-        print(__doc__.strip(), file=sys.stderr)
+        print((__doc__ or "").strip(), file=sys.stderr)
         return 2
     guide = words[1] if len(words) == 2 else os.path.join(ROOT, "docs", "GUIDE.md")
     with open(guide, encoding="utf-8", newline="") as file:
         every = examples(file.read())
     h11 = has_h11()
     wanted = [one for one in every if one.chapter != GATEWAY_CHAPTER or h11]
-    wrong = 0
     with tempfile.TemporaryDirectory() as place:
-        tools, work = os.path.join(place, "tools"), os.path.join(place, "work")
-        os.mkdir(tools)
-        os.mkdir(work)
-        os.symlink(os.path.abspath(words[0]), os.path.join(tools, "sctd"))
-        around = dict(os.environ, SCTD=ROOT, PATH=tools + os.pathsep + os.environ["PATH"], LC_ALL="C")
-        for example in wanted:
-            printed = run(example.command, work, around)
-            if printed != example.wanted:
-                wrong += 1
-                print("line %d: %s" % (example.number, example.command.split("\n")[0]))
-                for line in difflib.unified_diff(
-                    example.wanted.splitlines(), printed.splitlines(), "guide", "printed", lineterm=""
-                ):
-                    print("    " + line)
+        wrong = len(list(wrong_in(wanted, os.path.abspath(words[0]), place)))
     left_out = ", %d left out: h11 is missing" % (len(every) - len(wanted))
     print("%d commands, %d print something else or fail%s" % (
         len(wanted), wrong, left_out if len(wanted) < len(every) else ""))

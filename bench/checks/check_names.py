@@ -23,6 +23,8 @@ import re
 import sys
 from collections.abc import Iterator
 
+from check_edits import read
+
 ROOT = os.path.dirname(os.path.dirname(os.path.dirname(os.path.abspath(__file__))))
 QUOTED = re.compile(r"`([^`]+)`")
 NAMED = re.compile(r"(?<![\w:])(\w+)::((?:\w+::)*)(\{[^}]*\}|\w+)")
@@ -37,18 +39,13 @@ HEADING = re.compile(r"^## (\w+)", re.M)
 EXAMPLES = ("releases/",)
 
 
-def text_of(path: str) -> str:
-    with open(path, encoding="utf-8") as file:
-        return file.read()
-
-
 def words_of(crate: str) -> set[str]:
     """The words of a crate's sources and definitions."""
     folder = os.path.join(ROOT, "crates", crate)
     found: set[str] = set()
     for pattern in ("/src/**/*.rt", "/specs/**/*.antt"):
         for path in glob.glob(folder + pattern, recursive=True):
-            found.update(re.findall(r"\w+", text_of(path)))
+            found.update(re.findall(r"\w+", read(path)))
     return found
 
 
@@ -73,7 +70,7 @@ def faults_of(text: str, words: dict[str, set[str]]) -> Iterator[str]:
 def named_as_crates(crates: list[str]) -> Iterator[str]:
     """The items of the sources that are named as a crate."""
     for path in sorted(glob.glob(ROOT + "/crates/*/src/**/*.rt", recursive=True)):
-        for kind, name in ITEM.findall(text_of(path)):
+        for kind, name in ITEM.findall(read(path)):
             if name in crates:
                 yield "%s: %s %s: a crate has that name" % (os.path.relpath(path, ROOT), kind, name)
 
@@ -82,14 +79,14 @@ def impls_of(crate: str) -> set[str]:
     """Each type of a crate with each trait that it has, as one word."""
     return {kind + trait
             for path in glob.glob(ROOT + "/crates/" + crate + "/src/**/*.rt", recursive=True)
-            for trait, kind in MEETS.findall(text_of(path))}
+            for trait, kind in MEETS.findall(read(path))}
 
 
 def functions_of(crate: str) -> set[str]:
     """The names of a crate's functions."""
     return {name
             for path in glob.glob(ROOT + "/crates/" + crate + "/src/**/*.rt", recursive=True)
-            for name in FUNCTION.findall(text_of(path))}
+            for name in FUNCTION.findall(read(path))}
 
 
 def proofs_of_nothing(words: dict[str, set[str]]) -> Iterator[str]:
@@ -120,7 +117,7 @@ def scripts_not_listed() -> Iterator[str]:
     found = {os.path.relpath(path, ROOT + "/bench")
              for path in glob.glob(ROOT + "/bench/**/*", recursive=True)
              if path.endswith((".py", ".rs"))}
-    listed = set(scripts_listed(text_of(os.path.join(ROOT, INDEX))))
+    listed = set(scripts_listed(read(os.path.join(ROOT, INDEX))))
     yield from (INDEX + ": it has no line for " + name for name in sorted(found - listed))
     yield from (INDEX + ": there is no " + name for name in sorted(listed - found))
 
@@ -131,7 +128,7 @@ def main() -> int:
     count, lost = 0, 0
     documents = [os.path.join(ROOT, name) for name in ("README.md", "CHANGELOG.md", INDEX)]
     for path in documents + sorted(glob.glob(ROOT + "/docs/*.md")):
-        text = text_of(path)
+        text = read(path)
         count += len(QUOTED.findall(text))
         for fault in faults_of(text, words):
             lost += 1

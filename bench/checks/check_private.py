@@ -18,10 +18,16 @@ to a word. A name that a term binds itself counts as the word of that name: so a
 for a reached one, and never the other way round. Nothing is built. Standard library alone.
 """
 
+from __future__ import annotations
+
 import glob
 import os
 import re
 import sys
+from collections.abc import Callable, Collection, Iterable, Iterator, Sequence
+from typing import NamedTuple, Optional, Union
+
+from check_edits import read
 
 ROOT = os.path.dirname(os.path.dirname(os.path.dirname(os.path.abspath(__file__))))
 
@@ -36,22 +42,32 @@ STRING = re.compile(r'"(?:[^"\\\n]|\\.)*"')
 QUOTED = re.compile(STRING.pattern + r"|(?:^|(?<=\s))--.*$", re.M)
 CONSTRUCTORS = re.compile(r"^  (?P<names>[^\s:(){}]+(?: [^\s:(){}]+)*) :", re.M)
 
-
-def text_of(path):
-    with open(path, encoding="utf-8") as file:
-        return file.read()
+# A word: its crate, its module and its name.
+Key = tuple[str, str, str]
 
 
-def without_comments(text):
+class OfType(NamedTuple):
+    """A type of Rattle, and its crate."""
+
+    crate: str
+    item: Item
+
+
+# What can be reached, and what a name means in a scope: that, the path of a module, or nothing.
+Node = Union[Key, OfType]
+Scope = dict[str, Union[Node, str, None]]
+
+
+def without_comments(text: str) -> str:
     return QUOTED.sub(lambda found: found[0] if found[0].startswith('"') else "", text)
 
 
-def spellings(name):
+def spellings(name: str) -> list[str]:
     """A name, and the parts that stand between the arguments if it is an operator."""
     return [name] + [part for part in name.split("◌") if part and part != name]
 
 
-def is_private_name(module):
+def is_private_name(module: str) -> bool:
     """Whether a module's path says that its words are private."""
     return any(re.match(r"Private|.*Private$", part) for part in module.split("."))
 
@@ -62,11 +78,12 @@ def is_private_name(module):
 class Import:
     """A `use` line: the module's path, and its names with what each is called here."""
 
-    def __init__(self, path, names, alias):
+    def __init__(self, path: str, names: Optional[list[tuple[str, str]]],
+                 alias: Optional[str]) -> None:
         self.path, self.names, self.alias = path, names, alias
 
     @staticmethod
-    def of(line):
+    def of(line: str) -> Optional[Import]:
         """The import that a line is, or None."""
         found = USE.match(line)
         if not found:
@@ -81,12 +98,12 @@ class Import:
 class Word:
     """A definition: its name, its text, and the line on which it begins."""
 
-    def __init__(self, key, sort, text, line):
+    def __init__(self, key: Key, sort: Optional[str], text: str, line: int) -> None:
         self.key, self.sort, self.text, self.line = key, sort, text, line
         self.crate, self.module, self.name = key
         # Its body is shut, so that nothing but what its signature says is known of it.
         self.is_proof = not sort and not re.match(r"abbrev|unfoldable|pattern", text)
-        self.constructors = []
+        self.constructors: list[str] = []
         if sort == "data":
             for found in CONSTRUCTORS.finditer(text):
                 self.constructors += found["names"].split(" ")
@@ -95,12 +112,14 @@ class Word:
 class Module:
     """A file of specs/: its imports, its words, and the modules that it names or passes on."""
 
-    def __init__(self, crate, name, path):
+    def __init__(self, crate: str, name: str, path: str) -> None:
         self.crate, self.name, self.path = crate, name, path
-        self.imports, self.words = [], []
-        self.passed, self.passed_names = {}, {}
-        begun = None
-        lines = text_of(path).split("\n")
+        self.imports: list[Import] = []
+        self.words: list[Word] = []
+        self.passed: dict[str, str] = {}
+        self.passed_names: dict[str, tuple[str, str]] = {}
+        begun = 0
+        lines = read(path).split("\n")
         for number, line in enumerate(lines + ["pub "], 1):
             if re.match(r"(pub )?use ", line):
                 self.take_use(line)
@@ -109,15 +128,16 @@ class Module:
                     self.take_word(lines[begun - 1: number - 1], begun)
                 begun = number
 
-    def take_use(self, line):
+    def take_use(self, line: str) -> None:
         found = Import.of(line)
+        assert found is not None, line
         if line.startswith("pub ") and found.names is None:
             self.passed[found.alias or found.path.split(".")[-1]] = found.path
-        elif line.startswith("pub "):
+        elif line.startswith("pub ") and found.names is not None:
             self.passed_names.update((here, (found.path, name)) for name, here in found.names)
         self.imports.append(found)
 
-    def take_word(self, lines, number):
+    def take_word(self, lines: list[str], number: int) -> None:
         found = DECLARATION.match(lines[0])
         if found and not re.match(r"infix|module|mutual", lines[0]):
             key = (self.crate, self.name, found["name"])
@@ -125,7 +145,7 @@ class Module:
             self.words.append(Word(key, found["sort"], text, number))
 
 
-def names_in(text):
+def names_in(text: str) -> Iterator[list[str]]:
     """The names that a term has, each as its parts between dots; what follows a `)` is a field."""
     text = QUOTED.sub(" ", text)
     for token in ANTT_NAME.findall(text):
@@ -142,9 +162,14 @@ def names_in(text):
 class Item:
     """An item of Rattle: what it is, its name, whether it is `pub`, and what stands in it."""
 
-    def __init__(self, sort, name, is_open):
+    def __init__(self, sort: str, name: str, is_open: bool) -> None:
         self.sort, self.name, self.is_open = sort, name, is_open
-        self.head, self.clauses, self.items, self.is_test = "", [], [], False
+        self.head, self.is_test, self.is_inline = "", False, False
+        # The head of each clause, and its term.
+        self.clauses: list[tuple[str, str]] = []
+        self.items: list[Item] = []
+        # The module that it stands in, once that has taken it.
+        self.module: RustModule
 
 
 class Reader:
@@ -155,10 +180,10 @@ class Reader:
     NAME = re.compile(r"\w+")
     OPENERS, CLOSERS = "([{", ")]}"
 
-    def __init__(self, text):
+    def __init__(self, text: str) -> None:
         self.text, self.at = text, 0
 
-    def token(self):
+    def token(self) -> str:
         """The next token, or an empty one at the end."""
         found = self.SKIPPED.match(self.text, self.at)
         while found:
@@ -172,13 +197,13 @@ class Reader:
         self.at += 1
         return self.text[self.at - 1: self.at]
 
-    def peek(self):
+    def peek(self) -> str:
         at = self.at
         token = self.token()
         self.at = at
         return token
 
-    def skip_group(self):
+    def skip_group(self) -> None:
         """Passes over a group, from its opening bracket to the one that closes it."""
         depth = 0
         while True:
@@ -187,17 +212,18 @@ class Reader:
             if depth <= 0 or not token:
                 return
 
-    def term(self):
+    def term(self) -> str:
         """The term of a clause, between braces."""
         self.token()
         begin, depth = self.at, 1
         while depth:
             found = re.compile(r'[{}]|"(?:[^"\\]|\\.)*"').search(self.text, self.at)
+            assert found is not None, self.text[begin:]
             depth += {"{": 1, "}": -1}.get(found[0], 0)
             self.at = found.end()
         return self.text[begin: self.at - 1]
 
-    def until(self, stops):
+    def until(self, stops: Collection[str]) -> str:
         """What stands before one of these tokens, outside of groups."""
         begin = self.at
         while self.peek() and self.peek() not in stops:
@@ -207,9 +233,9 @@ class Reader:
                 self.token()
         return self.text[begin: self.at]
 
-    def items(self):
+    def items(self) -> list[Item]:
         """The items up to the end of the block."""
-        items = []
+        items: list[Item] = []
         while self.peek() and self.peek() != "}":
             item = self.item()
             if item:
@@ -217,7 +243,7 @@ class Reader:
         self.token()
         return items
 
-    def item(self):
+    def item(self) -> Optional[Item]:
         """The next item, with what stands before its first word."""
         is_test = is_open = False
         while True:
@@ -226,7 +252,8 @@ class Reader:
                 begin = self.at
                 self.until("[")
                 self.skip_group()
-                is_test = is_test or re.match(r"\[(cfg\()?test", self.text[begin: self.at])
+                found = re.match(r"\[(cfg\()?test", self.text[begin: self.at])
+                is_test = is_test or found is not None
             elif token == "pub":
                 is_open = self.peek() != "("
                 if not is_open:
@@ -235,10 +262,10 @@ class Reader:
                 break
         item = self.item_of(token, is_open)
         if item:
-            item.is_test = bool(is_test)
+            item.is_test = is_test
         return item
 
-    def item_of(self, sort, is_open):
+    def item_of(self, sort: str, is_open: bool) -> Optional[Item]:
         """The item that begins with this word."""
         if sort == "ghost":
             return self.ghost()
@@ -255,7 +282,7 @@ class Reader:
         self.skip_group()
         return None
 
-    def ghost(self):
+    def ghost(self) -> Item:
         """A `ghost use`, or a ghost field or member."""
         name = self.token()
         item = Item("ghost", name, True)
@@ -271,20 +298,20 @@ class Reader:
             self.token()
         return item
 
-    def read_mod(self, item):
+    def read_mod(self, item: Item) -> None:
         item.head = self.until(";{")
         item.is_inline = self.token() == "{"
         if item.is_inline:
             item.items = self.items()
 
-    def read_struct(self, item):
+    def read_struct(self, item: Item) -> None:
         item.head = self.until("{;")
         if self.token() == "{":
             item.items = self.fields()
             item.head += " ".join(field.head for field in item.items)
 
-    def fields(self):
-        fields = []
+    def fields(self) -> list[Item]:
+        fields: list[Item] = []
         while self.peek() not in ("}", ""):
             if self.peek() == "#":
                 self.token()
@@ -301,20 +328,20 @@ class Reader:
         self.token()
         return fields
 
-    def read_enum(self, item):
+    def read_enum(self, item: Item) -> None:
         item.head = self.until("{")
         begin = self.at
         self.skip_group()
         item.head += self.text[begin: self.at]
 
-    def read_trait(self, item):
+    def read_trait(self, item: Item) -> None:
         item.head = self.until("{")
         self.token()
         item.items = self.items()
 
     read_impl = read_trait
 
-    def read_fn(self, item):
+    def read_fn(self, item: Item) -> None:
         stops = ("requires", "ensures", "ghost", "{", ";")
         item.head = self.until(stops)
         while self.peek() in stops[:3]:
@@ -330,9 +357,9 @@ class Reader:
 RUST_PATH = re.compile(r"[A-Za-z_]\w*(?:::[A-Za-z_]\w*)*")
 
 
-def used_names(head):
+def used_names(head: str) -> Iterator[tuple[list[str], str]]:
     """The names that a `use` brings: each with its path, without braces."""
-    def walk(front, text):
+    def walk(front: list[str], text: str) -> Iterator[tuple[list[str], str]]:
         text = text.strip()
         found = re.match(r"([\w:]*?)(?:::)?\{(.*)\}$", text, re.S)
         if found:
@@ -357,12 +384,17 @@ def used_names(head):
 class RustModule:
     """A module of Rattle: its items, the modules below it, and what its `use` lines bring."""
 
-    def __init__(self, crate, name, above, path):
+    def __init__(self, crate: str, name: str, above: Optional[RustModule], path: str) -> None:
         self.crate, self.name, self.above, self.path = crate, name, above, path
-        self.items, self.below, self.used, self.ghost_uses = [], {}, {}, []
-        self.named = {}
+        self.is_open = False
+        self.items: list[Item] = []
+        self.below: dict[str, RustModule] = {}
+        # The path of each name that a `use` brings, and whether that is `pub`.
+        self.used: dict[str, tuple[list[str], bool]] = {}
+        self.ghost_uses: list[str] = []
+        self.named: dict[str, Item] = {}
 
-    def take(self, items, folder):
+    def take(self, items: list[Item], folder: str) -> None:
         """Takes items, and reads the files of the modules that they name."""
         for item in items:
             item.module = self
@@ -377,17 +409,17 @@ class RustModule:
                 self.named[item.name] = item
         self.items = [item for item in items if not item.is_test]
 
-    def take_module(self, item, folder):
+    def take_module(self, item: Item, folder: str) -> None:
         below = RustModule(self.crate, item.name, self, self.path)
         below.is_open = item.is_open
         items = item.items
         if not item.is_inline:
             below.path = os.path.join(folder, item.name + ".rt")
-            items = Reader(text_of(below.path)).items()
+            items = Reader(read(below.path)).items()
         below.take(items, os.path.join(folder, item.name))
         self.below[item.name] = below
 
-    def all(self):
+    def all(self) -> Iterator[RustModule]:
         yield self
         for below in self.below.values():
             yield from below.all()
@@ -396,34 +428,39 @@ class RustModule:
 class Crate:
     """A crate: its modules of Rattle, and those of specs/."""
 
-    def __init__(self, name):
+    def __init__(self, name: str) -> None:
         self.name = name
         self.folder = os.path.join(ROOT, "crates", name)
-        self.specs, self.root = {}, None
+        self.specs: dict[str, Module] = {}
         for path in sorted(glob.glob(self.folder + "/specs/**/*.antt", recursive=True)):
             module = os.path.relpath(path, self.folder + "/specs")[: -len(".antt")]
             module = module.replace(os.sep, ".")
             self.specs[module] = Module(name, module, path)
+        self.root = RustModule(name, "", None, "")
         for root in ("lib", "main"):
             path = os.path.join(self.folder, "src", root + ".rt")
             if os.path.exists(path):
                 self.root = RustModule(name, "", None, path)
-                self.root.take(Reader(text_of(path)).items(), os.path.join(self.folder, "src"))
-        if self.root is None:
-            self.root = RustModule(name, "", None, "")
+                self.root.take(Reader(read(path)).items(), os.path.join(self.folder, "src"))
+
+
+# What a path of Rattle names, if it names anything.
+Found = Union[Item, RustModule, None]
 
 
 class Project:
     """All crates, and what their public contracts reach."""
 
-    def __init__(self):
+    def __init__(self) -> None:
         names = sorted(os.path.basename(d) for d in glob.glob(ROOT + "/crates/*"))
         self.crates = {name: Crate(name) for name in names}
         self.words = {w.key: w for c in self.crates.values() for m in c.specs.values()
                       for w in m.words}
-        self.scopes = {}
-        self.public = set()
-        self.why, self.left = {}, []
+        self.scopes: dict[Module, Scope] = {}
+        self.public: set[Item] = set()
+        # By what each node is reached: another one, or a public contract.
+        self.why: dict[Node, Union[Node, str]] = {}
+        self.left: list[Node] = []
         for crate in self.crates.values():
             self.take_exports(crate.root, set())
         self.impls = [(module, item) for crate in self.crates.values()
@@ -435,7 +472,7 @@ class Project:
 
     # ---- names
 
-    def module_at(self, path):
+    def module_at(self, path: str) -> Optional[Module]:
         """The module of specs/ with this path, such as `Rattle.blocks.specs.Cache`."""
         parts = path.split(".")
         crate = self.crates.get(parts[1]) if len(parts) > 3 and parts[0] == "Rattle" else None
@@ -448,7 +485,7 @@ class Project:
                 return self.module_at(".".join([above.passed[part]] + parts[at + 1:]))
         return crate.specs.get(".".join(parts))
 
-    def node_at(self, path, name):
+    def node_at(self, path: str, name: str) -> Optional[Node]:
         """What a name of a module is: a word, a type of Rattle, or None for what isn't ours."""
         parts = path.split(".")
         if len(parts) > 4 and parts[2:4] == ["specs", "declared"] and parts[1] in self.crates:
@@ -462,7 +499,7 @@ class Project:
             return self.node_at(*module.passed_names[name])
         return None
 
-    def node_of(self, parts, scope):
+    def node_of(self, parts: list[str], scope: Scope) -> Optional[Node]:
         """What a name with dots is, in a scope: its first part may be a module, or `Rattle`."""
         node = "Rattle" if parts[0] == "Rattle" else scope.get(parts[0])
         if not isinstance(node, str):
@@ -473,20 +510,20 @@ class Project:
                 return found
         return None
 
-    def type_at(self, crate, parts):
+    def type_at(self, crate: Crate, parts: list[str]) -> Optional[OfType]:
         """The type that stands at a path of a crate."""
         module = crate.root
         for part in parts:
             if part in module.named and part == parts[-1]:
-                return ("type", crate.name, module.named[part])
+                return OfType(crate.name, module.named[part])
             if part not in module.below:
                 return None
             module = module.below[part]
         return None
 
-    def scope_of(self, imports, own=()):
+    def scope_of(self, imports: Iterable[Import], own: Iterable[Word] = ()) -> Scope:
         """What names mean below some imports: a node, or the path of a module."""
-        scope = {}
+        scope: Scope = {}
         for found in imports:
             if found.names is None:
                 scope[found.alias or found.path.split(".")[-1]] = found.path
@@ -499,7 +536,7 @@ class Project:
                 scope[name] = word.key
         return scope
 
-    def cited(self, text, scope, hidden=()):
+    def cited(self, text: str, scope: Scope, hidden: Collection[str] = ()) -> Iterator[Node]:
         """The nodes that a term names, in a scope."""
         for parts in names_in(text):
             node = self.node_of(parts, scope) if parts[0] not in hidden else None
@@ -508,12 +545,14 @@ class Project:
 
     # ---- what other crates can name
 
-    def resolve(self, module, parts, seen=()):
+    def resolve(self, module: RustModule, parts: list[str],
+                seen: tuple[tuple[RustModule, tuple[str, ...]], ...] = ()) -> Found:
         """The item or the module that a path of Rattle names, or None."""
         if (module, tuple(parts)) in seen:
             return None
         seen = seen + ((module, tuple(parts)),)
         first, rest = parts[0], parts[1:]
+        found: Found
         if first in ("crate", "self", "super"):
             found = {"crate": self.crates[module.crate].root, "self": module,
                      "super": module.above}[first]
@@ -529,12 +568,13 @@ class Project:
             return self.resolve(found, rest, seen)
         return found
 
-    def take_exports(self, module, seen):
+    def take_exports(self, module: RustModule, seen: set[RustModule]) -> None:
         """Takes what a module hands out: its `pub` items, and what it passes on."""
         if module in seen:
             return
         seen.add(module)
-        found = [item for item in module.named.values() if item.is_open or item.name == "main"]
+        found: list[Found] = [
+            item for item in module.named.values() if item.is_open or item.name == "main"]
         found += [below for below in module.below.values() if below.is_open]
         for parts, is_open in module.used.values():
             if is_open:
@@ -545,7 +585,7 @@ class Project:
             elif item is not None:
                 self.public.add(item)
 
-    def types_in(self, module, text):
+    def types_in(self, module: RustModule, text: str) -> Iterator[Item]:
         """The types that a piece of Rattle names."""
         for path in RUST_PATH.findall(STRING.sub("", text)):
             found = self.resolve(module, path.split("::"))
@@ -554,12 +594,14 @@ class Project:
 
     # ---- what is reached
 
-    def reach(self, node, by):
+    def reach(self, node: Optional[Node], by: Union[Node, str]) -> None:
         if node and node not in self.why:
             self.why[node] = by
             self.left.append(node)
 
-    def reach_terms(self, clauses, module, holders, by, hidden=(), is_member=False):
+    def reach_terms(self, clauses: Sequence[tuple[str, str]], module: RustModule,
+                    holders: Sequence[Item], by: str, hidden: Collection[str] = (),
+                    is_member: bool = False) -> None:
         """Reaches what clauses cite, which stand in these items of a module."""
         lines = module.ghost_uses + [i.head for h in holders for i in h.items
                                      if i.sort == "ghost use"]
@@ -571,14 +613,19 @@ class Project:
         for name, text in clauses:
             said = "%s · %s" % (by, name)
             for node in self.cited(text, scope, hidden):
-                if not (is_member and node in self.words and self.words[node].is_proof):
+                if not (is_member and self.is_proof(node)):
                     self.reach(node, said)
             for parts in names_in(text):
                 item = self.resolve(module, parts[:1]) if parts[0] not in scope else None
                 if isinstance(item, Item) and item.sort in ("struct", "enum"):
-                    self.reach(("type", item.module.crate, item), said)
+                    self.reach(OfType(item.module.crate, item), said)
 
-    def reach_function(self, item, module, holders, by):
+    def is_proof(self, node: Node) -> bool:
+        """Whether it is a word whose body is shut."""
+        return not isinstance(node, OfType) and self.words[node].is_proof
+
+    def reach_function(self, item: Item, module: RustModule, holders: Sequence[Item],
+                       by: str) -> None:
         inside = item.head[item.head.find("("):]
         hidden = set(re.findall(r"(?:\(|,)\s*(?:mut )?(\w+)\s*:", inside)) | {"result", "self"}
         for holder in holders:
@@ -586,17 +633,18 @@ class Project:
                 hidden |= {i.name for i in holder.items if i.sort == "ghost"}
         self.reach_terms(item.clauses, module, holders, by, hidden)
 
-    def reach_members(self, holder, module, by, is_wanted):
+    def reach_members(self, holder: Item, module: RustModule, by: str,
+                      is_wanted: Callable[[Item], bool]) -> None:
         """Reaches what the members of a trait or an impl cite."""
         for item in holder.items:
             if item.sort == "fn" and is_wanted(item):
                 self.reach_function(item, module, [holder], by + "::" + item.name)
             elif item.sort == "ghost" and is_wanted(item):
-                hidden = {i.name for i in holder.items if i.sort == "ghost"}
-                hidden = hidden if holder.sort == "trait" else ()
+                is_trait = holder.sort == "trait"
+                hidden = {i.name for i in holder.items if is_trait and i.sort == "ghost"}
                 self.reach_terms(item.clauses, module, [holder], by, hidden, True)
 
-    def reach_public(self):
+    def reach_public(self) -> None:
         """Reaches what public functions, traits, types and impls cite."""
         for item in sorted(self.public, key=lambda i: (i.module.crate, i.name)):
             by = item.module.crate + "::" + item.name
@@ -605,17 +653,17 @@ class Project:
             elif item.sort == "trait":
                 self.reach_members(item, item.module, by, lambda member: True)
             elif item.sort in ("struct", "enum"):
-                self.reach(("type", item.module.crate, item), by)
+                self.reach(OfType(item.module.crate, item), by)
                 self.reach_terms([c for i in item.items for c in i.clauses], item.module, [], by)
         for module, item in self.impls:
             self.reach_impl(module, item)
 
-    def reach_impl(self, module, item):
+    def reach_impl(self, module: RustModule, item: Item) -> None:
         """Reaches what an impl cites, if it is one for a public type, of a public trait."""
         trait, made = parts_of_impl(item.head)
         types = list(self.types_in(module, made.split("<")[0]))
         front = list(self.types_in(module, trait))
-        by = module.crate + "::" + re.match(r"[&\w']*", made.split("::")[-1].strip())[0]
+        by = module.crate + "::" + re.sub(r"(?s)[^&\w'].*", "", made.split("::")[-1].strip())
         if not all(t in self.public for t in types + front):
             return
         if not trait:
@@ -623,41 +671,41 @@ class Project:
         elif trait.split("::")[-1] != "Model" or types:
             self.reach_members(item, module, trait + " for " + by, lambda m: True)
 
-    def follow(self, node):
+    def follow(self, node: Node) -> None:
         """Reaches what a node that is reached cites itself."""
-        if node[0] == "type":
+        if isinstance(node, OfType):
             self.follow_type(node)
             return
         module = self.crates[node[0]].specs[node[1]]
         if module not in self.scopes:
             self.scopes[module] = self.scope_of(module.imports, module.words)
         for cited in self.cited(self.words[node].text, self.scopes[module]):
-            if cited[:2] != node[:2] or self.words[cited].line < self.words[node].line:
+            if (isinstance(cited, OfType) or cited[:2] != node[:2]
+                    or self.words[cited].line < self.words[node].line):
                 self.reach(cited, node)
 
-    def follow_type(self, node):
+    def follow_type(self, node: OfType) -> None:
         """Reaches the types of the fields, and what the Model says of the value."""
-        item = node[2]
+        item = node.item
         for found in self.types_in(item.module, item.head):
             if found.sort in ("struct", "enum") and found is not item:
-                self.reach(("type", found.module.crate, found), node)
+                self.reach(OfType(found.module.crate, found), node)
         for module, holder in self.impls:
             trait, made = parts_of_impl(holder.head)
-            if module.crate == node[1] and trait.split("::")[-1] == "Model":
+            if module.crate == node.crate and trait.split("::")[-1] == "Model":
                 if item in self.types_in(module, made.split("<")[0]):
-                    wanted = lambda m: m.name in ("Value", "view", "inverse")
-                    self.reach_members(holder, module, self.said(node), wanted)
+                    self.reach_members(holder, module, self.said(node), is_of_value)
 
     # ---- what is said
 
-    def said(self, node):
+    def said(self, node: Union[Node, str]) -> str:
         if isinstance(node, str):
             return node
-        if node[0] == "type":
-            return "%s::%s" % (node[1], node[2].name)
+        if isinstance(node, OfType):
+            return "%s::%s" % (node.crate, node.item.name)
         return "%s.specs.%s.%s" % node
 
-    def path_to(self, node):
+    def path_to(self, node: Union[Node, str]) -> str:
         """How a node is reached, from itself up to a public contract."""
         path = [self.said(node)]
         while not isinstance(node, str):
@@ -665,16 +713,21 @@ class Project:
             path.append(self.said(node))
         return ", by ".join(path)
 
-    def is_wrong(self, word, is_listing):
+    def is_wrong(self, word: Word, is_listing: bool) -> bool:
         is_reached = word.key in self.why
         return is_reached == is_private_name(word.module) and (is_reached or is_listing)
 
 
-def parts_of_impl(head):
+def is_of_value(member: Item) -> bool:
+    """Whether a member of a Model says what value a type has."""
+    return member.name in ("Value", "view", "inverse")
+
+
+def parts_of_impl(head: str) -> tuple[str, str]:
     """The trait, or nothing, and the type of an impl."""
     head = re.sub(r"\s+", " ", head).strip()
     if head.startswith("<"):
-        depth = 0
+        depth = at = 0
         for at, sign in enumerate(head):
             depth += (sign == "<") - (sign == ">" and head[at - 1] != "-")
             if not depth:
@@ -685,7 +738,7 @@ def parts_of_impl(head):
     return (trait.strip(), made.strip()) if found else ("", head.strip())
 
 
-def print_counts(project):
+def print_counts(project: Project) -> None:
     """A line for each crate with specs/: its words, those that are private, and their modules."""
     print("%-18s %6s %8s %6s" % ("crate", "words", "private", "apart"))
     total = [0, 0, 0]
@@ -700,12 +753,12 @@ def print_counts(project):
     print("%-18s %6d %8d %6d" % (("all",) + tuple(total)))
 
 
-def main(words):
+def main(words: Sequence[str]) -> int:
     is_listing, is_counting = "--list" in words, "--count" in words
     asked = [word for word in words if not word.startswith("--")]
     unknown = set(words) - {"--list", "--count", "--why"} - set(asked)
     if unknown or bool(asked) != ("--why" in words):
-        print(__doc__.strip(), file=sys.stderr)
+        print((__doc__ or "").strip(), file=sys.stderr)
         return 2
     project, wrong = Project(), 0
     for key, word in project.words.items():

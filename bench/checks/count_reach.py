@@ -24,7 +24,8 @@ import sys
 from typing import Any, Dict, Iterable, Iterator, List, NamedTuple, Optional, Set, Tuple
 
 import check_private
-from check_private import Item, Project, RustModule
+from check_edits import read
+from check_private import Item, OfType, Project, RustModule
 
 ROOT = check_private.ROOT
 
@@ -73,7 +74,7 @@ class Reach(Project):
             heads = " ".join(item.head for item in [found.item] + found.holders)
             for named in set(self.types_in(found.module, heads)):
                 if named.sort in ("struct", "enum"):
-                    self.reach(("type", named.module.crate, named), name)
+                    self.reach(OfType(named.module.crate, named), name)
                 elif named.sort == "trait" and not is_law(found.item):
                     self.reach_members(named, named.module, name, lambda member: True)
 
@@ -161,7 +162,7 @@ def lines_in(folder: str, crates: Iterable[str]) -> int:
     for crate in crates:
         for path in glob.glob(os.path.join(ROOT, "crates", crate, folder, "**"), recursive=True):
             if path.endswith((".rt", ".antt")):
-                total += check_private.text_of(path).count("\n")
+                total += read(path).count("\n")
     return total
 
 
@@ -193,7 +194,7 @@ def rows() -> Iterator[Tuple[str, Any]]:
         ensured_by("history_store::Store::import"),
         most,
     )
-    yield "lines of `%s`" % QUESTIONS, check_private.text_of(
+    yield "lines of `%s`" % QUESTIONS, read(
         os.path.join(ROOT, "crates", QUESTIONS)
     ).count("\n")
     yield "lines of src/ in product crates", lines_in("src", product_crates())

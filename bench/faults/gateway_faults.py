@@ -8,23 +8,37 @@ are run with it. One that no test fails for is said to be NOT SEEN, and the stat
 takes some minutes. Standard library alone; the gateway needs h11.
 """
 
+from __future__ import annotations
+
 import os
 import re
 import shutil
 import subprocess
 import sys
 import tempfile
-from collections import namedtuple
+from collections.abc import Sequence
+from typing import NamedTuple
 
 ROOT = os.path.dirname(os.path.dirname(os.path.dirname(os.path.abspath(__file__))))
 sys.path.insert(0, os.path.join(ROOT, "bench", "trials"))
 from try_gateway import python_with_h11  # noqa: E402
 
 SECONDS = 300
+NOT_RUN = 3
 PAGE = "try_page.py"
 MEMBERS = "test_members"
-# What is wrong, the file below sctd_gateway, its text, what stands there instead, and the tests.
-Fault = namedtuple("Fault", "what file old new tests")
+
+
+class Fault(NamedTuple):
+    """What is wrong, the file below sctd_gateway, its text, what stands there instead, and the
+    tests."""
+
+    what: str
+    file: str
+    old: str
+    new: str
+    tests: str
+
 
 FAULTS = [
     Fault(
@@ -423,6 +437,48 @@ FAULTS = [
         "test_hub",
     ),
     Fault(
+        "a program that takes no more connections is waited for",
+        "__main__.py",
+        "        earlier.setblocking(False)\n",
+        "",
+        "test_hub",
+    ),
+    Fault(
+        "a code of another code system is refused, and isn't outside a value set",
+        "fhir/inputs.py",
+        "        if forms == [names.code]:\n",
+        "        if forms == [names.code]:\n            self.code_system(names.system)\n",
+        "test_validation",
+    ),
+    Fault(
+        "a concept has any number of codings",
+        "fhir/inputs.py",
+        "        if len(found) > limits.CODINGS:\n",
+        "        if False:\n",
+        "test_validation",
+    ),
+    Fault(
+        "the page's style may be posted to",
+        "app.py",
+        "        if request.method == \"POST\":\n            raise Problem(405",
+        "        if request.method == \"POST\" and path in PAGES:\n            raise Problem(405",
+        "test_requests",
+    ),
+    Fault(
+        "what can't be logged ends a request",
+        "logs.py",
+        "    with contextlib.suppress(OSError):\n",
+        "    if True:\n",
+        "test_requests",
+    ),
+    Fault(
+        "the capabilities claim $closure",
+        "fhir/capabilities.py",
+        '        "translation": {"needsMap": True},\n',
+        '        "translation": {"needsMap": True},\n        "closure": {"translation": False},\n',
+        "test_value_sets",
+    ),
+    Fault(
         "a style that the policy forbids",
         "page.html",
         "<header>",
@@ -706,18 +762,15 @@ FAULTS = [
 ]
 
 
-def failed(root, python, program, tests):
+def failed(root: str, python: str, program: str, tests: str) -> list[str]:
     """The tests that fail, or what the browser's trial says."""
-    found = []
+    found: list[str] = []
     for test in tests.split():
-        if test == PAGE:
-            page = os.path.join(root, "bench", "trials", PAGE)
-            words, folder = [sys.executable, page, program], root
-        else:
+        words, folder = [sys.executable, os.path.join("bench", "trials", PAGE), program], root
+        if test != PAGE:
             hub = os.path.join(root, "examples", "hub.py")
-            words, folder = [python, "-m", "tests", program, hub, test], os.path.join(
-                root, "gateway"
-            )
+            words = [python, "-m", "tests", program, hub, test]
+            folder = os.path.join(root, "gateway")
         try:
             done = subprocess.run(
                 words,
@@ -738,7 +791,7 @@ def failed(root, python, program, tests):
     return list(dict.fromkeys(found))
 
 
-def tried(number, fault, python, program):
+def tried(number: int, fault: Fault, python: str, program: str) -> bool:
     """Whether a test fails with the fault."""
     with tempfile.TemporaryDirectory() as root:
         for name in ("gateway", "bench", "examples", "docs"):
@@ -763,14 +816,14 @@ def tried(number, fault, python, program):
     return bool(found)
 
 
-def main(words):
+def main(words: Sequence[str]) -> int:
     if not words:
-        print(__doc__.strip(), file=sys.stderr)
+        print((__doc__ or "").strip(), file=sys.stderr)
         return 2
     python, program = python_with_h11(), os.path.abspath(words[0])
     if python is None:
         print("not run: h11 is missing")
-        return 3
+        return NOT_RUN
     chosen = [int(word) for word in words[1:]] or range(len(FAULTS))
     seen = [tried(number, FAULTS[number], python, program) for number in chosen]
     print("%d faults, %d not seen" % (len(seen), seen.count(False)))

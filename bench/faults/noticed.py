@@ -3,15 +3,16 @@
 
 noticed.py [--by CRATE,..] [--keep FOLDER] [--alone] CRATE[/EDIT] ..
 
-An edit of must-fail/ or edits/ is refused by the prover. It may leave must-fail/ once something that
-CI runs is seen to fail with it too. So the functions that the edits change get a copy each with the
-edit, in a copy of this repository; a function calls its copy while the edit's number is in a byte of
-the built program. There each crate of `--by` (default: the programs of cases, and the tests of
-stores, images and the program) is built once by `rt try`, which proves nothing, and run once as it
-is and once with each edit's number in the byte. A line for each edit tells what failed. An edit of
-what is no function of its own (a constant, a function of a trait) can't be planted so, which is
-told: put it in by hand. The last line counts the edits, and those that nothing noticed; the status
-is 1 where there are any. A build takes about two minutes of one processor. Standard library alone.
+An edit of must-fail/ or edits/ is refused by the prover. It may leave must-fail/ once something
+that CI runs is seen to fail with it too. So the functions that the edits change get a copy each
+with the edit, in a copy of this repository; a function calls its copy while the edit's number is in
+a byte of the built program. There each crate of `--by` (default: the programs of cases, and the
+tests of stores, images and the program) is built once by `rt try`, which proves nothing, and run
+once as it is and once with each edit's number in the byte. A line for each edit tells what failed.
+An edit of what is no function of its own (a constant, a function of a trait) can't be planted so,
+which is told: put it in by hand. The last line counts the edits, and those that nothing noticed;
+the status is 1 where there are any. A build takes about two minutes of one processor. Standard
+library alone.
 """
 
 from __future__ import annotations
@@ -22,11 +23,12 @@ import shutil
 import sys
 import tempfile
 from pathlib import Path
-from typing import Callable, NamedTuple
+from typing import Callable
 
 TOP = Path(__file__).resolve().parents[2]
-sys.path[:0] = [str(TOP / "bench"), str(TOP / "bench" / "faults")]
+sys.path += [str(TOP / "bench"), str(TOP / "bench" / "checks")]
 from always_refused import SWITCH, Tests, add_switch, body_of, build, is_program  # noqa: E402
+from check_edits import FOLDERS, Change, Edit, edits_of  # noqa: E402
 from unproved import Builder, kit_folder  # noqa: E402
 
 BY = "disk_cases,store_cases,line_cases,program_cases,history_cases,test_images,test_program"
@@ -36,45 +38,14 @@ HEAD = re.compile(r"( *)(?:pub(?:\(crate\))? )?(?:const )?fn (\w+)")
 OPENED, CLOSED = "([{<", ")]}>"
 
 
-class Change(NamedTuple):
-    """A line of a file, and what an edit puts in its place."""
-
-    file: str
-    old: str
-    new: str
-
-
-class Edit(NamedTuple):
-    """A wrong change of a crate."""
-
-    crate: str
-    name: str
-    changes: tuple[Change, ...]
-
-
-def read_edit(path: Path) -> Edit:
-    """The edit in a file of `must-fail/` or `edits/`."""
-    file, old = "", ""
-    changes: list[Change] = []
-    for line in path.read_text(encoding="utf-8").splitlines():
-        word, _, text = line.partition(": ")
-        if word == "file":
-            file = text
-        elif word == "old":
-            old = text
-        elif word == "new":
-            changes.append(Change(file, old, text))
-    return Edit(path.parents[1].name, path.stem, tuple(changes))
-
-
 def edits_named(name: str) -> list[Edit]:
     """The edits of a crate, or the one of a name `CRATE/EDIT`."""
     crate, _, edit = name.partition("/")
-    places = [TOP / "crates" / crate / folder for folder in ("must-fail", "edits")]
-    paths = [path for place in places for path in sorted(place.glob((edit or "*") + ".edit"))]
-    if not paths:
+    every = [one for folder in FOLDERS for one in edits_of(crate, folder)]
+    found = [one for one in every if edit in ("", one.name)]
+    if not found:
         raise SystemExit("noticed.py: there is no edit %s" % name)
-    return [read_edit(path) for path in paths]
+    return found
 
 
 def head_above(lines: list[str], place: int) -> int:
@@ -97,7 +68,8 @@ def is_of_trait(lines: list[str], start: int) -> bool:
     """Whether the function is one of a trait, or of an `impl` of a trait."""
     if not lines[start].startswith(" "):
         return False
-    owner = next(line for line in reversed(lines[:start]) if re.match(r"(impl|(pub )?trait)\b", line))
+    above = reversed(lines[:start])
+    owner = next(line for line in above if re.match(r"(impl|(pub )?trait)\b", line))
     return " for " in owner or "trait " in owner
 
 
@@ -159,11 +131,11 @@ def plant_function(lines: list[str], start: int, changes: list[Change], number: 
 
 def plant(top: Path, edit: Edit, number: int) -> None:
     """Plants an edit in a copy of the repository. A ValueError says why it can't be."""
-    for file in dict.fromkeys(change.file for change in edit.changes):
+    for file in dict.fromkeys(change.path for change in edit.changes):
         path = top / "crates" / edit.crate / file
         lines = path.read_text(encoding="utf-8").split("\n")
         of_function: dict[int, list[Change]] = {}
-        for change in (change for change in edit.changes if change.file == file):
+        for change in (change for change in edit.changes if change.path == file):
             # Changed copies stand before their functions.
             place = max((at for at, line in enumerate(lines) if change.old in line), default=-1)
             if place < 0:
@@ -176,10 +148,6 @@ def plant(top: Path, edit: Edit, number: int) -> None:
         path.write_text("\n".join(lines), encoding="utf-8")
 
 
-def name_of(edit: Edit) -> str:
-    return "%s/%s" % (edit.crate, edit.name)
-
-
 def plant_all(top: Path, edits: list[Edit]) -> dict[int, Edit]:
     """Plants the edits that can be, each under its number; the others are told."""
     planted = {}
@@ -188,7 +156,7 @@ def plant_all(top: Path, edits: list[Edit]) -> dict[int, Edit]:
             plant(top, edit, number)
             planted[number] = edit
         except (ValueError, StopIteration) as why:
-            print("%s: NOT PLANTED: %s" % (name_of(edit), why), flush=True)
+            print("%s: NOT PLANTED: %s" % (edit, why), flush=True)
     add_switch(top, {edit.crate for edit in planted.values()})
     return planted
 
@@ -224,7 +192,7 @@ def failed_in(tests: Tests, number: int) -> list[str]:
 def put_in(top: Path, edit: Edit) -> None:
     """Puts an edit into a copy of the repository, as it is."""
     for change in edit.changes:
-        path = top / "crates" / edit.crate / change.file
+        path = top / "crates" / edit.crate / change.path
         text = path.read_text(encoding="utf-8")
         path.write_text(text.replace(change.old, change.new, 1), encoding="utf-8")
 
@@ -258,8 +226,10 @@ def main() -> int:
     parser.add_argument("--alone", action="store_true", help="build anew for each edit")
     parser.add_argument("--keep", help="the folder of the copy, which stays")
     asked = parser.parse_args()
-    edits = [edit for name in asked.edits for edit in edits_named(name)][:MOST]
+    edits = [edit for name in asked.edits for edit in edits_named(name)]
     by = asked.by.split(",")
+    if len(edits) > MOST and not asked.alone:
+        parser.error("at most %d edits can be tried together" % MOST)
     if asked.alone:
         seen = {edit: told_by(by, lambda name, edit=edit: failed_with(edit, name))
                 for edit in edits}
@@ -271,7 +241,7 @@ def main() -> int:
             if not asked.keep:
                 shutil.rmtree(top)
     for edit, told in seen.items():
-        print("| %s | %s |" % (name_of(edit), ", ".join(told[:3]) or "NOTICED BY NOTHING"))
+        print("| %s | %s |" % (edit, ", ".join(told[:3]) or "NOTICED BY NOTHING"))
     unseen = len(edits) - sum(bool(told) for told in seen.values())
     print("%d edits, %d not noticed" % (len(edits), unseen))
     return 1 if unseen else 0

@@ -469,7 +469,6 @@ class Trial:
             return Verdict(edit, Outcome.REFUSED, f"{reason} (whole check)")
         return Verdict(edit, Outcome.UNEXPLAINED, report.first_fault())
 
-
     def reason(self, report: Report, functions: Iterable[str | None]) -> str | None:
         """Why one of these functions isn't proved, or where it is None any function."""
         proofs = os.path.join(self.folder, "proofs")

@@ -9,13 +9,15 @@ each: the replies to the imports have to count the rows as this script does. The
 from a fixed seed are asked, half of them from a session that is pinned to the first import. Both
 sides write the lines of a session; they are compared byte by byte.
 
-The questions of `sctd` go to one process, which has answered a STATUS before the first is timed; its
-processor's time is what the system says of that process (in hundredths of a second). SQLite's side
-runs in Python, in this process: the time in which it reads the files of a release stands apart, and
-the time of a question holds what Python does to write its lines. Its indexes are made after the rows of
-the first import, and it may keep as many bytes of pages in memory as `sctd` holds. The status is 1
-where an answer is another one. Standard library alone.
+The questions of `sctd` go to one process, which has answered a STATUS before the first is timed;
+its processor's time is what the system says of that process (in hundredths of a second). SQLite's
+side runs in Python, in this process: the time in which it reads the files of a release stands
+apart, and the time of a question holds what Python does to write its lines. Its indexes are made
+after the rows of the first import, and it may keep as many bytes of pages in memory as `sctd`
+holds. The status is 1 where an answer is another one. Standard library alone.
 """
+
+from __future__ import annotations
 
 import os
 import random
@@ -24,8 +26,13 @@ import subprocess
 import sys
 import threading
 import time
+from collections.abc import Iterator, Sequence
+from typing import Optional, Union
 
-HERE = os.path.dirname(os.path.abspath(__file__))
+from measure_harness import Cost, made_release, ran, seconds_used
+
+DEFAULT_ROWS = 235_000
+SEED = 11
 IS_A = 116680003
 LAST = "\U0010ffff"
 
@@ -33,11 +40,14 @@ LAST = "\U0010ffff"
 COLUMNS = {
     "C": ("id", "time", "active", "module", "status"),
     "D": ("id", "time", "active", "module", "concept", "language", "type", "term", "significance"),
-    "R": ("id", "time", "active", "module", "source", "destination", "part", "type", "characteristic", "modifier"),
+    "R": ("id", "time", "active", "module", "source", "destination", "part", "type",
+          "characteristic", "modifier"),
     "A": ("id", "time", "active", "module", "refset", "referenced", "target"),
-    "V": ("id", "time", "active", "module", "source", "value", "part", "type", "characteristic", "modifier"),
+    "V": ("id", "time", "active", "module", "source", "value", "part", "type",
+          "characteristic", "modifier"),
 }
-TABLES = {"C": "concept", "D": "description", "R": "relationship", "A": "association", "V": "concrete"}
+TABLES = {"C": "concept", "D": "description", "R": "relationship", "A": "association",
+          "V": "concrete"}
 # The column that says what a row is about, of the kinds that questions ask.
 SUBJECTS = {"D": "concept", "R": "source"}
 TEXTS = ("language", "term", "value")
@@ -50,110 +60,126 @@ BEGINNINGS = {
 }
 INDEXES = (
     "CREATE INDEX terms ON description (folded) WHERE active = 1",
-    "CREATE INDEX children ON relationship (destination, source) WHERE active = 1 AND type = %d" % IS_A,
+    "CREATE INDEX children ON relationship (destination, source)"
+    " WHERE active = 1 AND type = %d" % IS_A,
     "CREATE INDEX replacements ON association (referenced) WHERE active = 1",
     "CREATE INDEX descriptions ON description (concept) WHERE active = 1",
     "CREATE INDEX relationships ON relationship (source) WHERE active = 1",
 )
-
-
+STORE = "compared.store"
 IMPORTS = (("import the Full release", "full"), ("import a Delta of 100 rows", "delta"))
+DAYS = ("20120731", "20191231", "20251231", "20261231")
+
+# The rows of a release by their kinds, each as its columns.
+Rows = dict[str, list[list[str]]]
+# What a query of SQLite is given.
+Value = Union[int, str]
 
 
 class Clock:
-    """Wall and processor seconds of this process since it was made."""
+    """What this process has taken since it was made."""
 
-    def __init__(self):
+    def __init__(self) -> None:
         self.start, self.used = time.monotonic(), time.process_time()
 
-    def read(self):
-        return time.monotonic() - self.start, time.process_time() - self.used
+    def read(self) -> Cost:
+        return Cost(time.monotonic() - self.start, time.process_time() - self.used)
 
 
-def release_rows(folder):
-    """The rows of a release, by kind: lists of texts."""
-    rows = {}
+def files_of(folder: str) -> Iterator[tuple[str, str]]:
+    """The files of a release, each with its kind."""
     for part in ("Terminology", os.path.join("Refset", "Content")):
         for name in sorted(os.listdir(os.path.join(folder, part))):
             kind = next(kind for kind in BEGINNINGS if name.startswith(BEGINNINGS[kind]))
-            with open(os.path.join(folder, part, name), encoding="utf-8", newline="") as file:
-                lines = file.read().split("\r\n")[1:-1]
-            rows.setdefault(kind, []).extend(line.split("\t") for line in lines)
+            yield kind, os.path.join(folder, part, name)
+
+
+def release_rows(folder: str) -> Rows:
+    """The rows of a release."""
+    rows: Rows = {}
+    for kind, path in files_of(folder):
+        with open(path, encoding="utf-8", newline="") as file:
+            lines = file.read().split("\r\n")[1:-1]
+        rows.setdefault(kind, []).extend(line.split("\t") for line in lines)
     return rows
+
+
+def queries_of(kind: str, table: str) -> dict[str, str]:
+    """The queries that answer the questions about a kind."""
+    newest = (
+        " AND x.time <= :date AND x.import <= :pin AND NOT EXISTS (SELECT 1 FROM %s y"
+        " WHERE y.id = x.id AND y.time > x.time AND y.time <= :date AND y.import <= :pin)" % table)
+    start = "SELECT %s FROM %s x WHERE " % (", ".join(COLUMNS[kind]), table)
+    found = {
+        "GET " + kind: start + "x.id = :id AND x.time <= :date AND x.import <= :pin"
+        " ORDER BY x.time DESC LIMIT 1",
+        "HISTORY " + kind: start + "x.id = :id AND x.import <= :pin ORDER BY x.time",
+        "PAGE " + kind: start + "x.id > :after" + newest + " ORDER BY x.id LIMIT :limit",
+    }
+    if kind in SUBJECTS:
+        found["ABOUT " + kind] = (
+            start + "x.active = 1 AND x.%s = :id" % SUBJECTS[kind] + newest + " ORDER BY x.id")
+    if kind == "D":
+        found["TERMS"] = (
+            start + "x.active = 1 AND x.folded >= :from AND x.folded < :to" + newest
+            + " ORDER BY x.id LIMIT :limit")
+    if kind == "A":
+        found["REPLACED"] = (
+            start + "x.active = 1 AND x.referenced = :id" + newest
+            + " ORDER BY x.refset, x.target, x.id")
+    if kind == "R":
+        found["CHILDREN"] = (
+            "SELECT DISTINCT x.source FROM relationship x WHERE x.active = 1 AND x.type = %d"
+            " AND x.destination = :id" % IS_A + newest + " ORDER BY x.source")
+    return found
 
 
 class Sqlite:
     """The history in tables without row ids, ordered as the store's rows are: by id and date."""
 
-    def __init__(self, path):
+    def __init__(self, path: str) -> None:
         self.path = path
         self.base = sqlite3.connect(path, isolation_level=None)
         self.imports = 0
+        self.queries: dict[str, str] = {}
         for kind, table in TABLES.items():
-            names = list(COLUMNS[kind]) + ["import"] + (["folded"] if kind == "D" else [])
-            texts = TEXTS + ("folded",) + (("id",) if kind == "A" else ())
-            columns = ["%s %s NOT NULL" % (name, "TEXT" if name in texts else "INTEGER") for name in names]
-            self.base.execute(
-                "CREATE TABLE %s (%s, PRIMARY KEY (id, time)) WITHOUT ROWID" % (table, ", ".join(columns))
-            )
-        self.queries = {}
-        for kind, table in TABLES.items():
-            shown = ", ".join(COLUMNS[kind])
-            newest = (
-                " AND x.time <= :date AND x.import <= :pin AND NOT EXISTS (SELECT 1 FROM %s y"
-                " WHERE y.id = x.id AND y.time > x.time AND y.time <= :date AND y.import <= :pin)" % table
-            )
-            start = "SELECT %s FROM %s x WHERE " % (shown, table)
-            self.queries["GET " + kind] = (
-                start + "x.id = :id AND x.time <= :date AND x.import <= :pin ORDER BY x.time DESC LIMIT 1"
-            )
-            self.queries["HISTORY " + kind] = start + "x.id = :id AND x.import <= :pin ORDER BY x.time"
-            self.queries["PAGE " + kind] = start + "x.id > :after" + newest + " ORDER BY x.id LIMIT :limit"
-            if kind in SUBJECTS:
-                self.queries["ABOUT " + kind] = (
-                    start + "x.active = 1 AND x.%s = :id" % SUBJECTS[kind] + newest + " ORDER BY x.id"
-                )
-            if kind == "D":
-                self.queries["TERMS"] = (
-                    start + "x.active = 1 AND x.folded >= :from AND x.folded < :to" + newest
-                    + " ORDER BY x.id LIMIT :limit"
-                )
-            if kind == "A":
-                self.queries["REPLACED"] = (
-                    start + "x.active = 1 AND x.referenced = :id" + newest
-                    + " ORDER BY x.refset, x.target, x.id"
-                )
-            if kind == "R":
-                self.queries["CHILDREN"] = (
-                    "SELECT DISTINCT x.source FROM relationship x WHERE x.active = 1 AND x.type = %d"
-                    " AND x.destination = :id" % IS_A + newest + " ORDER BY x.source"
-                )
+            self.base.execute(self.table(kind, table))
+            self.queries.update(queries_of(kind, table))
 
-    def keep(self, size):
+    @staticmethod
+    def table(kind: str, table: str) -> str:
+        """The statement that makes the table of a kind."""
+        names = [*COLUMNS[kind], "import", *["folded"] * (kind == "D")]
+        texts = (*TEXTS, "folded", *["id"] * (kind == "A"))
+        columns = ["%s %s NOT NULL" % (name, "TEXT" if name in texts else "INTEGER")
+                   for name in names]
+        columns.append("PRIMARY KEY (id, time)")
+        return "CREATE TABLE %s (%s) WITHOUT ROWID" % (table, ", ".join(columns))
+
+    def keep(self, size: int) -> None:
         """Lets it keep so many bytes of pages in memory."""
         self.base.execute("PRAGMA cache_size = -%d" % (size // 1024))
 
-    def take(self, release):
+    def take(self, release: Rows) -> None:
         """Imports the rows of a release in one transaction. They are trusted to be new."""
         self.imports += 1
         self.base.execute("BEGIN")
         for kind, rows in release.items():
             width = len(COLUMNS[kind]) + 1 + (kind == "D")
-            if kind == "D":
-                rows = ([*row, self.imports, row[7].casefold()] for row in rows)
-            else:
-                rows = ([*row, self.imports] for row in rows)
+            stamped = (
+                [*row, self.imports, row[7].casefold()] if kind == "D" else [*row, self.imports]
+                for row in rows)
             marks = ", ".join("?" * width)
-            self.base.executemany("INSERT INTO %s VALUES (%s)" % (TABLES[kind], marks), rows)
+            self.base.executemany("INSERT INTO %s VALUES (%s)" % (TABLES[kind], marks), stamped)
         for index in INDEXES if self.imports == 1 else ():
             self.base.execute(index)
         self.base.execute("COMMIT")
 
-    def asked(self, line, pin):
+    def asked(self, line: str, pin: int) -> tuple[str, dict[str, Value]]:
         """The query of a line of a session, and its parameters."""
         words = line.split(" ")
         command = words[1]
-        given = {"pin": pin}
+        given: dict[str, Value] = {"pin": pin}
         if command in ("GET", "HISTORY"):
             query = "%s %s" % (command, words[2])
             given["id"] = words[3] if words[2] == "A" else int(words[3])
@@ -163,22 +189,23 @@ class Sqlite:
             given.update(id=int(words[3]), date=int(words[4]))
         elif command == "PAGE":
             query = "PAGE " + words[2]
-            lowest = "" if words[2] == "A" else -1
-            after = words[4] if words[2] == "A" else int(words[4].replace("-", "-1"))
-            given.update(date=int(words[3]), after=lowest if words[4] == "-" else after, limit=int(words[5]))
+            lowest: Value = "" if words[2] == "A" else -1
+            after = lowest if words[4] == "-" else type(lowest)(words[4])
+            given.update(date=int(words[3]), after=after, limit=int(words[5]))
         elif command == "TERMS":
             query = "TERMS"
             prefix = line.split(" ", 4)[4].casefold()
-            given.update({"date": int(words[2]), "limit": int(words[3]), "from": prefix, "to": prefix + LAST})
+            given.update({"date": int(words[2]), "limit": int(words[3])})
+            given.update({"from": prefix, "to": prefix + LAST})
         else:
             query = command
             given.update(id=int(words[2]), date=int(words[3]))
         return query, given
 
-    def replies(self, lines):
+    def replies(self, lines: Sequence[str]) -> bytes:
         """What a session is told for these lines."""
-        pins = {}
-        told = []
+        pins: dict[str, int] = {}
+        told: list[str] = []
         for line in lines:
             session, command = line.split(" ")[:2]
             if command == "PIN":
@@ -194,68 +221,56 @@ class Sqlite:
 
 
 class Sctd:
-    """The program, on a store in a file."""
+    """The program, on a new store in a file of the folder that has its releases."""
 
-    def __init__(self, program, place):
+    def __init__(self, program: str, place: str, name: str = STORE, layout: int = 2) -> None:
         self.program, self.place = program, place
-        self.path = os.path.join(place, "compared.store")
+        self.path = os.path.join(place, name)
         if os.path.exists(self.path):
             os.remove(self.path)
-        self.run("init", [])
+        self.run("init", "--layout", str(layout))
 
-    def run(self, command, words, given=b""):
-        """What the program writes, and its wall and processor seconds."""
-        start = time.monotonic()
-        paths = [os.path.join(self.place, name) for name in ("lines", "replies")]
-        with open(paths[0], "wb") as lines:
-            lines.write(given)
-        with open(paths[0], "rb") as lines, open(paths[1], "wb") as replies:
-            child = subprocess.Popen(
-                [self.program, command, "--store", self.path, *words], stdin=lines, stdout=replies
-            )
-            _, status, usage = os.wait4(child.pid, 0)
-            child.returncode = status
-        with open(paths[1], "rb") as replies:
-            told = replies.read()
-        if status != 0:
-            raise SystemExit("sctd %s: %r" % (command, told))
-        return told, (time.monotonic() - start, usage.ru_utime + usage.ru_stime)
+    def run(self, command: str, *words: str) -> tuple[bytes, Cost]:
+        """What the program writes, and what that cost."""
+        return ran([self.program, command, "--store", self.path, *words], b"", self.place)
 
-    def take(self, name):
-        return self.run("import", ["--quiet", "--releases", self.place, name])
+    def take(self, name: str) -> tuple[bytes, Cost]:
+        """Imports the release of this name."""
+        return self.run("import", "--quiet", "--releases", self.place, name)
 
 
 class Served:
     """The program, serving a store. It is made once its opening has ended."""
 
-    def __init__(self, sctd):
+    def __init__(self, sctd: Sctd) -> None:
         start = time.monotonic()
         self.child = subprocess.Popen(
             [sctd.program, "serve", "--store", sctd.path, "--releases", sctd.place],
             stdin=subprocess.PIPE, stdout=subprocess.PIPE,
         )
+        assert self.child.stdin and self.child.stdout
+        self.input, self.output = self.child.stdin, self.child.stdout
         self.replies(["0 STATUS"])
-        self.opening = (time.monotonic() - start, self.used())
+        self.opening = Cost(time.monotonic() - start, self.used(), self.held())
 
-    def used(self):
+    def used(self) -> float:
         """Its seconds of the processor."""
-        with open("/proc/%d/stat" % self.child.pid, encoding="ascii") as file:
-            words = file.read().rpartition(")")[2].split()
-        return (int(words[11]) + int(words[12])) / os.sysconf("SC_CLK_TCK")
+        return seconds_used(self.child.pid)
 
-    def held(self):
+    def held(self) -> int:
         """How many bytes it holds in memory."""
         with open("/proc/%d/statm" % self.child.pid, encoding="ascii") as file:
             return int(file.read().split()[1]) * os.sysconf("SC_PAGE_SIZE")
 
-    def replies(self, lines):
+    def replies(self, lines: Sequence[str]) -> bytes:
         """What it writes for lines. They are sent beside the reading, since it answers at once."""
         text = "".join(line + "\n" for line in lines).encode()
         sender = threading.Thread(target=self.send, args=(text,))
         sender.start()
-        left, told = len(lines), []
+        told: list[bytes] = []
+        left = len(lines)
         while left:
-            piece = self.child.stdout.readline()
+            piece = self.output.readline()
             if not piece:
                 raise SystemExit("sctd ended with %d replies to come" % left)
             told.append(piece)
@@ -263,18 +278,18 @@ class Served:
         sender.join()
         return b"".join(told)
 
-    def send(self, text):
-        self.child.stdin.write(text)
-        self.child.stdin.flush()
+    def send(self, text: bytes) -> None:
+        self.input.write(text)
+        self.input.flush()
 
-    def timed(self, lines):
-        """The same, with its wall and processor seconds."""
+    def timed(self, lines: Sequence[str]) -> tuple[bytes, Cost]:
+        """The same, with what it cost."""
         start, used = time.monotonic(), self.used()
         told = self.replies(lines)
-        return told, (time.monotonic() - start, self.used() - used)
+        return told, Cost(time.monotonic() - start, self.used() - used)
 
-    def end(self):
-        self.child.stdin.close()
+    def end(self) -> None:
+        self.input.close()
         if self.child.wait() != 0:
             raise SystemExit("sctd serve: status %d" % self.child.returncode)
 
@@ -282,43 +297,43 @@ class Served:
 class Questions:
     """Questions on the components of a release, drawn by chance."""
 
-    def __init__(self, rows, chance):
+    def __init__(self, rows: Rows, chance: random.Random) -> None:
         self.rows, self.chance = rows, chance
 
-    def date(self):
-        return self.chance.choice(["20120731", "20191231", "20251231", "20261231"])
+    def date(self) -> str:
+        return self.chance.choice(DAYS)
 
-    def column(self, kind, place):
+    def column(self, kind: str, place: int) -> str:
         return self.chance.choice(self.rows[kind])[place]
 
-    def lookup(self):
+    def lookup(self) -> str:
         kind = self.chance.choice("CDVRA")
         return "GET %s %s %s" % (kind, self.column(kind, 0), self.date())
 
-    def history(self):
+    def history(self) -> str:
         kind = self.chance.choice("CDVRA")
         return "HISTORY %s %s" % (kind, self.column(kind, 0))
 
-    def page(self):
+    def page(self) -> str:
         return "PAGE C %s %s 100" % (self.date(), self.column("C", 0))
 
-    def terms(self):
+    def terms(self) -> str:
         words = self.column("D", 7).split(" ")[: self.chance.choice([2, 3])]
         return "TERMS %s 10 %s" % (self.date(), " ".join(words).upper())
 
-    def children(self):
+    def children(self) -> str:
         return "CHILDREN %s %s" % (self.column("R", 5), self.date())
 
-    def replacements(self):
+    def replacements(self) -> str:
         return "REPLACED %s %s" % (self.column("A", 5), self.date())
 
-    def descriptions(self):
+    def descriptions(self) -> str:
         return "ABOUT D %s %s" % (self.column("D", 4), self.date())
 
-    def relationships(self):
+    def relationships(self) -> str:
         return "ABOUT R %s %s" % (self.column("R", 4), self.date())
 
-    def drawn(self):
+    def drawn(self) -> Iterator[tuple[str, list[str]]]:
         """Lists of lines, each with its title. Every other line is of session 1."""
         for title, count, make in (
             ("lookups", 10000, self.lookup),
@@ -330,39 +345,41 @@ class Questions:
             ("questions for descriptions", 10000, self.descriptions),
             ("questions for relationships", 10000, self.relationships),
         ):
-            yield "%d %s" % (count, title), ["%d %s" % (number % 2, make()) for number in range(count)]
+            lines = ["%d %s" % (number % 2, make()) for number in range(count)]
+            yield "%d %s" % (count, title), lines
 
 
-def compare(program, folder, rows):
+def compare(program: str, folder: str, rows: int) -> bool:
+    """Whether all answers were the same."""
     place = os.path.join(folder, str(rows))
-    if not os.path.isdir(os.path.join(place, "full")):
-        subprocess.check_call([sys.executable, os.path.join(HERE, "make_release.py"), place, str(rows)])
+    made_release(place, rows)
     base = os.path.join(place, "compared.sqlite")
     if os.path.exists(base):
         os.remove(base)
     ours, theirs = Sctd(program, place), Sqlite(base)
     table = Table(rows)
-    releases = {}
+    releases: dict[str, Rows] = {}
     for number, (title, name) in enumerate(IMPORTS, 1):
         clock = Clock()
         releases[name] = release_rows(os.path.join(place, name))
         reading = clock.read()
-        told, times = ours.take(name)
+        told, cost = ours.take(name)
         clock = Clock()
         theirs.take(releases[name])
         wanted = b"OK %d %d 0\n" % (number, sum(map(len, releases[name].values())))
-        table.show(title, times, clock.read(), told, wanted)
+        table.show(title, cost, clock.read(), told, wanted)
         table.show("read its files in Python", None, reading, b"", b"")
     served = Served(ours)
     table.show("open", served.opening, None, b"", b"")
     theirs.keep(served.held())
-    for title, lines in Questions(releases["full"], random.Random(11)).drawn():
+    for title, lines in Questions(releases["full"], random.Random(SEED)).drawn():
         lines = ["1 PIN 1"] + lines
-        told, times = served.timed(lines)
+        told, cost = served.timed(lines)
         clock = Clock()
         wanted = theirs.replies(lines)
-        table.show(title, times, clock.read(), told, wanted)
-    print("bytes of the files: sctd %d, SQLite %d" % (os.path.getsize(ours.path), os.path.getsize(base)))
+        table.show(title, cost, clock.read(), told, wanted)
+    sizes = os.path.getsize(ours.path), os.path.getsize(base)
+    print("bytes of the files: sctd %d, SQLite %d" % sizes)
     print("bytes in memory: sctd %d, and as many of pages for SQLite" % served.held())
     served.end()
     return table.alike
@@ -371,26 +388,29 @@ def compare(program, folder, rows):
 class Table:
     """The lines that are printed, and whether all answers were alike."""
 
-    def __init__(self, rows):
+    def __init__(self, rows: int) -> None:
         self.rows, self.alike = rows, True
 
-    def show(self, title, our_times, their_times, told, wanted):
+    def show(self, title: str, ours: Optional[Cost], theirs: Optional[Cost], told: bytes,
+             wanted: bytes) -> None:
         """Prints a line: times of both, or none of one side that does no such thing."""
-        shown = ["%.2f" % part for part in our_times] if our_times else ["", ""]
-        shown += ["%.2f" % part for part in their_times] if their_times else ["", ""]
+        shown: list[str] = []
+        for cost in (ours, theirs):
+            shown += ["%.2f" % cost.wall, "%.2f" % cost.used] if cost else ["", ""]
         self.alike = self.alike and told == wanted
         same = "the same" if told == wanted else "NOT the same"
         answers = "%d lines, %s" % (told.count(b"\n"), same) if wanted or told else ""
         print("| %d | %s | %s | %s |" % (self.rows, title, " | ".join(shown), answers), flush=True)
 
 
-def main(words):
+def main(words: Sequence[str]) -> int:
     if len(words) < 2:
-        print(__doc__.strip(), file=sys.stderr)
+        print((__doc__ or "").strip(), file=sys.stderr)
         return 2
-    print("| Rows | Work | sctd, wall | sctd, processor | SQLite, wall | SQLite, processor | Answers |")
+    print("| Rows | Work | sctd, wall | sctd, processor | SQLite, wall | SQLite, processor"
+          " | Answers |")
     print("|---|---|---|---|---|---|---|")
-    sizes = [int(word) for word in words[2:]] or [235000]
+    sizes = [int(word) for word in words[2:]] or [DEFAULT_ROWS]
     alike = [compare(os.path.abspath(words[0]), words[1], rows) for rows in sizes]
     return 0 if all(alike) else 1
 

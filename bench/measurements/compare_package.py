@@ -33,19 +33,19 @@ from pathlib import Path
 from typing import Iterable, Iterator, NamedTuple, Sequence
 
 import make_release as rf2
-from compare import HERE, Served
-from compare_shell import SETTINGS, Cost, Table, ran, rows_alone
+from compare import DAYS, DEFAULT_ROWS, Sctd, Served
+from compare_shell import HEAD, Shell, Table, rows_alone
+from measure_harness import made_release
 
-DEFAULT_ROWS = 235_000
 KEPT_SORTS = {**rf2.BASIC_SORTS, **rf2.FURTHER_SORTS}
 # The columns that the shell keeps as numbers, beside those of SCTIDs.
 NUMBERS = ("effectiveTime", "active", "relationshipGroup", "mapGroup", "mapPriority",
            "attributeOrder", "descriptionLength", "grouped")
-DAYS = ("20120731", "20191231", "20251231", "20261231")
 LAST_DAY = "20261231"
 # So many members are asked for by pages of so many, so many by their ids, and so many concepts.
 MEMBERS, LIMIT, LOOKUPS, CALLED = 100_000, 1_000, 100_000, 10_000
 SEED = 7
+SHELL = "package.shell"
 NEWEST = (" AND {0}.effectiveTime <= {1} AND NOT EXISTS (SELECT 1 FROM {2} y WHERE y.id = {0}.id"
           " AND y.effectiveTime > {0}.effectiveTime AND y.effectiveTime <= {1})")
 INDEXES = (
@@ -95,48 +95,6 @@ def table_of(sort: str) -> str:
         columns.append("%s %s NOT NULL" % (column, "INTEGER" if is_number else "TEXT"))
     columns.append("PRIMARY KEY (id, effectiveTime)")
     return "CREATE TABLE %s (%s) WITHOUT ROWID;" % (sort, ", ".join(columns))
-
-
-class Shell:
-    """SQLite's shell on a file, with a table for each sort of files."""
-
-    def __init__(self, place: Path) -> None:
-        self.place, self.path = place, place / "package.shell"
-        for end in ("", "-wal", "-shm"):
-            Path(str(self.path) + end).unlink(missing_ok=True)
-        self.kept = 0
-        self.run([*SETTINGS, *map(table_of, KEPT_SORTS)])
-
-    def run(self, lines: Sequence[str]) -> tuple[bytes, Cost]:
-        """What it prints for these lines, and what they cost."""
-        cache = "PRAGMA cache_size = -%d;" % (self.kept // 1024)
-        head = ["PRAGMA synchronous = FULL;", cache] if self.kept else []
-        text = "\n".join([*head, *lines]) + "\n"
-        return ran(["sqlite3", "-batch", "-bail", str(self.path)], text.encode(), str(self.place))
-
-    def take(self, folder: Path, indexes: Sequence[str] = ()) -> Cost:
-        """Imports the files of a release, whose rows are trusted to be new."""
-        lines = ['.import --skip 1 "%s" %s' % (path, sort) for sort, path in files_of(folder)]
-        return self.run([".mode tabs", "BEGIN;", *lines, *indexes, "COMMIT;"])[1]
-
-    def asked(self, queries: Iterable[str]) -> tuple[bytes, Cost]:
-        return self.run([".mode list", '.separator "\\t" "\\n"', *queries])
-
-
-class Sctd:
-    """A store of a version of the layout, and the program on it."""
-
-    def __init__(self, program: str, place: Path, layout: int) -> None:
-        self.program, self.place = program, str(place)
-        self.path = str(place / ("package%d.store" % layout))
-        Path(self.path).unlink(missing_ok=True)
-        self.run("init", "--layout", str(layout))
-
-    def run(self, command: str, *words: str) -> tuple[bytes, Cost]:
-        return ran([self.program, command, "--store", self.path, *words], b"", self.place)
-
-    def take(self, release: Path) -> tuple[bytes, Cost]:
-        return self.run("import", "--quiet", str(release))
 
 
 def snapshot(rows: Iterable[list[str]], date: str) -> dict[str, list[str]]:
@@ -230,14 +188,14 @@ def joined(rows: bytes) -> bytes:
 def ask_both(table: Table, served: Served, shell: Shell, title: str,
              questions: Sequence[Question]) -> None:
     """Asks both sides, and tells what it cost."""
-    told, (wall, used) = served.timed([question.line for question in questions])
+    told, ours = served.timed([question.line for question in questions])
     answered, theirs = shell.asked(question.query for question in questions)
     theirs.peak = None
     rows = rows_alone(told)
     if " CALLED " in questions[0].line and rows is not None:
         rows = joined(rows)
     title = "%s (%d rows)" % (title, answered.count(b"\n"))
-    table.show(title, Cost(wall, used), theirs, rows == answered)
+    table.show(title, ours, theirs, rows == answered)
 
 
 def held_by(sctd: Sctd) -> int:
@@ -251,9 +209,9 @@ def held_by(sctd: Sctd) -> int:
 def show_memory(what: str, sctd: Sctd, rows: int, ground: int) -> None:
     """Prints what an open store takes, and what that is more than an empty one."""
     held, size = held_by(sctd), os.path.getsize(sctd.path)
-    more = (held - ground) / rows
-    print("%s: %d rows; open %d bytes, %.1f a row beside those of an empty store; file %.1f a row" % (
-        what, rows, held, more, size / rows), flush=True)
+    said = (what, rows, held, (held - ground) / rows, size / rows)
+    print("%s: %d rows; open %d bytes, %.1f a row beside those of an empty store;"
+          " file %.1f a row" % said, flush=True)
 
 
 def rows_in(told: bytes) -> int:
@@ -266,19 +224,19 @@ def rows_in(told: bytes) -> int:
 def compare(program: str, folder: Path, count: int) -> bool:
     place = folder / ("package%d" % count)
     full, delta = place / "full", place / "delta"
-    if not full.is_dir():
-        maker = os.path.join(HERE, "make_release.py")
-        subprocess.check_call([sys.executable, maker, "--package", str(place), str(count)])
-    table, shell = Table(count), Shell(place)
-    basic, sctd = (Sctd(program, place, layout) for layout in (2, 3))
+    made_release(str(place), count, is_package=True)
+    table, shell = Table(count), Shell(str(place), SHELL, map(table_of, KEPT_SORTS))
+    basic, sctd = (Sctd(program, str(place), "package%d.store" % layout, layout)
+                   for layout in (2, 3))
     ground = held_by(sctd)
-    told, ours = sctd.take(full)
-    table.show("import the Full release, with its indexes", ours, shell.take(full, INDEXES))
+    told, ours = sctd.take("full")
+    theirs = shell.take(files_of(full), INDEXES)
+    table.show("import the Full release, with its indexes", ours, theirs)
     rows = rows_in(told)
-    told, ours = sctd.take(delta)
-    table.show("import a Delta of 100 rows", ours, shell.take(delta))
+    told, ours = sctd.take("delta")
+    table.show("import a Delta of 100 rows", ours, shell.take(files_of(delta)))
     served = Served(sctd)
-    table.show("open", Cost(*served.opening, served.held()), None)
+    table.show("open", served.opening, None)
     shell.kept = served.held()
     drawn = Questions(full)
     ask_both(table, served, shell, "look up 100,000 members", drawn.lookups())
@@ -288,7 +246,7 @@ def compare(program: str, folder: Path, count: int) -> bool:
     ask_both(table, served, shell, "what 10,000 concepts were called", drawn.called())
     served.end()
     show_memory("version 3, all files", sctd, rows + rows_in(told), ground)
-    show_memory("version 2, its files", basic, rows_in(basic.take(full)[0]), ground)
+    show_memory("version 2, its files", basic, rows_in(basic.take("full")[0]), ground)
     print("bytes of the shell's file: %d" % os.path.getsize(shell.path))
     return table.alike
 
@@ -302,9 +260,7 @@ def main(words: Sequence[str]) -> int:
     if len(sizes) > 1:
         script = [sys.executable, os.path.abspath(__file__), *words[:2]]
         return max(subprocess.call([*script, str(size)]) for size in sizes)
-    print("| Rows | Work | sctd: wall | processor | peak, MB | SQLite's shell: wall | processor"
-          " | peak, MB | processor, SQLite / sctd |")
-    print("|" + "---|" * 9)
+    print(HEAD)
     return 0 if compare(os.path.abspath(words[0]), Path(words[1]).resolve(), sizes[0]) else 1
 
 

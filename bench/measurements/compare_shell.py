@@ -7,20 +7,23 @@ PROGRAM is the built program sctd. For each number of rows (235000, if none is g
 of make_release.py are made in FOLDER, if they aren't there. Both sides import the Full release: the
 shell by `.import` into a table a kind, keyed by id and date, and makes its indexes after the rows.
 Then both import the same release once more, which brings nothing new, and the Delta; and both are
-asked the same questions, each kind in a process of its own, whose answers have to be the same lines.
-Before those of an audit the shell makes indexes for them, with nothing of sctd's beside them. Then
-the two segments of sctd's store are merged, line by line. Last, both import a release by which all
-concepts are a tree below the root, and are asked for all of them, and for what is above some.
+asked the same questions, each kind in a process of its own, whose answers have to be the same
+lines. Before those of an audit the shell makes indexes for them, with nothing of sctd's beside
+them. Then the two segments of sctd's store are merged, line by line. Last, both import a release by
+which all concepts are a tree below the root, and are asked for all of them, and for what is above
+some.
 
 The tables of the shell have no number of an import, so that no question is pinned, and terms are
-searched without regard to case in ASCII alone. It may keep as many bytes of pages in memory as `sctd`
-holds. Processor seconds are of the whole process for the shell; those of sctd's questions are what the
-system says of a process that has opened the store and answered a STATUS before. A peak is the greatest
-resident size of the process, which the system counts from this script's own on: so only those are
-told of what runs before it holds rows, and each size has a process of its own. The replies to the
-imports have to count the rows as this script does. The status is 1 where a reply or an answer is
-another one. Standard library, and the command sqlite3.
+searched without regard to case in ASCII alone. It may keep as many bytes of pages in memory as
+`sctd` holds. Processor seconds are of the whole process for the shell; those of sctd's questions
+are what the system says of a process that has opened the store and answered a STATUS before. A peak
+is the greatest resident size of the process, which the system counts from this script's own on: so
+only those are told of what runs before it holds rows, and each size has a process of its own. The
+replies to the imports have to count the rows as this script does. The status is 1 where a reply or
+an answer is another one. Standard library, and the command sqlite3.
 """
+
+from __future__ import annotations
 
 import itertools
 import os
@@ -28,9 +31,13 @@ import random
 import subprocess
 import sys
 import time
+from collections.abc import Callable, Iterable, Iterator, Mapping, Sequence
+from typing import Optional
 
 import make_release as rf2
-from compare import BEGINNINGS, COLUMNS, HERE, IS_A, SUBJECTS, TABLES, TEXTS, Served
+from compare import COLUMNS, DAYS, DEFAULT_ROWS, IS_A, SUBJECTS, TABLES, TEXTS, Rows, Sctd, Served
+from compare import files_of
+from measure_harness import Cost, made_release, ran
 
 # So many rows of a kind are held at most, of which the questions are drawn.
 MOST_DRAWN = 100000
@@ -41,14 +48,16 @@ NEWEST = (
 )
 INDEXES = (
     "CREATE INDEX terms ON description (term COLLATE NOCASE) WHERE active = 1;",
-    "CREATE INDEX children ON relationship (destination, source) WHERE active = 1 AND type = %d;" % IS_A,
+    "CREATE INDEX children ON relationship (destination, source)"
+    " WHERE active = 1 AND type = %d;" % IS_A,
     "CREATE INDEX replacements ON association (referenced) WHERE active = 1;",
     "CREATE INDEX descriptions ON description (concept) WHERE active = 1;",
     "CREATE INDEX relationships ON relationship (source) WHERE active = 1;",
 )
 # For an audit: without them a Delta and the dates would read whole tables.
 AUDIT_INDEXES = (
-    "CREATE INDEX parents ON relationship (source, destination) WHERE active = 1 AND type = %d;" % IS_A,
+    "CREATE INDEX parents ON relationship (source, destination)"
+    " WHERE active = 1 AND type = %d;" % IS_A,
     "CREATE INDEX targets ON association (target) WHERE active = 1;",
     *("CREATE INDEX times_of_%s ON %s (time);" % (table, table) for table in TABLES.values()),
 )
@@ -56,47 +65,24 @@ AUDIT_INDEXES = (
 TREE_DAY = "20260731"
 # Between two dates, as numbers.
 YEAR = 10000
+SEED, SEED_OF_TREE = 7, 11
+
+# The head of the table that is printed.
+HEAD = """| Rows | Work | sctd: wall | processor | peak, MB | SQLite's shell: wall | processor \
+| peak, MB | processor, SQLite / sctd |
+|---|---|---|---|---|---|---|---|---|"""
+
+# A list of lines, with its title.
+Asked = tuple[str, list[str]]
+SHELL = "compared.shell"
 SETTINGS = ("PRAGMA journal_mode = WAL;", "PRAGMA synchronous = FULL;")
 
 
-class Cost:
-    """Wall and processor seconds, and the greatest resident size in bytes."""
-
-    def __init__(self, wall, used, peak=None):
-        self.wall, self.used, self.peak = wall, used, peak
-
-
-def ran(words, given, place):
-    """What a process writes for its input, and what it cost. Its streams are files of a folder."""
-    names = [os.path.join(place, name) for name in ("given", "written")]
-    with open(names[0], "wb") as file:
-        file.write(given)
-    start = time.monotonic()
-    with open(names[0], "rb") as lines, open(names[1], "wb") as written:
-        child = subprocess.Popen(words, stdin=lines, stdout=written)
-        _, status, usage = os.wait4(child.pid, 0)
-        child.returncode = status
-    wall = time.monotonic() - start
-    with open(names[1], "rb") as file:
-        told = file.read()
-    if status != 0:
-        raise SystemExit("%s: status %d: %r" % (words[0], status, told[:200]))
-    return told, Cost(wall, usage.ru_utime + usage.ru_stime, usage.ru_maxrss * 1024)
-
-
-def files_of(folder):
-    """The files of a release, each with its kind."""
-    found = []
-    for part in ("Terminology", os.path.join("Refset", "Content")):
-        for name in sorted(os.listdir(os.path.join(folder, part))):
-            kind = next(kind for kind in BEGINNINGS if name.startswith(BEGINNINGS[kind]))
-            found.append((kind, os.path.join(folder, part, name)))
-    return found
-
-
-def draw_rows(folder, chance):
-    """How many rows a release has, and some of each kind, drawn by chance: each row is as likely."""
-    counts, drawn = {}, {}
+def draw_rows(folder: str, chance: random.Random) -> tuple[int, Rows]:
+    """How many rows a release has, and some of each kind, drawn by chance: each row is as
+    likely."""
+    counts: dict[str, int] = {}
+    drawn: Rows = {}
     for kind, path in files_of(folder):
         kept = drawn.setdefault(kind, [])
         with open(path, encoding="utf-8", newline="") as file:
@@ -110,52 +96,59 @@ def draw_rows(folder, chance):
 
 
 class Shell:
-    """SQLite's shell on a file."""
+    """SQLite's shell on a new file, in which statements make tables."""
 
-    def __init__(self, place):
-        self.place = place
-        self.path = os.path.join(place, "compared.shell")
+    def __init__(self, place: str, name: str, tables: Iterable[str]) -> None:
+        self.place, self.path = place, os.path.join(place, name)
         for end in ("", "-wal", "-shm"):
             if os.path.exists(self.path + end):
                 os.remove(self.path + end)
         self.kept = 0
-        self.run(list(SETTINGS) + [self.table(kind, TABLES[kind]) for kind in TABLES])
+        self.run([*SETTINGS, *tables])
 
-    @staticmethod
-    def table(kind, name):
-        texts = TEXTS + (("id",) if kind == "A" else ())
-        columns = ["%s %s NOT NULL" % (c, "TEXT" if c in texts else "INTEGER") for c in COLUMNS[kind]]
-        return "CREATE TABLE %s (%s, PRIMARY KEY (id, time)) WITHOUT ROWID;" % (name, ", ".join(columns))
-
-    def run(self, lines):
-        """What it prints for these lines."""
-        head = ["PRAGMA synchronous = FULL;", "PRAGMA cache_size = -%d;" % (self.kept // 1024)] if self.kept else []
-        text = "\n".join(head + lines) + "\n"
+    def run(self, lines: Sequence[str]) -> tuple[bytes, Cost]:
+        """What it prints for these lines, and what they cost."""
+        cache = "PRAGMA cache_size = -%d;" % (self.kept // 1024)
+        head = ["PRAGMA synchronous = FULL;", cache] if self.kept else []
+        text = "\n".join([*head, *lines]) + "\n"
         return ran(["sqlite3", "-batch", "-bail", self.path], text.encode(), self.place)
 
-    def take(self, folder, indexes):
-        """Imports the files of a release, whose rows are trusted to be new."""
-        lines = ['.mode tabs', "BEGIN;"]
-        lines += ['.import --skip 1 "%s" %s' % (path, TABLES[kind]) for kind, path in files_of(folder)]
-        return self.run(lines + (list(INDEXES) if indexes else []) + ["COMMIT;"])[1]
+    def take(self, files: Iterable[tuple[str, object]], indexes: Sequence[str] = ()) -> Cost:
+        """Imports files, each into a table, and makes indexes. The rows are trusted to be new."""
+        lines = ['.import --skip 1 "%s" %s' % (path, table) for table, path in files]
+        return self.run([".mode tabs", "BEGIN;", *lines, *indexes, "COMMIT;"])[1]
 
-    def take_again(self, folder):
-        """Imports the files of a release, of which what is known is passed over."""
-        lines = ['.mode tabs', "PRAGMA temp_store = MEMORY;", "BEGIN;"]
-        for kind, path in files_of(folder):
-            staged = "temp.staged_" + TABLES[kind]
-            columns = ", ".join(COLUMNS[kind])
-            lines += ["CREATE TABLE %s (%s);" % (staged, columns),
-                      '.import --skip 1 --schema temp "%s" staged_%s' % (path, TABLES[kind]),
-                      "INSERT OR IGNORE INTO %s SELECT %s FROM %s;" % (TABLES[kind], columns, staged)]
-        return self.run(lines + ["COMMIT;"])[1]
-
-    def asked(self, queries):
+    def asked(self, queries: Iterable[str]) -> tuple[bytes, Cost]:
         """The lines that it prints for queries, and what they cost."""
-        return self.run([".mode list", '.separator "\\t" "\\n"'] + queries)
+        return self.run([".mode list", '.separator "\\t" "\\n"', *queries])
 
 
-def query_of(line):
+def table_of(kind: str) -> str:
+    """The statement that makes the table of a kind."""
+    texts = (*TEXTS, *["id"] * (kind == "A"))
+    columns = ["%s %s NOT NULL" % (c, "TEXT" if c in texts else "INTEGER") for c in COLUMNS[kind]]
+    columns.append("PRIMARY KEY (id, time)")
+    return "CREATE TABLE %s (%s) WITHOUT ROWID;" % (TABLES[kind], ", ".join(columns))
+
+
+def tables_and_files(folder: str) -> Iterator[tuple[str, str]]:
+    """The files of a release, each with the table of its kind."""
+    yield from ((TABLES[kind], path) for kind, path in files_of(folder))
+
+
+def take_again(shell: Shell, folder: str) -> Cost:
+    """Imports the files of a release, of which what is known is passed over."""
+    lines = [".mode tabs", "PRAGMA temp_store = MEMORY;", "BEGIN;"]
+    for kind, path in files_of(folder):
+        table, columns = TABLES[kind], ", ".join(COLUMNS[kind])
+        lines += ["CREATE TABLE temp.staged_%s (%s);" % (table, columns),
+                  '.import --skip 1 --schema temp "%s" staged_%s' % (path, table),
+                  "INSERT OR IGNORE INTO %s SELECT %s FROM temp.staged_%s;"
+                  % (table, columns, table)]
+    return shell.run([*lines, "COMMIT;"])[1]
+
+
+def query_of(line: str) -> str:
     """The query of a line of the protocol."""
     words = line.split(" ")
     command = words[1]
@@ -176,11 +169,12 @@ def query_of(line):
                 % (", ".join(COLUMNS[kind]), TABLES[kind], after, newest, limit))
     date, limit, prefix = words[2], words[3], " ".join(words[4:])
     newest = NEWEST.format(date=date, table="description")
-    return ("SELECT %s FROM description x WHERE x.active = 1 AND x.term LIKE '%s%%'%s ORDER BY x.id LIMIT %s;"
+    return ("SELECT %s FROM description x WHERE x.active = 1 AND x.term LIKE '%s%%'%s"
+            " ORDER BY x.id LIMIT %s;"
             % (", ".join(COLUMNS["D"]), prefix.replace("'", "''"), newest, limit))
 
 
-def delta_query(kind, begin, date, after, limit):
+def delta_query(kind: str, begin: str, date: str, after: str, limit: str) -> str:
     """By the better of the shell's two ways: the index on dates for few rows, and for many, which
     a plus tells it, the order of the table."""
     newest = NEWEST.format(date=date, table=TABLES[kind])
@@ -191,19 +185,20 @@ def delta_query(kind, begin, date, after, limit):
             % (", ".join(COLUMNS[kind]), TABLES[kind], time, begin, after, newest, limit))
 
 
-def timeline_query(kind, concept):
+def timeline_query(kind: str, concept: str) -> str:
     table = TABLES[kind]
-    return ("SELECT %s FROM %s WHERE id IN (SELECT id FROM %s WHERE active = 1 AND %s = %s) ORDER BY id, time;"
+    return ("SELECT %s FROM %s WHERE id IN (SELECT id FROM %s WHERE active = 1 AND %s = %s)"
+            " ORDER BY id, time;"
             % (", ".join(COLUMNS[kind]), table, table, SUBJECTS[kind], concept))
 
 
-def replaces_query(target, date):
+def replaces_query(target: str, date: str) -> str:
     newest = NEWEST.format(date=date, table="association")
     return ("SELECT %s FROM association x WHERE x.active = 1 AND x.target = %s%s"
             " ORDER BY x.refset, x.referenced, x.id;" % (", ".join(COLUMNS["A"]), target, newest))
 
 
-def reach_query(here, there, concept, date):
+def reach_query(here: str, there: str, concept: str, date: str) -> str:
     """What is reached from a concept, from one column of a relationship to the other."""
     is_a = "x.active = 1 AND x.type = %d%s" % (IS_A, NEWEST.format(date=date, table="relationship"))
     return ("WITH RECURSIVE met (id) AS (SELECT x.{1} FROM relationship x WHERE x.{0} = {2} AND {3}"
@@ -211,23 +206,24 @@ def reach_query(here, there, concept, date):
             " SELECT id FROM met ORDER BY id;").format(here, there, concept, is_a)
 
 
-def ancestors_query(concept, date):
+def ancestors_query(concept: str, date: str) -> str:
     return reach_query("source", "destination", concept, date)
 
 
-def descendants_query(concept, date):
+def descendants_query(concept: str, date: str) -> str:
     return reach_query("destination", "source", concept, date)
 
 
-def dates_query():
+def dates_query() -> str:
     """Each next date is looked up in the index of its table, which SQLite doesn't do by itself."""
-    steps = ["SELECT day FROM (WITH RECURSIVE met (day) AS (SELECT min(time) FROM {0} UNION ALL SELECT"
-             " (SELECT min(time) FROM {0} WHERE time > day) FROM met WHERE day NOT NULL)"
+    steps = ["SELECT day FROM (WITH RECURSIVE met (day) AS (SELECT min(time) FROM {0}"
+             " UNION ALL SELECT (SELECT min(time) FROM {0} WHERE time > day) FROM met"
+             " WHERE day NOT NULL)"
              " SELECT day FROM met WHERE day NOT NULL)".format(table) for table in TABLES.values()]
     return " UNION ".join(steps) + " ORDER BY day;"
 
 
-AUDITS = {
+AUDITS: dict[str, Callable[..., str]] = {
     "DELTA": delta_query,
     "TIMELINE": timeline_query,
     "REPLACES": replaces_query,
@@ -237,60 +233,65 @@ AUDITS = {
 }
 
 
-def is_plain(term):
+def is_plain(term: str) -> bool:
     """Whether SQLite's LIKE finds it as a search of terms does."""
     return term.isascii() and "%" not in term and "_" not in term
 
 
-def questions(rows, chance):
-    """Lists of lines, each with its title."""
-    def date():
-        return chance.choice(["20120731", "20191231", "20251231", "20261231"])
+class Drawn:
+    """The rows of which questions are drawn."""
 
-    for kind, title in (("C", "100,000 concepts"), ("D", "100,000 descriptions")):
-        yield title, ["0 GET %s %s %s" % (kind, chance.choice(rows[kind])[0], date()) for _ in range(100000)]
-    yield "1,000 pages of 1,000", ["0 PAGE C %s %s 1000" % (date(), chance.choice(rows["C"])[0])
-                                   for _ in range(1000)]
-    terms = [row[7].split(" ")[0] for row in rows["D"]]
-    terms = [term for term in terms if is_plain(term)]
-    yield "100 searches, limit 1,000", ["0 TERMS %s 1000 %s" % (date(), chance.choice(terms).upper())
-                                        for _ in range(100)]
-    for kind, title in (("D", "the descriptions"), ("R", "the relationships")):
-        yield "%s of 10,000 concepts" % title, [
-            "0 ABOUT %s %s %s" % (kind, chance.choice(rows[kind])[4], date()) for _ in range(10000)]
+    def __init__(self, rows: Rows, chance: random.Random) -> None:
+        self.rows, self.chance = rows, chance
+
+    def date(self) -> str:
+        return self.chance.choice(DAYS)
+
+    def column(self, kind: str, place: int) -> str:
+        return self.chance.choice(self.rows[kind])[place]
+
+    def questions(self) -> Iterator[Asked]:
+        """Lists of lines, each with its title."""
+        for kind, title in (("C", "100,000 concepts"), ("D", "100,000 descriptions")):
+            yield title, ["0 GET %s %s %s" % (kind, self.column(kind, 0), self.date())
+                          for _ in range(100000)]
+        yield "1,000 pages of 1,000", ["0 PAGE C %s %s 1000" % (self.date(), self.column("C", 0))
+                                       for _ in range(1000)]
+        terms = [row[7].split(" ")[0] for row in self.rows["D"]]
+        terms = [term for term in terms if is_plain(term)]
+        yield "100 searches, limit 1,000", [
+            "0 TERMS %s 1000 %s" % (self.date(), self.chance.choice(terms).upper())
+            for _ in range(100)]
+        for kind, title in (("D", "the descriptions"), ("R", "the relationships")):
+            yield "%s of 10,000 concepts" % title, [
+                "0 ABOUT %s %s %s" % (kind, self.column(kind, 4), self.date())
+                for _ in range(10000)]
+
+    def audits(self) -> Iterator[Asked]:
+        """The lists of an audit's questions, each with its title."""
+        for first, last, title in (("20250131", "20261231", "of the last releases"),
+                                   ("20120731", "20191231", "of seven years")):
+            yield "1,000 pages of 1,000 %s" % title, [
+                "0 DELTA %s %s %s %s 1000" % (kind, first, last, self.column(kind, 0))
+                for kind in itertools.islice(itertools.cycle("CDR"), 1000)]
+        for kind, title in (("D", "the descriptions"), ("R", "the relationships")):
+            yield "%s that 10,000 concepts ever had" % title, [
+                "0 TIMELINE %s %s" % (kind, self.column(kind, 4)) for _ in range(10000)]
+        yield "what 10,000 components replace", [
+            "0 REPLACES %s %s" % (self.column("A", 6), self.date()) for _ in range(10000)]
+        for word, title in (("ANCESTORS", "above"), ("DESCENDANTS", "below")):
+            yield "all concepts %s 1,000 concepts" % title, [
+                "0 %s %s %s" % (word, self.column("C", 0), self.date()) for _ in range(1000)]
+        yield "the dates, 10,000 times", ["0 DATES"] * 10000
+
+    def tree_questions(self) -> Iterator[Asked]:
+        """What is asked once the concepts are a tree."""
+        yield "all concepts below the root, 10 times", ["0 DESCENDANTS %d 20261231" % rf2.ROOT] * 10
+        yield "all concepts above 10,000 concepts, in a tree", [
+            "0 ANCESTORS %s 20261231" % self.column("C", 0) for _ in range(10000)]
 
 
-def audits(rows, chance):
-    """The lists of an audit's questions, each with its title."""
-    def concept():
-        return chance.choice(rows["C"])[0]
-
-    def date():
-        return chance.choice(["20120731", "20191231", "20251231", "20261231"])
-
-    for first, last, title in (("20250131", "20261231", "of the last releases"),
-                               ("20120731", "20191231", "of seven years")):
-        yield "1,000 pages of 1,000 %s" % title, [
-            "0 DELTA %s %s %s %s 1000" % (kind, first, last, chance.choice(rows[kind])[0])
-            for kind in itertools.islice(itertools.cycle("CDR"), 1000)]
-    for kind, title in (("D", "the descriptions"), ("R", "the relationships")):
-        yield "%s that 10,000 concepts ever had" % title, [
-            "0 TIMELINE %s %s" % (kind, chance.choice(rows[kind])[4]) for _ in range(10000)]
-    yield "what 10,000 components replace", [
-        "0 REPLACES %s %s" % (chance.choice(rows["A"])[6], date()) for _ in range(10000)]
-    yield "all concepts above 1,000 concepts", ["0 ANCESTORS %s %s" % (concept(), date()) for _ in range(1000)]
-    yield "all concepts below 1,000 concepts", ["0 DESCENDANTS %s %s" % (concept(), date()) for _ in range(1000)]
-    yield "the dates, 10,000 times", ["0 DATES"] * 10000
-
-
-def tree_questions(rows, chance):
-    """What is asked once the concepts are a tree."""
-    yield "all concepts below the root, 10 times", ["0 DESCENDANTS %d 20261231" % rf2.ROOT] * 10
-    yield "all concepts above 10,000 concepts, in a tree", [
-        "0 ANCESTORS %s 20261231" % chance.choice(rows["C"])[0] for _ in range(10000)]
-
-
-def rows_of(folder, kind):
+def rows_of(folder: str, kind: str) -> Iterator[list[str]]:
     """The columns of each row of a kind, in the order of its file."""
     with open(next(path for one, path in files_of(folder) if one == kind),
               encoding="utf-8", newline="") as file:
@@ -299,32 +300,33 @@ def rows_of(folder, kind):
             yield line.rstrip("\r\n").split("\t")
 
 
-def make_tree(place):
+def make_tree(place: str) -> None:
     """Writes a release that withdraws each "is a", and gives each concept but the root one parent
     or two that were made before it: few have many children, and most are some ten steps down."""
-    chance, full = random.Random(11), os.path.join(place, "full")
-    rows = {kind: [] for kind in rf2.KINDS}
+    chance, full = random.Random(SEED_OF_TREE), os.path.join(place, "full")
+    rows: dict[str, list[str]] = {kind: [] for kind in rf2.KINDS}
     # The versions of a component stand together, the last one last.
     for _, versions in itertools.groupby(rows_of(full, "R"), key=lambda columns: columns[0]):
         columns = list(versions)[-1]
         if columns[2] == "1" and columns[7] == str(IS_A):
             rows["R"].append("\t".join([columns[0], TREE_DAY, "0", *columns[3:]]))
-    concepts = [str(rf2.ROOT)]
-    concepts += [name for name, _ in itertools.groupby(columns[0] for columns in rows_of(full, "C"))]
+    every = itertools.groupby(columns[0] for columns in rows_of(full, "C"))
+    concepts = [str(rf2.ROOT), *(name for name, _ in every)]
     made = 500_000_000
     for number, name in enumerate(concepts[1:], 1):
         for _ in range(chance.choice([1, 2])):
             made += 1
             parent = concepts[int(number * chance.random() ** 1.5)]
-            body = [name, parent, 0, IS_A, rf2.INFERRED, rf2.MODIFIER]
+            body: rf2.Columns = [name, parent, 0, IS_A, rf2.INFERRED, rf2.MODIFIER]
             rows["R"].append(rf2.line((rf2.sctid(made, "02"), "R", body), TREE_DAY, 1))
     rf2.write(os.path.join(place, "tree"), "Delta", TREE_DAY, rows)
 
 
-def rows_alone(told):
+def rows_alone(told: bytes) -> Optional[bytes]:
     """The rows of replies, without the words around them; None where a reply ends otherwise than
     with the number of its rows."""
-    rows, count = [], 0
+    rows: list[bytes] = []
+    count = 0
     for line in told.split(b"\n")[:-1]:
         if line.startswith((b"ROW ", b"ID ", b"DATE ")):
             rows.append(line.partition(b" ")[2] + b"\n")
@@ -339,10 +341,10 @@ def rows_alone(told):
 class Table:
     """The lines that are printed, and whether all answers were alike."""
 
-    def __init__(self, rows):
+    def __init__(self, rows: int) -> None:
         self.rows, self.alike = rows, True
 
-    def check_imports(self, told, of_full, of_delta):
+    def check_imports(self, told: Mapping[int, bytes], of_full: int, of_delta: int) -> None:
         """Compares the replies to the imports with the numbers of rows. It is done once they are
         measured, since the rows would count in the peaks of what this process starts."""
         wanted = {1: (of_full, 0), 2: (0, of_full), 3: (of_delta, 0)}
@@ -350,11 +352,14 @@ class Table:
             reply = b"OK %d %d %d\n" % (number, *counts)
             if told[number] != reply:
                 self.alike = False
-                print("import %d: %r, NOT the same as %r" % (number, told[number], reply), flush=True)
+                said = (number, told[number], reply)
+                print("import %d: %r, NOT the same as %r" % said, flush=True)
 
-    def show(self, title, ours, theirs, same=True):
+    def show(self, title: str, ours: Optional[Cost], theirs: Optional[Cost],
+             same: bool = True) -> None:
+        """Prints a line: what it cost both, or one side where the other does no such thing."""
         self.alike = self.alike and same
-        shown = []
+        shown: list[str] = []
         for cost in (ours, theirs):
             shown += ["%.2f" % cost.wall, "%.2f" % cost.used] if cost else ["", ""]
             shown.append("%d" % (cost.peak // 1000000) if cost and cost.peak else "")
@@ -363,9 +368,10 @@ class Table:
                                            "" if same else " NOT the same"), flush=True)
 
 
-def merged(served, table):
+def merged(served: Served, table: Table) -> None:
     """Merges the two segments of the store, a line at a time, and tells the longest of each."""
-    longest, command = {}, "MERGE"
+    longest: dict[str, float] = {}
+    command = "MERGE"
     while command:
         start = time.monotonic()
         told = served.replies(["0 " + command])
@@ -374,79 +380,80 @@ def merged(served, table):
         if not told.startswith(b"OK"):
             raise SystemExit("0 %s: %r" % (command, told))
         left = told.split()[1:]
-        command = None if name == "PUBLISH" else "PUBLISH" if left == [b"0"] else "STEP 1000"
+        command = "" if name == "PUBLISH" else "PUBLISH" if left == [b"0"] else "STEP 1000"
     for name, wall in longest.items():
         print("| %d | the longest %s | %.4f | | | | | | |" % (table.rows, name, wall))
 
 
-def ask_both(table, served, shell, asked):
+def ask_both(table: Table, served: Served, shell: Shell, asked: Iterable[Asked]) -> None:
     """Asks both sides lists of questions, and tells what they cost."""
     for title, lines in asked:
-        told, (wall, used) = served.timed(lines)
+        told, ours = served.timed(lines)
         answered, theirs = shell.asked([query_of(line) for line in lines])
         theirs.peak = None
-        table.show(title, Cost(wall, used), theirs, rows_alone(told) == answered)
+        table.show(title, ours, theirs, rows_alone(told) == answered)
 
 
-def ask_in_a_tree(table, sctd, shell, asked):
+def ask_in_a_tree(table: Table, sctd: Sctd, shell: Shell, asked: Iterable[Asked]) -> None:
     """Lets both sides import the release that makes a tree of the concepts, and asks them."""
     if not os.path.isdir(os.path.join(sctd.place, "tree")):
         make_tree(sctd.place)
-    words = ["import", "--quiet", "--store", sctd.path, "--releases", sctd.place, "tree"]
-    ours = ran([sctd.program, *words], b"", sctd.place)[1]
-    theirs = shell.take(os.path.join(sctd.place, "tree"), False)
+    ours = sctd.take("tree")[1]
+    theirs = shell.take(tables_and_files(os.path.join(sctd.place, "tree")))
     table.show("import other parents of each concept", ours, theirs)
     served = Served(sctd)
     ask_both(table, served, shell, asked)
     served.end()
 
 
-def compare(program, folder, count):
+def import_all(table: Table, sctd: Sctd, shell: Shell) -> dict[int, bytes]:
+    """Lets both sides import the Full release, that once more, and the Delta: the replies."""
+    full, delta = (os.path.join(sctd.place, name) for name in ("full", "delta"))
+    told: dict[int, bytes] = {}
+    told[1], ours = sctd.take("full")
+    theirs = shell.take(tables_and_files(full), INDEXES)
+    table.show("import the Full release, with its indexes", ours, theirs)
+    told[2], ours = sctd.take("full")
+    table.show("import it over itself", ours, take_again(shell, full))
+    told[3], ours = sctd.take("delta")
+    table.show("import a Delta of 100 rows", ours, shell.take(tables_and_files(delta)))
+    return told
+
+
+def compare(program: str, folder: str, count: int) -> bool:
+    """Whether all replies and answers were the same."""
     place = os.path.join(folder, str(count))
-    if not os.path.isdir(os.path.join(place, "full")):
-        subprocess.check_call([sys.executable, os.path.join(HERE, "make_release.py"), place, str(count)])
-    store = os.path.join(place, "compared.store")
-    if os.path.exists(store):
-        os.remove(store)
-    ran([program, "init", "--store", store], b"", place)
-    table, shell, full = Table(count), Shell(place), os.path.join(place, "full")
-    words = [program, "import", "--quiet", "--store", store, "--releases", place]
-    told = {}
-    told[1], ours = ran(words + ["full"], b"", place)
-    table.show("import the Full release, with its indexes", ours, shell.take(full, True))
-    told[2], ours = ran(words + ["full"], b"", place)
-    table.show("import it over itself", ours, shell.take_again(full))
-    told[3], ours = ran(words + ["delta"], b"", place)
-    table.show("import a Delta of 100 rows", ours, shell.take(os.path.join(place, "delta"), False))
-    sctd = type("At", (), {"program": program, "path": store, "place": place})
-    chance = random.Random(7)
-    of_full, rows = draw_rows(full, chance)
+    made_release(place, count)
+    table, sctd = Table(count), Sctd(program, place)
+    shell = Shell(place, SHELL, map(table_of, TABLES))
+    told = import_all(table, sctd, shell)
+    chance = random.Random(SEED)
+    of_full, rows = draw_rows(os.path.join(place, "full"), chance)
     of_delta, _ = draw_rows(os.path.join(place, "delta"), chance)
     table.check_imports(told, of_full, of_delta)
-    served = Served(sctd)
-    table.show("open", Cost(*served.opening, served.held()), None)
+    served, drawn = Served(sctd), Drawn(rows, chance)
+    table.show("open", served.opening, None)
     shell.kept = served.held()
-    ask_both(table, served, shell, questions(rows, chance))
-    table.show("the shell's indexes for an audit", None, shell.run(list(AUDIT_INDEXES))[1])
-    ask_both(table, served, shell, audits(rows, chance))
+    ask_both(table, served, shell, drawn.questions())
+    table.show("the shell's indexes for an audit", None, shell.run(AUDIT_INDEXES)[1])
+    ask_both(table, served, shell, drawn.audits())
     merged(served, table)
     served.end()
-    ask_in_a_tree(table, sctd, shell, tree_questions(rows, chance))
-    print("bytes of the files: sctd %d, SQLite %d" % (os.path.getsize(store), os.path.getsize(shell.path)))
+    ask_in_a_tree(table, sctd, shell, drawn.tree_questions())
+    sizes = os.path.getsize(sctd.path), os.path.getsize(shell.path)
+    print("bytes of the files: sctd %d, SQLite %d" % sizes)
     return table.alike
 
 
-def main(words):
+def main(words: Sequence[str]) -> int:
     if len(words) < 2:
-        print(__doc__.strip(), file=sys.stderr)
+        print((__doc__ or "").strip(), file=sys.stderr)
         return 2
-    sizes = [int(word) for word in words[2:]] or [235000]
+    sizes = [int(word) for word in words[2:]] or [DEFAULT_ROWS]
     if len(sizes) > 1:
         script = [sys.executable, os.path.abspath(__file__), *words[:2]]
-        return max(subprocess.call(script + [str(size)]) for size in sizes)
-    print("| Rows | Work | sctd: wall | processor | peak, MB | SQLite's shell: wall | processor | peak, MB"
-          " | processor, SQLite / sctd |")
-    print("|---|---|---|---|---|---|---|---|---|")
+        return max(subprocess.call([*script, str(size)]) for size in sizes)
+    print(HEAD)
     return 0 if compare(os.path.abspath(words[0]), words[1], sizes[0]) else 1
 
 

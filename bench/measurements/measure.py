@@ -14,6 +14,8 @@ held at that moment as its own, and GNU time holds little, while this one holds 
 store. It needs Linux. Standard library alone.
 """
 
+from __future__ import annotations
+
 import os
 import random
 import shutil
@@ -21,8 +23,16 @@ import subprocess
 import sys
 import tempfile
 import time
+from collections.abc import Sequence
+from pathlib import Path
+from typing import BinaryIO, Optional
 
-HERE = os.path.dirname(os.path.abspath(__file__))
+from measure_harness import KILOBYTE, made_release, seconds_used
+
+DEFAULT_ROWS = (235_000, 2_350_000)
+SEED = 7
+# How many seconds are between looks if a pipe was opened.
+BETWEEN_LOOKS = 0.0005
 GNU_TIME = shutil.which("time")
 
 
@@ -30,16 +40,16 @@ class Work:
     """What a run of the program cost, and what it printed. Where it is asked what a file has, the
     seconds are those from the end of its opening on."""
 
-    def __init__(self, words, asked=None):
+    def __init__(self, words: Sequence[str], asked: Optional[str] = None) -> None:
         with tempfile.TemporaryDirectory() as place:
             peak, pipe = os.path.join(place, "peak"), os.path.join(place, "pipe")
             os.mkfifo(pipe)
-            start, used = time.monotonic(), 0
-            timed = [GNU_TIME, "-f", "%M", "-o", peak, *words, *([pipe] if asked else [])]
+            start, used = time.monotonic(), 0.0
+            timed = [GNU_TIME or "time", "-f", "%M", "-o", peak, *words, *([pipe] if asked else [])]
             child = subprocess.Popen(timed, stdout=subprocess.PIPE)
+            assert child.stdout
             if asked:
-                with open(asked, "rb") as file:
-                    questions = file.read()
+                questions = Path(asked).read_bytes()
                 with opened(pipe, child) as file:
                     start, used = time.monotonic(), used_below(child.pid)
                     file.write(questions)
@@ -49,51 +59,44 @@ class Work:
             self.processor = usage.ru_utime + usage.ru_stime - used
             if status != 0:
                 raise SystemExit("failed: %s" % " ".join(words))
-            with open(peak, encoding="ascii") as file:
-                self.peak = int(file.read()) * 1024
+            self.peak = int(Path(peak).read_text(encoding="ascii")) * KILOBYTE
 
 
-def opened(pipe, child):
+def opened(pipe: str, child: subprocess.Popen[bytes]) -> BinaryIO:
     """The pipe, once the program has opened it to read."""
     while child.poll() is None:
         try:
             place = os.open(pipe, os.O_WRONLY | os.O_NONBLOCK)
         except OSError:
-            time.sleep(0.0005)
+            time.sleep(BETWEEN_LOOKS)
             continue
         os.set_blocking(place, True)
         return os.fdopen(place, "wb")
     raise SystemExit("the program ended before it asked for its questions")
 
 
-def used_below(parent):
+def used_below(parent: int) -> float:
     """The seconds of the processor of a process that has one other below it: of that one."""
-    with open("/proc/%d/task/%d/children" % (parent, parent), encoding="ascii") as file:
-        child = int(file.read())
-    with open("/proc/%d/stat" % child, encoding="ascii") as file:
-        words = file.read().rpartition(")")[2].split()
-    return (int(words[11]) + int(words[12])) / os.sysconf("SC_CLK_TCK")
+    children = Path("/proc/%d/task/%d/children" % (parent, parent))
+    return seconds_used(int(children.read_text(encoding="ascii")))
 
 
-def first_column(path, count, chance):
-    """Ids of rows that are drawn from a file."""
-    with open(path, "rb") as file:
-        lines = file.read().split(b"\r\n")[1:-1]
+def first_column(path: str, count: int, chance: random.Random) -> list[list[bytes]]:
+    """The columns of rows that are drawn from a file."""
+    lines = Path(path).read_bytes().split(b"\r\n")[1:-1]
     return [chance.choice(lines).split(b"\t") for _ in range(count)]
 
 
-def write_lines(path, lines):
-    with open(path, "wb") as file:
-        file.write(b"\n".join(lines))
+def write_lines(path: str, lines: Sequence[bytes]) -> None:
+    Path(path).write_bytes(b"\n".join(lines))
 
 
-def prepare(place, rows):
+def prepare(place: str, rows: int) -> None:
     """Makes the releases of so many rows, and the words of the queries."""
-    if not os.path.isdir(os.path.join(place, "full")):
-        subprocess.check_call([sys.executable, os.path.join(HERE, "make_release.py"), place, str(rows)])
-    chance = random.Random(7)
-    terminology = os.path.join(place, "full", "Terminology")
-    names = {name.split("_")[1]: os.path.join(terminology, name) for name in os.listdir(terminology)}
+    made_release(place, rows)
+    chance = random.Random(SEED)
+    folder = os.path.join(place, "full", "Terminology")
+    names = {name.split("_")[1]: os.path.join(folder, name) for name in os.listdir(folder)}
     concepts = first_column(names["Concept"], 10000, chance)
     write_lines(os.path.join(place, "concepts"), [columns[0] for columns in concepts])
     terms = first_column(names["Description"], 1000, chance)
@@ -103,7 +106,7 @@ def prepare(place, rows):
     write_lines(os.path.join(place, "pages"), [columns[0] for columns in concepts[:1000]])
 
 
-def measure(program, folder, rows):
+def measure(program: str, folder: str, rows: int) -> None:
     place = os.path.join(folder, str(rows))
     prepare(place, rows)
     store, empty = os.path.join(place, "store"), os.path.join(place, "empty")
@@ -113,7 +116,7 @@ def measure(program, folder, rows):
         Work([program, "make", path])
     ground = Work([program, "open", empty]).peak
 
-    def run(title, *words, asked=None):
+    def run(title: str, *words: str, asked: Optional[str] = None) -> None:
         work = Work([program, words[0], store, *words[1:]], asked)
         peak = (work.peak - ground) / rows
         row = (rows, title, work.processor, work.wall, peak, work.text)
@@ -131,16 +134,16 @@ def measure(program, folder, rows):
     run("open, and import a Delta of 100 rows", "import", place, "delta")
 
 
-def main(words):
+def main(words: Sequence[str]) -> int:
     if len(words) < 2:
-        print(__doc__.strip(), file=sys.stderr)
+        print((__doc__ or "").strip(), file=sys.stderr)
         return 2
     if GNU_TIME is None:
         print("measure.py wants GNU time", file=sys.stderr)
         return 2
     print("| Rows | Work | Processor seconds | Wall seconds | Peak bytes a row | Count |")
     print("|---|---|---|---|---|---|")
-    for rows in [int(word) for word in words[2:]] or [235000, 2350000]:
+    for rows in [int(word) for word in words[2:]] or DEFAULT_ROWS:
         measure(os.path.abspath(words[0]), words[1], rows)
     return 0
 

@@ -24,8 +24,9 @@ import time
 from pathlib import Path
 from typing import NamedTuple, Sequence
 
+from measure_harness import KILOBYTE, made_release
+
 TOP = Path(__file__).resolve().parent.parent.parent
-MAKE_RELEASE = TOP / "bench" / "measurements" / "make_release.py"
 DIGEST = TOP / "examples" / "digest.py"
 TIMES = 5
 DEFAULT_ROWS = (235_000, 2_350_000)
@@ -33,7 +34,6 @@ LAYOUTS = (2, 3)
 MANY_SEGMENTS = 128
 SEED = 7
 MILLION = 1_000_000
-KILOBYTE = 1024
 HEAD = ("Rows", "Store", "Work", "Processor seconds", "Wall seconds",
         "Processor seconds a million rows", "Peak bytes a row")
 
@@ -77,9 +77,7 @@ class Measured:
         self.timed, self.program, self.rows = timed, program, rows
         self.place = folder / str(rows)
         self.release = self.place / "full"
-        if not self.release.is_dir():
-            words = [sys.executable, str(MAKE_RELEASE), str(self.place), str(rows)]
-            subprocess.run(words, stdout=subprocess.DEVNULL, check=True)
+        made_release(str(self.place), rows)
 
     def run(self, *words: str) -> Cost:
         return run(self.timed, self.place / "peak", words)

@@ -10,29 +10,36 @@ is answered, the Delta is imported as a line, and its seconds of wall and of the
 are taken. Standard library alone.
 """
 
+from __future__ import annotations
+
 import os
 import shutil
 import subprocess
 import sys
 import time
+from collections.abc import Sequence
 
-HERE = os.path.dirname(os.path.abspath(__file__))
+from measure_harness import made_release
+
+DEFAULT_ROWS = (235_000, 2_350_000)
 TRIES = 10
 
 
-def processor(pid):
+def processor(pid: int) -> float:
     """Seconds of the processor that a process has taken, as the scheduler counts them."""
-    with open("/proc/%d/schedstat" % pid) as file:
+    with open("/proc/%d/schedstat" % pid, encoding="ascii") as file:
         return int(file.read().split()[0]) / 1e9
 
 
-def ask(served, line):
+def ask(served: subprocess.Popen[bytes], line: bytes) -> bytes:
+    """The line that a server answers."""
+    assert served.stdin and served.stdout
     served.stdin.write(line + b"\n")
     served.stdin.flush()
     return served.stdout.readline()
 
 
-def delta(program, store, place):
+def delta(program: str, store: str, place: str) -> tuple[float, float]:
     """Seconds of wall and processor of one import of the Delta."""
     copy = store + ".copy"
     shutil.copyfile(store, copy)
@@ -43,31 +50,40 @@ def delta(program, store, place):
         reply = ask(served, b"0 IMPORT delta")
         wall, busy = time.perf_counter() - wall, processor(served.pid) - busy
         assert reply.startswith(b"OK 2 "), reply
-        served.stdin.close()
     os.remove(copy)
     return wall, busy
 
 
-def main(words):
+def served_store(program: str, place: str) -> str:
+    """A store that has the Full release."""
+    store = os.path.join(place, "served.store")
+    if os.path.exists(store):
+        os.remove(store)
+    importing = ["import", "--store", store, "--releases", place, "full"]
+    for words in (["init", "--store", store], importing):
+        subprocess.run([program, *words], stdout=subprocess.DEVNULL, check=True)
+    return store
+
+
+def shown(numbers: Sequence[float]) -> str:
+    """The least and the most of some seconds, in milliseconds."""
+    return "%.1f to %.1f" % (min(numbers) * 1000, max(numbers) * 1000)
+
+
+def main(words: Sequence[str]) -> int:
     if len(words) < 2:
-        print(__doc__.strip(), file=sys.stderr)
+        print((__doc__ or "").strip(), file=sys.stderr)
         return 2
     program, folder = os.path.abspath(words[0]), words[1]
-    print("| Rows | Milliseconds of processor, least and most | Milliseconds of wall, least and most |")
+    print("| Rows | Milliseconds of processor, least and most"
+          " | Milliseconds of wall, least and most |")
     print("|---|---|---|")
-    for rows in [int(word) for word in words[2:]] or [235000, 2350000]:
+    for rows in [int(word) for word in words[2:]] or DEFAULT_ROWS:
         place = os.path.join(folder, str(rows))
-        if not os.path.isdir(os.path.join(place, "delta")):
-            subprocess.check_call([sys.executable, os.path.join(HERE, "make_release.py"), place, str(rows)])
-        store = os.path.join(place, "served.store")
-        if os.path.exists(store):
-            os.remove(store)
-        subprocess.check_call([program, "init", "--store", store], stdout=subprocess.DEVNULL)
-        importing = [program, "import", "--store", store, "--releases", place, "full"]
-        subprocess.check_call(importing, stdout=subprocess.DEVNULL)
-        tries = [delta(program, store, place) for _ in range(TRIES)]
-        walls, busies = sorted(t[0] * 1000 for t in tries), sorted(t[1] * 1000 for t in tries)
-        print("| %d | %.1f to %.1f | %.1f to %.1f |" % (rows, busies[0], busies[-1], walls[0], walls[-1]), flush=True)
+        made_release(place, rows)
+        store = served_store(program, place)
+        walls, busies = zip(*(delta(program, store, place) for _ in range(TRIES)))
+        print("| %d | %s | %s |" % (rows, shown(busies), shown(walls)), flush=True)
         os.remove(store)
     return 0
 

@@ -17,6 +17,8 @@ concept is expanded page by page on the last day, twice, by one client: it print
 there are, what the first page takes, for which all members are read, and what the others take.
 """
 
+from __future__ import annotations
+
 import argparse
 import functools
 import http.client
@@ -31,6 +33,11 @@ import subprocess
 import sys
 import tempfile
 import time
+from collections.abc import Callable, Sequence
+from multiprocessing.queues import Queue
+from typing import Any
+
+from measure_harness import made_release, seconds_used
 
 BENCH = os.path.dirname(os.path.dirname(os.path.abspath(__file__)))
 sys.path.append(os.path.join(BENCH, "trials"))
@@ -40,27 +47,43 @@ PROCESSES = 2
 FEW_CODES = 200
 YEARS = range(2016, 2026)
 READ_BYTES = 1 << 18
-VERSION = "http://snomed.info/sct/900000000000207008/version/"
+EDITION = "900000000000207008"
+VERSION = "http://snomed.info/sct/%s/version/" % EDITION
 US_ENGLISH, MAP_OF_ALL = "900000000000509007", "900000000000497000"
 PAGE = 1_000
+# What is measured where nothing else is said: rows, and seconds a line of the table.
+DEFAULT_ROWS, DEFAULT_SECONDS = 2_350_000, 5
+NOT_RUN = 3
 LAST_LINES = (b"OK", b"END", b"ERR")
+# The ends of an HTTP head, and what says how long its body is.
+END_OF_HEAD, LENGTH = b"\r\n\r\n", b"Content-Length: "
+QUESTIONS = ("GET C", "ABOUT D", "ABOUT R", "ABOUT V")
 HEAD = """| Asked | Clients | a second | median ms | processor us: gateway / hub / program |
 |---|---|---|---|---|"""
+
+# What a process of clients puts: how long each answer was waited for, and how many were refused.
+Waits = tuple[list[float], int]
+Process = subprocess.Popen[bytes]
 
 
 class Connection:
     """One client: a question at a time, and when it was asked."""
 
-    def __init__(self, path, make):
+    def __init__(self, path: str, make: Callable[[], bytes]) -> None:
         self.socket, self.make = socket.socket(socket.AF_UNIX), make
         self.socket.connect(path)
-        self.got, self.asked, self.waits, self.wrong = b"", 0.0, [], 0
+        self.got, self.asked, self.wrong = b"", 0.0, 0
+        self.waits: list[float] = []
 
-    def ask(self):
+    def whole(self) -> bool:
+        """Whether what has come is all of the answer."""
+        raise NotImplementedError
+
+    def ask(self) -> None:
         self.got, self.asked = b"", time.perf_counter()
         self.socket.sendall(self.make())
 
-    def is_done(self):
+    def is_done(self) -> bool:
         """Reads what has come. Whether it is all of the answer."""
         self.got += self.socket.recv(READ_BYTES)
         if not self.whole():
@@ -70,13 +93,13 @@ class Connection:
 
 
 class HttpClient(Connection):
-    def whole(self):
-        end = self.got.find(b"\r\n\r\n")
+    def whole(self) -> bool:
+        end = self.got.find(END_OF_HEAD)
         if end < 0:
             return False
         head = self.got[:end]
-        length = int(head.split(b"Content-Length: ")[1].split(b"\r\n")[0])
-        if len(self.got) < end + 4 + length:
+        length = int(head.split(LENGTH)[1].split(b"\r\n")[0])
+        if len(self.got) < end + len(END_OF_HEAD) + length:
             return False
         self.wrong += head[9:12] not in (b"200", b"404")
         return True
@@ -87,7 +110,7 @@ class HubClient(Connection):
 
     questions = 4
 
-    def whole(self):
+    def whole(self) -> bool:
         if not self.got.endswith(b"\n"):
             return False
         last = [line for line in self.got.split(b"\n") if line.startswith(LAST_LINES)]
@@ -100,7 +123,7 @@ class SlowHubClient(HubClient):
     questions = 1
 
 
-def lookup(codes, days):
+def lookup(codes: Sequence[str], days: Sequence[str]) -> bytes:
     code, day = random.choice(codes), random.choice(days)
     target = "/fhir/CodeSystem/$lookup?system=http://snomed.info/sct&code=%s&version=%s%s" % (
         code,
@@ -110,23 +133,31 @@ def lookup(codes, days):
     return b"GET %s HTTP/1.1\r\nHost: x\r\nAccept: application/fhir+json\r\n\r\n" % target.encode()
 
 
-def questions(codes, days):
+def questions(codes: Sequence[str], days: Sequence[str]) -> bytes:
     code, day = random.choice(codes), random.choice(days)
     return "".join(
         "%s %s %s\n" % (question, code, day)
-        for question in ("GET C", "ABOUT D", "ABOUT R", "ABOUT V")
+        for question in QUESTIONS
     ).encode()
 
 
-def question(codes, days):
-    line = random.choice(("GET C", "ABOUT D", "ABOUT R", "ABOUT V"))
+def question(codes: Sequence[str], days: Sequence[str]) -> bytes:
+    line = random.choice(QUESTIONS)
     return ("%s %s %s\n" % (line, random.choice(codes), random.choice(days))).encode()
 
 
-def run(client, path, make, clients, seconds, seed, out):
+def run(
+    client: type[Connection],
+    path: str,
+    make: Callable[[], bytes],
+    clients: int,
+    seconds: int,
+    seed: int,
+    out: Queue[Waits],
+) -> None:
     """One process of clients. It puts the waits of all of them, and how many were refused."""
     random.seed(seed)
-    connections = {}
+    connections: dict[socket.socket, Connection] = {}
     for _ in range(clients):
         one = client(path, make)
         connections[one.socket] = one
@@ -140,17 +171,19 @@ def run(client, path, make, clients, seconds, seed, out):
     out.put(([wait for one in every for wait in one.waits], sum(one.wrong for one in every)))
 
 
-def processor(pid):
-    """Seconds of the processor that a process has taken."""
-    with open("/proc/%d/stat" % pid, encoding="ascii") as file:
-        words = file.read().rsplit(")", 1)[1].split()
-    return (int(words[11]) + int(words[12])) / os.sysconf("SC_CLK_TCK")
-
-
-def measured(name, pids, client, path, make, clients, seconds):
+def measured(
+    name: str,
+    pids: Sequence[int],
+    client: type[Connection],
+    path: str,
+    make: Callable[[], bytes],
+    clients: int,
+    seconds: int,
+) -> None:
     """Asks for some seconds, and prints a line of the table."""
-    out, processes = multiprocessing.Queue(), min(PROCESSES, clients)
-    before = [processor(pid) for pid in pids]
+    out: Queue[Waits] = multiprocessing.Queue()
+    processes = min(PROCESSES, clients)
+    before = [seconds_used(pid) for pid in pids]
     runs = []
     for seed in range(processes):
         words = (client, path, make, clients // processes, seconds, seed, out)
@@ -160,7 +193,7 @@ def measured(name, pids, client, path, make, clients, seconds):
     for one in runs:
         one.join()
     waits, wrong = [wait for one, _ in told for wait in one], sum(count for _, count in told)
-    used = [processor(pid) - first for pid, first in zip(pids, before)]
+    used = [seconds_used(pid) - first for pid, first in zip(pids, before)]
     spent = " / ".join("%.0f" % (seconds_used / len(waits) * 1e6) for seconds_used in used)
     median = statistics.median(waits) * 1e3
     refused = " %d refused" % wrong if wrong else ""
@@ -171,18 +204,20 @@ def measured(name, pids, client, path, make, clients, seconds):
 class UnixHttp(http.client.HTTPConnection):
     """HTTP over a Unix socket."""
 
-    def __init__(self, path):
+    def __init__(self, path: str) -> None:
         super().__init__("x")
         self.path = path
 
-    def connect(self):
+    def connect(self) -> None:
         self.sock = socket.socket(socket.AF_UNIX)
         self.sock.connect(self.path)
 
 
-def expanded(path, day):
+def expanded(path: str, day: str) -> None:
     """Expands a reference set page by page, and prints how long that takes."""
-    client, offset, codes, waits = UnixHttp(path), 0, set(), []
+    client, offset = UnixHttp(path), 0
+    codes: set[str] = set()
+    waits: list[float] = []
     target = "/fhir/ValueSet/$expand?url=%s%s?fhir_vs=refset/%s&count=%d&offset=%d"
     while True:
         began = time.perf_counter()
@@ -206,50 +241,52 @@ def expanded(path, day):
     print(line % (len(codes), PAGE, waits[0], *shown), flush=True)
 
 
-def begun(words, **more):
+def begun(words: Sequence[str], **more: Any) -> Process:
     process = subprocess.Popen(words, stdout=subprocess.PIPE, **more)
+    assert process.stdout
     said = process.stdout.readline()
     if said != b"OK ready\n":
         raise SystemExit("%s says %r" % (words[1], said))
     return process
 
 
-def child_of(pid):
+def child_of(pid: int) -> int:
     with open("/proc/%d/task/%d/children" % (pid, pid), encoding="ascii") as file:
         return int(file.read().split()[0])
 
 
-def concepts(folder):
+def concepts(folder: str) -> list[str]:
     path = os.path.join(folder, "full", "Terminology", "sct2_Concept_Full_INT_20250731.txt")
     with open(path, encoding="ascii") as file:
         next(file)
         return sorted({line.split("\t", 1)[0] for line in file})
 
 
-def make_store(options, folder, store):
+def make_store(options: argparse.Namespace, folder: str, store: str) -> None:
     """A store with a made release."""
-    make = [sys.executable, os.path.join(BENCH, "measurements", "make_release.py")]
+    made_release(folder, options.rows, is_package=options.package)
     release = os.path.join(folder, "full")
     for words in (
-        [*make, *["--package"] * options.package, folder, str(options.rows)],
         [options.program, "init", "--layout", "3" if options.package else "2", "--store", store],
         [options.program, "import", "--quiet", "--store", store, release],
     ):
         subprocess.run(words, check=True, stdout=subprocess.DEVNULL)
 
 
-def begin_hub(options, folder, store, python, path):
+def begin_hub(
+    options: argparse.Namespace, folder: str, store: str, python: str, path: str
+) -> Process:
     words = ["--program", options.program, "--store", store, "--releases", folder]
     return begun([python, options.hub, *words, "--socket", path])
 
 
-def begin_gateway(options, python, hub, path):
-    words = ["--socket", hub, "--edition", "900000000000207008", "--listen", path]
+def begin_gateway(options: argparse.Namespace, python: str, hub: str, path: str) -> Process:
+    words = ["--socket", hub, "--edition", EDITION, "--listen", path]
     languages = ["--languages", US_ENGLISH] if options.package else []
     return begun([python, "-m", "sctd_gateway", *words, *languages], cwd=GATEWAY)
 
 
-def tried(options, folder, python):
+def tried(options: argparse.Namespace, folder: str, python: str) -> None:
     store, hub_socket, place = (os.path.join(folder, name) for name in ("store", "hub", "http"))
     make_store(options, folder, store)
     codes, days = concepts(folder), ["%d0731" % year for year in YEARS]
@@ -279,11 +316,11 @@ def tried(options, folder, python):
             process.wait()
 
 
-def main():
+def main() -> int:
     words = argparse.ArgumentParser(description="Measures the gateway, the hub and the program.")
     words.add_argument("program", type=os.path.abspath)
-    words.add_argument("--rows", type=int, default=2_350_000)
-    words.add_argument("--seconds", type=int, default=5)
+    words.add_argument("--rows", type=int, default=DEFAULT_ROWS)
+    words.add_argument("--seconds", type=int, default=DEFAULT_SECONDS)
     words.add_argument(
         "--hub", type=os.path.abspath, default=os.path.join(ROOT, "examples", "hub.py")
     )
@@ -293,7 +330,7 @@ def main():
     python = python_with_h11()
     if python is None:
         print("not run: h11 is missing")
-        return 3
+        return NOT_RUN
     with tempfile.TemporaryDirectory() as folder:
         tried(options, folder, python)
     return 0

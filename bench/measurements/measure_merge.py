@@ -15,18 +15,26 @@ clock before and after each group, so that what stands between the groups is not
 took. The ways are run in turn, TIMES times each. Standard library alone.
 """
 
+from __future__ import annotations
+
 import os
 import random
 import re
 import shutil
 import statistics
-import subprocess
 import sys
+from collections.abc import Callable, Sequence
 
-from measure import HERE, Work, first_column, write_lines
+from measure import SEED, Work, first_column, write_lines
+from measure_harness import made_release
 
+DEFAULT_ROWS, DEFAULT_TIMES = 100_000, 5
 STEP = 1000
 GROUP = 50
+# Where the first segment begins.
+FIRST_ROW = 16_384
+# The releases, by their seeds.
+SEEDS = (1, 2)
 WAYS = {
     "none": "without a merge",
     "half": "with half of the rows of a merge taken",
@@ -35,19 +43,18 @@ WAYS = {
 }
 
 
-def made(place, rows):
+def made(place: str, rows: int) -> str:
     """Two releases of so many rows, a store that has imported both, and ids of concepts of both."""
     ids = os.path.join(place, "ids")
     if not os.path.isfile(ids):
-        chance = random.Random(7)
+        chance, count = random.Random(SEED), rows * 2 // STEP * GROUP // 2
         concepts = []
-        for seed in ("1", "2"):
-            release = os.path.join(place, seed)
-            maker = os.path.join(HERE, "make_release.py")
-            subprocess.check_call([sys.executable, maker, release, str(rows), seed])
+        for seed in SEEDS:
+            release = os.path.join(place, str(seed))
+            made_release(release, rows, seed)
             folder = os.path.join(release, "full", "Terminology")
             name = [name for name in os.listdir(folder) if name.startswith("sct2_Concept_")][0]
-            concepts += first_column(os.path.join(folder, name), rows * 2 // STEP * GROUP // 2, chance)
+            concepts += first_column(os.path.join(folder, name), count, chance)
         chance.shuffle(concepts)
         write_lines(ids, [columns[0] for columns in concepts])
     return ids
@@ -56,24 +63,25 @@ def made(place, rows):
 class Least:
     """The least that several runs cost, and what the last one printed."""
 
-    def __init__(self, times, run):
+    def __init__(self, times: int, run: Callable[[], Work]) -> None:
         runs = [run() for _ in range(times)]
         self.processor = min(work.processor for work in runs)
         self.wall = min(work.wall for work in runs)
         self.text = runs[-1].text
 
 
-def show(title, work, less):
+def show(title: str, work: Least, less: Least) -> None:
     row = (title, work.processor - less.processor, work.wall - less.wall, work.text)
     print("| %s | %.3f | %.3f | %s |" % row, flush=True)
 
 
-def show_lookups(times, groups, run):
+def show_lookups(times: int, groups: int, run: Callable[[str], Work]) -> None:
     """Microseconds of a lookup and of what goes before a group, by the program's own clock."""
     print("%d groups of %d lookups" % (groups, GROUP))
-    print("| Lookups | Microseconds each: median, least, most | Microseconds before a group: median | Found |")
+    print("| Lookups | Microseconds each: median, least, most"
+          " | Microseconds before a group: median | Found |")
     print("|---|---|---|---|")
-    taken = {way: [] for way in WAYS}
+    taken: dict[str, list[list[int]]] = {way: [] for way in WAYS}
     for _ in range(times):
         for way, works in taken.items():
             works.append([int(number) for number in re.findall("[0-9]+", run(way).text)])
@@ -84,25 +92,25 @@ def show_lookups(times, groups, run):
         print("| %s | %.2f, %.2f, %.2f | %.0f | %d |" % row, flush=True)
 
 
-def measure(program, folder, rows, times):
+def measure(program: str, folder: str, rows: int, times: int) -> None:
     place = os.path.join(folder, "merge-%d" % rows)
     ids = made(place, rows)
     before, store, copy = (os.path.join(place, name) for name in ("before", "store", "copy"))
     if os.path.exists(before):
         os.remove(before)
     Work([program, "make", before])
-    for seed in ("1", "2"):
-        Work([program, "import", before, os.path.join(place, seed), "full"])
-    size = os.path.getsize(before) - 16384
+    for seed in SEEDS:
+        Work([program, "import", before, os.path.join(place, str(seed)), "full"])
+    size = os.path.getsize(before) - FIRST_ROW
     print("%d rows in %d bytes, %d a step" % (2 * rows, size, STEP))
     print("| Work | Processor seconds | Wall seconds | Count |")
     print("|---|---|---|---|")
 
-    def run(what, *words):
+    def run(what: str, *words: str) -> Work:
         shutil.copyfile(before, store)
         return Work([program, what, store, *words])
 
-    def write():
+    def write() -> Work:
         if os.path.exists(copy):
             os.remove(copy)
         return Work([program, "write", before, copy, str(-(-size * STEP // (2 * rows)))])
@@ -116,12 +124,13 @@ def measure(program, folder, rows, times):
     show_lookups(times, 2 * rows // STEP, lambda way: run("groups", ids, way))
 
 
-def main(words):
+def main(words: Sequence[str]) -> int:
     if len(words) not in (2, 3, 4):
-        print(__doc__.strip(), file=sys.stderr)
+        print((__doc__ or "").strip(), file=sys.stderr)
         return 2
-    rows = int(words[2]) if len(words) > 2 else 100000
-    measure(os.path.abspath(words[0]), words[1], rows, int(words[3]) if len(words) > 3 else 5)
+    given = [int(word) for word in words[2:]]
+    rows, times = given + [DEFAULT_ROWS, DEFAULT_TIMES][len(given) :]
+    measure(os.path.abspath(words[0]), words[1], rows, times)
     return 0
 
 

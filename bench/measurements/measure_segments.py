@@ -13,29 +13,35 @@ least, by the clocks of the process itself: of the processor and, for an opening
 Standard library alone.
 """
 
+from __future__ import annotations
+
 import os
 import random
 import re
 import subprocess
 import sys
+from collections.abc import Sequence
+from typing import Optional
 
-sys.path.insert(0, os.path.dirname(os.path.abspath(__file__)))
-import make_release as rf2  # noqa: E402
+import make_release as rf2
 
 COUNTS = (128, 250)
 ROWS = 40
 LOOKUPS, PAGES = 10000, 1000
 TURNS = 5
+# How often a process opens a store where that isn't given.
+DEFAULT_TIMES = "20"
+SEED = 7
 TOOK = re.compile(r"^(\w+): (\d+) us, (\d+) us of the processor$", re.M)
 
 
-def write(place, name, rows):
+def write(place: str, name: str, rows: Sequence[tuple[str, str]]) -> None:
     """A release of some rows, each with its kind."""
     lines = {kind: [line for of, line in rows if of == kind] for kind in rf2.KINDS}
     rf2.write(os.path.join(place, name), "Delta", "20260131", lines)
 
 
-def make_store(program, place, name, releases):
+def make_store(program: str, place: str, name: str, releases: Sequence[str]) -> str:
     """A store that has imported these releases, one after the other."""
     store = os.path.join(place, name)
     if os.path.exists(store):
@@ -47,9 +53,9 @@ def make_store(program, place, name, releases):
     return store
 
 
-def prepare(program, place):
+def prepare(program: str, place: str) -> tuple[dict[tuple[int, int], str], str]:
     """The stores by their numbers of rows and of segments, and the file of concepts to ask for."""
-    chance = random.Random(7)
+    chance = random.Random(SEED)
     of_kinds = rf2.full(rf2.Edition(1), COUNTS[-1] * ROWS)
     rows = [(kind, line) for kind in rf2.KINDS for line in of_kinds[kind]]
     chance.shuffle(rows)
@@ -73,10 +79,12 @@ def prepare(program, place):
 class Least:
     """The least that an opening, the lookups and the pages took of one store."""
 
-    def __init__(self):
-        self.wall, self.processor, self.found = {}, {}, None
+    def __init__(self) -> None:
+        self.wall: dict[str, int] = {}
+        self.processor: dict[str, int] = {}
+        self.found: Optional[list[str]] = None
 
-    def run(self, words, segments):
+    def run(self, words: Sequence[str], segments: int) -> None:
         text = subprocess.check_output(words, text=True)
         assert text.split()[-1] == str(segments), text
         self.found = re.findall(r"^(\d+) found$", text, re.M)
@@ -85,18 +93,18 @@ class Least:
             self.processor[what] = min(self.processor.get(what, int(processor)), int(processor))
 
 
-def show(rows, segments, least):
+def show(rows: int, segments: int, least: Least) -> None:
     opening = (least.processor["open"] / 1000, least.wall["open"] / 1000)
     lookup, page = least.processor["lookups"] / LOOKUPS, least.processor["pages"] / PAGES
     print("| %d | %d | %.2f / %.2f | %.2f | %.1f |" % (rows, segments, *opening, lookup, page))
 
 
-def main(words):
+def main(words: Sequence[str]) -> int:
     if len(words) not in (2, 3):
-        print(__doc__.strip(), file=sys.stderr)
+        print((__doc__ or "").strip(), file=sys.stderr)
         return 2
     program, place = os.path.abspath(words[0]), words[1]
-    times = words[2] if len(words) > 2 else "20"
+    times = words[2] if len(words) > 2 else DEFAULT_TIMES
     stores, ids = prepare(program, place)
     taken = {key: Least() for key in stores}
     for _ in range(TURNS):
@@ -110,8 +118,8 @@ def main(words):
         one, many = taken[count * ROWS, 1], taken[count * ROWS, count]
         # The same rows are found, in however many segments they lie.
         assert one.found == many.found, (one.found, many.found)
-        times = many.processor["open"] / one.processor["open"]
-        print("%d segments open in %.2f times the time of one" % (count, times))
+        ratio = many.processor["open"] / one.processor["open"]
+        print("%d segments open in %.2f times the time of one" % (count, ratio))
     return 0
 
 

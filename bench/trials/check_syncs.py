@@ -26,6 +26,8 @@ status 0 where all holds, 1 where something doesn't, and 3 where the machine has
 library alone.
 """
 
+from __future__ import annotations
+
 import argparse
 import os
 import re
@@ -33,13 +35,12 @@ import shutil
 import subprocess
 import sys
 import tempfile
-from collections import namedtuple
-
-# A call: which file it changes, what it does (write, sync, cut), where, how many bytes, the first.
-Call = namedtuple("Call", "path what place length first")
+from collections.abc import Sequence
+from typing import NamedTuple, Optional
 
 # How long the program may take.
 SECONDS = 60
+NOT_RUN = 3
 BLOCK = 4096
 DATA = 4 * BLOCK
 OPEN = 0xA5
@@ -90,15 +91,25 @@ int ftruncate(int fd, off_t n) {
 """
 
 
+class Call(NamedTuple):
+    """Which file it changes, what it does (write, sync, cut), where, how many bytes, the first."""
+
+    path: str
+    what: str
+    place: int
+    length: int
+    first: int
+
+
 class NotRun(Exception):
     """Why it can't be run here."""
 
 
-def way_here():
+def way_here() -> str:
     """How calls are taken down on this machine: strace may be there and not be allowed."""
     if shutil.which("strace"):
-        tried = subprocess.run(["strace", "-f", "-o", os.devnull, "true"], capture_output=True, check=False)
-        if tried.returncode == 0:
+        words = ["strace", "-f", "-o", os.devnull, "true"]
+        if subprocess.run(words, capture_output=True, check=False).returncode == 0:
             return "strace"
     if shutil.which("cc"):
         return "library"
@@ -108,7 +119,7 @@ def way_here():
 class Tracer:
     """Runs the program, and takes its calls down."""
 
-    def __init__(self, how, folder):
+    def __init__(self, how: Optional[str], folder: str) -> None:
         self.folder, self.log = folder, os.path.join(folder, "calls")
         self.how = how or way_here()
         if self.how == "library":
@@ -118,7 +129,7 @@ class Tracer:
             made = ["cc", "-shared", "-fPIC", "-w", "-o", self.library, source, "-ldl"]
             subprocess.run(made, check=True)
 
-    def run(self, words, text):
+    def run(self, words: list[str], text: str) -> tuple[str, list[Call]]:
         """What the program writes, and its calls."""
         if os.path.exists(self.log):
             os.remove(self.log)
@@ -142,17 +153,17 @@ class Tracer:
         return done.stdout.decode(), [call for call in map(parse, lines) if call]
 
 
-def of_library(line):
+def of_library(line: str) -> Call:
     """A call as the library notes it. What goes to standard output has no path here."""
     number, what, place, length, first, path = line.split(" ", 5)
     return Call("stdout" if number == "1" else path, what, int(place), int(length), int(first))
 
 
-def unhexed(text):
+def unhexed(text: str) -> str:
     return bytes.fromhex(text.replace("\\x", "")).decode("utf-8", "replace")
 
 
-def of_strace(line):
+def of_strace(line: str) -> Optional[Call]:
     """A call as strace prints it with -y -xx; none for other lines, and calls that failed."""
     found = re.match(r"(?:\d+ +)?(\w+)\((\d+)(?:<([^>]*)>)?(.*)\) += (-?\d+)", line)
     if not found:
@@ -172,9 +183,9 @@ def of_strace(line):
     return Call(path, "write", place, int(done), int(first.group(1), 16) if first else -1)
 
 
-def steps(calls, store):
+def steps(calls: Sequence[Call], store: str) -> list[str]:
     """The calls on the store and the replies, as a list of words."""
-    found = []
+    found: list[str] = []
     for call in calls:
         if call.path == "stdout":
             word = "reply"
@@ -190,7 +201,7 @@ def steps(calls, store):
     return found
 
 
-def step_of(call):
+def step_of(call: Call) -> str:
     """What a write to the file is."""
     if call.length == 0:
         return "nothing"
@@ -204,15 +215,16 @@ def step_of(call):
     return "bytes at %d" % call.place
 
 
-def published(slot, is_new, was_closed):
+def published(slot: int, is_new: bool, was_closed: bool) -> list[list[str]]:
     """The steps of an import into a slot."""
     ahead = ["data", "sync"] if is_new else []
-    closing = [[], ["nothing"]] if was_closed else [["close %d" % slot]]
     behind = ["sync", "content %d" % slot, "sync", "open %d" % slot, "sync", "reply"]
-    return [ahead + close + behind for close in closing]
+    if was_closed:
+        return [[*ahead, *behind], [*ahead, "nothing", *behind]]
+    return [[*ahead, "close %d" % slot, *behind]]
 
 
-def check_imports(tracer, words, store):
+def check_imports(tracer: Tracer, words: list[str], store: str) -> list[str]:
     """What is wrong with the imports: nothing, or a list of sentences."""
     text = "".join("0 IMPORT r%d\n" % number for number in range(1, len(RELEASES) + 1))
     told, calls = tracer.run([*words, "serve", "--store", store, "--releases", tracer.folder], text)
@@ -240,7 +252,7 @@ def check_imports(tracer, words, store):
     return wrong
 
 
-def check_making(tracer, words, store, with_folder):
+def check_making(tracer: Tracer, words: list[str], store: str, with_folder: bool) -> list[str]:
     """What is wrong with the making of the store."""
     told, calls = tracer.run([*words, "init", "--store", store], "")
     wrong = [] if told == "OK\n" else ["init: other replies: %r" % told]
@@ -262,7 +274,7 @@ def check_making(tracer, words, store, with_folder):
     return wrong
 
 
-def check_copy(tracer, words, store, with_folder):
+def check_copy(tracer: Tracer, words: list[str], store: str, with_folder: bool) -> list[str]:
     """What is wrong with a copy of the store."""
     copy = os.path.join(os.path.dirname(os.path.dirname(store)), "copies", "copy")
     os.mkdir(os.path.dirname(copy))
@@ -272,7 +284,8 @@ def check_copy(tracer, words, store, with_folder):
         wrong.append("the store is changed while it is copied")
     found = steps(calls, copy)
     wanted = ["data", "sync", "content 0", "sync", "open 0", "sync", "reply"]
-    if found[-len(wanted):] != wanted or any(word in found[: -len(wanted)] for word in wanted[2::2]):
+    before, last = found[: -len(wanted)], found[-len(wanted) :]
+    if last != wanted or any(word in before for word in wanted[2::2]):
         wrong += ["copy: %s" % ", ".join(found), "  wanted at its end: %s" % ", ".join(wanted)]
     first = next((n for n, call in enumerate(calls)
                   if call.path == copy and call.what == "write"), len(calls))
@@ -282,7 +295,7 @@ def check_copy(tracer, words, store, with_folder):
     return wrong
 
 
-def write_releases(folder):
+def write_releases(folder: str) -> None:
     for number, dates in enumerate(RELEASES, 1):
         place = os.path.join(folder, "r%d" % number, "Terminology")
         os.makedirs(place)
@@ -292,7 +305,8 @@ def write_releases(folder):
             file.write("".join(line + "\r\n" for line in lines))
 
 
-def main():
+def main() -> int:
+    assert __doc__
     parser = argparse.ArgumentParser(description=__doc__.strip().split("\n", maxsplit=1)[0])
     parser.add_argument("--how", choices=["strace", "library"], help="how calls are taken down")
     parser.add_argument("--no-folder", action="store_true", help="leave the folder's sync out")
@@ -311,7 +325,8 @@ def main():
         shutil.rmtree(folder)
     for sentence in wrong:
         print(sentence)
-    print("calls by %s: %s" % (tracer.how, "WRONG" if wrong else "each write is synced in its order"))
+    told = "WRONG" if wrong else "each write is synced in its order"
+    print("calls by %s: %s" % (tracer.how, told))
     return 1 if wrong else 0
 
 
@@ -320,4 +335,4 @@ if __name__ == "__main__":
         sys.exit(main())
     except NotRun as why:
         print("not run: %s" % why)
-        sys.exit(3)
+        sys.exit(NOT_RUN)

@@ -1,5 +1,7 @@
 """A headless Chromium, driven over two pipes by its DevTools protocol. Standard library alone."""
 
+from __future__ import annotations
+
 import json
 import os
 import select
@@ -7,6 +9,7 @@ import shutil
 import subprocess
 import tempfile
 import time
+from typing import Any, Optional
 
 NAMES = ("chromium", "chromium-browser", "google-chrome", "chrome")
 # As root Chromium has no sandbox; the pages are those of the gateway alone.
@@ -24,12 +27,15 @@ FLAGS = [
 SECONDS = 30
 READ_BYTES = 1 << 16
 
+# What Chromium says: an answer to a question, or an event.
+Message = dict[str, Any]
+
 
 class Failed(Exception):
     """Chromium doesn't do what it is asked."""
 
 
-def found():
+def found() -> Optional[str]:
     """The path of a Chromium; None where there is none."""
     return next(filter(None, map(shutil.which, NAMES)), None)
 
@@ -37,7 +43,7 @@ def found():
 class Browser:
     """One page. `events` are those that came since they were taken last."""
 
-    def __init__(self, path):
+    def __init__(self, path: str) -> None:
         self.folder = tempfile.TemporaryDirectory()
         to_browser, self.to = os.pipe()
         self.come, from_browser = os.pipe()
@@ -59,20 +65,22 @@ class Browser:
         )
         os.close(to_browser)
         os.close(from_browser)
-        self.rest, self.number, self.events, self.session = b"", 0, [], None
+        self.rest, self.number = b"", 0
+        self.events: list[Message] = []
+        self.session: Optional[str] = None
         target = self.ask("Target.createTarget", url="about:blank")["targetId"]
         self.session = self.ask("Target.attachToTarget", targetId=target, flatten=True)["sessionId"]
         for domain in ("Page", "Log", "Runtime"):
             self.ask(domain + ".enable")
 
-    def close(self):
+    def close(self) -> None:
         self.process.kill()
         self.process.wait()
         os.close(self.to)
         os.close(self.come)
         shutil.rmtree(self.folder.name, ignore_errors=True)
 
-    def message(self, end):
+    def message(self, end: float) -> Message:
         """The next message, until a moment."""
         while b"\0" not in self.rest:
             if not select.select([self.come], [], [], max(end - time.monotonic(), 0))[0]:
@@ -82,9 +90,10 @@ class Browser:
                 raise Failed("Chromium has ended")
             self.rest += part
         text, _, self.rest = self.rest.partition(b"\0")
-        return json.loads(text)
+        found: Message = json.loads(text)
+        return found
 
-    def ask(self, method, **parameters):
+    def ask(self, method: str, **parameters: Any) -> Any:
         """What Chromium answers. Events that come before the answer are kept."""
         self.number += 1
         question = {"id": self.number, "method": method, "params": parameters}
@@ -101,7 +110,7 @@ class Browser:
             if "method" in message:
                 self.events.append(message)
 
-    def wait(self, method):
+    def wait(self, method: str) -> None:
         """Waits for an event of this name, and keeps it with the others."""
         end = time.monotonic() + SECONDS
         while not any(event["method"] == method for event in self.events):
@@ -109,7 +118,7 @@ class Browser:
             if "method" in message:
                 self.events.append(message)
 
-    def open(self, address):
+    def open(self, address: str) -> list[Message]:
         """Opens the address, and waits until all of it is there. Returns the events meanwhile."""
         self.events = []
         failed = self.ask("Page.navigate", url=address).get("errorText")
@@ -118,7 +127,7 @@ class Browser:
         self.wait("Page.loadEventFired")
         return self.events
 
-    def value(self, script):
+    def value(self, script: str) -> Any:
         """What an expression of JavaScript is in the page."""
         found = self.ask(
             "Runtime.evaluate", expression=script, returnByValue=True, awaitPromise=True
@@ -127,7 +136,7 @@ class Browser:
             raise Failed("%s: %s" % (script[:60], found["exceptionDetails"].get("text")))
         return found["result"].get("value")
 
-    def width(self, pixels, is_phone=False):
+    def width(self, pixels: int, is_phone: bool = False) -> None:
         self.ask(
             "Emulation.setDeviceMetricsOverride",
             width=pixels,

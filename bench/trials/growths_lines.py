@@ -12,6 +12,9 @@ from typing import NamedTuple, Optional, Sequence
 import soak
 from growths_harness import (ALL_BEHIND, ALONE, OUT_OF_MEMORY, Program, Ran, Refusals, Wrong,
                              replies_in, try_each, ways_to_be_refused)
+from soak_model import KINDS, SUBJECTS, Columns, File, Model, Reply
+
+import make_release as rf2  # soak.py looks for it.
 
 SEED = 2
 REFUSED = [OUT_OF_MEMORY.decode().strip()]
@@ -46,7 +49,7 @@ class Session:
     def questions(self) -> list[str]:
         """What is asked behind the random lines, by a session that they don't pin."""
         model, day = self.made.model, soak.LAST_DATE
-        shown = {kind: self.versions(kind) for kind in soak.KINDS}
+        shown = {kind: self.versions(kind) for kind in KINDS}
         letters = sorted({columns[7][0].casefold() for columns in shown["D"]})
         parents = sorted({columns[5] for columns in shown["R"]})
         children = sorted({columns[4] for columns in shown["R"]})
@@ -58,12 +61,12 @@ class Session:
         lines += ["10 ANCESTORS %s %s" % (child, day) for child in children[:5]]
         lines += ["10 REPLACED %s %s" % (component, day) for component in replaced]
         lines += ["10 REPLACES %s %s" % (component, day) for component in replacing[:5]]
-        for kind, place in soak.SUBJECTS.items():
+        for kind, place in SUBJECTS.items():
             subjects = sorted({columns[place] for columns in shown[kind]})
             lines += ["10 ABOUT %s %s %s" % (kind, subject, day) for subject in subjects[:20]]
             lines += ["10 TIMELINE %s %s" % (kind, subject) for subject in subjects[:5]]
         lines += self.of_reference_sets(shown)
-        for kind in soak.KINDS:
+        for kind in KINDS:
             lines += ["10 HISTORY %s %s" % (kind, name) for name in self.made.names(kind)[:20]]
             lines.append("10 DELTA %s 20191231 %s - 10" % (kind, day))
         lines += ["10 RECEIPT %d" % number for number in range(1, model.state.imports + 1)]
@@ -72,16 +75,16 @@ class Session:
             model.reply(line)
         return lines
 
-    def of_reference_sets(self, shown: dict[str, list[soak.Columns]]) -> list[str]:
+    def of_reference_sets(self, shown: dict[str, list[Columns]]) -> list[str]:
         """The members of each reference set and its values, and what some concepts were called."""
         day, refsets = soak.LAST_DATE, sorted({columns[4] for columns in shown["M"]})
         concepts = sorted({columns[4] for columns in shown["D"]})
         lines = ["10 MEMBERS %s %s - 10" % (refset, day) for refset in refsets]
         lines += ["10 VALUES %s %s - 3" % (refset, day) for refset in refsets]
         return lines + ["10 CALLED %s %s %d" % (concept, day, language)
-                        for concept in concepts[:20] for language in soak.rf2.LANGUAGES]
+                        for concept in concepts[:20] for language in rf2.LANGUAGES]
 
-    def versions(self, kind: str) -> list[soak.Columns]:
+    def versions(self, kind: str) -> list[Columns]:
         """The columns of each version of each component."""
         of = self.made.model.kinds[kind].of
         return [columns for dates in of.values() for _, columns in dates.values()]
@@ -93,7 +96,7 @@ class Served(NamedTuple):
 
     lines: Sequence[str]
     releases: Path
-    files: dict[str, list[soak.File]]
+    files: dict[str, list[File]]
     store: Path
     before: Sequence[str] = ()
     keeps_all: bool = False
@@ -120,12 +123,12 @@ class Runs:
         self.outcomes: dict[int, list[Outcome]] = {ALONE: [], IN_A_ROW: [], ALL_BEHIND: []}
 
     def is_never_refused(self, line: str) -> bool:
-        said = soak.Model({}).reply(line)[-1]
+        said = Model({}).reply(line)[-1]
         return bool(NEVER.match(line)) or said.startswith(NONE_READ)
 
-    def model(self) -> soak.Model:
+    def model(self) -> Model:
         """The model of the store that a run begins with."""
-        model = soak.Model(self.served.files, self.served.keeps_all)
+        model = Model(self.served.files, self.served.keeps_all)
         for line in self.served.before:
             model.reply(line)
         model.state, model.pins = model.state.reopened(), {}
@@ -138,8 +141,7 @@ class Runs:
         given = "".join(line + "\n" for line in lines).encode()
         return self.program.run(words, folder, given, refusals)
 
-    def check(self, model: soak.Model, lines: Sequence[str],
-              replies: Sequence[soak.Reply]) -> list[int]:
+    def check(self, model: Model, lines: Sequence[str], replies: Sequence[Reply]) -> list[int]:
         """Compares the replies of a run, and gives the places of the lines that were refused: these
         aren't told to the model."""
         refused = []
@@ -172,14 +174,14 @@ class Runs:
         self.look(folder, model)
         return Outcome(False, refused, model.state.imports) if was_refused else None
 
-    def look(self, folder: Path, model: soak.Model) -> None:
+    def look(self, folder: Path, model: Model) -> None:
         """Opens the store once more, and compares what it holds."""
         model.state, model.pins = model.state.reopened(), {}
         data = hashlib.sha256((folder / "store").read_bytes()).digest()
         seen = (data, model.state.status(), model.reply("0 DIGEST")[0])
         if seen in self.looked_at:
             return
-        lines = ["0 STATUS"] + ["0 PAGE %s 99991231 - 1000" % kind for kind in soak.KINDS]
+        lines = ["0 STATUS"] + ["0 PAGE %s 99991231 - 1000" % kind for kind in KINDS]
         ran, _ = self.serve(folder, lines)
         if list(replies_in(ran.output)) != [model.reply(line) for line in lines]:
             raise Wrong("another store afterwards")
@@ -311,19 +313,19 @@ QUESTIONS = """0 STATUS
 0 DIGEST""".split("\n")
 
 
-def samples_in(releases: Path) -> dict[str, list[soak.File]]:
+def samples_in(releases: Path) -> dict[str, list[File]]:
     """Writes the samples as folders; the files of each, as the model takes them."""
     files = {}
     for name, rows in SAMPLES.items():
-        of = {kind: [row.split() for k, row in rows if k == kind] for kind in soak.rf2.KINDS}
+        of = {kind: [row.split() for k, row in rows if k == kind] for kind in rf2.KINDS}
         texts = {kind: ["\t".join(columns) for columns in of[kind]] for kind in of}
-        soak.rf2.write(os.path.join(releases, name), "Delta", "20200131", texts)
-        files[name] = [soak.File(kind, True, of[kind]) for kind in sorted(of, key=soak.place_of)]
+        rf2.write(os.path.join(releases, name), "Delta", "20200131", texts)
+        files[name] = [File(kind, True, of[kind]) for kind in sorted(of, key=soak.place_of)]
     return files
 
 
 def runs_of_script(program: Program, folder: Path, releases: Path,
-                   files: dict[str, list[soak.File]]) -> list[Runs]:
+                   files: dict[str, list[File]]) -> list[Runs]:
     """The runs of the demonstration's lines, and of its questions on the store that it leaves."""
     empty, full = folder / "empty", folder / "full"
     program.done(["init", "--store", str(empty)], folder)

@@ -1,13 +1,16 @@
 """Trials of the copies of examples/hub.py for try_hub.py: what BACKUP makes, and what goes on while
 it does."""
 
+from __future__ import annotations
+
 import os
 import resource
 import shutil
 import subprocess
+from pathlib import Path
 
-from hub_harness import SECONDS, Client, Hub, Wrong, concept, concept_id, content, mode, same, until
-from hub_harness import write_release
+from hub_harness import SECONDS, Client, Hub, Place, content, mode, until
+from operators_harness import Wrong, concept, concept_id, same, write_release
 
 # How many clients ask while a copy is made, and how often each does while the hub waits.
 CLIENTS, ROUNDS = 50, 20
@@ -23,7 +26,7 @@ BAD_COPIES = [
 ]
 
 
-def copies(place, store):
+def copies(place: Place, store: str) -> None:
     """BACKUP makes a new file that has what the store has, or says why not and leaves none."""
     path = place.path("a copy")
     with Hub(place, store, "--questions", place.path("questions")) as hub:
@@ -52,7 +55,7 @@ def copies(place, store):
     same("the state of the copy", (done.returncode, done.stdout), (0, b"OK 2 10 2 -\n"))
 
 
-def bad_copies(place, store):
+def bad_copies(place: Place, store: str) -> None:
     """A copy that isn't what the store shows is refused, and removed."""
     own = place.path("own")
     shutil.copy(store, own)
@@ -96,12 +99,12 @@ os.execv(PROGRAM, [PROGRAM, *sys.argv[1:]])
 """
 
 
-def slow_copies(place, go_on):
+def slow_copies(place: Place, go_on: str) -> Place:
     """The same with copies that wait for the file of this name."""
     return place.changed("hub_store.py", COPYING, WAITING % go_on + COPYING)
 
 
-def begin_copy(client, path):
+def begin_copy(client: Client, path: str) -> None:
     client.send(b"BACKUP %s\n" % path.encode())
     until("the copy is begun", lambda: os.path.exists(path))
 
@@ -114,12 +117,12 @@ QUESTIONS = [
 class Crowd:
     """Clients that ask at the same time, and what each question is answered."""
 
-    def __init__(self, path):
+    def __init__(self, path: str) -> None:
         self.clients = [Client(path) for _ in range(CLIENTS)]
         self.replies = {line: self.clients[0].ask(line) for line in QUESTIONS}
         self.rounds = 0
 
-    def ask(self):
+    def ask(self) -> None:
         """One question of each, all of which are sent before the first reply is read."""
         self.rounds += 1
         lines = [QUESTIONS[(self.rounds + number) % len(QUESTIONS)] for number in range(CLIENTS)]
@@ -129,16 +132,16 @@ class Crowd:
             same("%r beside a copy" % line, client.read(), self.replies[line])
 
 
-def write_large_and_small(place):
+def write_large_and_small(place: Place) -> str:
     """A folder of releases: one of 10,000 rows, and some of one row."""
-    releases = place.path("releases")
-    write_release(releases, "large", {"C": [concept(one) for one in range(1, 10_001)]})
+    releases = Path(place.path("releases"))
+    write_release(releases / "large", {"C": [concept(one) for one in range(1, 10_001)]})
     for number in range(1, COPIES + 1):
-        write_release(releases, "n%d" % number, {"C": [concept(20_000 + number)]})
-    return releases
+        write_release(releases / ("n%d" % number), {"C": [concept(20_000 + number)]})
+    return str(releases)
 
 
-def slow_copy(place, store):
+def slow_copy(place: Place, store: str) -> None:
     """While a copy is made, 50 clients are answered, and imports and merges wait; while it is
     checked, these go on too."""
     go_on, path = place.path("go on"), place.path("copy")
@@ -169,7 +172,7 @@ def slow_copy(place, store):
             same("the copy", owner.read(), ["OK 2 10001 2"])
 
 
-def stopped_copies(place, store):
+def stopped_copies(place: Place, store: str) -> None:
     """A hub that is stopped leaves no copy that isn't whole, or isn't checked."""
     go_on, path = place.path("go on"), place.path("copy")
     slow = slow_copies(place, go_on).wrapped(CHECKING)
@@ -190,7 +193,7 @@ def stopped_copies(place, store):
     same("what is left of it", os.path.exists(path), False)
 
 
-def busy_copies(place, store):
+def busy_copies(place: Place, store: str) -> None:
     """Copies that are made while 50 clients ask and one imports: each has what the store had before
     or after an import, and answers the same."""
     with Hub(place, place.make_store("own"), "--questions", place.path("questions"),
@@ -214,7 +217,7 @@ def busy_copies(place, store):
                  [copied + " -"] + [line for reply in crowd.replies.values() for line in reply])
 
 
-def asked_of(program, path):
+def asked_of(program: str, path: str) -> list[str]:
     """What a store answers: its state, and the replies to the questions."""
     lines = "".join("0 %s\n" % line for line in ["STATUS", *QUESTIONS])
     done = subprocess.run([program, "serve", "--store", path, "--releases", "."],

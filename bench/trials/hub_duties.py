@@ -1,6 +1,8 @@
 """Trials of examples/hub.py for try_hub.py: its socket for questions, the rights of its sockets,
 its log, its merges, and the units."""
 
+from __future__ import annotations
+
 import grp
 import os
 import re
@@ -10,10 +12,12 @@ import subprocess
 import sys
 import threading
 import time
+from collections.abc import Sequence
+from pathlib import Path
 
 from hub_copies import begin_copy, slow_copies
-from hub_harness import RECORDER, ROOT, SECONDS, Client, Hub, Skipped, Wrong, concept
-from hub_harness import concept_id, content, mode, rf2, same, until, write_release
+from hub_harness import RECORDER, ROOT, SECONDS, Client, Hub, Place, content, mode, until
+from operators_harness import Skipped, Wrong, concept, concept_id, rf2, same, write_release
 
 NOT_A_QUESTION = ["ERR hub NotAQuestion"]
 STATUS = ["OK 2 10 2 -"]
@@ -27,7 +31,7 @@ TIME = re.compile(r"[0-9]{4}-[0-9]{2}-[0-9]{2}T[0-9]{2}:[0-9]{2}:[0-9]{2}Z ")
 NOBODY = 65534
 
 
-def logged(hub):
+def logged(hub: Hub) -> list[str]:
     """The lines of the log, without their times."""
     lines = hub.told().splitlines()
     for line in lines:
@@ -74,7 +78,7 @@ AT_A_PIN = [("AT 2 " + line, wanted) for line, wanted in AUDIT] + [
     ("AT 1 DIGEST", ["OK " + DIGEST_IN_2020])]
 
 
-def questions_alone(place, store):
+def questions_alone(place: Place, store: str) -> None:
     """On the socket for questions nothing can be changed; the replies come in their order."""
     before = content(store)
     with Hub(place, store, "--questions", place.path("questions")) as hub:
@@ -103,7 +107,7 @@ def questions_alone(place, store):
         client.leave()
 
 
-def what_arrives(place, store):
+def what_arrives(place: Place, store: str) -> None:
     """What comes to the program from the socket for questions is questions, each of its session."""
     recording = place.wrapped(RECORDER)
     with Hub(recording, store, "--questions", recording.path("questions")) as hub:
@@ -118,7 +122,7 @@ def what_arrives(place, store):
     same("lines of UNPIN", arrived.count("1 UNPIN"), 1)
 
 
-def pins_apart(place, store):
+def pins_apart(place: Place, store: str) -> None:
     """No client can touch the pin of another one, on whichever sockets they are."""
     with Hub(place, store, "--questions", place.path("questions")) as hub:
         clients = [Client(path) for path in (hub.questions, hub.questions, hub.socket, hub.socket)]
@@ -140,14 +144,14 @@ def pins_apart(place, store):
 TRACE = ["strace", "-D", "-f", "-qq"]
 
 
-def has_strace():
+def has_strace() -> bool:
     if shutil.which("strace") is None:
         return False
     return subprocess.run(["strace", "-qq", "-o", "/dev/null", "true"], stderr=subprocess.DEVNULL,
                           timeout=SECONDS, check=False).returncode == 0
 
 
-def rights(place, store):
+def rights(place: Place, store: str) -> None:
     """The sockets are their owner's alone, that for questions also a group's where one is named,
     whatever the umask, from the moment at which they are there."""
     own = grp.getgrgid(os.getegid()).gr_name
@@ -172,12 +176,12 @@ def rights(place, store):
 class Watched:
     """Looks at the rights of some paths all the time."""
 
-    def __init__(self, paths):
-        self.modes = {path: set() for path in paths}
+    def __init__(self, paths: Sequence[str]) -> None:
+        self.modes: dict[str, set[str]] = {path: set() for path in paths}
         self.is_over = False
         self.thread = threading.Thread(target=self.watch)
 
-    def watch(self):
+    def watch(self) -> None:
         while not self.is_over:
             for path, modes in self.modes.items():
                 try:
@@ -185,15 +189,15 @@ class Watched:
                 except FileNotFoundError:
                     pass
 
-    def __enter__(self):
+    def __enter__(self) -> None:
         self.thread.start()
 
-    def __exit__(self, *_):
+    def __exit__(self, *_: object) -> None:
         self.is_over = True
         self.thread.join()
 
 
-def other_users(place, store):
+def other_users(place: Place, store: str) -> None:
     """Another user can't connect; one of the group can ask."""
     if os.geteuid() != 0:
         raise Skipped("it takes root to be another user")
@@ -206,7 +210,7 @@ def other_users(place, store):
             same("another user, of the groups %r" % groups, asks_as_nobody(path, groups), wanted)
 
 
-def asks_as_nobody(path, groups):
+def asks_as_nobody(path: str, groups: Sequence[int]) -> int:
     """0 if a user with these groups alone is answered, 1 if it may not connect."""
     child = os.fork()
     if child == 0:
@@ -224,7 +228,7 @@ def asks_as_nobody(path, groups):
     return os.waitstatus_to_exitcode(os.waitpid(child, 0)[1])
 
 
-def the_log(place, store):
+def the_log(place: Place, store: str) -> None:
     """The log tells of imports, published merges and copies, and of what is refused; nothing from
     outside can look like another line of it."""
     own = place.make_store("own")
@@ -253,12 +257,12 @@ def the_log(place, store):
         raise Wrong("the log doesn't say why an import was refused: %r" % told)
 
 
-def logged_beside(told):
+def logged_beside(told: str) -> list[str]:
     """The lines of the hub's log, beside those of the program."""
     return [TIME.sub("", line) for line in told.splitlines() if TIME.match(line)]
 
 
-def no_reply(place, store):
+def no_reply(place: Place, store: str) -> None:
     """Where the program ends within an import, the log says which it was."""
     ending = place.wrapped("""
 import subprocess, sys
@@ -280,19 +284,19 @@ sys.exit(real.wait())
         same("what it logged", logged_beside(hub.told()), ["IMPORT r1\\x1b: no reply"])
 
 
-def write_nights(releases, count):
+def write_nights(releases: str, count: int) -> list[str]:
     """Writes releases of a row each, and answers the lines that import them, without their ends."""
     for number in range(1, count + 1):
-        write_release(releases, "n%d" % number, {"C": [concept(number)]})
+        write_release(Path(releases, "n%d" % number), {"C": [concept(number)]})
     return ["IMPORT n%d" % number for number in range(1, count + 1)]
 
 
-def check_of(line):
+def check_of(line: str) -> str:
     """The line that checks what another one imports."""
     return line.replace("IMPORT", "CHECK")
 
 
-def nights(place, store):
+def nights(place: Place, store: str) -> None:
     """The hub merges in time, so that no import meets too many segments, and answers meanwhile."""
     own, releases = place.make_store("own"), place.path("releases")
     lines = write_nights(releases, NIGHTS)
@@ -313,7 +317,7 @@ def nights(place, store):
         same("merges", len(merges) >= NIGHTS - MERGE_ABOVE, True)
 
 
-def no_merge_at_start(place, store):
+def no_merge_at_start(place: Place, store: str) -> None:
     """A hub that is started merges nothing before the first import. If there was no space for a
     merge, each hub would otherwise end as the one before did."""
     own, releases = place.make_store("own"), place.path("releases")
@@ -328,7 +332,7 @@ def no_merge_at_start(place, store):
         same("the end of the hub", hub.stop("a hub that is stopped"), 0)
 
 
-def import_alone(place, store, releases, lines):
+def import_alone(place: Place, store: str, releases: str, lines: Sequence[str]) -> None:
     """Imports without a hub, and so without merges."""
     done = subprocess.run(
         [place.program, "serve", "--store", store, "--releases", releases],
@@ -337,7 +341,7 @@ def import_alone(place, store, releases, lines):
     same("imports without the hub", done.stdout.count(b" 1 0\n"), len(lines))
 
 
-def full_store(place, store):
+def full_store(place: Place, store: str) -> None:
     """Imports that come faster than segments are merged wait for that where a store is full, also
     those that waited for a copy before; but not where nobody wants merges."""
     own, releases = place.make_store("own"), place.path("releases")
@@ -371,21 +375,27 @@ def full_store(place, store):
             same(asked, client.ask(asked), ["OK %d 1 0" % len(lines)])
 
 
-def steps(place, store):
-    """Merges go in steps of 1,000 rows, and clients are answered between them, imports too. A merge
-    that a client has begun is left to that."""
-    recording = place.wrapped(RECORDER)
+def store_to_merge(place: Place) -> str:
+    """A store of two large segments, beside releases of one that is smaller and two of one row."""
     own = place.make_store("own")
-    for name, numbers in (("big", range(1, 6_001)), ("other", range(6_001, 12_001)),
-                          ("third", range(12_001, 14_001)), ("between", [19_999]),
-                          ("fifth", [20_000])):
-        write_release(place.path("releases"), name, {"C": [concept(one) for one in numbers]})
+    made = {"big": range(1, 6_001), "other": range(6_001, 12_001), "third": range(12_001, 14_001),
+            "between": range(19_999, 20_000), "fifth": range(20_000, 20_001)}
+    for name, numbers in made.items():
+        write_release(Path(place.path("releases", name)), {"C": [concept(one) for one in numbers]})
     with Hub(place, own, "--merge-above", "250", releases=place.path("releases")) as hub:
         client = Client(hub.socket)
         same("an import", client.ask("IMPORT big"), ["OK 1 6000 0"])
         same("another one", client.ask("IMPORT other"), ["OK 2 6000 0"])
         client.leave()
         same("the end of the hub", hub.stop("a hub that is stopped"), 0)
+    return own
+
+
+def steps(place: Place, store: str) -> None:
+    """Merges go in steps of 1,000 rows, and clients are answered between them, imports too. A merge
+    that a client has begun is left to that."""
+    recording = place.wrapped(RECORDER)
+    own = store_to_merge(place)
     with Hub(recording, own, "--merge-above", "2", releases=place.path("releases")) as hub:
         client = Client(hub.socket)
         for line, count in ((b"IMPORT third\n", 100), (b"IMPORT between\n", 2_000)):
@@ -430,7 +440,7 @@ HUB_LINES = ["PrivateNetwork=yes", "RestrictAddressFamilies=AF_UNIX", DROPPING,
 MOST_EXPOSED, GATEWAY_EXPOSED = 6, 10
 
 
-def units(place, store):
+def units(place: Place, store: str) -> None:
     """The units are as hardened as they can be. That of the hub gives questions to a group and
     imports to its owner."""
     own = place.script(UNIT)
@@ -452,25 +462,25 @@ def units(place, store):
              (0, done.stdout.splitlines()[-1:]))
 
 
-def allowed_calls(lists):
+def allowed_calls(lists: Sequence[str]) -> set[str]:
     """The system calls that the unit allows."""
-    def calls(name):
+    def calls(name: str) -> set[str]:
         if not name.startswith("@"):
             return {name}
         done = subprocess.run(["systemd-analyze", "syscall-filter", name], stdout=subprocess.PIPE,
                               timeout=SECONDS, check=True)
         words = [line.strip() for line in done.stdout.decode().splitlines()[1:]]
         names = [word for word in words if word and not word.startswith("#")]
-        return set().union(*map(calls, names))
+        return set[str]().union(*map(calls, names))
 
-    allowed = set()
+    allowed: set[str] = set()
     for words in lists:
-        found = set().union(*map(calls, words.lstrip("~").split(" ")))
+        found = set[str]().union(*map(calls, words.lstrip("~").split(" ")))
         allowed = allowed - found if words.startswith("~") else allowed | found
     return allowed
 
 
-def system_calls(place, store):
+def system_calls(place: Place, store: str) -> None:
     """What the hub, the program and the unit's first command ask of the system, the unit allows. A
     copy and its folder are synced before it is checked."""
     if shutil.which("systemd-analyze") is None or not has_strace():
@@ -488,8 +498,9 @@ def system_calls(place, store):
             same(line, client.ask(line)[0].split(" ")[0], "OK")
         client.leave()
         same("the end of the hub", hub.stop("a hub that is stopped"), 0)
-    first = re.search(r"^ExecStartPre=(.*?[^\\])$", text, re.M | re.S)[1].replace("\\\n", " ")
-    first = first.replace("/var/lib/sctd/terms.store", own).split()
+    found = re.search(r"^ExecStartPre=(.*?[^\\])$", text, re.M | re.S)
+    assert found
+    first = found[1].replace("\\\n", " ").replace("/var/lib/sctd/terms.store", own).split()
     done = subprocess.run(["strace", "-A", "-f", "-qq", "-o", trace, "-e", "signal=none", *first],
                           timeout=SECONDS, check=False)
     same("the unit's first command", done.returncode, 0)
@@ -508,7 +519,7 @@ def system_calls(place, store):
     same("syncs of a copy and its folder", copying.count(" fsync(", at), 2)
 
 
-def types(place, store):
+def types(place: Place, store: str) -> None:
     """The types of the hub and its clients are right."""
     if shutil.which("mypy") is None:
         raise Skipped("there is no mypy")
@@ -520,11 +531,11 @@ def types(place, store):
          (0, "Success: no issues found in %d source files\n" % len(files)))
 
 
-def members(place, _store):
+def members(place: Place, _store: str) -> None:
     """Members of reference sets come as the release has them, whatever is in their columns."""
     odd = "\t".join(["00000000-0000-4000-8000-000000000001", "20200131", "1", str(rf2.CORE),
                      str(rf2.DESCRIPTORS), "1000015", "a\rROW b", "", "\u2028END 1\u0085OK"])
-    write_release(place.path("releases"), "odd", {"RefsetDescriptor": [odd]})
+    write_release(Path(place.path("releases", "odd")), {"RefsetDescriptor": [odd]})
     store = place.make_store(layout=3)
     with Hub(place, store, "--questions", place.path("questions"),
              releases=place.path("releases")) as hub:

@@ -1,5 +1,7 @@
 """What the trials of examples/hub.py share: a hub on a store, a client, small releases."""
 
+from __future__ import annotations
+
 import contextlib
 import os
 import select
@@ -10,11 +12,12 @@ import stat
 import subprocess
 import sys
 import time
+from collections.abc import Callable, Sequence
+from typing import Optional
+
+from operators_harness import Wrong, same
 
 ROOT = os.path.dirname(os.path.dirname(os.path.dirname(os.path.abspath(__file__))))
-sys.path.append(os.path.join(ROOT, "bench", "measurements"))
-import make_release as rf2  # noqa: E402
-
 RELEASES = os.path.join(ROOT, "docs", "releases")
 # What is around the scripts: Python keeps their output until they flush it, as it mostly does.
 AROUND = {name: value for name, value in os.environ.items() if name != "PYTHONUNBUFFERED"}
@@ -36,34 +39,21 @@ sys.exit(real.wait())
 """
 
 
-class Wrong(Exception):
-    """Something isn't as it has to be."""
-
-
-class Skipped(Exception):
-    """Something can't be tried on this machine."""
-
-
-def same(what, found, wanted):
-    if found != wanted:
-        raise Wrong("%s: %r, not %r" % (what, found, wanted))
-
-
 class Place:
     """What is tried: the program, and the folder of the hub; and a folder to do it in."""
 
-    def __init__(self, program, examples, folder):
+    def __init__(self, program: str, examples: str, folder: str) -> None:
         self.program, self.examples, self.folder = program, examples, folder
 
-    def path(self, *names):
+    def path(self, *names: str) -> str:
         return os.path.join(self.folder, *names)
 
-    def below(self, name):
+    def below(self, name: str) -> Place:
         """The same in a new folder of its own."""
         os.mkdir(self.path(name), 0o755)
         return Place(self.program, self.examples, self.path(name))
 
-    def changed(self, file, old, new):
+    def changed(self, file: str, old: str, new: str) -> Place:
         """The same with a file of the hub in which one text is another one."""
         place = self.below("changed")
         place.examples = place.path("examples")
@@ -76,7 +66,7 @@ class Place:
             text.write(before.replace(old, new))
         return place
 
-    def wrapped(self, script):
+    def wrapped(self, script: str) -> Place:
         """The same with a program that a Python script stands before; PROGRAM is the real one."""
         place = self.below("wrapped")
         place.program = place.path("program")
@@ -86,10 +76,10 @@ class Place:
         os.chmod(place.program, 0o755)
         return place
 
-    def script(self, name):
+    def script(self, name: str) -> str:
         return os.path.join(self.examples, name)
 
-    def make_store(self, name="store", layout=2):
+    def make_store(self, name: str = "store", layout: int = 2) -> str:
         path = self.path(name)
         words = ["init", "--store", path, "--layout", str(layout)]
         made = subprocess.run([self.program, *words], stdout=subprocess.PIPE, timeout=SECONDS,
@@ -97,7 +87,8 @@ class Place:
         same("init", (made.stdout, made.returncode), (b"OK\n", 0))
         return path
 
-    def run(self, name, *words, given=b"", **around):
+    def run(self, name: str, *words: str, given: bytes = b"",
+            **around: str) -> subprocess.CompletedProcess[bytes]:
         """Runs a script of the hub's folder to its end, with more words around it."""
         try:
             return subprocess.run(
@@ -110,8 +101,9 @@ class Place:
 class Hub:
     """A hub on a store. It runs no longer than its `with` block."""
 
-    def __init__(self, place, store, *words, path=None, releases=RELEASES, before=(), umask=-1,
-                 has_own=True):
+    def __init__(self, place: Place, store: str, *words: str, path: Optional[str] = None,
+                 releases: str = RELEASES, before: Sequence[str] = (), umask: int = -1,
+                 has_own: bool = True) -> None:
         self.socket = path or place.path("hub")
         self.questions = place.path("questions")
         self.faults = place.path("faults")
@@ -122,6 +114,7 @@ class Hub:
         with open(self.faults, "wb") as faults:
             self.process = subprocess.Popen(
                 command, stdout=subprocess.PIPE, stderr=faults, umask=umask)
+        assert self.process.stdout
         try:
             if not select.select([self.process.stdout], [], [], SECONDS)[0]:
                 raise Wrong("a hub says nothing for %d seconds after its start" % SECONDS)
@@ -130,13 +123,13 @@ class Hub:
             self.close()
             raise
 
-    def __enter__(self):
+    def __enter__(self) -> Hub:
         return self
 
-    def __exit__(self, *_):
+    def __exit__(self, *_: object) -> None:
         self.close()
 
-    def programs(self):
+    def programs(self) -> list[int]:
         """The processes that it has started."""
         children = "/proc/%d/task/%d/children" % (self.process.pid, self.process.pid)
         try:
@@ -145,7 +138,7 @@ class Hub:
         except OSError:
             return []
 
-    def close(self):
+    def close(self) -> None:
         """Ends it and its program, whatever they do."""
         started = self.programs()
         if self.process.poll() is None:
@@ -154,20 +147,21 @@ class Hub:
             for number in started:
                 with contextlib.suppress(ProcessLookupError):  # Its input ended.
                     os.kill(number, signal.SIGKILL)
+        assert self.process.stdout
         self.process.stdout.close()
 
-    def end(self, what):
+    def end(self, what: str) -> int:
         """Its status, once it has ended."""
         try:
             return self.process.wait(SECONDS)
         except subprocess.TimeoutExpired:
             raise Wrong("%s: it hasn't ended after %d seconds" % (what, SECONDS)) from None
 
-    def stop(self, what):
+    def stop(self, what: str) -> int:
         self.process.send_signal(signal.SIGTERM)
         return self.end(what)
 
-    def told(self):
+    def told(self) -> str:
         """What it and its program have written to standard error."""
         with open(self.faults, encoding="utf-8", errors="backslashreplace") as file:
             return file.read()
@@ -176,7 +170,7 @@ class Hub:
 class Client:
     """A connection to a hub."""
 
-    def __init__(self, path):
+    def __init__(self, path: str) -> None:
         self.sent = b""
         self.connection = socket.socket(socket.AF_UNIX)
         self.connection.settimeout(SECONDS)
@@ -186,7 +180,7 @@ class Client:
             raise Wrong("a client can't reach the hub: %s" % why) from None
         self.lines = self.connection.makefile("rb")
 
-    def send(self, data):
+    def send(self, data: bytes) -> None:
         self.sent = data[-60:]
         try:
             self.connection.sendall(data)
@@ -195,7 +189,7 @@ class Client:
         except OSError as why:
             raise Wrong("a client can't send %r: %s" % (self.sent, why)) from None
 
-    def line(self):
+    def line(self) -> bytes:
         """The next line, and none where the hub hung up."""
         try:
             return self.lines.readline()
@@ -204,58 +198,42 @@ class Client:
         except OSError:
             raise Wrong("no reply to %r within %d seconds" % (self.sent, SECONDS)) from None
 
-    def read(self):
-        reply = []
+    def read(self) -> list[str]:
+        reply: list[str] = []
         while not reply or reply[-1].split(" ")[0] not in ("OK", "ERR", "END"):
             line = self.line()
             if not line.endswith(b"\n"):
                 raise Wrong("the hub hangs up on a client that sent %r, after %r"
-                            % (self.sent, reply + [line] if line else reply))
+                            % (self.sent, [*reply, line] if line else reply))
             reply.append(line.decode("utf-8", "backslashreplace")[:-1])
         return reply
 
-    def ask(self, line):
+    def ask(self, line: str) -> list[str]:
         self.send(line.encode() + b"\n")
         return self.read()
 
-    def has_reply(self, seconds=0.0):
+    def has_reply(self, seconds: float = 0.0) -> bool:
         """Whether something more can be read."""
         return bool(select.select([self.connection], [], [], seconds)[0])
 
-    def leave(self):
+    def leave(self) -> None:
         self.lines.close()
         self.connection.close()
 
 
-def content(path):
+def content(path: str) -> bytes:
     with open(path, "rb") as file:
         return file.read()
 
 
-def mode(path):
+def mode(path: str) -> str:
     return oct(stat.S_IMODE(os.lstat(path).st_mode))
 
 
-def until(what, is_so):
+def until(what: str, is_so: Callable[[], object]) -> None:
     """Waits until something is so."""
     end = time.monotonic() + SECONDS
     while not is_so():
         if time.monotonic() > end:
             raise Wrong("%s: not after %d seconds" % (what, SECONDS))
         time.sleep(0.02)
-
-
-def write_release(folder, name, rows, date="20250131"):
-    """Writes a Delta; the rows of each sort of files are texts with tabs, and a sort may lack."""
-    texts = {kind: [] for kind in rf2.KINDS} | rows
-    rf2.write(os.path.join(folder, name), "Delta", date, texts)
-
-
-def concept_id(number):
-    """The SCTID of a made concept."""
-    return rf2.sctid(1_000 + number, "00")
-
-
-def concept(number, date="20250131", active=1):
-    """The row of a made concept."""
-    return "\t".join(map(str, [concept_id(number), date, active, rf2.CORE, rf2.PRIMITIVE]))

@@ -1,5 +1,7 @@
 """Trials of examples/client.py and examples/read_records.py for try_hub.py."""
 
+from __future__ import annotations
+
 import contextlib
 import csv
 import io
@@ -7,9 +9,11 @@ import os
 import random
 import subprocess
 import sys
+from collections.abc import Iterable, Sequence
+from pathlib import Path
 
-from hub_harness import AROUND, SECONDS, Client, Hub, Wrong, concept, concept_id, rf2, same
-from hub_harness import write_release
+from hub_harness import AROUND, SECONDS, Client, Hub, Place
+from operators_harness import Wrong, concept, concept_id, rf2, same, write_release
 
 ADDED = ["active_then", "name_then", "active_now", "name_now", "replaced_by",
          "may_be_replaced_by", "problem", "pin", "receipt"]
@@ -19,28 +23,38 @@ MOVED_FROM = "900000000000525002"
 MOST_MEMORY = 8 << 20
 
 
-def started(place, name, *words):
-    """A script of the hub's folder, with what it prints and what it says of faults in pipes."""
-    return subprocess.Popen(
-        [sys.executable, place.script(name), *words], stdin=subprocess.PIPE,
-        stdout=subprocess.PIPE, stderr=subprocess.PIPE, env=AROUND)
+class Script:
+    """A script of the hub's folder that runs, with what it is given, prints and says of faults in
+    pipes."""
+
+    def __init__(self, place: Place, name: str, *words: str) -> None:
+        self.name = name
+        self.process = subprocess.Popen(
+            [sys.executable, place.script(name), *words], stdin=subprocess.PIPE,
+            stdout=subprocess.PIPE, stderr=subprocess.PIPE, env=AROUND)
+        assert self.process.stdin and self.process.stdout and self.process.stderr
+        self.input, self.output = self.process.stdin, self.process.stdout
+        self.faults = self.process.stderr
+
+    def send(self, data: bytes) -> None:
+        self.input.write(data)
+        self.input.flush()
+
+    def ended(self) -> tuple[int, str]:
+        """Its status and what it says of faults, which is one line of its own and no traceback."""
+        try:
+            self.process.wait(SECONDS)
+        except subprocess.TimeoutExpired:
+            self.process.kill()
+            raise Wrong("%s: it hasn't ended after %d seconds" % (self.name, SECONDS)) from None
+        told = self.faults.read().decode()
+        for pipe in (self.input, self.output, self.faults):
+            with contextlib.suppress(BrokenPipeError):
+                pipe.close()
+        return self.process.returncode, told
 
 
-def ended(what, process):
-    """Its status and what it says of faults, which is one line of its own and no traceback."""
-    try:
-        process.wait(SECONDS)
-    except subprocess.TimeoutExpired:
-        process.kill()
-        raise Wrong("%s: it hasn't ended after %d seconds" % (what, SECONDS)) from None
-    told = process.stderr.read().decode()
-    for pipe in (process.stdin, process.stdout, process.stderr):
-        with contextlib.suppress(BrokenPipeError):
-            pipe.close()
-    return process.returncode, told
-
-
-def clients_ends(place, store):
+def clients_ends(place: Place, store: str) -> None:
     """client.py ends with 1 after an ERR, without a hub, and where nobody reads what it prints; and
     never with a traceback."""
     with Hub(place, store) as hub:
@@ -51,11 +65,10 @@ def clients_ends(place, store):
             done = place.run("client.py", hub.socket, given=given)
             same("client.py, given %r" % given, (done.stdout, done.returncode, done.stderr),
                  (printed, status, b""))
-        unread = started(place, "client.py", hub.socket)
-        unread.stdout.close()
-        unread.stdin.write(b"STATUS\n")
-        unread.stdin.flush()
-        same("client.py whose output nobody reads", ended("client.py", unread),
+        unread = Script(place, "client.py", hub.socket)
+        unread.output.close()
+        unread.send(b"STATUS\n")
+        same("client.py whose output nobody reads", unread.ended(),
              (1, "client: standard output: Broken pipe\n"))
         with open("/dev/full", "wb") as full:
             done = subprocess.run(
@@ -63,15 +76,12 @@ def clients_ends(place, store):
                 stdout=full, stderr=subprocess.PIPE, timeout=SECONDS, check=False, env=AROUND)
         same("client.py on a full disk", (done.returncode, done.stderr),
              (1, b"client: standard output: No space left on device\n"))
-        left = started(place, "client.py", hub.socket)
-        left.stdin.write(b"STATUS\n")
-        left.stdin.flush()
-        same("client.py before the hub's end", left.stdout.readline(), b"OK 2 10 2 -\n")
+        left = Script(place, "client.py", hub.socket)
+        left.send(b"STATUS\n")
+        same("client.py before the hub's end", left.output.readline(), b"OK 2 10 2 -\n")
         same("the end of the hub", hub.stop("a hub that is stopped"), 0)
-        left.stdin.write(b"STATUS\n")
-        left.stdin.flush()
-        same("client.py whose hub ended", ended("client.py", left),
-             (1, "client: the hub has ended\n"))
+        left.send(b"STATUS\n")
+        same("client.py whose hub ended", left.ended(), (1, "client: the hub has ended\n"))
     for path, why in ((place.path("none"), "No such file or directory"),
                       (store, "Connection refused"), ("x" * 200, "AF_UNIX path too long")):
         done = place.run("client.py", path, given=b"STATUS\n")
@@ -79,13 +89,15 @@ def clients_ends(place, store):
              (1, b"", "client: %s: %s\n" % (path, why)))
 
 
-def description(number, about, term, date, kind=rf2.FULLY_SPECIFIED, language="en", active=1):
+def description(number: int, about: int, term: str, date: str, kind: int = rf2.FULLY_SPECIFIED,
+                language: str = "en", active: int = 1) -> str:
     return "\t".join(map(str, [
         rf2.sctid(1_000 + number, "01"), date, active, rf2.CORE, concept_id(about), language, kind,
         term, rf2.CASE_INSENSITIVE]))
 
 
-def association(number, reference_set, source, target, date="20200131", active=1):
+def association(number: int, reference_set: object, source: int, target: int,
+                date: str = "20200131", active: int = 1) -> str:
     return "\t".join(map(str, [
         "00000000-0000-4000-8000-%012d" % number, date, active, rf2.CORE, reference_set,
         concept_id(source), concept_id(target)]))
@@ -143,11 +155,11 @@ BAD_READINGS += [("1000004", date, NO_DAY) for date in (
     "20200630\r\nIMPORT r3", "٢٠٢٠٠٦٣٠")]
 
 
-def ids(numbers):
+def ids(numbers: str) -> str:
     return " ".join(str(concept_id(int(number))) for number in numbers.split())
 
 
-def read(place, hub, given, *words):
+def read(place: Place, hub: Hub, given: bytes, *words: str) -> list[list[str]]:
     """The rows that read_records.py prints."""
     done = place.run("read_records.py", "--socket", hub.questions, *words, given=given)
     if done.returncode or b"Traceback" in done.stderr:
@@ -156,30 +168,31 @@ def read(place, hub, given, *words):
     return list(csv.reader(io.StringIO(text, newline=""), strict=True))
 
 
-def written(rows):
+def written(rows: Iterable[Sequence[object]]) -> bytes:
     """A CSV file, as bytes."""
     text = io.StringIO(newline="")
     csv.writer(text).writerows(rows)
     return text.getvalue().encode("utf-8", "surrogateescape")
 
 
-def chains(place):
+def chains(place: Place) -> Hub:
     """A store with the chains, below a hub that is asked alone."""
     own = place.make_store("own")
-    write_release(place.path("releases"), "chains", CHAINS)
+    write_release(Path(place.path("releases", "chains")), CHAINS)
     return Hub(place, own, "--questions", place.path("questions"), releases=place.path("releases"))
 
 
-def readings(place, store):
+def readings(place: Place, store: str) -> None:
     """What each record meant and means, as the releases' rows say; bad ones among them."""
-    rows, wanted = [], []
-    for number, (code, date, *found, replaced, maybe, problem) in enumerate(READINGS * 40):
+    rows: list[list[str]] = []
+    wanted: list[list[str]] = []
+    for number, (code, date, *states, replaced, maybe, problem) in enumerate(READINGS * 40):
         note = "no\ntes, \"%d\"" % number
         rows.append(["p%d" % number, date, note, " %d " % concept_id(code), "\udcff"])
-        wanted.append(rows[-1] + found + [ids(replaced), ids(maybe), problem])
-        code, date, why = BAD_READINGS[number % len(BAD_READINGS)]
-        rows.append(["", date, "", code, ""])
-        wanted.append(rows[-1] + [""] * 6 + [why])
+        wanted.append([*rows[-1], *states, ids(replaced), ids(maybe), problem])
+        bad, day, why = BAD_READINGS[number % len(BAD_READINGS)]
+        rows.append(["", day, "", bad, ""])
+        wanted.append([*rows[-1], *[""] * 6, why])
     with chains(place) as hub:
         client = Client(hub.socket)
         same("an import", client.ask("IMPORT chains")[0].split(" ")[:2], ["OK", "1"])
@@ -192,7 +205,7 @@ def readings(place, store):
         same("how many", len(found), len(rows) + 1)
         # A later import changes nothing for those who pin the run.
         late = {"C": [concept(1, "20230131", 0)]}
-        write_release(place.path("releases"), "late", late)
+        write_release(Path(place.path("releases", "late")), late)
         same("an import", client.ask("IMPORT late"), ["OK 2 1 0"])
         again = read(place, hub, written([header, *rows]), "--pin", "1")
         same("the same with a pin", again == found, True)
@@ -205,18 +218,18 @@ def readings(place, store):
 class Files:
     """What the rows of a made release say, read one by one."""
 
-    def __init__(self, rows):
+    def __init__(self, rows: dict[str, list[str]]) -> None:
         self.rows = {kind: [row.split("\t") for row in rows[kind]] for kind in "CDA"}
 
-    def at(self, kind, date, about, column):
+    def at(self, kind: str, date: str, about: str, column: int) -> list[list[str]]:
         """The latest versions up to a date of the components that have a value in a column."""
-        latest = {}
+        latest: dict[str, list[str]] = {}
         for row in self.rows[kind]:
             if row[1] <= date and (row[0] not in latest or latest[row[0]][1] < row[1]):
                 latest[row[0]] = row
         return [row for row in latest.values() if row[column] == about]
 
-    def state(self, code, date):
+    def state(self, code: str, date: str) -> list[str]:
         versions = self.at("C", date, code, 0)
         if not versions:
             return ["", ""]
@@ -224,9 +237,10 @@ class Files:
                  if row[2] == "1" and row[6] == str(rf2.FULLY_SPECIFIED)]
         return [versions[0][2], min(names, key=lambda row: int(row[0]))[7] if names else ""]
 
-    def replacing(self, code):
+    def replacing(self, code: str) -> set[str]:
         """The active concepts that took the place of a retired one."""
-        found, seen, left = set(), {code}, [code]
+        found: set[str] = set()
+        seen, left = {code}, [code]
         while left:
             for row in self.at("A", "99991231", left.pop(), 5):
                 if row[2] == "1" and row[6] not in seen:
@@ -238,11 +252,11 @@ class Files:
         return found
 
 
-def made_release(place, store):
+def made_release(place: Place, store: str) -> None:
     """Records of a made release, against what its files say."""
     rows = rf2.full(rf2.Edition(3), 4_000)
     files, chance = Files(rows), random.Random(3)
-    write_release(place.path("releases"), "made", rows)
+    write_release(Path(place.path("releases", "made")), rows)
     codes = sorted({row[0] for row in files.rows["C"]})
     records = [[chance.choice(codes), chance.choice(rf2.DATES)] for _ in range(300)]
     own = place.make_store("own")
@@ -262,7 +276,7 @@ def made_release(place, store):
         raise Wrong("hardly any of the made concepts was replaced")
 
 
-def odd_files(place, store):
+def odd_files(place: Place, store: str) -> None:
     """Files that are odd: each record is there, or a line that says why not."""
     with chains(place) as hub:
         client = Client(hub.socket)
@@ -303,7 +317,7 @@ def odd_files(place, store):
         same("a file of names alone", read(place, hub, head), [["code", "date", "note", *ADDED]])
 
 
-def bad_runs(place, store):
+def bad_runs(place: Place, store: str) -> None:
     """What ends a run is said in one line: no hub, a hub that ends, a file without the columns."""
     with chains(place) as hub:
         empty = read(place, hub, b"code,date\n%d,20120630\n" % concept_id(1))
@@ -319,29 +333,26 @@ def bad_runs(place, store):
             same("read_records.py, given %r" % given[:30], (done.returncode, done.stderr.decode()),
                  (status, "read_records: %s\n" % why))
         for count in (1, 100_000):
-            unread = started(place, "read_records.py", "--socket", hub.questions)
-            unread.stdout.close()
+            unread = Script(place, "read_records.py", "--socket", hub.questions)
+            unread.output.close()
             with contextlib.suppress(BrokenPipeError):
-                unread.stdin.write(b"code,date\n" + b"1,2\n" * count)
-                unread.stdin.close()
-            same("read_records.py whose output nobody reads", ended("read_records.py", unread),
+                unread.input.write(b"code,date\n" + b"1,2\n" * count)
+                unread.input.close()
+            same("read_records.py whose output nobody reads", unread.ended(),
                  (1, "read_records: [Errno 32] Broken pipe\n"))
-        left = started(place, "read_records.py", "--socket", hub.questions)
-        left.stdin.write(b"code,date\n" + b"1,2\n" * 150)
-        left.stdin.flush()
-        same("a run before the hub's end", left.stdout.readline().split(b",")[:1], [b"code"])
+        left = Script(place, "read_records.py", "--socket", hub.questions)
+        left.send(b"code,date\n" + b"1,2\n" * 150)
+        same("a run before the hub's end", left.output.readline().split(b",")[:1], [b"code"])
         same("the end of the hub", hub.stop("a hub that is stopped"), 0)
-        left.stdin.write(b"%d,20120630\n" % concept_id(1) * 100)
-        left.stdin.close()
-        left.stdin = open(os.devnull, "rb")
-        same("a run whose hub ends", ended("read_records.py", left),
-             (1, "read_records: the hub has ended\n"))
+        left.input.write(b"%d,20120630\n" % concept_id(1) * 100)
+        left.input.close()
+        same("a run whose hub ends", left.ended(), (1, "read_records: the hub has ended\n"))
     done = place.run("read_records.py", "--socket", place.path("none"), given=b"code,date\n")
     same("read_records.py without a hub", (done.returncode, done.stderr.decode()),
          (1, "read_records: %s: No such file or directory\n" % place.path("none")))
 
 
-def long_runs(place, store):
+def long_runs(place: Place, store: str) -> None:
     """A long file takes no more memory than a short one."""
     with chains(place) as hub:
         most = []

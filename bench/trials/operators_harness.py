@@ -1,4 +1,5 @@
-"""What the trials of try_operators.py share: the program and a folder, a server, made releases."""
+"""What the trials of try_operators.py share: the program and a folder, a server, made releases.
+Those of try_hub.py and try_cache.py have them too."""
 
 from __future__ import annotations
 
@@ -28,6 +29,8 @@ BLOCK = 4096
 FIRST_ROW = 4 * BLOCK
 # What one byte of a file is changed to.
 FLIPPED = b"\xff"
+# The day of what is made where no other is named.
+DAY = "20250131"
 
 
 class Wrong(Exception):
@@ -184,9 +187,10 @@ class Server:
         return self.process.wait(SECONDS)
 
 
-def write_release(folder: Path, rows: Mapping[str, Sequence[str]], date: str) -> Path:
-    """Writes a Delta; the rows of each kind are texts with tabs, and a kind may lack."""
-    rf2.write(str(folder), "Delta", date, {kind: rows.get(kind, []) for kind in rf2.KINDS})
+def write_release(folder: Path, rows: Mapping[str, Sequence[str]], date: str = DAY) -> Path:
+    """Writes a Delta; the rows of each sort of files are texts with tabs, and a sort may lack."""
+    texts = {sort: rows.get(sort, []) for sort in (*rf2.KINDS, *rows)}
+    rf2.write(str(folder), "Delta", date, texts)
     return folder
 
 
@@ -195,7 +199,7 @@ def concept_id(number: int) -> int:
     return rf2.sctid(1_000 + number, "00")
 
 
-def concept(number: int, date: str, active: int = 1, module: int = rf2.CORE) -> str:
+def concept(number: int, date: str = DAY, active: int = 1, module: int = rf2.CORE) -> str:
     """The row of a made concept."""
     return "\t".join(map(str, [concept_id(number), date, active, module, rf2.PRIMITIVE]))
 

@@ -6,8 +6,8 @@ refuse_growths.py PROGRAM script
 refuse_growths.py PROGRAM tasks
 
 In the Nth run the Nth call of malloc, calloc or realloc gets no memory, for N = 1, 2, .. until a
-run makes fewer calls. Of each run is looked at what it writes, its status, and what it leaves. Where
-nothing was refused that had to be, nothing was tried, and the status is 1.
+run makes fewer calls. Of each run is looked at what it writes, its status, and what it leaves.
+Where nothing was refused that had to be, nothing was tried, and the status is 1.
 
 **Lines.** A store is made, of version 3 where the rest of SEED divided by 3 is 2 (SEED is 2 where
 none is given) and else of version 2, and a session of LINES random lines (40 where none are given),
@@ -54,12 +54,14 @@ import sys
 import tempfile
 from pathlib import Path
 
-sys.path.insert(0, str(Path(__file__).resolve().parent))
-import growths_lines as lines  # noqa: E402
-import growths_tasks as tasks  # noqa: E402
-from growths_harness import Program  # noqa: E402
+import growths_lines as lines
+import growths_tasks as tasks
+from growths_harness import Program
 
 IN_MEMORY = Path("/dev/shm")
+# How many random lines there are where no number is given.
+LINES = 40
+NOT_RUN = 3
 
 
 def are_right(program: Path, folder: Path, words: list[str]) -> bool:
@@ -72,7 +74,7 @@ def are_right(program: Path, folder: Path, words: list[str]) -> bool:
             return tasks.are_right(refusing, folder)
         runs = lines.runs_of_script(refusing, folder, releases, files)
     else:
-        count = int(words[0]) if words else 40
+        count = int(words[0]) if words else LINES
         seed = int(words[1]) if len(words) > 1 else lines.SEED
         runs = lines.runs_of_session(refusing, folder, count, seed)
     return all([each.are_right() for each in runs])
@@ -80,20 +82,20 @@ def are_right(program: Path, folder: Path, words: list[str]) -> bool:
 
 def main(words: list[str]) -> int:
     assert __doc__
-    if not 2 <= len(words) <= 4:
+    if not 1 <= len(words) <= 3:
         print(__doc__.strip(), file=sys.stderr)
         return 2
     if shutil.which("cc") is None:
         print("there is no C compiler")
-        return 3
-    program = Path(words[1]).resolve()
+        return NOT_RUN
+    program = Path(words[0]).resolve()
     around = str(IN_MEMORY) if IN_MEMORY.is_dir() else None
     folder = Path(tempfile.mkdtemp(prefix="sctd-growths-", dir=around))
     try:
-        return 0 if are_right(program, folder, words[2:]) else 1
+        return 0 if are_right(program, folder, words[1:]) else 1
     finally:
         shutil.rmtree(folder)
 
 
 if __name__ == "__main__":
-    sys.exit(main(sys.argv))
+    sys.exit(main(sys.argv[1:]))

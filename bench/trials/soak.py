@@ -41,13 +41,14 @@ import sys
 import tempfile
 import time
 import uuid
+from collections.abc import Sequence
 from typing import Optional
 
 BENCH = os.path.dirname(os.path.dirname(os.path.abspath(__file__)))
 sys.path += [os.path.join(BENCH, "measurements"), os.path.join(BENCH, "trials")]
 import make_release as rf2  # noqa: E402
 from soak_model import CONCEPT, KINDS, REFERENCED, REFSET, SUBJECTS, TARGET  # noqa: E402
-from soak_model import Columns, Fault, File, Model, publications  # noqa: E402
+from soak_model import Columns, Fault, File, Model, State, publications  # noqa: E402
 
 DATES = ["%d%s31" % (year, month) for year in range(2015, 2026) for month in ("01", "07")]
 LAST_DATE = "99991231"
@@ -60,6 +61,12 @@ ANSWERED = {"members_answered": "MEMBERS", "values_answered": "VALUES", "called_
 MEMBERS_AT_ONCE = 50
 # How long a reply may take, and a program that ends by itself.
 SECONDS = 60
+# How many seconds it runs where none are given, and up to how many times as long where something
+# wasn't tried by then.
+RUN_SECONDS, TIMES_LONGER = 60, 4
+# The status where it still wasn't.
+NOT_TRIED = 3
+PIPE_SIZE = 1 << 16
 # Where the versions of the layout stand in the two directories of a store, and version 1.
 VERSIONS_AT = (4111, 12303)
 VERSION_ONE = b"1"
@@ -202,7 +209,8 @@ class Releases:
 
     def consistent(self, rows: list[Columns]) -> list[Columns]:
         """Without the rows that say otherwise than one that was written before."""
-        kept, here = [], {}
+        kept: list[Columns] = []
+        here: dict[tuple[str, str], Columns] = {}
         for columns in rows:
             key = (columns[0], columns[1])
             if here.setdefault(key, self.known.get(key, columns)) == columns:
@@ -251,61 +259,62 @@ class Releases:
 class Program:
     """The program, serving a file."""
 
-    def __init__(self, words):
+    def __init__(self, words: list[str]) -> None:
         self.process = subprocess.Popen(
             words, stdin=subprocess.PIPE, stdout=subprocess.PIPE, stderr=subprocess.DEVNULL
         )
+        assert self.process.stdin and self.process.stdout
+        self.input, self.output = self.process.stdin, self.process.stdout
         self.came = b""
 
-    def send(self, data):
+    def send(self, data: bytes) -> None:
         try:
-            self.process.stdin.write(data)
-            self.process.stdin.flush()
+            self.input.write(data)
+            self.input.flush()
         except BrokenPipeError:
             pass
 
-    def read(self, wanted, until):
+    def read(self, wanted: int, until: float) -> None:
         """Reads up to so many bytes, until a moment or the end."""
-        out = self.process.stdout.fileno()
+        out = self.output.fileno()
         while len(self.came) < wanted:
             left = until - time.monotonic()
             if left <= 0 or not select.select([out], [], [], left)[0]:
                 return
-            piece = os.read(out, 65536)
+            piece = os.read(out, PIPE_SIZE)
             if not piece:
                 return
             self.came += piece
 
-    def read_line(self, until):
+    def read_line(self, until: float) -> None:
         """Reads until there is an LF, until a moment or the end."""
         before = -1
         while b"\n" not in self.came and len(self.came) != before:
             before = len(self.came)
             self.read(before + 1, until)
 
-    def kill(self):
+    def kill(self) -> None:
         self.process.kill()
-        rest = self.process.stdout.read()
-        self.came += rest
+        self.came += self.output.read()
         self.close_pipes()
 
-    def end(self):
+    def end(self) -> tuple[int, bytes]:
         """Ends the input, and gives the status and what came behind the last reply."""
-        self.process.stdin.close()
+        self.input.close()
         self.read(sys.maxsize, time.monotonic() + SECONDS)
         try:
             status = self.process.wait(timeout=SECONDS)
         except subprocess.TimeoutExpired:
             raise Wrong("the program doesn't end behind the last line") from None
-        self.process.stdout.close()
+        self.output.close()
         return status, self.came
 
-    def close_pipes(self):
+    def close_pipes(self) -> None:
         try:
-            self.process.stdin.close()
+            self.input.close()
         except BrokenPipeError:
             pass
-        self.process.stdout.close()
+        self.output.close()
         self.process.wait()
 
 
@@ -317,13 +326,13 @@ def fields(line: str) -> Columns:
 class Soak:
     """One run."""
 
-    def __init__(self, program, seed, folder):
+    def __init__(self, program: str, seed: int, folder: str) -> None:
         self.program, self.folder, self.seed = program, folder, seed
         self.chance = random.Random(seed)
         self.releases = Releases(self.chance, os.path.join(folder, "releases"))
         self.model = Model(self.releases.files, keeps_all=self.is_of_version_three())
         self.store = os.path.join(folder, "store")
-        self.served = None
+        self.serving: Optional[Program] = None
         self.took = 0.05
         self.counts = dict.fromkeys(
             "openings kills_in_openings kills_in_batches lines imports imports_cut_kept "
@@ -336,12 +345,18 @@ class Soak:
         """Whether the run begins with a store of version 3."""
         return self.seed % 3 == 2
 
-    def start(self):
+    def start(self) -> None:
         words = [self.program, "serve", "--store", self.store, "--releases", self.releases.folder]
         self.counts["openings"] += 1
-        self.served = Program(words)
+        self.serving = Program(words)
 
-    def component(self, kind):
+    @property
+    def served(self) -> Program:
+        """The program, once it was started."""
+        assert self.serving is not None
+        return self.serving
+
+    def component(self, kind: str) -> str:
         ids = self.model.kinds[kind].ids
         if not ids or self.chance.random() < 0.05:
             return self.strange(kind)
@@ -354,14 +369,14 @@ class Soak:
             return "00000000-0000-4000-8000-000000000000"
         return str(rf2.sctid(3000, rf2.PARTITIONS[kind]))
 
-    def question(self, session):
+    def question(self, session: int) -> str:
         """A question, now and then of an import that the session isn't pinned to."""
         at = ""
         if self.chance.random() < 0.2:
             at = "AT %d " % self.chance.randint(0, self.model.state.imports + 1)
         return "%d %s%s" % (session, at, self.asked())
 
-    def asked(self):
+    def asked(self) -> str:
         chance = self.chance
         date = chance.choice(DATES + [LAST_DATE])
         kind = chance.choice(KINDS)
@@ -411,7 +426,7 @@ class Soak:
             return str(self.chance.choice(rf2.LANGUAGES))
         return member[REFSET]
 
-    def page(self, what, kind, date):
+    def page(self, what: int, kind: str, date: str) -> str:
         """A page of a kind, of what changed in it, or of descriptions."""
         limit = self.chance.choice([1, 7, 50])
         after = self.chance.choice(["-", self.component("D" if what == 6 else kind)])
@@ -421,7 +436,7 @@ class Soak:
             return "PAGE %s %s %s %d" % (kind, date, after, limit)
         return "DELTA %s %s %s %s %d" % (kind, self.chance.choice(DATES), date, after, limit)
 
-    def replacements(self, what, date):
+    def replacements(self, what: int, date: str) -> str:
         """What stands in the place of a component, or what it stands in the place of."""
         if what == 14:
             return "REPLACED %s %s" % (self.component("C"), date)
@@ -430,18 +445,18 @@ class Soak:
             return "REPLACES %s %s" % (association[TARGET], date)
         return "REPLACES %s %s" % (self.component("C"), date)
 
-    def prefix(self):
+    def prefix(self) -> str:
         """The beginning of a term, in capitals."""
         return self.chance.choice(rf2.WORDS)[: self.chance.choice([1, 2, 9])].upper()
 
-    def subject(self, kind):
+    def subject(self, kind: str) -> str:
         """What a row of a kind is about, as a rule, or a concept that there is."""
         found = self.releases.row_of(kind)
         if kind in SUBJECTS and found and self.chance.random() < 0.7:
             return found[SUBJECTS[kind]]
         return self.component("C")
 
-    def line(self):
+    def line(self) -> str:
         """One line of one session."""
         chance, session = self.chance, self.chance.randrange(8)
         what = chance.random()
@@ -474,9 +489,11 @@ class Soak:
             return self.chance.choice(list(self.releases.files))
         return self.releases.make()
 
-    def batch(self):
+    def batch(self) -> tuple[list[str], list[bytes], list[State]]:
         """Lines, the replies that the model gives, and the model's state after each."""
-        lines, replies, states = [], [], [self.model.state]
+        lines: list[str] = []
+        replies: list[bytes] = []
+        states = [self.model.state]
         for _ in range(self.chance.choice([1, 3, 10, 30])):
             line = self.line()
             said = self.model.reply(line)
@@ -487,7 +504,7 @@ class Soak:
             states.append(self.model.state)
         return lines, replies, states
 
-    def ask(self, lines, replies):
+    def ask(self, lines: list[str], replies: Sequence[bytes]) -> None:
         """Sends lines, and compares what is answered."""
         begun = time.monotonic()
         wanted = b"".join(replies)
@@ -497,7 +514,8 @@ class Soak:
         self.compare(came, replies, lines, all_of_it=True)
         self.took = 0.9 * self.took + 0.1 * (time.monotonic() - begun)
 
-    def compare(self, came, replies, lines, all_of_it):
+    def compare(self, came: bytes, replies: Sequence[bytes], lines: list[str],
+                all_of_it: bool) -> int:
         """How many replies came whole."""
         place = 0
         for number, reply in enumerate(replies):
@@ -512,11 +530,11 @@ class Soak:
             raise Wrong("more than the replies: %r" % came[place : place + 300])
         return len(replies)
 
-    def count(self, states):
+    def count(self, states: Sequence[State]) -> None:
         self.counts["imports"] += states[-1].imports - states[0].imports
         self.counts["publications"] += publications(states)
 
-    def killed_batch(self):
+    def killed_batch(self) -> None:
         lines, replies, states = self.batch()
         self.served.send("".join(line + "\n" for line in lines).encode())
         wanted = len(b"".join(replies)) + 1
@@ -526,7 +544,7 @@ class Soak:
         answered = self.compare(self.served.came, replies, lines, all_of_it=False)
         self.start_again(states, answered)
 
-    def start_again(self, states, answered):
+    def start_again(self, states: Sequence[State], answered: int) -> None:
         """Finds which of the lines that were sent the store has done, and goes on from there."""
         if self.chance.random() < 0.3:
             self.start()
@@ -553,7 +571,7 @@ class Soak:
         self.model.go_back(done)
         self.dump()
 
-    def dump(self):
+    def dump(self) -> None:
         """Compares all that two pins show, at two dates, page by page."""
         self.counts["dumps"] += 1
         imports = self.model.state.imports
@@ -568,7 +586,7 @@ class Soak:
                 self.pages(kind, LAST_DATE)
         self.check("9 UNPIN")
 
-    def pages(self, kind, date):
+    def pages(self, kind: str, date: str) -> None:
         after = "-"
         while True:
             said = self.check("9 PAGE %s %s %s 1000" % (kind, date, after))
@@ -576,12 +594,12 @@ class Soak:
                 return
             after = fields(said[-2])[0]
 
-    def check(self, line):
+    def check(self, line: str) -> list[str]:
         said = self.model.reply(line)
         self.ask([line], ["".join(part + "\n" for part in said).encode()])
         return said
 
-    def everything(self):
+    def everything(self) -> None:
         """Compares every version of every component, what each import brought, the days that it
         left, and what is around some concepts."""
         for kind in KINDS:
@@ -596,7 +614,7 @@ class Soak:
                 self.all_members(refset, date)
                 self.all_values(refset, date)
 
-    def around(self):
+    def around(self) -> str:
         """A question about what is around a concept on any day, as an import left it."""
         concept, day = self.component("C"), self.chance.choice(DATES + [LAST_DATE])
         asked = ["%s %s %s" % (word, concept, day) for word in AROUND]
@@ -624,18 +642,18 @@ class Soak:
             after = fields(said[-2])[REFERENCED]
             said = self.check("0 VALUES %s %s %s %d" % (refset, date, after, MEMBERS_AT_ONCE))
 
-    def check_all(self, lines):
+    def check_all(self, lines: list[str]) -> None:
         """Asks lines, fifty at a time."""
         for start in range(0, len(lines), 50):
             part = lines[start : start + 50]
             said = ["".join(p + "\n" for p in self.model.reply(line)).encode() for line in part]
             self.ask(part, said)
 
-    def names(self, kind):
+    def names(self, kind: str) -> list[str]:
         shown = self.model.kinds[kind].of
         return [next(iter(shown[name].values()))[1][0] for name in self.model.kinds[kind].ids]
 
-    def run(self, seconds):
+    def run(self, seconds: int) -> None:
         layout = ["--layout", "3"] if self.is_of_version_three() else []
         made = self.ended(["init", "--store", self.store] + layout)
         if made.returncode or made.stdout != b"OK\n":
@@ -644,7 +662,7 @@ class Soak:
             self.make_version_one()
         self.start()
         begun = time.monotonic()
-        while time.monotonic() < begun + seconds * (4 if self.untried() else 1):
+        while time.monotonic() < begun + seconds * (TIMES_LONGER if self.untried() else 1):
             what = self.chance.random()
             if what < 0.25:
                 self.killed_batch()
@@ -665,7 +683,7 @@ class Soak:
         if status:
             raise Wrong("the program ended with the status %d" % status)
 
-    def make_version_one(self):
+    def make_version_one(self) -> None:
         """Makes of the new store one of version 1: that of the layout before this one."""
         with open(self.store, "r+b") as file:
             for at in VERSIONS_AT:
@@ -673,7 +691,7 @@ class Soak:
                 if file.read(7) == b"SCTHIST":
                     file.write(VERSION_ONE)
 
-    def upgrade(self):
+    def upgrade(self) -> None:
         """Between two servers the store is upgraded, perhaps after an upgrade that was killed."""
         status, rest = self.served.end()
         if rest or status:
@@ -691,7 +709,7 @@ class Soak:
         self.model.keeps_all = True
         self.start_again([self.model.state], 0)
 
-    def second_import(self):
+    def second_import(self) -> None:
         """A second program on the file is refused, and changes nothing."""
         self.check("0 STATUS")
         with open(self.store, "rb") as file:
@@ -705,7 +723,7 @@ class Soak:
             raise Wrong("a second program: %r, status %d" % (done.stdout, done.returncode))
         self.counts["seconds_refused"] += 1
 
-    def ended(self, words):
+    def ended(self, words: list[str]) -> subprocess.CompletedProcess[bytes]:
         """The program run with these words, once it has ended."""
         try:
             return subprocess.run(
@@ -714,7 +732,7 @@ class Soak:
         except subprocess.TimeoutExpired:
             raise Wrong("sctd %s hasn't ended after %d seconds" % (words[0], SECONDS)) from None
 
-    def figures(self, seconds):
+    def figures(self, seconds: int) -> None:
         state = self.model.state
         print("seconds %d" % seconds)
         for name, count in self.counts.items():
@@ -733,14 +751,14 @@ class Soak:
                          for count in ANSWERED if not self.counts[count]]
 
 
-def main(words):
-    if not 2 <= len(words) <= 5:
-        print(__doc__.strip(), file=sys.stderr)
+def main(words: Sequence[str]) -> int:
+    if not 1 <= len(words) <= 4:
+        print((__doc__ or "").strip(), file=sys.stderr)
         return 2
-    seconds = int(words[2]) if len(words) > 2 else 60
-    seed = int(words[3]) if len(words) > 3 else 1
-    folder = words[4] if len(words) > 4 else tempfile.mkdtemp(prefix="sctd-soak-")
-    soak = Soak(os.path.abspath(words[1]), seed, folder)
+    seconds = int(words[1]) if len(words) > 1 else RUN_SECONDS
+    seed = int(words[2]) if len(words) > 2 else 1
+    folder = words[3] if len(words) > 3 else tempfile.mkdtemp(prefix="sctd-soak-")
+    soak = Soak(os.path.abspath(words[0]), seed, folder)
     try:
         soak.run(seconds)
     except Wrong as wrong:
@@ -748,15 +766,15 @@ def main(words):
         print("the files are in %s" % folder)
         return 1
     finally:
-        if soak.served is not None and soak.served.process.poll() is None:
-            soak.served.process.kill()
+        if soak.serving is not None and soak.serving.process.poll() is None:
+            soak.serving.process.kill()
     soak.figures(seconds)
-    if len(words) <= 4:
+    if len(words) <= 3:
         shutil.rmtree(folder)
     for what in soak.untried():
         print("NOT TRIED: %s" % what)
-    return 3 if soak.untried() else 0
+    return NOT_TRIED if soak.untried() else 0
 
 
 if __name__ == "__main__":
-    sys.exit(main(sys.argv))
+    sys.exit(main(sys.argv[1:]))

@@ -4,11 +4,11 @@
 try_cache.py PROGRAM
 
 A store keeps the 1,024 blocks that were used last. So descriptions with long terms are imported, as
-many as fill nine tenths of that, and each is asked for. Asked for once more, in the same order, none
-may lead to a read of the store's file: beside the lines of the questions the program reads nothing,
-as the system counts for its process (`/proc/PID/io`). A store that kept half as many blocks would
-read all of them again, since the oldest always gives way. The status is 3 where the system doesn't
-count that, and 1 where something is wrong. Standard library alone.
+many as fill nine tenths of that, and each is asked for. Asked for once more, in the same order,
+none may lead to a read of the store's file: beside the lines of the questions the program reads
+nothing, as the system counts for its process (`/proc/PID/io`). A store that kept half as many
+blocks would read all of them again, since the oldest always gives way. The status is 3 where the
+system doesn't count that, and 1 where something is wrong. Standard library alone.
 """
 
 import os

@@ -14,12 +14,16 @@ It takes root, strace, e2fsprogs, util-linux and a loop device; where it lacks o
 "not run" and ends with status 3. Standard library alone.
 """
 
+from __future__ import annotations
+
 import os
 import shutil
+import signal
 import subprocess
 import sys
 import tempfile
 import time
+from collections.abc import Sequence
 
 ROOT = os.path.dirname(os.path.dirname(os.path.dirname(os.path.abspath(__file__))))
 RELEASES = os.path.join(ROOT, "docs", "releases")
@@ -28,6 +32,11 @@ BLOCK = 4096
 # An import's syncs: two of the opening, then one of the segment, of the gate that is closed, of the
 # content, and of the gate that is opened.
 CONTENT_SYNC = 5
+# The byte of a gate that is open.
+OPEN = 0xA5
+# How often it is looked if an import is stopped, and how many seconds are between.
+LOOKS, BETWEEN_LOOKS = 400, 0.05
+NOT_RUN = 3
 TOOLS = ("strace", "mkfs.ext4", "filefrag", "mount", "umount", "truncate", "fallocate", "dd")
 
 
@@ -35,8 +44,8 @@ class NotRun(Exception):
     """Why it can't be run here."""
 
 
-def run(*words, check=True):
-    done = subprocess.run(words, capture_output=True, text=True)
+def run(*words: str, check: bool = True) -> subprocess.CompletedProcess[str]:
+    done = subprocess.run(words, capture_output=True, text=True, check=False)
     if check and done.returncode != 0:
         raise NotRun("%s: %s" % (words[0], done.stderr.strip().split("\n")[-1]))
     return done
@@ -45,14 +54,14 @@ def run(*words, check=True):
 class Medium:
     """A file system on a loop device whose blocks stand in a small tmpfs."""
 
-    def __init__(self, place):
+    def __init__(self, place: str) -> None:
         self.outer = os.path.join(place, "outer")
         self.inner = os.path.join(place, "inner")
         self.image = os.path.join(self.outer, "image")
         self.filler = os.path.join(self.outer, "filler")
         self.store = os.path.join(self.inner, "store")
 
-    def __enter__(self):
+    def __enter__(self) -> Medium:
         os.mkdir(self.outer)
         os.mkdir(self.inner)
         run("mount", "-t", "tmpfs", "-o", "size=9m", "tmpfs", self.outer)
@@ -72,21 +81,21 @@ class Medium:
             raise
         return self
 
-    def __exit__(self, *_):
+    def __exit__(self, *_: object) -> None:
         run("umount", self.inner, check=False)
         run("umount", self.outer, check=False)
 
-    def mount(self):
+    def mount(self) -> None:
         run("mount", "-o", "loop,nodiscard", self.image, self.inner)
 
-    def mount_again(self):
+    def mount_again(self) -> None:
         """From here on only what the medium has is seen."""
         run("umount", self.inner)
         with open("/proc/sys/vm/drop_caches", "w", encoding="ascii") as file:
             file.write("3\n")
         self.mount()
 
-    def block_of(self, block):
+    def block_of(self, block: int) -> int:
         """Where a block of the store lies on the device."""
         for line in run("filefrag", "-v", self.store).stdout.split("\n"):
             parts = line.replace(":", " ").replace("..", " ").split()
@@ -94,57 +103,76 @@ class Medium:
                 return int(parts[3]) + block - int(parts[1])
         raise NotRun("filefrag doesn't say where the store lies")
 
-    def refuse(self, block):
+    def refuse(self, block: int) -> None:
         """Lets each write of this block of the store fail."""
         at = self.block_of(block) * BLOCK
         run("fallocate", "-p", "-o", str(at), "-l", str(BLOCK), self.image)
         run("dd", "if=/dev/zero", "of=" + self.filler, "bs=%d" % BLOCK, check=False)
 
-    def accept(self):
+    def accept(self) -> None:
         os.remove(self.filler)
 
 
-def gates(path):
+def gates(path: str) -> tuple[bool, bool]:
+    """Whether each of the two gates is open."""
     with open(path, "rb") as file:
-        bytes_of = file.read(2 * BLOCK + 1)
-    return bytes_of[0] == 0xA5, bytes_of[2 * BLOCK] == 0xA5
+        head = file.read(2 * BLOCK + 1)
+    return head[0] == OPEN, head[2 * BLOCK] == OPEN
+
+
+def older_gate(path: str) -> int:
+    """The block of the gate that the next import opens: one that is closed, or else that of the
+    older directory."""
+    first_open, second_open = gates(path)
+    if not (first_open and second_open):
+        return 2 if first_open else 0
+    epochs = []
+    with open(path, "rb") as file:
+        for at in (BLOCK, 3 * BLOCK):
+            file.seek(at)
+            epochs.append(int.from_bytes(file.read(8), "big"))
+    return 0 if epochs[0] < epochs[1] else 2
 
 
 class Program:
-    def __init__(self, path, store):
+    """The program, on a store."""
+
+    def __init__(self, path: str, store: str) -> None:
         self.path, self.store = path, store
 
-    def words(self, command, *more):
-        return [self.path, command, "--store", self.store, "--releases", RELEASES, *more]
+    def words(self, command: str, *more: str) -> list[str]:
+        return [self.path, command, "--store", self.store, *more]
 
-    def said(self, command, *more):
-        words = self.words(command, *more) if command == "import" else [
-            self.path, command, "--store", self.store]
-        return subprocess.run(words, capture_output=True, text=True).stdout.strip()
-
-    def status(self):
-        done = subprocess.run(self.words("serve"), input="0 STATUS\n", capture_output=True, text=True)
+    def said(self, command: str, *more: str, given: str = "") -> str:
+        """What it writes for these words and lines."""
+        done = subprocess.run(self.words(command, *more), input=given, capture_output=True,
+                              text=True, check=False)
         return done.stdout.strip()
 
-    def import_stopped_at_sync(self, release, sync, signal, trace):
+    def status(self) -> str:
+        return self.said("serve", "--releases", RELEASES, given="0 STATUS\n")
+
+    def import_stopped_at_sync(self, release: str, sync: int, sent: str,
+                               trace: str) -> subprocess.Popen[str]:
         """An import that gets a signal at one of its syncs; the opening makes the first one."""
         trap = ["strace", "-f", "-o", trace, "-e", "trace=fsync",
-                "-e", "inject=fsync:signal=%s:when=%d" % (signal, sync)]
-        return subprocess.Popen(trap + self.words("import", release), stdout=subprocess.PIPE,
+                "-e", "inject=fsync:signal=%s:when=%d" % (sent, sync)]
+        words = self.words("import", "--releases", RELEASES, release)
+        return subprocess.Popen([*trap, *words], stdout=subprocess.PIPE,
                                 stderr=subprocess.DEVNULL, text=True)
 
 
-def steps_before_start(unit):
+def steps_before_start(unit: str) -> list[str]:
     """The commands that the unit runs before it starts the program."""
     with open(unit, encoding="utf-8") as file:
         lines = file.read().replace("\\\n", " ").split("\n")
     return [line.split("=", 1)[1] for line in lines if line.startswith("ExecStartPre=")]
 
 
-def wait_for_stop(trace):
+def wait_for_stop(trace: str) -> int:
     """The process that the trace says is stopped."""
-    for _ in range(400):
-        time.sleep(0.05)
+    for _ in range(LOOKS):
+        time.sleep(BETWEEN_LOOKS)
         if os.path.exists(trace):
             with open(trace, encoding="utf-8", errors="replace") as file:
                 for line in file:
@@ -153,29 +181,21 @@ def wait_for_stop(trace):
     raise NotRun("strace doesn't stop the import")
 
 
-def trial(program_path, unit, place):
+def trial(program_path: str, unit: str, place: str) -> tuple[str, str]:
     """What the server says after the restart, and what the medium has in the end."""
     with Medium(place) as medium:
         program = Program(program_path, medium.store)
         program.said("init")
-        if program.said("import", "r1") != "OK 1 6 0":
+        if program.said("import", "--releases", RELEASES, "r1") != "OK 1 6 0":
             raise SystemExit("the first import isn't confirmed")
         os.sync()
-        # The import after it opens the gate that is the older one's now: its last sync.
-        first_open, second_open = gates(medium.store)
-        older = 0 if not first_open else 2 if not second_open else None
-        if older is None:
-            epochs = []
-            with open(medium.store, "rb") as file:
-                for at in (BLOCK, 3 * BLOCK):
-                    file.seek(at)
-                    epochs.append(int.from_bytes(file.read(8), "big"))
-            older = 0 if epochs[0] < epochs[1] else 2
+        # The last sync of the import after it is that of this gate.
+        older = older_gate(medium.store)
         trace = os.path.join(place, "trace")
         import_of_r2 = program.import_stopped_at_sync("r2", CONTENT_SYNC, "STOP", trace)
         stopped = wait_for_stop(trace)
         medium.refuse(older)
-        os.kill(stopped, 18)
+        os.kill(stopped, signal.SIGCONT)
         reply = import_of_r2.communicate()[0].strip()
         if not reply.startswith("ERR 2 "):
             raise NotRun("the medium took the block: %r" % reply)
@@ -188,12 +208,12 @@ def trial(program_path, unit, place):
         return restarted, program.status()
 
 
-def main(words):
+def main(words: Sequence[str]) -> int:
     unit = UNIT
-    if words[:1] == ["--unit"]:
+    if words[:1] == ["--unit"] and words[1:]:
         unit, words = words[1], words[2:]
     if len(words) != 1:
-        print(__doc__.strip(), file=sys.stderr)
+        print((__doc__ or "").strip(), file=sys.stderr)
         return 2
     try:
         missing = [tool for tool in TOOLS if shutil.which(tool) is None]
@@ -204,7 +224,7 @@ def main(words):
             found = trial(program, unit, place)
     except NotRun as why:
         print("not run: %s" % why)
-        return 3
+        return NOT_RUN
     print("after the restart %r, on the medium in the end %r" % found)
     confirmed = "OK 1 6 1 -"
     if found != (confirmed, confirmed):

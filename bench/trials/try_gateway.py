@@ -11,9 +11,15 @@ the page. The last line is `N passed, M failed`, with `, K skipped` where someth
 is 1 where something failed.
 """
 
+from __future__ import annotations
+
 import os
+import shutil
+import signal
 import subprocess
 import sys
+from collections.abc import Sequence
+from typing import Optional
 
 ROOT = os.path.dirname(os.path.dirname(os.path.dirname(os.path.abspath(__file__))))
 GATEWAY = os.path.join(ROOT, "gateway")
@@ -41,7 +47,7 @@ RUNS = [
 ]
 
 
-def python_with_h11():
+def python_with_h11() -> Optional[str]:
     """A Python of at least the version that the gateway needs, with h11; None where there is
     none."""
     check = "import sys, h11; sys.exit(sys.version_info < (3, 11))"
@@ -55,7 +61,7 @@ def python_with_h11():
     return None
 
 
-def begun(python, program, hub, modules):
+def begun(python: str, program: str, hub: str, modules: Sequence[str]) -> subprocess.Popen[bytes]:
     return subprocess.Popen(
         [python, "-m", "tests", program, hub, *modules],
         cwd=GATEWAY,
@@ -66,12 +72,12 @@ def begun(python, program, hub, modules):
     )
 
 
-def ended(run, modules):
+def ended(run: subprocess.Popen[bytes], modules: Sequence[str]) -> tuple[int, int]:
     """How many tests of a run passed and failed."""
     try:
         printed = run.communicate(timeout=SECONDS)[0].decode("utf-8", "backslashreplace")
     except subprocess.TimeoutExpired:
-        os.killpg(run.pid, 9)
+        os.killpg(run.pid, signal.SIGKILL)
         printed = run.communicate()[0].decode("utf-8", "backslashreplace") + "\nit takes too long"
     lines = printed.rstrip("\n").split("\n")
     words = lines[-1].replace(",", "").split(" ")
@@ -82,11 +88,9 @@ def ended(run, modules):
     return int(words[0]), max(int(words[2]), int(run.returncode != 0))
 
 
-def types():
-    """Whether the types are right: 1 passed, 1 failed, or 1 skipped."""
-    if subprocess.run(
-        ["sh", "-c", "command -v mypy"], stdout=subprocess.DEVNULL, check=False
-    ).returncode:
+def types() -> tuple[int, int, int]:
+    """Whether the types are right: how many passed, failed and were skipped, which is 1 of them."""
+    if shutil.which("mypy") is None:
         print("mypy isn't installed: the types weren't checked")
         return 0, 0, 1
     done = subprocess.run(
@@ -101,8 +105,8 @@ def types():
     return (0, 1, 0) if done.returncode else (1, 0, 0)
 
 
-def page(program):
-    """Whether the page is as it has to be: 1 passed, 1 failed, or 1 skipped."""
+def page(program: str) -> tuple[int, int, int]:
+    """The same of the page, which has to be as it should."""
     done = subprocess.run(
         [sys.executable, os.path.join(ROOT, "bench", "trials", "try_page.py"), program],
         stdin=subprocess.DEVNULL,
@@ -119,9 +123,9 @@ def page(program):
     )
 
 
-def main(words):
+def main(words: Sequence[str]) -> int:
     if len(words) not in (1, 2):
-        print(__doc__.strip(), file=sys.stderr)
+        print((__doc__ or "").strip(), file=sys.stderr)
         return 2
     python = python_with_h11()
     if python is None:

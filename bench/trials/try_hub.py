@@ -12,6 +12,8 @@ machine says so in a line that begins with `skipped`. The status is 3 where the 
 so many open files. No hub is left running, however it ends. Standard library alone.
 """
 
+from __future__ import annotations
+
 import contextlib
 import fcntl
 import os
@@ -23,13 +25,13 @@ import sys
 import tempfile
 import termios
 import time
+from collections.abc import Sequence
 
-sys.path.insert(0, os.path.dirname(os.path.abspath(__file__)))
-import hub_copies  # noqa: E402
-import hub_duties  # noqa: E402
-import hub_readers  # noqa: E402
-from hub_harness import RECORDER, ROOT, Client, Hub, Place, Skipped, Wrong, same  # noqa: E402
-from hub_harness import until  # noqa: E402
+import hub_copies
+import hub_duties
+import hub_readers
+from hub_harness import RECORDER, ROOT, Client, Hub, Place, until
+from operators_harness import Skipped, Wrong, same
 
 CLIENTS = 1_100
 SESSIONS = 1_023
@@ -39,6 +41,7 @@ LINES_A_TURN = 32
 DIGESTS = 5
 # How long all of it may take.
 ALL_SECONDS = 170
+NOT_RUN = 3
 CONCEPT = "ROW 1000004\t%s\t900000000000207008\t900000000000074008"
 AS_IN_2020 = CONCEPT % "20200131\t1"
 AS_IN_2021 = CONCEPT % "20210131\t0"
@@ -51,7 +54,7 @@ QUESTION = "GET C 1000004 20210131"
 STATUS = ["OK 2 10 2 -"]
 
 
-def two_clients(place, hub):
+def two_clients(place: Place, hub: Hub) -> None:
     """Two clients have two sessions: a pin is that of one."""
     first, second = Client(hub.socket), Client(hub.socket)
     same("an import", first.ask("IMPORT r1"), ["OK 1 6 0"])
@@ -75,7 +78,7 @@ def two_clients(place, hub):
     first.leave()
 
 
-def bad_clients(_, hub):
+def bad_clients(_: Place, hub: Hub) -> None:
     """Half a line, a line without an end, and bytes that are no text: the others are answered."""
     half = Client(hub.socket)
     half.send(b"IMPORT r3")
@@ -98,7 +101,7 @@ def bad_clients(_, hub):
     other.leave()
 
 
-def many_clients(_, hub):
+def many_clients(_: Place, hub: Hub) -> None:
     """More clients than sessions: so many are answered, and the others are told."""
     clients = [served(hub.socket) for _ in range(SESSIONS)]
     for _ in range(CLIENTS - SESSIONS):
@@ -112,7 +115,7 @@ def many_clients(_, hub):
     served(hub.socket).leave()
 
 
-def served(path):
+def served(path: str) -> Client:
     """A client that has a session, once those that left have given theirs back."""
     for _ in range(200):
         client = Client(path)
@@ -126,7 +129,7 @@ def served(path):
     raise Wrong("no session is given back")
 
 
-def kept_sessions(place, store):
+def kept_sessions(place: Place, store: str) -> None:
     """Clients that only ask leave sessions to those that import."""
     with Hub(place, store, "--questions", place.path("questions")) as hub:
         asking = [served(hub.questions) for _ in range(SESSIONS - KEPT_SESSIONS)]
@@ -137,7 +140,7 @@ def kept_sessions(place, store):
             client.leave()
 
 
-def turns(place, store):
+def turns(place: Place, store: str) -> None:
     """The lines of a client that have come already go to the program together, 32 at most, but each
     DIGEST alone; the replies come in their order, and a refusal of the hub's own among them."""
     recording = place.wrapped(RECORDER)
@@ -171,7 +174,7 @@ def turns(place, store):
         raise Wrong("lines that came together are asked in %d turns: %r" % (len(counts), counts))
 
 
-def openings(place, store):
+def openings(place: Place, store: str) -> None:
     """A store in use, and one that is none, are refused; a hub that is stopped leaves the store."""
     with Hub(place, store) as hub:
         same("an opening", hub.first_line, "OK ready")
@@ -189,7 +192,7 @@ def openings(place, store):
         same("the end of a hub without a store", third.end("a hub without a store"), 1)
 
 
-def refused_path(place, store, path, why):
+def refused_path(place: Place, store: str, path: str, why: str) -> None:
     """A hub that is given the path of something else for its socket ends, and leaves that alone."""
     with Hub(place, store, path=path) as hub:
         same("a hub on the path of %s" % why, hub.first_line, "")
@@ -198,7 +201,7 @@ def refused_path(place, store, path, why):
             raise Wrong("a hub on the path of %s says %r" % (why, hub.told()))
 
 
-def sockets(place, store):
+def sockets(place: Place, store: str) -> None:
     """A file, or the socket of another program, is never replaced by a hub's socket."""
     with open(store, "rb") as file:
         content = file.read()
@@ -206,6 +209,12 @@ def sockets(place, store):
     refused_path(place, store, place.path("no", "folder"), "No such file or directory")
     with open(store, "rb") as file:
         same("the store", file.read() == content, True)
+    taken = place.path("taken")
+    with socket.socket(socket.AF_UNIX) as full, socket.socket(socket.AF_UNIX) as first:
+        full.bind(taken)
+        full.listen(0)
+        first.connect(taken)
+        refused_path(place, store, taken, "another program listens")
     another_store = place.make_store("another")
     with Hub(place, store) as hub:
         refused_path(place.below("beside"), another_store, hub.socket, "another program listens")
@@ -225,7 +234,7 @@ def sockets(place, store):
     os.unlink(hub.socket)
 
 
-def damage(place, store):
+def damage(place: Place, store: str) -> None:
     """A store that is changed while it is served: standard error says that it is damaged."""
     with Hub(place, store) as hub:
         same("an opening", hub.first_line, "OK ready")
@@ -247,7 +256,7 @@ def damage(place, store):
         same("what it told", hub.told(), "hub: the store is damaged: restore your copy\n" * 2)
 
 
-def kill_program(place, store):
+def kill_program(place: Place, store: str) -> None:
     """Where the program ends, the hub ends, so that what started it starts it again: also where
     nobody asks."""
     for asks in (False, True):
@@ -263,7 +272,7 @@ def kill_program(place, store):
             idle.leave()
 
 
-def disk_fault(place, store):
+def disk_fault(place: Place, store: str) -> None:
     """After an ERR 2 the hub ends, and nobody is answered by that program any more."""
     failing = place.wrapped("""
 import os, subprocess, sys, time
@@ -298,7 +307,7 @@ sys.exit(real.wait())
         same("the hub's end", hub.end("a hub whose disk failed"), 1)
 
 
-def ends(place, store):
+def ends(place: Place, store: str) -> None:
     """A hub that is stopped ends all of its clients, and says nothing of them."""
     with Hub(place, store, "--questions", place.path("questions")) as hub:
         clients = [served(path) for path in (hub.socket, hub.questions) for _ in range(20)]
@@ -316,15 +325,15 @@ def ends(place, store):
             client.leave()
 
 
-def unread(place, store):
+def unread(place: Place, store: str) -> None:
     """Where replies aren't read, the hub hangs up before they fill its memory."""
     small = place.changed("hub.py", "UNREAD_LIMIT = 256 << 20", "UNREAD_LIMIT = 1 << 10")
     with Hub(small, store) as hub:
         silent = Client(hub.socket)
         silent.connection.settimeout(0.2)
-        ended = []
+        ended: list[bool] = []
 
-        def hangs_up():
+        def hangs_up() -> list[bool]:
             try:
                 silent.connection.sendall(b"PAGE C 20210131 - 1000\n" * 1_000)
             except ConnectionError:
@@ -339,13 +348,13 @@ def unread(place, store):
         same("the end of the hub", hub.stop("a hub that is stopped"), 0)
 
 
-def waiting(client):
+def waiting(client: Client) -> int:
     """How many bytes of replies the system keeps for a client that doesn't read."""
     number = fcntl.ioctl(client.connection, termios.FIONREAD, b"\0" * 4)
     return int.from_bytes(number, sys.byteorder)
 
 
-def is_told_more(client, before):
+def is_told_more(client: Client, before: int) -> bool:
     """Whether more than so many bytes wait for a client within a second."""
     end = time.monotonic() + 1
     while waiting(client) <= before and time.monotonic() < end:
@@ -353,7 +362,7 @@ def is_told_more(client, before):
     return waiting(client) > before
 
 
-def left_unread(place, store):
+def left_unread(place: Place, store: str) -> None:
     """A client that says no more and doesn't read has its session until it has read all, so that
     such clients can't take more of the hub than others."""
     small = place.changed("hub.py", "range(1, 1024)", "range(1, %d)" % (KEPT_SESSIONS + 3))
@@ -380,7 +389,7 @@ def left_unread(place, store):
         same("the end of the hub", hub.stop("a hub that is stopped"), 0)
 
 
-def words(place, store):
+def words(place: Place, store: str) -> None:
     """What isn't understood of the words is said, with status 2."""
     rest = ["--program", place.program, "--store", store, "--releases", place.folder]
     for wrong in ([], ["--socket", "s", "--questions", "s"], ["--socket", "s", "--group", "root"],
@@ -390,7 +399,7 @@ def words(place, store):
         same("the words %r" % wrong, (done.returncode, done.stdout), (2, b""))
 
 
-def all_trials(place, skipped):
+def all_trials(place: Place, skipped: list[str]) -> int:
     """How many trials there were."""
     store = place.make_store()
     on_one_hub = [two_clients, bad_clients, many_clients]
@@ -415,18 +424,18 @@ def all_trials(place, skipped):
     return count
 
 
-def late(*_):
+def late(*_: object) -> None:
     raise Wrong("the trials haven't ended after %d seconds" % ALL_SECONDS)
 
 
-def main(words_given):
+def main(words_given: Sequence[str]) -> int:
     if len(words_given) not in (1, 2):
-        print(__doc__.strip(), file=sys.stderr)
+        print((__doc__ or "").strip(), file=sys.stderr)
         return 2
     most_files = resource.getrlimit(resource.RLIMIT_NOFILE)[1]
     if most_files < CLIENTS + 100:
         print("not run: it takes %d open files" % (CLIENTS + 100))
-        return 3
+        return NOT_RUN
     resource.setrlimit(resource.RLIMIT_NOFILE, (most_files, most_files))
     program = os.path.abspath(words_given[0])
     examples = os.path.abspath((words_given[1:] or [os.path.join(ROOT, "examples")])[0])
@@ -434,7 +443,7 @@ def main(words_given):
     signal.signal(signal.SIGTERM, lambda *_: sys.exit(1))
     signal.signal(signal.SIGALRM, late)
     signal.alarm(ALL_SECONDS)
-    skipped = []
+    skipped: list[str] = []
     with tempfile.TemporaryDirectory() as folder:
         # Another user may reach the sockets in it.
         os.chmod(folder, 0o711)

@@ -13,6 +13,8 @@ opening, and no other. What the machine lacks for a try is said and not counted.
 where something isn't as wanted. Standard library alone.
 """
 
+from __future__ import annotations
+
 import os
 import pty
 import re
@@ -23,9 +25,13 @@ import stat
 import subprocess
 import sys
 import tempfile
+from collections.abc import Callable, Mapping, Sequence
+from typing import Optional, Union
 
 # How long a call may take.
 SECONDS = 10
+# How many bytes of a terminal are read at a time.
+READ_BYTES = 1 << 16
 ROOT = os.path.dirname(os.path.dirname(os.path.dirname(os.path.abspath(__file__))))
 CONCEPTS = "sct2_Concept_Delta_INT_20200131.txt"
 FULL_CONCEPTS = "sct2_Concept_Full_INT_20200131.txt"
@@ -51,77 +57,82 @@ DEFINITION_ROWS = (
     "900000000000448009\n")
 PARTS = "no folder Terminology or Refset/Content in it"
 
+# How a call ended: its status, None where it didn't end, and what it wrote to each stream.
+Got = tuple[Optional[int], str, str]
+Process = subprocess.Popen[bytes]
+# A path, whose name may be no text.
+AnyPath = Union[str, bytes]
+
 
 class Tries:
     """The program, the folder that it works in, and what was tried."""
 
-    def __init__(self, program, place):
+    def __init__(self, program: str, place: str) -> None:
         self.program = program
         self.place = place
         self.done = 0
         self.wrong = 0
         self.skipped = 0
 
-    def path(self, *names):
+    def path(self, *names: str) -> str:
         return os.path.join(self.place, *names)
 
-    def run(self, words, text="", before=None):
-        """The status, what was written to each stream; the status is None where it didn't end.
-        The process that becomes the program does what is before it."""
+    def run(self, words: Sequence[str], text: str = "",
+            before: Optional[Callable[[], object]] = None) -> Got:
+        """How a call ends. The process that becomes the program does what is before it."""
         try:
-            ran = subprocess.run([self.program] + words, cwd=self.place, input=text.encode(),
+            ran = subprocess.run([self.program, *words], cwd=self.place, input=text.encode(),
                                  stdout=subprocess.PIPE, stderr=subprocess.PIPE,
-                                 timeout=SECONDS, preexec_fn=before)
+                                 timeout=SECONDS, preexec_fn=before, check=False)
         except subprocess.TimeoutExpired:
             return None, "", ""
         return ran.returncode, ran.stdout.decode(), ran.stderr.decode()
 
-    def check(self, what, fine, got):
+    def check(self, what: str, fine: object, got: object) -> None:
         """Counts a try, and tells what was got where that isn't as wanted."""
         self.done += 1
         if not fine:
             self.wrong += 1
             print("wrong: %s: %r" % (what, got))
 
-    def refused(self, what, words, reply, why, warnings=()):
+    def refused(self, what: str, words: Sequence[str], reply: str, why: str,
+                warnings: Sequence[str] = ()) -> None:
         """A try that has to be refused by this reply, with this in the last line of standard error,
         and before it a line for each warning, which it begins with."""
         before = self.bytes_of_store()
         got = self.run(words)
         *warned, last = got[2].splitlines() or [""]
         fine = got[0] == 1 and got[1] == reply + "\n" and why in last + "\n"
-        fine = fine and len(warned) == len(warnings) and all(map(str.startswith, warned, warnings))
+        fine = fine and len(warned) == len(warnings)
+        fine = fine and all(line.startswith(head) for line, head in zip(warned, warnings))
         self.check(what, fine and self.bytes_of_store() == before, got)
 
-    def import_refused(self, what, name, reply, why, warnings=()):
+    def import_refused(self, what: str, name: str, reply: str, why: str,
+                       warnings: Sequence[str] = ()) -> None:
         words = ["import", "--quiet", "--store", "store", "--releases", "releases", name]
         self.refused(what, words, reply, why, warnings)
 
-    def bytes_of_store(self):
-        """The bytes of the store; None where there is no such file."""
-        if not os.path.exists(self.path("store")):
-            return None
-        with open(self.path("store"), "rb") as file:
-            return file.read()
+    def bytes_of_store(self) -> Optional[bytes]:
+        return bytes_of(self.path("store"))
 
-    def skip(self, what, why):
+    def skip(self, what: str, why: str) -> None:
         self.skipped += 1
         print("skipped: %s: %s" % (what, why))
 
 
-def write(path, text):
+def write(path: AnyPath, text: str) -> None:
     os.makedirs(os.path.dirname(path), exist_ok=True)
     with open(path, "w", encoding="utf-8") as file:
         file.write(text)
 
 
-def write_release(tries, name, date, concepts=CONCEPTS):
+def write_release(tries: Tries, name: str, date: str, concepts: str = CONCEPTS) -> None:
     """A release of one row, in a file of this name."""
     path = tries.path("releases", name, "Terminology", concepts)
     write(path, COLUMNS + ROOT_ROW % date)
 
 
-def try_folders(tries):
+def try_folders(tries: Tries) -> None:
     """Folders that are no release."""
     missing = "ERR 45 NoFolder"
     tries.import_refused("a wrong name", "absent", missing, "releases/absent: no such folder")
@@ -148,8 +159,9 @@ def try_folders(tries):
                          "%s, line 2\n" % (CONCEPTS, CONCEPTS))
 
 
-def try_names(tries):
-    """Names as people type them: with slashes at the end, and paths without a folder of releases."""
+def try_names(tries: Tries) -> None:
+    """Names as people type them: with slashes at the end, and paths without a folder of
+    releases."""
     made = tries.run(["init", "--store", "named"])
     tries.check("init", made[1] == "OK\n", made)
     write_release(tries, "package/Full", "20200131")
@@ -166,7 +178,7 @@ def try_names(tries):
                       "sctd: " + missing + "no such folder")
 
 
-def try_telling(tries):
+def try_telling(tries: Tries) -> None:
     """What an import tells beside its reply."""
     taken = tries.path("releases", "told", "Terminology", CONCEPTS)
     write(taken, COLUMNS + ROOT_ROW % "20200131")
@@ -180,7 +192,8 @@ def try_telling(tries):
     for quiet in (False, True):
         status, output, faults = tries.run(words + (["--quiet"] if quiet else []))
         lines = faults.splitlines()
-        fine = status == 0 and output.startswith("OK ") and any(line.startswith(warning) for line in lines)
+        fine = status == 0 and output.startswith("OK ")
+        fine = fine and any(line.startswith(warning) for line in lines)
         for line in ("reading " + CONCEPTS, "took %s: Concept, rows: 1" % CONCEPTS,
                      "passed over Terminology/readme.txt", "passed over Refset/Map/map.txt",
                      "passed over notes\\nsctd: forged", "importing"):
@@ -192,11 +205,11 @@ def try_telling(tries):
           "id\teffectiveTime\tactive\tmoduleId\t"
           "refsetId\treferencedComponentId\ttargetComponentId\n")
     got = tries.run(["import", "--quiet", "--store", "named", "releases/few"])
-    fine = got[0] == 0 and got[2] == "sctd: warning: no Concept, Description or Relationship file was taken\n"
-    tries.check("a release of few kinds", fine, got)
+    wanted = "sctd: warning: no Concept, Description or Relationship file was taken\n"
+    tries.check("a release of few kinds", (got[0], got[2]) == (0, wanted), got)
 
 
-def try_lacking(tries):
+def try_lacking(tries: Tries) -> None:
     """A Full release with concepts and no descriptions, and files that stand in other folders."""
     write_release(tries, "lacking/Full", "20200131", FULL_CONCEPTS)
     stray = tries.path("releases", "lacking", "Full", "terminology", CONCEPTS)
@@ -209,14 +222,15 @@ def try_lacking(tries):
     tries.check("what a Full release lacks", got[0] == 0 and got[2] == wanted, got)
 
 
-def write_package(tries, name, files):
+def write_package(tries: Tries, name: str, files: Mapping[str, str]) -> None:
     """A release of one concept, and of further files at these places."""
     write_release(tries, name, "20200131")
     for path, text in files.items():
         write(tries.path("releases", name, path), text)
 
 
-def import_told(tries, what, store, name, reply, lines):
+def import_told(tries: Tries, what: str, store: str, name: str, reply: str,
+                lines: Sequence[str]) -> list[str]:
     """An import that has to be answered so, and to tell these lines among others."""
     words = ["import", "--store", store, "--releases", "releases", name]
     got = tries.run(words)
@@ -226,7 +240,7 @@ def import_told(tries, what, store, name, reply, lines):
     return told
 
 
-def try_packages(tries):
+def try_packages(tries: Tries) -> None:
     """A whole package, which a store of version 2 takes in part, and files of it in a folder in
     which no package has them."""
     for layout in ("2", "3"):
@@ -257,15 +271,16 @@ def try_packages(tries):
     import_told(tries, "a package imported again", "layout2", "whole", "OK 2 2 1", [])
 
 
-def try_refsets(tries):
+def try_refsets(tries: Tries) -> None:
     """What stands in Refset and isn't a folder, of a package that is read whole."""
     words = ["import", "--quiet", "--store", "layout3", "--releases", "releases"]
-    places = [("a FIFO", "fifo3", os.mkfifo, LANGUAGE, "not a regular file"),
-              ("an endless device", "zero3", endless, LANGUAGE, "not a regular file"),
-              ("a dangling file", "lost3", dangling, LANGUAGE, "leads nowhere"),
-              ("a misnamed file", "odd3", misnamed, b"\xff.txt", "isn't UTF-8: \\xff.txt"),
-              ("a misnamed folder", "odd4", os.mkdir, b"../\xff", "isn't UTF-8: \\xff"),
-              ("a dangling folder", "lost4", dangling, "../Metadata", "Metadata: a link that leads")]
+    places: list[tuple[str, str, Callable[[bytes], object], AnyPath, str]] = [
+        ("a FIFO", "fifo3", os.mkfifo, LANGUAGE, "not a regular file"),
+        ("an endless device", "zero3", endless, LANGUAGE, "not a regular file"),
+        ("a dangling file", "lost3", dangling, LANGUAGE, "leads nowhere"),
+        ("a misnamed file", "odd3", misnamed, b"\xff.txt", "isn't UTF-8: \\xff.txt"),
+        ("a misnamed folder", "odd4", os.mkdir, b"../\xff", "isn't UTF-8: \\xff"),
+        ("a dangling folder", "lost4", dangling, "../Metadata", "Metadata: a link that leads")]
     for what, name, make, at, why in places:
         write_package(tries, name, {"Refset/Map/readme.txt": ""})
         folder = tries.path("releases", name, "Refset", "Language")
@@ -278,19 +293,19 @@ def try_refsets(tries):
                 ["passed over Refset/Language", "passed over Refset/fifo"])
 
 
-def endless(path):
-    os.symlink("/dev/zero", path)
+def endless(path: bytes) -> None:
+    os.symlink(b"/dev/zero", path)
 
 
-def dangling(path):
-    os.symlink("nowhere", path)
+def dangling(path: bytes) -> None:
+    os.symlink(b"nowhere", path)
 
 
-def misnamed(path):
+def misnamed(path: bytes) -> None:
     write(path, "")
 
 
-def try_forged(tries):
+def try_forged(tries: Tries) -> None:
     """Names and paths with control characters make no line of their own on standard error."""
     forged = "store\nsctd: all is well\x1b[2J\r"
     shown = "store\\nsctd: all is well\\u{1b}[2J\\r"
@@ -309,8 +324,10 @@ def try_forged(tries):
     write(tries.path("releases", "forged", "Terminology", name), COLUMNS + "?\n")
     got = tries.run(["import", "--store", forged, "releases/forged"])
     lines = got[2].splitlines()
-    fine = got[1] == "ERR 23 Columns 1 2\n" and not any(line.startswith("sctd: took it") for line in lines)
-    fine = fine and any(CONCEPTS.replace(".txt", "\\nsctd: took it.txt, line 2: ") in line for line in lines)
+    fine = got[1] == "ERR 23 Columns 1 2\n"
+    fine = fine and not any(line.startswith("sctd: took it") for line in lines)
+    told = CONCEPTS.replace(".txt", "\\nsctd: took it.txt, line 2: ")
+    fine = fine and any(told in line for line in lines)
     tries.check("a forged name of a file", fine, got)
     os.mkdir(tries.path("releases", "coded"))
     os.mkdir(tries.path("releases", "coded", "Terminology"))
@@ -321,7 +338,7 @@ def try_forged(tries):
                          "the name of a file in it isn't UTF-8: caf\\xe9\\n.txt\n")
 
 
-def try_new_rights(tries):
+def try_new_rights(tries: Tries) -> None:
     """A store is made for its owner alone, whatever the umask is; a file keeps its rights."""
     made = tries.run(["init", "--store", "private"], before=lambda: os.umask(0))
     mode = stat.S_IMODE(os.stat(tries.path("private")).st_mode)
@@ -338,18 +355,19 @@ def try_new_rights(tries):
     tries.check("the rights behind a link", made[1] == "OK\n" and mode == 0o600, (made, oct(mode)))
 
 
-def try_demonstration(tries):
-    """The questions of the demonstration are shown where its output is a terminal, and only there."""
+def try_demonstration(tries: Tries) -> None:
+    """The questions of the demonstration are shown where its output is a terminal, and only
+    there."""
     plain = tries.run(["demo"])
     tries.check("the demonstration", plain[0] == 0 and plain[2] == "", plain[2])
     main, other = pty.openpty()
     ran = subprocess.run([tries.program, "demo"], cwd=tries.place, stdin=subprocess.DEVNULL,
-                         stdout=other, stderr=other, timeout=SECONDS)
+                         stdout=other, stderr=other, timeout=SECONDS, check=False)
     os.close(other)
     shown = b""
     while select.select([main], [], [], 0.1)[0]:
         try:
-            piece = os.read(main, 65536)
+            piece = os.read(main, READ_BYTES)
         except OSError:
             break
         if not piece:
@@ -364,7 +382,7 @@ def try_demonstration(tries):
                 fine and len(asked) == 20 and others == plain[1], (lines[:4], len(asked)))
 
 
-def try_traps(tries):
+def try_traps(tries: Tries) -> None:
     """Files that never end, and links that lead nowhere."""
     missing = "ERR 45 NoFolder"
     for name in ("fifo", "endless", "dangling"):
@@ -388,13 +406,14 @@ def try_traps(tries):
     tries.import_refused("a dangling release", "gone", missing, "leads nowhere")
 
 
-def try_stores(tries):
+def try_stores(tries: Tries) -> None:
     """Files that are no store, or can't be had."""
     broken = "ERR 2 DiskFault"
     os.mkfifo(tries.path("pipe"))
     os.mkdir(tries.path("folder"))
     write(tries.path("text"), "no store")
-    places = [("a wrong path", "absent", "No such file"), ("a wrong folder", "absent/store", "No such file"),
+    places = [("a wrong path", "absent", "No such file"),
+              ("a wrong folder", "absent/store", "No such file"),
               ("a folder", "folder", "Is a directory"), ("a FIFO", "pipe", "not a regular file"),
               ("a full device", "/dev/full", "not a regular file")]
     for what, path, why in places:
@@ -409,12 +428,13 @@ def try_stores(tries):
     tries.refused("a file as the folder of releases", closed + ["text"], "ERR 45 NoFolder",
                   "sctd: text: not a folder")
     tries.check("nothing was made", not os.path.exists(tries.path("absent")), "a file")
-    tries.refused("init again", ["init", "--store", "store"], "ERR 4 NotEmpty", "store: the file isn't empty")
+    tries.refused("init again", ["init", "--store", "store"], "ERR 4 NotEmpty",
+                  "store: the file isn't empty")
     tries.refused("a text", ["serve", "--store", "text", "--releases", "releases"],
                   "ERR 7 NotAStore", "text: the file is no store")
 
 
-def try_rights(tries):
+def try_rights(tries: Tries) -> None:
     """A file without permission."""
     if os.geteuid() == 0:
         tries.skip("no permission", "root may read everything")
@@ -429,12 +449,12 @@ def try_rights(tries):
     os.chmod(tries.path("releases", "unread", "Terminology"), stat.S_IRWXU)
 
 
-def try_full_disk(tries):
+def try_full_disk(tries: Tries) -> None:
     """A file system without room."""
     small = tries.path("small")
     os.mkdir(small)
     mounted = subprocess.run(["mount", "-t", "tmpfs", "-o", "size=64k", "tmpfs", small],
-                             stdout=subprocess.DEVNULL, stderr=subprocess.DEVNULL)
+                             stdout=subprocess.DEVNULL, stderr=subprocess.DEVNULL, check=False)
     if mounted.returncode != 0:
         tries.skip("a full disk", "no file system can be mounted here")
         return
@@ -452,12 +472,15 @@ def try_full_disk(tries):
         subprocess.run(["umount", small], check=False)
 
 
-def bytes_of(path):
+def bytes_of(path: str) -> Optional[bytes]:
+    """The bytes of a file; None where there is none."""
+    if not os.path.exists(path):
+        return None
     with open(path, "rb") as file:
         return file.read()
 
 
-def served_import(tries, what, change):
+def served_import(tries: Tries, what: str, change: Callable[[str], object]) -> Optional[bytes]:
     """An import by a server whose store's file is changed meanwhile: it has to be refused, and why
     has to be told. What the store's path leads to by then, None if nothing."""
     store = what.replace(" ", "-")
@@ -467,32 +490,32 @@ def served_import(tries, what, change):
     got = tries.run(["import", "--quiet", "--store", store, "--releases", "releases", "r1"])
     tries.check("import", got[:2] == (0, "OK 1 1 0\n"), got)
     server = start(tries, ["serve", "--store", store, "--releases", "releases"])
-    got = ask(server, "0 STATUS")
-    tries.check("the status", got == "OK 1 1 1 -\n", got)
+    reply = ask(server, "0 STATUS")
+    tries.check("the status", reply == "OK 1 1 1 -\n", reply)
     change(path)
-    before = bytes_of(path) if os.path.exists(path) else None
-    got = ask(server, "0 IMPORT r2")
-    tries.check("an import into " + what, got == "ERR 2 DiskFault\n", got)
+    before = bytes_of(path)
+    reply = ask(server, "0 IMPORT r2")
+    tries.check("an import into " + what, reply == "ERR 2 DiskFault\n", reply)
     told = b"sctd: %s: the file was replaced or removed while it was open\n" % store.encode()
-    got = ended(server)
-    tries.check("what is told of " + what, got == (0, b"", told), got)
-    after = bytes_of(path) if os.path.exists(path) else None
+    end = ended(server)
+    tries.check("what is told of " + what, end == (0, b"", told), end)
+    after = bytes_of(path)
     tries.check("what was left of " + what, after == before, len(after or b""))
     return after
 
 
-def move_copy(path):
+def move_copy(path: str) -> None:
     shutil.copy(path, path + "-copy")
     os.replace(path + "-copy", path)
 
 
-def link_copy(path):
+def link_copy(path: str) -> None:
     shutil.copy(path, path + "-copy")
     os.remove(path)
     os.symlink(path + "-copy", path)
 
 
-def try_replaced(tries):
+def try_replaced(tries: Tries) -> None:
     """Another file is put in the place of a store that is served, or the file goes or is cut."""
     for what, change in (("a replaced file", move_copy), ("a linked copy", link_copy)):
         content = served_import(tries, what, change)
@@ -506,12 +529,12 @@ def try_replaced(tries):
     tries.check("the status", ask(server, "0 STATUS") == "OK 0 0 0 -\n", "another")
     os.rename(tries.path("moved"), tries.path("away"))
     os.rename(tries.path("away"), tries.path("moved"))
-    got = ask(server, "0 IMPORT r1")
-    tries.check("an import into a file that is back", got == "OK 1 1 0\n", got)
+    reply = ask(server, "0 IMPORT r1")
+    tries.check("an import into a file that is back", reply == "OK 1 1 0\n", reply)
     tries.check("its end", ended(server) == (0, b"", b""), "another")
 
 
-def try_other_user(tries):
+def try_other_user(tries: Tries) -> None:
     """Another user's process has the lock: it is told which one."""
     if os.geteuid() != 0:
         tries.skip("the lock of another user", "it takes the superuser")
@@ -526,19 +549,20 @@ def try_other_user(tries):
     # It has the lock once it says something.
     holder = subprocess.Popen(["flock", tries.path("others"), "cat"], user=OTHER_USER,
                               stdin=subprocess.PIPE, stdout=subprocess.PIPE)
+    assert holder.stdin and holder.stdout
     holder.stdin.write(b"locked\n")
     holder.stdin.flush()
     tries.check("the other user", holder.stdout.readline() == b"locked\n", "no lock")
     got = tries.run(["status", "--store", "others"])
     told = HOLDER.search(got[2])
     fine = got[:2] == (1, "ERR 2 DiskFault\n") and told is not None
-    tries.check("the lock of another user", fine and int(told.group(1)) == holder.pid, got)
+    tries.check("the lock of another user", fine and told and int(told[1]) == holder.pid, got)
     holder.communicate(timeout=SECONDS)
     got = tries.run(["status", "--store", "others"])
     tries.check("after the lock", got[:2] == (0, "OK 0 0 0 -\n"), got)
 
 
-def try_few_files(tries):
+def try_few_files(tries: Tries) -> None:
     """A process that may have five files open, as with `ulimit -n 5`: one too few to begin with."""
     got = tries.run(["status", "--store", "store"],
                     before=lambda: resource.setrlimit(resource.RLIMIT_NOFILE, (5, 5)))
@@ -546,13 +570,14 @@ def try_few_files(tries):
     tries.check("few files", got == (1, "", told), got)
 
 
-def start(tries, words):
-    return subprocess.Popen([tries.program] + words, cwd=tries.place, stdin=subprocess.PIPE,
+def start(tries: Tries, words: Sequence[str]) -> Process:
+    return subprocess.Popen([tries.program, *words], cwd=tries.place, stdin=subprocess.PIPE,
                             stdout=subprocess.PIPE, stderr=subprocess.PIPE)
 
 
-def ask(server, line):
+def ask(server: Process, line: str) -> str:
     """The line that a server answers; none where it has ended, or says nothing in time."""
+    assert server.stdin and server.stdout
     try:
         server.stdin.write(line.encode() + b"\n")
         server.stdin.flush()
@@ -562,7 +587,7 @@ def ask(server, line):
     return server.stdout.readline().decode() if came else ""
 
 
-def ended(process):
+def ended(process: Process) -> tuple[Optional[int], bytes, bytes]:
     """The status and what was written to each stream, once it has ended; the status is None where
     it doesn't end in time."""
     try:
@@ -574,11 +599,13 @@ def ended(process):
     return process.returncode, output, faults
 
 
-def import_at_once(tries, what, store, names, holder=None):
+def import_at_once(tries: Tries, what: str, store: str, names: Sequence[str],
+                   holder: Optional[int] = None) -> int:
     """Imports them by processes of their own at once. The number of those that were answered OK.
     Where the id of the process that holds the store is known, each has to be refused and to tell
     it."""
-    begun = [start(tries, ["import", "--store", store, "--releases", "releases", name]) for name in names]
+    words = ["import", "--store", store, "--releases", "releases"]
+    begun = [start(tries, [*words, name]) for name in names]
     passed = 0
     for name, process in zip(names, begun):
         status, output, faults = ended(process)
@@ -587,18 +614,18 @@ def import_at_once(tries, what, store, names, holder=None):
             continue
         fine = status == 1 and output == b"ERR 2 DiskFault\n" and b"in use by another" in faults
         told = HOLDER.search(faults.decode())
-        fine = fine and (holder is None or (told is not None and int(told.group(1)) == holder))
+        fine = fine and (holder is None or told is not None and int(told[1]) == holder)
         tries.check(what + ", " + name, fine, (status, output, faults))
     return passed
 
 
-def count_imports(tries, store):
+def count_imports(tries: Tries, store: str) -> list[str]:
     """The words for how many imports and rows there are after an opening."""
     status = tries.run(["serve", "--store", store, "--releases", "releases"], "0 STATUS\n")[1]
     return status.split()[1:3]
 
 
-def try_at_once(tries):
+def try_at_once(tries: Tries) -> None:
     """Four imports at once, and the same beside a server."""
     names = ["r1", "r2", "r3", "r4"]
     for turn in range(5):
@@ -618,15 +645,21 @@ def try_at_once(tries):
     wanted = ["OK %d 1 0\n" % number for number in range(1, 5)]
     tries.check("the server's imports", replies == wanted, replies)
     import_at_once(tries, "beside a server", "store", names, server.pid)
-    got = ended(server)
-    tries.check("the end of the server", got[:2] == (0, b""), got)
+    end = ended(server)
+    tries.check("the end of the server", end[:2] == (0, b""), end)
     got = count_imports(tries, "store")
     tries.check("beside a server", got == ["4", "4"], got)
 
 
-def main(words):
+ALL_TRIES: list[Callable[[Tries], None]] = [
+    try_folders, try_names, try_telling, try_lacking, try_packages, try_refsets, try_forged,
+    try_new_rights, try_demonstration, try_traps, try_stores, try_rights, try_full_disk,
+    try_few_files, try_replaced, try_other_user, try_at_once]
+
+
+def main(words: Sequence[str]) -> int:
     if len(words) != 1:
-        print(__doc__.strip(), file=sys.stderr)
+        print((__doc__ or "").strip(), file=sys.stderr)
         return 2
     with tempfile.TemporaryDirectory() as place:
         tries = Tries(os.path.abspath(words[0]), place)
@@ -634,9 +667,7 @@ def main(words):
             write_release(tries, "r%d" % number, "%d0131" % (2019 + number))
         made = tries.run(["init", "--store", "store"])
         tries.check("init", made == (0, "OK\n", ""), made)
-        for part in (try_folders, try_names, try_telling, try_lacking, try_packages, try_refsets,
-                     try_forged, try_new_rights, try_demonstration, try_traps, try_stores, try_rights,
-                     try_full_disk, try_few_files, try_replaced, try_other_user, try_at_once):
+        for part in ALL_TRIES:
             part(tries)
     print("%d tried, %d not as wanted, %d skipped" % (tries.done, tries.wrong, tries.skipped))
     return 1 if tries.wrong else 0

@@ -11,6 +11,8 @@ the page of a package's record. Where there is no Chromium or no h11, that is sa
 3; it is 1 where something is wrong.
 """
 
+from __future__ import annotations
+
 import base64
 import functools
 import os
@@ -19,7 +21,9 @@ import socket
 import subprocess
 import sys
 import tempfile
+from collections.abc import Callable, Mapping, Sequence
 from pathlib import Path
+from typing import Any, Optional
 from urllib.parse import urlencode
 
 import chromium
@@ -28,7 +32,6 @@ from try_gateway import GATEWAY, ROOT, python_with_h11
 NOT_RUN = 3
 DESK, PHONE = 1000, 360
 LEAST_CONTRAST = 4.5
-PICTURE_BYTES = 600_000
 # The events that a page may not cause.
 UNWANTED = (
     "Runtime.consoleAPICalled",
@@ -68,6 +71,9 @@ WITHOUT_LABEL = (
 HEADINGS = "[...document.querySelectorAll('h1, h2, h3')].map(one => Number(one.tagName[1]))"
 TEXT = "document.body.innerText"
 
+# The codes of the concepts of a made-up release, by their names.
+Codes = Mapping[str, str]
+
 
 class Wrong(Exception):
     """The page isn't as it has to be."""
@@ -76,10 +82,10 @@ class Wrong(Exception):
 class Page:
     """The page of one gateway in one browser."""
 
-    def __init__(self, browser, base):
+    def __init__(self, browser: chromium.Browser, base: str) -> None:
         self.browser, self.base = browser, base
 
-    def open(self, what, **words):
+    def open(self, what: str, **words: str) -> str:
         events = self.browser.open(self.base + "?" + urlencode(words))
         # What the page's script may still say.
         self.browser.value("new Promise(done => setTimeout(done, 200))")
@@ -89,9 +95,9 @@ class Page:
         wide = self.browser.value(TOO_WIDE)
         if wide > 0:
             raise Wrong("%s: %d pixels wider than the window" % (what, wide))
-        contrast, text = self.browser.value(CONTRAST)
+        contrast, pale = self.browser.value(CONTRAST)
         if contrast < LEAST_CONTRAST:
-            raise Wrong("%s: a contrast of %.2f: %r" % (what, contrast, text))
+            raise Wrong("%s: a contrast of %.2f: %r" % (what, contrast, pale))
         if self.browser.value(WITHOUT_LABEL):
             raise Wrong("%s: a field without a label" % what)
         headings = self.browser.value(HEADINGS)
@@ -99,15 +105,15 @@ class Page:
             after > before + 1 for before, after in zip(headings, headings[1:])
         ):
             raise Wrong("%s: headings %s" % (what, headings))
-        return self.browser.value(TEXT)
+        return str(self.browser.value(TEXT))
 
-    def says(self, what, text, *parts):
+    def says(self, what: str, text: str, *parts: str) -> None:
         for part in parts:
             if part not in text:
                 raise Wrong("%s: no %r" % (what, part))
 
 
-def desk(page, codes):
+def desk(page: Page, codes: Codes) -> None:
     text = page.open("a record", q=codes["wrist"], date="2018-01-01")
     page.says(
         "a record",
@@ -142,7 +148,7 @@ def desk(page, codes):
     )
 
 
-def whole(page, codes, picture):
+def whole(page: Page, codes: Codes, picture: Optional[str]) -> None:
     """Records of whole packages: what they were called, why they were retired, their sets."""
     page.browser.width(DESK)
     text = page.open("a record of a package", q=codes["wrist"], date="2018-01-01")
@@ -170,7 +176,7 @@ def whole(page, codes, picture):
         page.open("a package on a phone", q=codes[name], date="2018-01-01")
 
 
-def write(picture, taken):
+def write(picture: str, taken: bytes) -> None:
     """Writes the picture, with fewer colours where pngquant is there to choose them."""
     if shutil.which("pngquant"):
         taken = subprocess.run(
@@ -183,7 +189,7 @@ def write(picture, taken):
         file.write(taken)
 
 
-def suggestions(page, codes):
+def suggestions(page: Page, codes: Codes) -> None:
     """What the script adds: terms while typing."""
     page.open("typing")
     page.browser.value("document.getElementById('q').focus()")
@@ -196,14 +202,14 @@ def suggestions(page, codes):
         raise Wrong("typing: %s are suggested" % told)
 
 
-def phone(page, codes):
+def phone(page: Page, codes: Codes) -> None:
     page.browser.width(PHONE, True)
     for name in ("wrist", "evil", "drug"):
         page.open("a phone", q=codes[name], date="2018-01-01")
     page.browser.width(DESK)
 
 
-def without_script(page, codes):
+def without_script(page: Page, codes: Codes) -> None:
     page.browser.ask("Emulation.setScriptExecutionDisabled", value=True)
     page.browser.events = []
     page.browser.ask(
@@ -219,7 +225,7 @@ def without_script(page, codes):
     page.browser.ask("Emulation.setScriptExecutionDisabled", value=False)
 
 
-def looked_at(page, codes):
+def looked_at(page: Page, codes: Codes) -> None:
     browser = page.browser
     browser.width(DESK)
     desk(page, codes)
@@ -228,7 +234,7 @@ def looked_at(page, codes):
     without_script(page, codes)
 
 
-def tried(path, program, picture):
+def tried(path: str, program: str, picture: Optional[str]) -> None:
     from tests.house import House
     from tests.test_members import WORDS
 
@@ -245,7 +251,9 @@ def tried(path, program, picture):
         browser.close()
 
 
-def in_house(make, words, look):
+def in_house(
+    make: Callable[[], Any], words: Sequence[str], look: Callable[[Codes, str], None]
+) -> None:
     """Looks at the page of a gateway that listens where a browser reaches it."""
     from tests.house import Gateway
 
@@ -262,9 +270,9 @@ def in_house(make, words, look):
         house.end()
 
 
-def main(words):
+def main(words: Sequence[str]) -> int:
     if len(words) not in (1, 2):
-        print(__doc__.strip(), file=sys.stderr)
+        print((__doc__ or "").strip(), file=sys.stderr)
         return 2
     python, path = python_with_h11(), chromium.found()
     if python is None or path is None:

@@ -12,6 +12,7 @@ the house's own proxy in front of it.
 import argparse
 import asyncio
 import contextlib
+import errno
 import os
 import re
 import signal
@@ -103,12 +104,11 @@ def clear_path(path: str) -> None:
     if not stat.S_ISSOCK(os.lstat(path).st_mode):
         raise OSError("there is something that is no socket")
     with socket.socket(socket.AF_UNIX) as earlier:
-        try:
-            earlier.connect(path)
-        except ConnectionRefusedError:
-            os.unlink(path)
-            return
-    raise OSError("another program listens on it")
+        # (A program that hangs, and takes no more connections, isn't waited for.)
+        earlier.setblocking(False)
+        if earlier.connect_ex(path) != errno.ECONNREFUSED:
+            raise OSError("another program listens on it")
+    os.unlink(path)
 
 
 def file_of(path: str) -> tuple[int, int] | None:

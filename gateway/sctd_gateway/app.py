@@ -4,7 +4,6 @@
 import asyncio
 import json
 import re
-import sys
 import traceback
 from collections.abc import AsyncIterator, Awaitable
 from contextlib import asynccontextmanager
@@ -18,6 +17,7 @@ from .fhir.outputs import dumped
 from .fhir.request import Request
 from .fhir.versions import Edition
 from .hub import OUT_OF_MEMORY, HubGone, HubRefused, TooCostly
+from .logs import tell
 from .pool import Moved, NoSuchPin, Pool
 from .problems import Problem, invalid, missing, not_found, too_costly
 from .store import View
@@ -111,16 +111,16 @@ class App:
         if found is None:
             raise not_found("there is no such path")
         pin, path = int(found[1]) if found[1] else None, found[2]
-        if path in self.files:
-            return self.files[path]
-        given = pairs_of(words)
         if path.startswith(FHIR_BASE) or path + "/" == FHIR_BASE:
+            given = pairs_of(words)
             return await self.fhir(request, pin, path.removeprefix(FHIR_BASE), given)
-        if path not in PAGES:
+        if path not in self.files and path not in PAGES:
             raise not_found("there is no such page")
         if request.method == "POST":
             raise Problem(405, "not-supported", "a page is asked for by GET", READS)
-        return await self.page(request, pin, path, given)
+        if path in self.files:
+            return self.files[path]
+        return await self.page(request, pin, path, pairs_of(words))
 
     @asynccontextmanager
     async def view(
@@ -249,9 +249,9 @@ def problem_of(error: Exception) -> Problem:
         why = str(error) or "it is busy, perhaps with an import"
         return Problem(503, "transient", "the terminology can't be asked at the moment: %s" % why)
     if isinstance(error, HubRefused):
-        print("sctd_gateway: the hub said %s" % error, file=sys.stderr, flush=True)
+        tell("sctd_gateway: the hub said %s" % error)
         return Problem(503 if error.number == OUT_OF_MEMORY else 500, "exception", str(error))
-    traceback.print_exception(error)
+    tell("".join(traceback.format_exception(error)).rstrip("\n"))
     return Problem(500, "exception", "the gateway has a fault; its log says which")
 
 

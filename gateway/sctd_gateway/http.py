@@ -8,7 +8,6 @@ has waited longest for its next request makes room.
 
 import asyncio
 import re
-import sys
 import time
 from collections.abc import Awaitable, Callable, Iterable
 from email.utils import formatdate
@@ -18,6 +17,7 @@ from typing import NamedTuple
 import h11
 
 from . import limits
+from .logs import tell
 
 READ_BYTES = 1 << 16
 END_OF_HEAD = b"\r\n\r\n"
@@ -310,9 +310,7 @@ def joined(headers: Iterable[tuple[bytes, bytes]]) -> dict[str, str]:
 def log(request: Request | None, response: Response, seconds: float) -> None:
     """A line of a request to standard error. The words of the query aren't told."""
     method, target = (request.method, request.target) if request else ("-", "-")
-    print(
+    tell(
         "%s %.200s %d %d bytes %.1f ms"
-        % (method, target.partition("?")[0], response.status, len(response.body), seconds * 1e3),
-        file=sys.stderr,
-        flush=True,
+        % (method, target.partition("?")[0], response.status, len(response.body), seconds * 1e3)
     )

@@ -26,6 +26,8 @@ RETRY_SECONDS = 5
 # Expansions and records, which may ask thousands of questions, that go on at once.
 WALKS = 3
 PARAMETERS = 60
+# Of a concept, each of which is asked about by itself.
+CODINGS = 60
 
 # Of the hub.
 HUB_CONNECTIONS = 8

@@ -8,8 +8,8 @@ let waiting = 0, asking = null;
 
 async function suggest() {
   const text = input.value.trim();
-  if (text.length < 3 || /^[0-9]+$/.test(text)) { found.replaceChildren(); return; }
   if (asking) asking.abort();
+  if (text.length < 3 || /^[0-9]+$/.test(text)) { found.replaceChildren(); return; }
   asking = new AbortController();
   const words = new URLSearchParams({ text, date: document.getElementById("date").value });
   try {

@@ -22,7 +22,6 @@ from .snomed import (
     distinct,
     display_of,
     is_concept_id,
-    is_id_of_concept,
     names_of,
     preferred_term,
 )

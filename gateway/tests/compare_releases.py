@@ -21,7 +21,7 @@ from pathlib import Path
 from typing import Any
 from urllib.parse import urlencode
 
-from .house import PROGRAM_AND_HUB, SCT, SECONDS, Gateway, Json, parts_of, told, version
+from .house import PROGRAM_AND_HUB, SCT, SECONDS, Gateway, Json, begun_hub, parts_of, told, version
 from .release_files import (
     DEFINED,
     FULLY_SPECIFIED,
@@ -45,6 +45,8 @@ VALUE_SETS = ("723264001", "733990004")
 MAP, MAP_SYSTEM = "900000000000497000", "urn:of:the:map"
 PACKAGE_WORDS = ("--languages", ",".join(LANGUAGES), "--map", "%s=%s" % (MAP, MAP_SYSTEM))
 CONTEXT_PARTS = ("context", "role", "type")
+# How long the release may take to be made or imported.
+RUN_SECONDS = 600
 
 
 class Differs(Exception):
@@ -232,7 +234,6 @@ class Comparison:
         )
         self.counts["$translate"] += 1
 
-
     def expand_refset(self, snapshot: Snapshot, refset: str) -> None:
         """A reference set page by page, and one concept of it and one of all."""
         url = "%s?fhir_vs=refset/%s" % (version(snapshot.day), refset)
@@ -317,25 +318,9 @@ def compared(
         run(sys.executable, str(make), *words, folder, str(rows), str(seed))
         run(program, "init", "--layout", "3" if is_package else "2", "--store", store)
         run(program, "import", "--quiet", "--store", store, str(root / "full"))
-        serving = subprocess.Popen(
-            [
-                sys.executable,
-                hub,
-                "--program",
-                program,
-                "--store",
-                store,
-                "--releases",
-                folder,
-                "--questions",
-                questions,
-            ],
-            stdout=subprocess.PIPE,
-            text=True,
-        )
+        serving = begun_hub(hub, program, store, folder, "--questions", questions)
         gateway: Gateway | None = None
         try:
-            assert serving.stdout and serving.stdout.readline() == "OK ready\n"
             gateway = Gateway(questions, root, words=PACKAGE_WORDS if is_package else ())
             languages = LANGUAGES if is_package else ()
             comparison = Comparison(gateway, read(root / "full"), seed, languages)
@@ -350,7 +335,7 @@ def compared(
 
 
 def run(*words: str) -> None:
-    subprocess.run(words, check=True, capture_output=True, timeout=600)
+    subprocess.run(words, check=True, capture_output=True, timeout=RUN_SECONDS)
 
 
 def main(words: list[str]) -> int:

@@ -7,7 +7,7 @@ from pathlib import Path
 from make_release import sctid
 
 from . import demo_releases as demo
-from .demo_releases import FIRST_DAY, FULLY_SPECIFIED, Maker
+from .demo_releases import FIRST_DAY, Maker
 
 REFERENCE_SET, SIMPLE_MAP = "900000000000455006", "900000000000496009"
 US, GB, GERMAN = "900000000000509007", "900000000000508004", "722130004"

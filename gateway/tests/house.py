@@ -176,26 +176,9 @@ class House:
             self.run("import", "--quiet", "--store", self.store, str(self.releases / name))
 
     def start_hub(self) -> None:
-        self.hub = subprocess.Popen(
-            [
-                sys.executable,
-                self.hub_script,
-                "--program",
-                self.program,
-                "--store",
-                self.store,
-                "--releases",
-                str(self.releases),
-                "--socket",
-                self.socket,
-                "--questions",
-                self.questions,
-            ],
-            stdout=subprocess.PIPE,
-            text=True,
-        )
-        assert self.hub.stdout is not None
-        assert self.hub.stdout.readline() == "OK ready\n"
+        sockets = ("--socket", self.socket, "--questions", self.questions)
+        words = (self.hub_script, self.program, self.store, str(self.releases), *sockets)
+        self.hub = begun_hub(*words)
 
     def stop_hub(self) -> None:
         if self.hub and self.hub.stdout:
@@ -237,6 +220,17 @@ class Shared:
             if house:
                 house.end()
         cls.one = cls.whole = None
+
+
+def begun_hub(
+    hub: str, program: str, store: str, releases: str, *sockets: str
+) -> "subprocess.Popen[str]":
+    """Starts a hub with these sockets, and waits until it answers."""
+    words = ["--program", program, "--store", store, "--releases", releases, *sockets]
+    begun = subprocess.Popen([sys.executable, hub, *words], stdout=subprocess.PIPE, text=True)
+    assert begun.stdout is not None
+    assert begun.stdout.readline() == "OK ready\n"
+    return begun
 
 
 def version(day: str) -> str:

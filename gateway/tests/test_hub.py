@@ -234,3 +234,21 @@ class Start(unittest.TestCase):
                 self.assertEqual((done.returncode, done.stdout), (1, ""), listen)
                 self.assertIn("sctd_gateway: %s: " % listen, done.stderr)
         self.assertTrue(os.path.exists("/dev/null"))
+
+    def test_socket_of_a_program_that_takes_no_more_connections(self) -> None:
+        """It stays, and isn't waited for."""
+        with (
+            tempfile.TemporaryDirectory() as folder,
+            socket.socket(socket.AF_UNIX) as taken,
+            socket.socket(socket.AF_UNIX) as first,
+        ):
+            listen = folder + "/socket"
+            taken.bind(listen)
+            taken.listen(0)
+            first.connect(listen)
+            done = self.start(
+                "--socket", "/nowhere", "--edition", "900000000000207008", "--listen", listen
+            )
+            self.assertEqual((done.returncode, done.stdout), (1, ""))
+            self.assertIn("another program listens", done.stderr)
+            self.assertTrue(os.path.exists(listen))

@@ -17,6 +17,7 @@ from sctd_gateway.store import ANY, AnyRow, View
 from .demo_releases import REPLACED_BY
 from .house import Shared
 
+
 class Chain(View):
     """A store in which each concept but the last was replaced by the next."""
 

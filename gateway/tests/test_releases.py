@@ -18,8 +18,6 @@ AT_LEAST = {
     "$subsumes subsumed-by": 50,
     "$subsumes not-subsumed": 200,
 }
-
-
 # Of a package, whose rows are of other proportions.
 PACKAGE_AT_LEAST = {
     "$lookup": 1_500,

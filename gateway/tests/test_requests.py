@@ -1,7 +1,10 @@
 """Requests as they come: paths, methods, formats, bodies, heads."""
 
 import asyncio
+import contextlib
 import datetime
+import errno
+import io
 import json
 import re
 import tempfile
@@ -16,6 +19,7 @@ from .house import EDITION, FHIR_JSON, POST, SCT, Shared, issue, told
 
 LOOKUP = "/fhir/CodeSystem/$lookup"
 GET = b"GET /health HTTP/1.1\r\nHost: x\r\n"
+GET_PAGE = http.Request("GET", "/", {}, b"", lambda: False)
 CHUNKED = GET + b"Transfer-Encoding: chunked\r\n\r\n"
 CODING = (
     b'{"name":"coding","valueCoding":{"system":"http://snomed.info/sct","code":"138875005"%s}'
@@ -90,6 +94,20 @@ ENDS = (
 )
 
 
+class NoRoom(io.StringIO):
+    """A standard error on a full disk."""
+
+    def write(self, text: str) -> int:
+        raise OSError(errno.ENOSPC, "No space left on device")
+
+
+class Faulty(App):
+    """A gateway with a fault."""
+
+    async def routed(self, request: http.Request) -> http.Response:
+        raise ValueError("a fault")
+
+
 class Turns(unittest.IsolatedAsyncioTestCase):
     async def test_a_client_between_many_requests_of_another(self) -> None:
         count, answered = 1000, []
@@ -112,16 +130,15 @@ class Turns(unittest.IsolatedAsyncioTestCase):
                 for _, writer in (many, other):
                     writer.close()
 
-
     async def test_a_client_that_leaves_while_it_waits(self) -> None:
         app = App(Pool("/nowhere"), Edition(EDITION))
         # Where nothing has to be waited for, who sends no more is answered.
-        ended = http.Request("GET", "/", {}, b"", lambda: True)
+        ended = GET_PAGE._replace(has_left=lambda: True)
         self.assertEqual((await app.answer(ended)).status, 503)
         for _ in range(limits.WALKS):
             await app.walks.acquire()
         left, stays = (
-            asyncio.create_task(app.answer(http.Request("GET", "/", {}, b"", has_left)))
+            asyncio.create_task(app.answer(GET_PAGE._replace(has_left=has_left)))
             for has_left in (lambda: True, lambda: False)
         )
         await asyncio.sleep(0.1)
@@ -129,6 +146,17 @@ class Turns(unittest.IsolatedAsyncioTestCase):
         with self.assertRaises(http.Left):
             await left
         self.assertEqual((await stays).status, 503)
+
+    async def test_a_log_that_is_full(self) -> None:
+        """What can't be logged is answered nevertheless."""
+        app = Faulty(Pool("/nowhere"), Edition(EDITION))
+        with contextlib.redirect_stderr(NoRoom()):
+            answer = await app.answer(GET_PAGE)
+            http.log(GET_PAGE, answer, 0.0)
+        self.assertEqual(answer.status, 500)
+        with contextlib.redirect_stderr(io.StringIO()) as told:
+            await app.answer(GET_PAGE)
+        self.assertIn("ValueError: a fault", told.getvalue())
 
 
 class Requests(unittest.TestCase):
@@ -189,7 +217,7 @@ class Requests(unittest.TestCase):
             self.assertEqual(
                 (answer.status, answer.headers["allow"]), (405, "GET, HEAD, POST"), method
             )
-        for target in ("/fhir/metadata", "/", "/health"):
+        for target in ("/fhir/metadata", "/", "/health", "/page.css"):
             answer = self.gateway.send("POST", target, b"{}")
             self.assertEqual((answer.status, answer.headers["allow"]), (405, "GET, HEAD"), target)
 

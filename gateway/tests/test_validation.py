@@ -3,6 +3,8 @@
 import unittest
 from typing import Any
 
+from sctd_gateway import limits
+
 from .house import SCT, Json, Shared, issue, told, version
 
 
@@ -79,6 +81,11 @@ class Validate(unittest.TestCase):
     def test_concept_without_codings(self) -> None:
         self.assertEqual(self.concept()[0], 400)
 
+    def test_concept_with_many_codings(self) -> None:
+        unknown = {"system": SCT, "code": "999"}
+        for count, status in ((limits.CODINGS, 200), (limits.CODINGS + 1, 400)):
+            self.assertEqual(self.concept(*[unknown] * count)[0], status, count)
+
     def test_other_code_system(self) -> None:
         status, _ = self.house.gateway.fhir(
             "CodeSystem/$validate-code", url="http://loinc.org", code="1-8"
@@ -94,6 +101,18 @@ class Validate(unittest.TestCase):
         ):
             said = self.member("limb", "wrist", systemVersion=version(day))
             self.assertEqual(told(said, "result"), [valid], day)
+
+    def test_member_of_another_code_system(self) -> None:
+        """It isn't in the value set, however it is named."""
+        path, url = "ValueSet/$validate-code", "%s?fhir_vs=isa/%s" % (SCT, self.codes["limb"])
+        other = {"system": "http://hl7.org/fhir/sid/icd-10", "code": "S52"}
+        parts = {"name": "url", "valueUri": url}, {"name": "coding", "valueCoding": other}
+        for status, said in (
+            self.house.gateway.fhir(path, url=url, **other),
+            self.house.gateway.posted(path, *parts),
+        ):
+            self.assertEqual((status, told(said, "result")), (200, [False]), said)
+            self.assertEqual(told(said, "message"), ["no code is one of " + SCT])
 
     def test_member_of_the_reference_sets(self) -> None:
         """Of which this store has none."""

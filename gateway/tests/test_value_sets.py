@@ -246,6 +246,10 @@ class Metadata(unittest.TestCase):
             [one["code"] for one in versions if one["isDefault"]], [version("20220731")]
         )
         self.assertIn({"name": "filter"}, said["expansion"]["parameter"])
+        # (test_display_of_a_language of test_validation.py has a term of German.)
+        self.assertEqual(said["validateCode"], {"translations": True})
+        # Neither $closure nor a search of value sets by a code is answered.
+        self.assertEqual(said.keys() & {"closure", "codeSearch"}, set())
         said = self.house.gateway.fhir("metadata", base="/pin/2/fhir/", mode="terminology")[1]
         self.assertEqual(
             [one["code"] for one in said["codeSystem"][0]["version"]],

@@ -109,10 +109,9 @@ def terminology_capabilities(request: Request) -> Json:
             "incomplete": False,
             "parameter": names,
         },
-        "codeSearch": "explicit",
-        "validateCode": {"translations": False},
+        # A display may be a term of any language.
+        "validateCode": {"translations": True},
         "translation": {"needsMap": True},
-        "closure": {"translation": False},
     }
 
 

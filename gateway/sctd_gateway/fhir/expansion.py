@@ -7,9 +7,9 @@ from dataclasses import astuple, dataclass
 
 from .. import limits, refsets
 from ..pool import Member
-from ..problems import Json, invalid, not_found, too_costly
+from ..problems import Json, invalid, too_costly
 from ..snomed import SEARCHED, Language
-from .inputs import SCT, Query
+from .inputs import SCT, Query, not_here
 from .outputs import designations, parameter
 from .request import Request
 from .valuesets import Sort, ValueSet, inside, must_be_kept, refsets_there, value_set_of
@@ -66,7 +66,7 @@ def system_versions(query: Query) -> list[str]:
         if not bar or not version:
             raise invalid("system-version must be SYSTEM|VERSION")
         if system != SCT:
-            raise not_found("the code system %.100r isn't here: %s is" % (system, SCT))
+            raise not_here(system)
         found.append(version)
     return found
 

@@ -85,8 +85,9 @@ class Query:
 
     def code_system(self, name: str) -> None:
         """Refuses another code system under this name."""
-        if (self.text(name) or SCT) != SCT:
-            raise not_found("the code system %.100r isn't here: %s is" % (self.text(name), SCT))
+        system = self.text(name)
+        if system is not None and system != SCT:
+            raise not_here(system)
 
     def coding(self, names: CodeNames) -> Coding:
         """The one code of SNOMED CT that is meant."""
@@ -94,7 +95,7 @@ class Query:
         if len(found) > 1:
             raise invalid("one code can be asked for at a time")
         if found[0].system != SCT:
-            raise not_found("the code system %.100r isn't here: %s is" % (found[0].system, SCT))
+            raise not_here(found[0].system)
         return found[0]
 
     def codings(self, names: CodeNames) -> list[Coding]:
@@ -104,12 +105,10 @@ class Query:
         ]
         if len(forms) > 1:
             raise conflict("%s and %s are two ways to name the code" % (forms[0], forms[1]))
-        self.code_system(names.system)
         if forms == [names.code]:
-            if names.system not in self.given:
-                raise missing("%s is missing" % names.system)
-            display = self.text("display")
-            return [Coding(SCT, self.needed(names.code), None, display)]
+            system, code = self.needed(names.system), self.needed(names.code)
+            return [Coding(system, code, None, self.text("display"))]
+        self.code_system(names.system)
         if "display" in self.given:
             raise missing("%s is missing, whose display is given" % names.code)
         if not forms:
@@ -120,7 +119,13 @@ class Query:
         found = concept.get("coding") if isinstance(concept, dict) else None
         if not isinstance(found, list) or not found:
             raise invalid("codeableConcept has no coding")
+        if len(found) > limits.CODINGS:
+            raise invalid("codeableConcept has more than %d codings" % limits.CODINGS)
         return [coding_of(one) for one in found]
+
+
+def not_here(system: str) -> Problem:
+    return not_found("the code system %.100r isn't here: %s is" % (system, SCT))
 
 
 def coding_of(value: Any) -> Coding:

@@ -14,7 +14,6 @@ from .versions import Moment
 
 PARAMETERS = frozenset("url code system version coding reverse targetsystem date".split())
 
-
 # What a target means beside the code, as R4's ConceptMapEquivalence has it.
 EQUAL, EQUIVALENT, INEXACT, RELATED = "equal", "equivalent", "inexact", "relatedto"
 WIDER, DISJOINT = "wider", "disjoint"
@@ -46,8 +45,6 @@ MAPS = {
     "1186924009": Map("PARTIALLY EQUIVALENT TO", INEXACT),
 }
 FORM = "fhir_cm="
-
-
 # Of a simple map the release says nothing but that code and target belong together.
 OF_SIMPLE_MAPS = RELATED
 # The one column of its own that a member of a simple map has.

@@ -15,7 +15,6 @@ MEMBER_PARAMETERS = frozenset(
     ("url system systemVersion " + OF_A_CODE).replace(" version", "").split()
 )
 
-
 # What a code isn't that is outside a value set.
 OUTSIDE = {
     Sort.WITHIN: "%s and isn't below it",
@@ -25,8 +24,8 @@ OUTSIDE = {
 
 
 async def validate_code(request: Request) -> Json:
-    names = CodeNames(system="url")
-    return await validated(request, names, None)
+    request.query.code_system("url")
+    return await validated(request, CodeNames(system="url"), None)
 
 
 async def validate_member(request: Request) -> Json:
