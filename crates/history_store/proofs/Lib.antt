@@ -37,6 +37,8 @@ mod KeptBlocks
 mod Forgotten
 mod Upgraded
 mod ImportWrites
+mod Metered
+mod MeteredImports
 pub mod LatestTimes
 mod BroughtRows
 mod Rewritten

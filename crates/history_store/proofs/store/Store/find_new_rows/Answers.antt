@@ -1,4 +1,5 @@
-use Rattle.std.proofs.Common.{◌≡◌, false, ap, sym, subst, arith}
+use Rattle.std.proofs.Common.{◌≡◌, false, ap, sym, subst, arith, rules}
+use Rattle.std.proofs.lemmas.Grind.{common_steps}
 use Rattle.std.specs.List.{sum_by}
 use Rattle.import_check.specs.Known.{already_known}
 use Rattle.history_store.specs.Reading.{row_cost}
@@ -42,28 +43,32 @@ returns-after-matches-clause-refused g c =
           (refused_less _ _ _ _ c.in-Err.fault (λ up. ((reader_honest g.D.Disk.view _ _ _ _ _ _ _ _ _ _ c.self.invariant.0 c.new-reader.ensures.disk c.new-reader.ensures.cache c.new-reader.ensures.entries c.new-reader.ensures.shown up still (g.met.D.Disk.now_is_image c.self.inside.disk up)), (lent_sound _ _ _ _ _ _ _ c.self.invariant.0 c.places.result.now c.new-reader.result.shown.now c.imports-pin.result c.places.ensures c.new-reader.ensures.shown c.imports-pin.ensures).0, (lent_sound _ _ _ _ _ _ _ c.self.invariant.0 c.places.result.now c.new-reader.result.shown.now c.imports-pin.result c.places.ensures c.new-reader.ensures.shown c.imports-pin.ensures).1)) c.in-Err.ensures.refused),
     )
 
-pub returns-in-Ok-clause-bytes_read : goal.returns-in-Ok-clause-bytes_read
-returns-in-Ok-clause-bytes_read g c = rw (← c.self.view_is) (λ rows are.
-    let least = c.in-Ok.ensures.work (lent_sound _ _ _ _ _ _ _ c.self.invariant.0 c.places.result.now c.new-reader.result.shown.now c.imports-pin.result c.places.ensures c.new-reader.ensures.shown c.imports-pin.ensures).0 (lent_sound _ _ _ _ _ _ _ c.self.invariant.0 c.places.result.now c.new-reader.result.shown.now c.imports-pin.result c.places.ensures c.new-reader.ensures.shown c.imports-pin.ensures).1 rows are in
-    let from = ap (λ d. (g.D.Disk.view d).bytes_read) c.new-reader.ensures.disk in
-    let sum = ap (λ l. sum_by row_cost (already_known (rows_of l) rows)) c.new-reader.ensures.shown in
-    omega (arith, least, from, sum))
+pub returns-in-Ok-clause-meters : goal.returns-in-Ok-clause-meters
+returns-in-Ok-clause-meters g c = record {
+  counts = first_of (search rules, grind (arith, common_steps));
+  looked_up = first_of (search rules, grind (arith, common_steps));
+  bytes_read = rw (← c.self.view_is) (λ rows are.
+      let least = c.in-Ok.ensures.meters.work (lent_sound _ _ _ _ _ _ _ c.self.invariant.0 c.places.result.now c.new-reader.result.shown.now c.imports-pin.result c.places.ensures c.new-reader.ensures.shown c.imports-pin.ensures).0 (lent_sound _ _ _ _ _ _ _ c.self.invariant.0 c.places.result.now c.new-reader.result.shown.now c.imports-pin.result c.places.ensures c.new-reader.ensures.shown c.imports-pin.ensures).1 rows are in
+      let from = ap (λ d. (g.D.Disk.view d).bytes_read) c.new-reader.ensures.disk in
+      let sum = ap (λ l. sum_by row_cost (already_known (rows_of l) rows)) c.new-reader.ensures.shown in
+      omega (arith, least, from, sum));
+  bytes_unread = rw (← c.self.view_is) (λ unread.
+      let least = c.in-Ok.ensures.meters.work_unread unread in
+      let from = ap (λ d. (g.D.Disk.view d).bytes_read) c.new-reader.ensures.disk in
+      omega (arith, least, from));
+}
 
-pub returns-in-Ok-clause-bytes_unread : goal.returns-in-Ok-clause-bytes_unread
-returns-in-Ok-clause-bytes_unread g c = rw (← c.self.view_is) (λ unread.
-    let least = c.in-Ok.ensures.work_unread unread in
-    let from = ap (λ d. (g.D.Disk.view d).bytes_read) c.new-reader.ensures.disk in
-    omega (arith, least, from))
-
-pub returns-after-matches-clause-bytes_read : goal.returns-after-matches-clause-bytes_read
-returns-after-matches-clause-bytes_read g c = rw (← c.self.view_is) (λ rows are.
-    let least = c.in-Err.ensures.work (lent_sound _ _ _ _ _ _ _ c.self.invariant.0 c.places.result.now c.new-reader.result.shown.now c.imports-pin.result c.places.ensures c.new-reader.ensures.shown c.imports-pin.ensures).0 (lent_sound _ _ _ _ _ _ _ c.self.invariant.0 c.places.result.now c.new-reader.result.shown.now c.imports-pin.result c.places.ensures c.new-reader.ensures.shown c.imports-pin.ensures).1 rows are in
-    let from = ap (λ d. (g.D.Disk.view d).bytes_read) c.new-reader.ensures.disk in
-    let sum = ap (λ l. sum_by row_cost (already_known (rows_of l) rows)) c.new-reader.ensures.shown in
-    grind (arith, least, from, sum))
-
-pub returns-after-matches-clause-bytes_unread : goal.returns-after-matches-clause-bytes_unread
-returns-after-matches-clause-bytes_unread g c = rw (← c.self.view_is) (λ unread.
-    let least = c.in-Err.ensures.work_unread unread in
-    let from = ap (λ d. (g.D.Disk.view d).bytes_read) c.new-reader.ensures.disk in
-    grind (arith, least, from))
+pub returns-after-matches-clause-meters : goal.returns-after-matches-clause-meters
+returns-after-matches-clause-meters g c = record {
+  counts = first_of (search rules, grind (arith, common_steps));
+  looked_up = first_of (search rules, grind (arith, common_steps));
+  bytes_read = rw (← c.self.view_is) (λ rows are.
+      let least = c.in-Err.ensures.meters.work (lent_sound _ _ _ _ _ _ _ c.self.invariant.0 c.places.result.now c.new-reader.result.shown.now c.imports-pin.result c.places.ensures c.new-reader.ensures.shown c.imports-pin.ensures).0 (lent_sound _ _ _ _ _ _ _ c.self.invariant.0 c.places.result.now c.new-reader.result.shown.now c.imports-pin.result c.places.ensures c.new-reader.ensures.shown c.imports-pin.ensures).1 rows are in
+      let from = ap (λ d. (g.D.Disk.view d).bytes_read) c.new-reader.ensures.disk in
+      let sum = ap (λ l. sum_by row_cost (already_known (rows_of l) rows)) c.new-reader.ensures.shown in
+      grind (arith, least, from, sum));
+  bytes_unread = rw (← c.self.view_is) (λ unread.
+      let least = c.in-Err.ensures.meters.work_unread unread in
+      let from = ap (λ d. (g.D.Disk.view d).bytes_read) c.new-reader.ensures.disk in
+      grind (arith, least, from));
+}

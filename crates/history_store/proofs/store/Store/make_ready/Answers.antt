@@ -37,8 +37,8 @@ returns-then-is_empty-clause-checking g c =
     rw (← c.self-2.view_is) (λ honest still. record { open_still = still; each = held_stands _ _ _ _ _ _ _ c.self-2.invariant.0 honest still }) in
     let ready = ready_at (g.D.Disk.view c.args.self.now.disk).is_honest _ c.args.self.now _ c.find_new_rows.new.self c.args.release c.in_ok-fresh.fresh (nexts.WithoutSegment c.in_ok-directory.directory) _ _ c.self.view_is (admitted _ _ _ _ (c.if-is_spent.ensures.left refl) c.if-is_for_later.ensures refl) c.self-2.view_is c.self-2.invariant.0.kept.history e.still e.brings e.accepted (ap (λ n. n + 1) c.imports.ensures) (c.len.ensures ∙ len) (none, c.in_ok-directory.ensures) in
     checked_after g.D.Disk.view c.args.self.now c.find_new_rows.new.self c.args.release _
-    (record { still = e.still; version = not_later _ c.args.self.now c.args.release c.self.view_is (admitted _ _ _ _ (c.if-is_spent.ensures.left refl) c.if-is_for_later.ensures refl); moments = e.meters.moments; acknowledged = standing; honesty = e.meters.honesty; failures = e.meters.failures; other_calls = e.meters.other_calls; looked_up = e.looked_up; bytes_read = e.bytes_read; bytes_unread = e.bytes_unread })
-    (foreseen _ c.find_new_rows.new.self c.args.release _ ready c.args.self.now e.still) (foreseen_at_all _ c.find_new_rows.new.self c.args.release _ ready c.args.self.now e.still) e.meters.failures
+    (record { still = e.still; version = not_later _ c.args.self.now c.args.release c.self.view_is (admitted _ _ _ _ (c.if-is_spent.ensures.left refl) c.if-is_for_later.ensures refl); moments = e.meters.counts.moments; acknowledged = standing; honesty = e.meters.counts.honesty; failures = e.meters.counts.failures; other_calls = e.meters.counts.other_calls; looked_up = e.meters.looked_up; bytes_read = e.meters.bytes_read; bytes_unread = e.meters.bytes_unread })
+    (foreseen _ c.find_new_rows.new.self c.args.release _ ready c.args.self.now e.still) (foreseen_at_all _ c.find_new_rows.new.self c.args.release _ ready c.args.self.now e.still) e.meters.counts.failures
 
 pub returns-clause-checking : goal.returns-clause-checking
 returns-clause-checking g c =
@@ -49,8 +49,8 @@ returns-clause-checking g c =
     rw (← c.self-2.view_is) (λ honest still. record { open_still = still; each = held_stands _ _ _ _ _ _ _ c.self-2.invariant.0 honest still }) in
     let ready = ready_at (g.D.Disk.view c.args.self.now.disk).is_honest _ c.args.self.now _ c.find_new_rows.new.self c.args.release c.in_ok-fresh.fresh (nexts.WithSegment c.in_ok-prepared.prepared) _ _ c.self.view_is (admitted _ _ _ _ (c.if-is_spent.ensures.left refl) c.if-is_for_later.ensures refl) c.self-2.view_is c.self-2.invariant.0.kept.history e.still e.brings e.accepted (ap (λ n. n + 1) c.imports.ensures) (c.len.ensures ∙ len) (some, c.in_ok-prepared.ensures.prepared) in
     checked_after g.D.Disk.view c.args.self.now c.find_new_rows.new.self c.args.release _
-    (record { still = e.still; version = not_later _ c.args.self.now c.args.release c.self.view_is (admitted _ _ _ _ (c.if-is_spent.ensures.left refl) c.if-is_for_later.ensures refl); moments = e.meters.moments; acknowledged = standing; honesty = e.meters.honesty; failures = e.meters.failures; other_calls = e.meters.other_calls; looked_up = e.looked_up; bytes_read = e.bytes_read; bytes_unread = e.bytes_unread })
-    (foreseen _ c.find_new_rows.new.self c.args.release _ ready c.args.self.now e.still) (foreseen_at_all _ c.find_new_rows.new.self c.args.release _ ready c.args.self.now e.still) e.meters.failures
+    (record { still = e.still; version = not_later _ c.args.self.now c.args.release c.self.view_is (admitted _ _ _ _ (c.if-is_spent.ensures.left refl) c.if-is_for_later.ensures refl); moments = e.meters.counts.moments; acknowledged = standing; honesty = e.meters.counts.honesty; failures = e.meters.counts.failures; other_calls = e.meters.counts.other_calls; looked_up = e.meters.looked_up; bytes_read = e.meters.bytes_read; bytes_unread = e.meters.bytes_unread })
+    (foreseen _ c.find_new_rows.new.self c.args.release _ ready c.args.self.now e.still) (foreseen_at_all _ c.find_new_rows.new.self c.args.release _ ready c.args.self.now e.still) e.meters.counts.failures
 
 pub returns-in_err-prepared-clause-checking : goal.returns-in_err-prepared-clause-checking
 returns-in_err-prepared-clause-checking g c =
@@ -62,12 +62,12 @@ returns-in_err-prepared-clause-checking g c =
     let standing : (g.D.Disk.view c.find_new_rows.new.self.disk).is_honest → c.find_new_rows.new.self.needs_reopen ≡ false → IsAcknowledged g.D.Disk.view c.find_new_rows.new.self =
     rw (← c.self-2.view_is) (λ honest still. record { open_still = still; each = held_stands _ _ _ _ _ _ _ c.self-2.invariant.0 honest still }) in
     rw (p.1, p.2) (checked_after g.D.Disk.view c.args.self.now c.find_new_rows.new.self c.args.release _
-    (record { still = e.still; version = not_later _ c.args.self.now c.args.release c.self.view_is (admitted _ _ _ _ (c.if-is_spent.ensures.left refl) c.if-is_for_later.ensures refl); moments = e.meters.moments; acknowledged = standing; honesty = e.meters.honesty; failures = e.meters.failures; other_calls = e.meters.other_calls; looked_up = e.looked_up; bytes_read = e.bytes_read; bytes_unread = e.bytes_unread })
+    (record { still = e.still; version = not_later _ c.args.self.now c.args.release c.self.view_is (admitted _ _ _ _ (c.if-is_spent.ensures.left refl) c.if-is_for_later.ensures refl); moments = e.meters.counts.moments; acknowledged = standing; honesty = e.meters.counts.honesty; failures = e.meters.counts.failures; other_calls = e.meters.counts.other_calls; looked_up = e.meters.looked_up; bytes_read = e.meters.bytes_read; bytes_unread = e.meters.bytes_unread })
     (λ honest.
     let at = at_mid _ c.args.self.now _ c.find_new_rows.new.self c.args.release c.in_ok-fresh.fresh c.self.view_is (admitted _ _ _ _ (c.if-is_spent.ensures.left refl) c.if-is_for_later.ensures refl) c.self-2.view_is c.self-2.invariant.0.kept.history e.still (e.accepted honest) in
     (not_prepared c.args.self.now _ c.find_new_rows.new.self c.args.release c.in_ok-fresh.fresh _ c.self-2.view_is e.still at why, refused))
     (not_prepared_at_all _ c.args.self.now _ c.find_new_rows.new.self c.args.release c.in_ok-fresh.fresh _ c.self.view_is (admitted _ _ _ _ (c.if-is_spent.ensures.left refl) c.if-is_for_later.ensures refl) c.self-2.view_is e.still e.brings why, refused)
-    (counted_but _ _ _ other e.meters.failures))
+    (counted_but _ _ _ other e.meters.counts.failures))
 
 pub returns-in_err-fresh-clause-checking : goal.returns-in_err-fresh-clause-checking
 returns-in_err-fresh-clause-checking g c =
@@ -76,4 +76,4 @@ returns-in_err-fresh-clause-checking g c =
     let stood : (g.D.Disk.view c.args.self.now.disk).is_honest → c.args.self.now.needs_reopen ≡ false → IsAcknowledged g.D.Disk.view c.args.self.now =
     rw (← c.self.view_is) (λ honest still. record { open_still = still; each = held_stands _ _ _ _ _ _ _ c.self.invariant.0 honest still }) in
     rw (p.1, p.2) (turned_back g.D.Disk.view c.args.self.now c.find_new_rows.new.self c.args.release _ c.in_err-fresh.field-0.0 c.self.view_is c.if-self.false
-    (admitted _ _ _ _ (c.if-is_spent.ensures.left refl) c.if-is_for_later.ensures refl) stood e.refused e.closed e.meters.moments e.meters.honesty e.meters.failures e.meters.other_calls e.looked_up e.bytes_read e.bytes_unread)
+    (admitted _ _ _ _ (c.if-is_spent.ensures.left refl) c.if-is_for_later.ensures refl) stood e.refused e.closed e.meters.counts.moments e.meters.counts.honesty e.meters.counts.failures e.meters.counts.other_calls e.meters.looked_up e.meters.bytes_read e.meters.bytes_unread)
