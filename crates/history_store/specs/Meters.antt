@@ -1,6 +1,6 @@
 -- How calls that write change the disk's counts, and which blocks they drop from the cache.
-use Rattle.std.specs.Prelude.{◌≡◌, ◌≢◌, ◌⊎◌, ℕ, zero, suc, ◌+◌, ◌≤◌, nat_le, List, length, Option}
-use Rattle.std.specs.Prelude.{Result, Ok, Err, IfOk, IfErr, OnOk, OnErr}
+use Rattle.std.specs.Prelude.{◌≡◌, ◌≢◌, ◌⊎◌, ℕ, zero, suc, ◌+◌, ◌≤◌, nat_le, Bool, List, length}
+use Rattle.std.specs.Prelude.{Option, Result, Ok, Err, IfOk, IfErr, OnOk, OnErr}
 use Rattle.std.specs.List.{sum_by}
 use Rattle.disk_model.specs.Disk.{raised_by}
 use Rattle.disk_model.specs.View.{DiskView, Calls, Stays, AtMost, Unsaid}
@@ -131,3 +131,8 @@ pub record IsMeteredOpening {D : Type 0} (result : StoreOr D) (view : D → Disk
   -- after an error it has read no further than the fault
   pub stops : IfErr result (λ e. StopsIn e.0 (view disk).bytes_read (view e.1).bytes_read
       (view disk).other_calls (view e.1).other_calls)
+
+-- the cache keeps its capacity while blocks are looked up and those of an extent are dropped
+abbrev pub CapacityStays : Type 0
+CapacityStays = (test : ℕ → Bool) (extent : Option Extent) (old new : LruCache ℕ (List ℕ))
+    (before after : ℕ) → LooksUpAndForgets test extent old new before after → new.cap ≡ old.cap
