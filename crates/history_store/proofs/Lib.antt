@@ -39,6 +39,7 @@ mod Upgraded
 mod ImportWrites
 mod Metered
 mod MeteredImports
+mod MeteredFinding
 pub mod LatestTimes
 mod BroughtRows
 mod Rewritten
