@@ -11,7 +11,6 @@ use Rattle.directory.specs.Listings.{DirectoryValue, next_layout}
 use Rattle.directory.specs.Places.{extent_of}
 use Rattle.store_image.specs.Images.{RepresentsAs}
 use Rattle.import_check.specs.declared.release.Release.{Release}
-use Rattle.import_check.specs.NewRows.{IsRead}
 use Rattle.history_store.specs.declared.preparing.Prepared.{Prepared}
 use Rattle.history_store.specs.declared.checking.Ready.{Ready}
 use Rattle.history_store.specs.declared.checking.Next.TheVariants as nexts
@@ -28,14 +27,9 @@ use Rattle.history_store.proofs.Imported.{from_mid, leaves_taken, leaves_extende
 use Rattle.history_store.proofs.TakenByKey.{taken_by_key, extended_by_key}
 use Rattle.history_store.proofs.ImportWrites.{after_reading, slots_written, segment_written}
 use Rattle.history_store.proofs.Checked.{at_ready, room_ready, brings_ready}
-use Rattle.history_store.proofs.Foreseen.{was_read}
 use Rattle.history_store.proofs.MeteredImports.{calls_for_rows}
 
 module _ {D : Type 0} (honest : Type 0) (old mid : StoreValue D) (release : Release) (ready : Ready) (is : IsMadeReady honest mid release ready) (still : IsStill old mid) where
-  -- the release was read
-  pub read_ready : IsRead release
-  read_ready = was_read release is.brings.rows is.brings.rows_are
-
   -- no row is new
   module _ (d : DirectoryValue) (e : ready.next ≡ nexts.WithoutSegment d) where
     none_ready : IsNext mid is.fresh (nexts.WithoutSegment d)
