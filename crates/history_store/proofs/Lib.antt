@@ -39,7 +39,7 @@ mod Upgraded
 mod ImportWrites
 mod Metered
 mod MeteredImports
-mod MeteredFinding
+mod MeteredReading
 pub mod LatestTimes
 mod BroughtRows
 mod Rewritten

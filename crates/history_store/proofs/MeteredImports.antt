@@ -26,20 +26,20 @@ module _ {D : Type 0} (view : D → DiskView) (release : Release) where
   -- it was refused before anything was written
   pub metered_early : (e : Refusal) (old new : StoreValue D) → IsChecking (Err e) release view old new → IsMeteredImport (Err e) release view old new
   metered_early e old new c = record {
-    counts = record { honesty = c.honesty; failures = c.failures; bytes_read = tt; other_calls = omega (arith, c.other_calls) };
-    uncalled = λ other. c.other_calls;
-    calls = λ up. omega (arith, ap (λ (m : Moments). call_count m) (c.moments up));
+    counts = record { honesty = c.meters.counts.honesty; failures = c.meters.counts.failures; bytes_read = tt; other_calls = omega (arith, c.meters.counts.other_calls) };
+    uncalled = λ other. c.meters.counts.other_calls;
+    calls = λ up. omega (arith, ap (λ (m : Moments). call_count m) (c.meters.counts.moments up));
     cache = record {
       looked_up = new.cache;
       asked = (view new.disk).bytes_read;
-      reads = c.looked_up;
+      reads = c.meters.looked_up;
       gate = omega arith;
       no_gate = λ other. omega arith;
       forgets = tt;
       keeps = refl;
     };
-    bytes_read = λ rows are. omega (arith, c.bytes_read rows are);
-    bytes_unread = c.bytes_unread;
+    bytes_read = λ rows are. omega (arith, c.meters.bytes_read rows are);
+    bytes_unread = c.meters.bytes_unread;
   }
 
   module _ (receipt : Receipt) (n : ℕ) (old mid new : StoreValue D) (c : IsChecking (Ok receipt) release view old mid) (read : IsRead release) where
@@ -49,23 +49,23 @@ module _ {D : Type 0} (view : D → DiskView) (release : Release) where
         → IsMeteredImport (Ok receipt) release view old new
     metered_ok done n_is w = record {
       counts = record {
-        honesty = (λ up. w.counts.honesty.0 (c.honesty.0 up), λ down. c.honesty.1 (w.counts.honesty.1 down));
-        failures = w.counts.failures ∙ c.failures;
+        honesty = (λ up. w.counts.honesty.0 (c.meters.counts.honesty.0 up), λ down. c.meters.counts.honesty.1 (w.counts.honesty.1 down));
+        failures = w.counts.failures ∙ c.meters.counts.failures;
         bytes_read = tt;
-        other_calls = omega (arith, w.counts.other_calls, c.other_calls, n_is);
+        other_calls = omega (arith, w.counts.other_calls, c.meters.counts.other_calls, n_is);
       };
       uncalled = tt;
-      calls = λ up. omega (arith, w.calls (c.honesty.0 up), ap (λ (m : Moments). call_count m) (c.moments up), n_is);
+      calls = λ up. omega (arith, w.calls (c.meters.counts.honesty.0 up), ap (λ (m : Moments). call_count m) (c.meters.counts.moments up), n_is);
       cache = record {
         looked_up = mid.cache;
         asked = (view mid.disk).bytes_read;
-        reads = c.looked_up;
+        reads = c.meters.looked_up;
         gate = w.counts.bytes_read;
         no_gate = tt;
         forgets = subst (λ (k : Catalog). ForgetsWritten (added_entries k new.catalog) mid.cache new.cache) c.kept.1.catalog w.drops;
         keeps = tt;
       };
-      bytes_read = λ rows are. omega (arith, c.bytes_read rows are, w.counts.bytes_read);
+      bytes_read = λ rows are. omega (arith, c.meters.bytes_read rows are, w.counts.bytes_read);
       bytes_unread = λ unread. absurd (unread read);
     }
 
@@ -75,22 +75,22 @@ module _ {D : Type 0} (view : D → DiskView) (release : Release) where
         → IsMeteredImport (Err e) release view old new
     metered_err e fault few w = record {
       counts = record {
-        honesty = (λ up. w.counts.honesty.0 (c.honesty.0 up), λ down. c.honesty.1 (w.counts.honesty.1 down));
-        failures = subst (λ k. CountsRefusal e k (view new.disk).failures) c.failures w.counts.failures;
+        honesty = (λ up. w.counts.honesty.0 (c.meters.counts.honesty.0 up), λ down. c.meters.counts.honesty.1 (w.counts.honesty.1 down));
+        failures = subst (λ k. CountsRefusal e k (view new.disk).failures) c.meters.counts.failures w.counts.failures;
         bytes_read = tt;
-        other_calls = omega (arith, w.counts.other_calls, c.other_calls, few);
+        other_calls = omega (arith, w.counts.other_calls, c.meters.counts.other_calls, few);
       };
       uncalled = λ other. absurd (other fault);
-      calls = λ up. omega (arith, w.calls (c.honesty.0 up), ap (λ (m : Moments). call_count m) (c.moments up), few);
+      calls = λ up. omega (arith, w.calls (c.meters.counts.honesty.0 up), ap (λ (m : Moments). call_count m) (c.meters.counts.moments up), few);
       cache = record {
         looked_up = mid.cache;
         asked = (view mid.disk).bytes_read;
-        reads = c.looked_up;
+        reads = c.meters.looked_up;
         gate = w.counts.bytes_read;
         no_gate = λ other. absurd (other fault);
         forgets = tt;
         keeps = w.keeps;
       };
-      bytes_read = λ rows are. omega (arith, c.bytes_read rows are, w.counts.bytes_read);
+      bytes_read = λ rows are. omega (arith, c.meters.bytes_read rows are, w.counts.bytes_read);
       bytes_unread = λ unread. absurd (unread read);
     }

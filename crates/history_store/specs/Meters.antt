@@ -1,9 +1,9 @@
--- How calls that write change the disk's counts, and which blocks they drop from the cache.
+-- How calls of a store change the disk's counts, and the cache.
 use Rattle.std.specs.Prelude.{◌≡◌, ◌≢◌, ◌⊎◌, ℕ, zero, suc, ◌+◌, ◌≤◌, nat_le, Bool, List, length}
 use Rattle.std.specs.Prelude.{Option, Result, Ok, Err, IfOk, IfErr, OnOk, OnErr}
 use Rattle.std.specs.List.{sum_by}
 use Rattle.disk_model.specs.Disk.{raised_by}
-use Rattle.disk_model.specs.View.{DiskView, Calls, Stays, AtMost, Unsaid}
+use Rattle.disk_model.specs.View.{DiskView, OnlyReads, Calls, Stays, AtMost, Unsaid}
 use Rattle.lru.specs.LruCache.{LruCache}
 use Rattle.blocks.specs.declared.extent.Extent.{Extent}
 use Rattle.blocks.specs.Cache.{Forgets}
@@ -24,12 +24,25 @@ use Rattle.history_store.specs.Reading.{row_cost}
 use Rattle.history_store.specs.StoreValue.{StoreValue}
 use Rattle.history_store.specs.Answers.{StoreOr, Counts, disk_of}
 use Rattle.history_store.specs.Openings.{StopsIn}
-use Rattle.history_store.specs.Queries.{is_listed, LooksUpAndForgets, ImportsThroughCache}
+use Rattle.history_store.specs.Queries.{is_listed, ReadsThroughCache, LooksUpAndForgets}
+use Rattle.history_store.specs.Queries.{ImportsThroughCache}
 use Rattle.history_store.specs.Merging.{trimmed_blocks}
 
 -- unless the disk failed, a refused call made no call besides reads: their count is unchanged
 abbrev pub UncalledIfRefused : {T : Type 0} → Result T Refusal → ℕ → ℕ → Type 0
 UncalledIfRefused result old new = IfErr result (λ e. e ≢ refusals.DiskFault → new ≡ old)
+
+-- The meters of a call that compares a release with stored rows. Only reads are made, through the
+-- cache, and what a crash may leave is unchanged. Each stored row whose key is in the release is
+-- read at most once, and no other row; if a file isn't a valid release file, nothing is read.
+pub record IsMeteredReading {T D : Type 0} (result : Result T Refusal) (release : Release)
+    (view : D → DiskView) (old new : StoreValue D) : Type 0 where
+  pub counts : OnlyReads (Counts result) Unsaid (view old.disk) (view new.disk)
+  pub looked_up : ReadsThroughCache view old new
+  pub bytes_read : (rows : List RowValue) → IsReleaseOf release rows
+      → (view new.disk).bytes_read ≤ (view old.disk).bytes_read
+      + sum_by row_cost (already_known (full old.history) rows)
+  pub bytes_unread : (IsRead release → ⊥) → (view new.disk).bytes_read ≤ (view old.disk).bytes_read
 
 -- The meters of a call that writes. It requests as many bytes as `reads` says, and makes at most
 -- `n` calls besides reads; if it is refused for a reason other than a disk failure, none. On an

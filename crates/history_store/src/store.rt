@@ -86,8 +86,8 @@ impl<D: Disk> Store<D> {
     ghost use Rattle.history_store.specs.Openings.{IsMaking, IsOpening};
     ghost use Rattle.history_store.specs.Crashes.{IsCrashSafe};
     ghost use Rattle.history_store.specs.Meters.{IsMeteredMaking, IsMeteredOpening};
-    ghost use Rattle.history_store.specs.Meters.{IsMeteredWrite, IsMeteredImport};
-    ghost use Rattle.history_store.specs.Private.Meters.{IsMeteredFinding};
+    ghost use Rattle.history_store.specs.Meters.{IsMeteredReading, IsMeteredWrite};
+    ghost use Rattle.history_store.specs.Meters.{IsMeteredImport};
     ghost use Rattle.history_store.specs.Answers.{IsStill, IsRefused};
     ghost use Rattle.history_store.specs.Answers.{IsImportOf, IsImportOnAnyDisk};
     ghost use Rattle.history_store.specs.Answers.{IsBeforeOrAfter, KeepsMoments, StemsWithinNew};
@@ -172,7 +172,7 @@ impl<D: Disk> Store<D> {
             (full self.old.history) release) }
         ensures still { IfOk result (λ fresh. IsStill self.old self.new) }
         ensures closed { IfErr result (λ e. IsRefused e self.old self.new) }
-        ensures meters { IsMeteredFinding result release D.view self.old self.new }
+        ensures meters { IsMeteredReading result release D.view self.old self.new }
     {
         let pin = self.directory.imports();
         let mut reader = DiskRows::new(

@@ -120,7 +120,7 @@ module _ {D : Type 0} (view : D → DiskView) where
   same_checked release (Err e) old new kept = kept.1.history
 
   pub check_made : CheckIsACall D view
-  check_made old new release result c = still view old new (same_checked release result old new c.kept) c.closed c.honesty c.moments c.acknowledged
+  check_made old new release result c = still view old new (same_checked release result old new c.kept) c.closed c.meters.counts.honesty c.meters.counts.moments c.acknowledged
 
   -- ---- questions
 

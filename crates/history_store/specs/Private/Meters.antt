@@ -2,10 +2,9 @@
 use Rattle.std.specs.Prelude.{◌≡◌, ◌≢◌, ℕ, ◌+◌, ◌≤◌, List, Result, IfErr}
 use Rattle.std.specs.List.{sum_by}
 use Rattle.fault_counts.specs.Counting.{Counts as CountsFault}
-use Rattle.disk_model.specs.View.{DiskView, OnlyReads, Calls, Stays, AtMost, Unsaid}
+use Rattle.disk_model.specs.View.{DiskView, Calls, Stays, AtMost}
 use Rattle.blocks.specs.Calls.{MakesCalls}
 use Rattle.rf2_values.specs.Row.{RowValue}
-use Rattle.history_model.specs.History.{full}
 use Rattle.segment.specs.declared.place.RowPlace.{RowPlace}
 use Rattle.as_of_index.specs.Places.{Lists}
 use Rattle.as_of_index.specs.Reader.{ReaderView}
@@ -16,10 +15,7 @@ use Rattle.import_check.specs.Release.{IsReleaseOf}
 use Rattle.import_check.specs.NewRows.{IsRead, CountsAnyDiskFault, CountsAnyDamage}
 use Rattle.history_store.specs.declared.refusal.Refusal.{Refusal}
 use Rattle.history_store.specs.declared.refusal.Refusal.TheVariants as refusals
-use Rattle.history_store.specs.Reading.{row_cost}
-use Rattle.history_store.specs.StoreValue.{StoreValue}
 use Rattle.history_store.specs.Answers.{Counts}
-use Rattle.history_store.specs.Queries.{ReadsThroughCache}
 use Rattle.history_store.specs.Private.Reading.{rows_of, Early}
 
 -- The meters of making an empty store: it requests no bytes, asks for the length at most twice, and
@@ -29,18 +25,6 @@ pub record IsMeteredStart {T : Type 0} (result : Result T Refusal) (old new : Di
   pub counts : Calls (Counts result) Stays (AtMost 11) old new
   pub looked : IfErr result (λ e. e ≢ refusals.DiskFault → new.other_calls ≤ old.other_calls + 2)
   pub calls : old.is_honest → MakesCalls result 9 old.moments new.moments
-
--- The meters of finding a release's new rows: only reads are made, through the cache. Each stored
--- row whose key is in the release is read at most once, and no other row; if a file isn't a valid
--- release file, nothing is read.
-pub record IsMeteredFinding {T D : Type 0} (result : Result T Refusal) (release : Release)
-    (view : D → DiskView) (old new : StoreValue D) : Type 0 where
-  pub counts : OnlyReads (Counts result) Unsaid (view old.disk) (view new.disk)
-  pub looked_up : ReadsThroughCache view old new
-  pub bytes_read : (rows : List RowValue) → IsReleaseOf release rows
-      → (view new.disk).bytes_read ≤ (view old.disk).bytes_read
-      + sum_by row_cost (already_known (full old.history) rows)
-  pub bytes_unread : (IsRead release → ⊥) → (view new.disk).bytes_read ≤ (view old.disk).bytes_read
 
 -- The meters of comparing a release with the rows that an index lists: whatever the result, each of
 -- these rows whose key is in the release is read at most once, and no other row. If a file isn't a

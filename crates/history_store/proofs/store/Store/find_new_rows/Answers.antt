@@ -11,7 +11,7 @@ use Rattle.history_store.specs.Private.Reading.{rows_of}
 use Rattle.history_store.proofs.Refusing.{refused_less}
 use Rattle.history_store.proofs.Held.{lent_sound}
 use Rattle.history_store.proofs.Lent.{reader_honest, held_left}
-use Rattle.history_store.proofs.MeteredFinding.{counted_fault, found_so}
+use Rattle.history_store.proofs.MeteredReading.{counted_fault, read_so}
 use Rattle.history_store.proofs.store.Store.find_new_rows.Goals as goal
 use Rattle.history_store.proofs.store.Store.find_new_rows.Goals.{then-matches, else-matches}
 
@@ -54,7 +54,7 @@ returns-in-Ok-clause-meters g c =
     let now = c.find_new_rows.new.reader in
     let stays = c.find_new_rows.ensures.stays in
     let m = c.in-Ok.ensures.meters in
-    rw (← c.self.view_is) (found_so g.D.Disk.view (Ok c.in-Ok.fresh) c.args.release _ _ lent.entries.now lent.disk.now lent.cache.now r.disk r.cache r.entries stays.0 stays.5 stays.6 m.disk_faults
+    rw (← c.self.view_is) (read_so g.D.Disk.view (Ok c.in-Ok.fresh) c.args.release _ _ lent.entries.now lent.disk.now lent.cache.now r.disk r.cache r.entries stays.0 stays.5 stays.6 m.disk_faults
     (λ rows are.
     let least = m.work sound.0 sound.1 rows are in
     let from = ap (λ d. (g.D.Disk.view d).bytes_read) r.disk in
@@ -75,7 +75,7 @@ returns-after-matches-clause-meters g c =
     let m = c.in-Err.ensures.meters in
     let counted : CountsRefusal c.from.result (g.D.Disk.view lent.disk.now).failures (g.D.Disk.view now.disk.now).failures = rw c.from.ensures (counted_fault c.in-Err.fault (g.D.Disk.view lent.disk.now).failures (g.D.Disk.view now.disk.now).failures m.disk_faults) in
     elim c.if-matches.branch [
-      | then-matches w ↦ rw (w.self-is, ← c.self.view_is) (found_so g.D.Disk.view (Err c.from.result) c.args.release _ _ lent.entries.now lent.disk.now lent.cache.now r.disk r.cache r.entries stays.0 stays.5 stays.6 counted
+      | then-matches w ↦ rw (w.self-is, ← c.self.view_is) (read_so g.D.Disk.view (Err c.from.result) c.args.release _ _ lent.entries.now lent.disk.now lent.cache.now r.disk r.cache r.entries stays.0 stays.5 stays.6 counted
       (λ rows are.
       let least = m.work sound.0 sound.1 rows are in
       let from = ap (λ d. (g.D.Disk.view d).bytes_read) r.disk in
@@ -85,7 +85,7 @@ returns-after-matches-clause-meters g c =
       let least = m.work_unread unread in
       let from = ap (λ d. (g.D.Disk.view d).bytes_read) r.disk in
       omega (arith, least, from)))
-      | else-matches w ↦ rw (w.self-is, ← c.self.view_is) (found_so g.D.Disk.view (Err c.from.result) c.args.release _ _ lent.entries.now lent.disk.now lent.cache.now r.disk r.cache r.entries stays.0 stays.5 stays.6 counted
+      | else-matches w ↦ rw (w.self-is, ← c.self.view_is) (read_so g.D.Disk.view (Err c.from.result) c.args.release _ _ lent.entries.now lent.disk.now lent.cache.now r.disk r.cache r.entries stays.0 stays.5 stays.6 counted
       (λ rows are.
       let least = m.work sound.0 sound.1 rows are in
       let from = ap (λ d. (g.D.Disk.view d).bytes_read) r.disk in
