@@ -109,8 +109,8 @@ pub record IsMeteredTrim {D : Type 0} (result : Result ℕ Refusal) (view : D �
   pub keeps : OnErr result (new.cache ≡ old.cache)
 
 -- The meters of rewriting a segment, or of a part of that. It requests at most so many bytes, and
--- makes at most `n` calls besides reads, of which each may change the disk. The cache keeps its
--- capacity.
+-- makes at most `n` calls besides reads; on an honest disk at most `n` changing calls. The cache
+-- keeps its capacity.
 pub record IsMeteredRewrite {T : Type 0} (result : Result T Refusal) (bytes n : ℕ)
     (old new : DiskView) (cache cached : LruCache ℕ (List ℕ)) : Type 0 where
   pub counts : Calls (Counts result) (AtMost bytes) (AtMost n) old new
