@@ -1,5 +1,5 @@
 -- How private functions change the counts of a disk or of a reader.
-use Rattle.std.specs.Prelude.{◌≡◌, ◌≢◌, ℕ, ◌+◌, ◌≤◌, List, Result, IfErr}
+use Rattle.std.specs.Prelude.{◌≢◌, ℕ, ◌+◌, ◌≤◌, List, Result, IfErr}
 use Rattle.std.specs.List.{sum_by}
 use Rattle.fault_counts.specs.Counting.{Counts as CountsFault}
 use Rattle.disk_model.specs.View.{DiskView, Calls, Stays, AtMost}

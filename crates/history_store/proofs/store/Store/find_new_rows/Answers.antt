@@ -76,23 +76,23 @@ returns-after-matches-clause-meters g c =
     let counted : CountsRefusal c.from.result (g.D.Disk.view lent.disk.now).failures (g.D.Disk.view now.disk.now).failures = rw c.from.ensures (counted_fault c.in-Err.fault (g.D.Disk.view lent.disk.now).failures (g.D.Disk.view now.disk.now).failures m.disk_faults) in
     elim c.if-matches.branch [
       | then-matches w ↦ rw (w.self-is, ← c.self.view_is) (read_so g.D.Disk.view (Err c.from.result) c.args.release _ _ lent.entries.now lent.disk.now lent.cache.now r.disk r.cache r.entries stays.0 stays.5 stays.6 counted
-      (λ rows are.
-      let least = m.work sound.0 sound.1 rows are in
-      let from = ap (λ d. (g.D.Disk.view d).bytes_read) r.disk in
-      let sum = ap (λ l. sum_by row_cost (already_known (rows_of l) rows)) r.shown in
-      omega (arith, least, from, sum))
-      (λ unread.
-      let least = m.work_unread unread in
-      let from = ap (λ d. (g.D.Disk.view d).bytes_read) r.disk in
-      omega (arith, least, from)))
+          (λ rows are.
+          let least = m.work sound.0 sound.1 rows are in
+          let from = ap (λ d. (g.D.Disk.view d).bytes_read) r.disk in
+          let sum = ap (λ l. sum_by row_cost (already_known (rows_of l) rows)) r.shown in
+          omega (arith, least, from, sum))
+          (λ unread.
+          let least = m.work_unread unread in
+          let from = ap (λ d. (g.D.Disk.view d).bytes_read) r.disk in
+          omega (arith, least, from)))
       | else-matches w ↦ rw (w.self-is, ← c.self.view_is) (read_so g.D.Disk.view (Err c.from.result) c.args.release _ _ lent.entries.now lent.disk.now lent.cache.now r.disk r.cache r.entries stays.0 stays.5 stays.6 counted
-      (λ rows are.
-      let least = m.work sound.0 sound.1 rows are in
-      let from = ap (λ d. (g.D.Disk.view d).bytes_read) r.disk in
-      let sum = ap (λ l. sum_by row_cost (already_known (rows_of l) rows)) r.shown in
-      omega (arith, least, from, sum))
-      (λ unread.
-      let least = m.work_unread unread in
-      let from = ap (λ d. (g.D.Disk.view d).bytes_read) r.disk in
-      omega (arith, least, from)))
+          (λ rows are.
+          let least = m.work sound.0 sound.1 rows are in
+          let from = ap (λ d. (g.D.Disk.view d).bytes_read) r.disk in
+          let sum = ap (λ l. sum_by row_cost (already_known (rows_of l) rows)) r.shown in
+          omega (arith, least, from, sum))
+          (λ unread.
+          let least = m.work_unread unread in
+          let from = ap (λ d. (g.D.Disk.view d).bytes_read) r.disk in
+          omega (arith, least, from)))
     ]

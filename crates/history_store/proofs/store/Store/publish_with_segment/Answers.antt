@@ -1,6 +1,5 @@
 use Rattle.std.proofs.Common.{◌≡◌, false, subst, sym, ap, ◌∙◌, refl, arith, length}
 use Rattle.std.proofs.lemmas.Bool.{false≢true}
-use Rattle.store_image.proofs.Damaged.{segments_count as lists_count}
 use Rattle.blocks.specs.Slots.{other}
 use Rattle.blocks.specs.Cache.{is_in, Forgets}
 use Rattle.directory.specs.Listings.{DirectoryValue}
