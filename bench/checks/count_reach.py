@@ -11,10 +11,10 @@ clauses that are meters, and the lines of sources and proofs.
 
 A word is reached as `check_private.py` says, and for a function that is no law also by what the
 traits in its head ensure. Lines of a definition are those that have text besides a comment. A
-clause is a meter if it counts reads, calls or failures, or says what becomes of the blocks in
-memory, and hands none of that on to a word that says more. Product crates are those that `sctd`
-uses, by crates.txt; the others count for specs and proofs alone. Nothing is built. Standard library
-alone.
+clause is a meter if it is called `meters`, or if it counts reads, calls or failures, or says what
+becomes of the blocks in memory, and hands none of that on to a word that says more. Product crates
+are those that `sctd` uses, by crates.txt; the others count for specs and proofs alone. Nothing is
+built. Standard library alone.
 """
 
 import glob
@@ -42,7 +42,7 @@ CONTRACTS = (
 METERS = re.compile(r"\b(?:bytes_read|other_calls|failures|failure_count|disk_faults|damages|work"
                     r"|call_count|raised_by|cap|faults)(?:_of)?\b|\w*Makes\w*Calls\b|\bCounts\w*"
                     r"|\w*ThroughCache\b|\bLooksUp\w*|\bForgets\w*|\bKeepsAll\b")
-METER_NAMES = re.compile(r"ensures (?:cache|same_cache|keeps|capacity|looked_up|forgets)$")
+METER_NAMES = re.compile(r"ensures (?:meters|cache|same_cache|keeps|capacity|looked_up|forgets)$")
 # A clause that hands on what a system is to a word that says more than counts.
 HANDS_ON = re.compile(r"\bP\.stands")
 

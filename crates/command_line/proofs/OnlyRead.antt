@@ -44,7 +44,7 @@ module _ {D : Type 0} (view : D → DiskView) where
 
   pub listed : (result : Result Contradictions Refusal) (release : Release) (limit : ℕ) (old new : StoreValue D) → IsListing result release limit view old new → IsOnlyRead view old.disk new.disk
   listed result release limit old new listing = record {
-    moments = listing.moments;
-    honesty = listing.honesty;
-    failures = rises result (view old.disk).failures (view new.disk).failures listing.failures;
+    moments = listing.meters.counts.moments;
+    honesty = listing.meters.counts.honesty;
+    failures = rises result (view old.disk).failures (view new.disk).failures listing.meters.counts.failures;
   }

@@ -1,18 +1,14 @@
 -- What the check of a release answers, and what it leaves.
-use Rattle.std.proofs.Common.{◌≡◌, ◌↔◌, ℕ, ◌+◌, ◌≤◌, Bool, false, IsTrue, List, length, Result, Ok, Err, refl, sym, ap, subst, ◌∙◌}
-use Rattle.std.specs.List.{sum_by}
+use Rattle.std.proofs.Common.{◌≡◌, ◌↔◌, ℕ, ◌+◌, Bool, false, IsTrue, List, length, Result, Ok, Err, refl, sym, ap, subst, ◌∙◌}
 use Rattle.std.proofs.lemmas.Bool.{false≢true}
 use Rattle.disk_model.specs.View.{DiskView}
 use Rattle.disk_model.specs.Disk.{Moments, EachImage}
-use Rattle.rf2_values.specs.Row.{RowValue}
 use Rattle.history_model.specs.declared.receipt.Receipt.{Receipt}
 use Rattle.history_model.specs.declared.stamped.StampedRow.{StampedRow}
 use Rattle.history_model.specs.History.{History, IsHistory, full, stamped, after_release}
 use Rattle.import_check.specs.declared.release.Release.{Release}
 use Rattle.import_check.specs.declared.found.NewRows.{NewRows}
-use Rattle.import_check.specs.Known.{already_known}
-use Rattle.import_check.specs.Release.{IsReleaseOf}
-use Rattle.import_check.specs.NewRows.{IsRead, IsRefusal, IsAcceptedAs, BringsByKey}
+use Rattle.import_check.specs.NewRows.{IsRefusal, IsAcceptedAs, BringsByKey}
 use Rattle.import_check.specs.declared.fault.ImportFault.{ImportFault}
 use Rattle.import_check.specs.declared.fault.ImportFault.TheVariants as importfault
 use Rattle.fault_counts.specs.declared.fault.ReadFault.TheVariants as readfault
@@ -22,10 +18,9 @@ use Rattle.history_store.specs.declared.checking.Ready.{Ready}
 use Rattle.history_store.specs.declared.checking.Next.{Next}
 use Rattle.history_store.specs.declared.checking.Next.TheVariants as nexts
 use Rattle.history_store.specs.Catalog.{Catalog, IsCatalogAfter, catalog_of}
-use Rattle.history_store.specs.Reading.{row_cost}
 use Rattle.history_store.specs.StoreValue.{StoreValue, IsAcknowledged}
 use Rattle.history_store.specs.Prepared.{IsNotSpent, IsForLater, IsAdmitted}
-use Rattle.history_store.specs.Queries.{ReadsThroughCache}
+use Rattle.history_store.specs.Meters.{IsMeteredReading}
 use Rattle.store_image.specs.Images.{Represents}
 use Rattle.history_store.specs.Answers.{Counts, CountsRefusal, IsRefusedFor, IsNotTaken, IsNotTakenByKey, IsRefused, IsStill}
 use Rattle.history_store.specs.Refusals.{refusal_of}
@@ -132,19 +127,23 @@ module _ {D : Type 0} (honest : Type 0) (s : StoreValue D) (release : Release) (
 
 -- ---- a check that has read the known rows
 
+-- the same reading, with another result
+as_read : {T U D : Type 0} {view : D → DiskView} {release : Release} (first : Result T Refusal) (result : Result U Refusal) (old mid : StoreValue D) → Counts result (view old.disk).failures (view mid.disk).failures → IsMeteredReading first release view old mid → IsMeteredReading result release view old mid
+as_read first result old mid counted read = record {
+  counts = record { moments = read.counts.moments; honesty = read.counts.honesty; failures = counted; bytes_read = tt; other_calls = read.counts.other_calls };
+  looked_up = read.looked_up;
+  bytes_read = read.bytes_read;
+  bytes_unread = read.bytes_unread;
+}
+
 module _ {D : Type 0} (view : D → DiskView) (old mid : StoreValue D) (release : Release) where
   -- what the reading of known rows leaves
   pub record HasRead : Type 0 where
     pub still : IsStill old mid
     pub version : IsForLater old.catalog.layout release → ⊥
-    pub moments : (view old.disk).is_honest → (view mid.disk).moments ≡ (view old.disk).moments
     pub acknowledged : (view mid.disk).is_honest → mid.needs_reopen ≡ false → IsAcknowledged view mid
-    pub honesty : (view old.disk).is_honest ↔ (view mid.disk).is_honest
-    pub failures : (view mid.disk).failures ≡ (view old.disk).failures
-    pub other_calls : (view mid.disk).other_calls ≡ (view old.disk).other_calls
-    pub looked_up : ReadsThroughCache view old mid
-    pub bytes_read : (rows : List RowValue) → IsReleaseOf release rows → (view mid.disk).bytes_read ≤ (view old.disk).bytes_read + sum_by row_cost (already_known (full old.history) rows)
-    pub bytes_unread : (IsRead release → ⊥) → (view mid.disk).bytes_read ≤ (view old.disk).bytes_read
+    pub fresh : NewRows
+    pub meters : IsMeteredReading (Ok fresh) release view old mid
 
   pub checked_after : (result : Result Receipt Refusal) → HasRead → ((view old.disk).is_honest → IsCheckingOf result old mid release) → IsCheckingOnAnyDisk result old mid release → Counts result (view old.disk).failures (view mid.disk).failures
       → IsChecking result release view old mid
@@ -153,22 +152,14 @@ module _ {D : Type 0} (view : D → DiskView) (old mid : StoreValue D) (release 
     kept = kept;
     closed = λ closed. absurd (false≢true (sym read.still.open_before ∙ closed));
     later = λ later. absurd (read.version later);
-    moments = read.moments;
-    acknowledged = λ up. read.acknowledged (read.honesty.0 up);
-    honesty = read.honesty;
-    failures = failures;
-    other_calls = read.other_calls;
-    looked_up = read.looked_up;
-    bytes_read = read.bytes_read;
-    bytes_unread = read.bytes_unread;
+    acknowledged = λ up. read.acknowledged (read.meters.counts.honesty.0 up);
+    meters = as_read (Ok read.fresh) result old mid failures read.meters;
   }
 
   -- a check that was refused while known rows were read, or because of what the files say
   pub turned_back : (u : StoreValue D) (e : Refusal) → u ≡ old → u.needs_reopen ≡ false → IsAdmitted u.history u.catalog release → ((view old.disk).is_honest → old.needs_reopen ≡ false → IsAcknowledged view old) → IsNotFresh (view old.disk).is_honest e (full old.history) release → IsRefused e old mid
-      → ((view old.disk).is_honest → (view mid.disk).moments ≡ (view old.disk).moments) → ((view old.disk).is_honest ↔ (view mid.disk).is_honest) → CountsRefusal e (view old.disk).failures (view mid.disk).failures → (view mid.disk).other_calls ≡ (view old.disk).other_calls → ReadsThroughCache view old mid
-      → ((rows : List RowValue) → IsReleaseOf release rows → (view mid.disk).bytes_read ≤ (view old.disk).bytes_read + sum_by row_cost (already_known (full old.history) rows)) → ((IsRead release → ⊥) → (view mid.disk).bytes_read ≤ (view old.disk).bytes_read)
-      → IsChecking (Err e) release view old mid
-  turned_back u e first was_open admits stood why refused moments honesty failures other_calls looked_up bytes_read bytes_unread =
+      → IsMeteredReading {T = NewRows} (Err e) release view old mid → IsChecking (Err e) release view old mid
+  turned_back u e first was_open admits stood why refused read =
       let still : old.needs_reopen ≡ false = subst (λ (x : StoreValue D). x.needs_reopen ≡ false) first was_open in
       let here : IsAdmitted old.history old.catalog release = subst (λ (x : StoreValue D). IsAdmitted x.history x.catalog release) first admits in
       let Stands : Moments → History → Catalog → Type 0 = λ m h x. EachImage m.state (λ c. Represents c h x.layout x.epoch x.entries) in
@@ -177,17 +168,11 @@ module _ {D : Type 0} (view : D → DiskView) (old mid : StoreValue D) (release 
         kept = (not_fresh_at_all (view old.disk).is_honest old release still here e why, refused);
         closed = λ closed. absurd (false≢true (sym still ∙ closed));
         later = λ later. absurd (here.version later);
-        moments = moments;
         acknowledged = λ up open_still. record {
           open_still = open_still;
           each =
-              subst (λ (m : Moments). Stands m mid.history mid.catalog) (sym (moments up))
+              subst (λ (m : Moments). Stands m mid.history mid.catalog) (sym (read.counts.moments up))
               (subst (λ (h : History). Stands (view old.disk).moments h mid.catalog) (sym refused.history) (subst (λ (x : Catalog). Stands (view old.disk).moments old.history x) (sym refused.catalog) (stood up still).each));
         };
-        honesty = honesty;
-        failures = failures;
-        other_calls = other_calls;
-        looked_up = looked_up;
-        bytes_read = bytes_read;
-        bytes_unread = bytes_unread;
+        meters = as_read (Err e) (Err e) old mid read.counts.failures read;
       }

@@ -1,6 +1,6 @@
 -- What looking up leaves of the cache, and which blocks are looked up.
 use Rattle.std.proofs.Common.{◌≡◌, ℕ, zero, suc, ◌+◌, ◌*◌, ◌<◌, ◌≤◌, ◌||◌, Bool, true, false, ◌/◌, List, [], ◌∷◌, length, get_or, inl, inr, refl, sym, ap, subst, ◌∙◌, arith}
-use Rattle.std.specs.Prelude.{Option, Some, Result, Ok, Err, OnOk, OnErr}
+use Rattle.std.specs.Prelude.{Option, Some, None, Result, Ok, Err, OnOk, OnErr}
 use Rattle.std.proofs.lemmas.Bool.Decides.{nat_tests}
 use Rattle.lru.specs.LruCache.{LruCache}
 use Rattle.blocks.specs.declared.extent.Extent.{Extent}
@@ -50,6 +50,13 @@ record_looks_up result entries k d at n old new before after below fits part =
 -- nothing was looked up
 pub none_stepped : (test : ℕ → Bool) (extent : Option Extent) (cache : LruCache ℕ (List ℕ)) (asked : ℕ) → LooksUpAndForgets test extent cache cache asked asked
 none_stepped test extent cache asked = (cache, none_looks_up test cache asked, inl refl)
+
+-- there is room for as many blocks as before
+pub stepped_capacity : (test : ℕ → Bool) (extent : Option Extent) (old new : LruCache ℕ (List ℕ)) (before after : ℕ) → LooksUpAndForgets test extent old new before after → new.cap ≡ old.cap
+stepped_capacity test None old new before after (mid, some, inl same) = ap (λ (c : LruCache ℕ (List ℕ)). c.cap) same ∙ capacity_stays test old mid before after some
+stepped_capacity test None old new before after (mid, some, inr same) = ap (λ (c : LruCache ℕ (List ℕ)). c.cap) same ∙ capacity_stays test old mid before after some
+stepped_capacity test (Some extent) old new before after (mid, some, inl same) = ap (λ (c : LruCache ℕ (List ℕ)). c.cap) same ∙ capacity_stays test old mid before after some
+stepped_capacity test (Some extent) old new before after (mid, some, inr forgets) = forgets.capacity ∙ capacity_stays test old mid before after some
 
 -- blocks were looked up, and then the extent was written, or that failed
 pub part_stepped : {T E : Type 0} (result : Result T E) (test : ℕ → Bool) (extent : Extent) (old mid new : LruCache ℕ (List ℕ)) (before between after : ℕ) → LooksUpSome test old mid before between → after ≡ between → OnOk result (Forgets (is_in extent) mid new) → OnErr result (new ≡ mid)

@@ -37,6 +37,9 @@ mod KeptBlocks
 mod Forgotten
 mod Upgraded
 mod ImportWrites
+mod Metered
+mod MeteredImports
+mod MeteredReading
 pub mod LatestTimes
 mod BroughtRows
 mod Rewritten

@@ -1,5 +1,5 @@
 -- What is left of a store after the contradictions of a release were listed.
-use Rattle.std.proofs.Common.{◌≡◌, ◌⊎◌, ◌↔◌, inl, inr, ℕ, ◌+◌, ◌≤◌, List, false, true, Result, Ok, Err, IfOk, IfErr, MatchResult, map, refl, sym, ap, subst, ◌∙◌, arith}
+use Rattle.std.proofs.Common.{◌≡◌, ◌⊎◌, inl, inr, ℕ, ◌+◌, ◌≤◌, List, false, true, Result, Ok, Err, IfOk, IfErr, MatchResult, map, refl, sym, ap, subst, ◌∙◌, arith}
 use Rattle.std.specs.List.{sum_by}
 use Rattle.std.proofs.lemmas.Bool.{false≢true}
 use Rattle.fault_counts.specs.Counting.{Counts as CountsBy}
@@ -11,7 +11,6 @@ use Rattle.history_model.specs.Lists.{listed}
 use Rattle.disk_model.specs.View.{DiskView}
 use Rattle.lru.specs.LruCache.{LruCache}
 use Rattle.blocks.specs.Cache.{AgreesWith, LooksUpSome}
-use Rattle.blocks.proofs.Looked.{none_looks_up}
 use Rattle.directory.specs.declared.entry.Entry.{Entry}
 use Rattle.segment.specs.declared.place.RowPlace.{RowPlace}
 use Rattle.as_of_index.specs.Places.{Lists}
@@ -33,6 +32,7 @@ use Rattle.history_store.specs.Queries.{is_listed}
 use Rattle.history_store.specs.Answers.{Counts, IsRefused, IsStill}
 use Rattle.history_store.specs.Contradicting.{IsListing, IsUnlisted}
 use Rattle.history_store.proofs.Refusing.{unlisted_less}
+use Rattle.history_store.proofs.MeteredReading.{unread, read_so}
 
 abbrev pub IsAnswerOf : Result Contradictions ImportFault → Result Contradictions Refusal → Type 0
 IsAnswerOf read result = MatchResult read (λ found. result ≡ Ok found) (λ fault. result ≡ Err (refusal_of fault))
@@ -69,14 +69,8 @@ module _ {D : Type 0} (view : D → DiskView) (release : Release) (limit : ℕ) 
     refused = inl (refl, needs);
     left = record { history = refl; catalog = refl; closed = λ same. absurd (cc); still = λ other. refl };
     closed = λ closed. refl;
-    moments = λ up. refl;
     acknowledged = λ up still. absurd (false≢true (sym still ∙ needs));
-    honesty = (λ up. up, λ up. up);
-    failures = refl;
-    other_calls = refl;
-    looked_up = none_looks_up (is_listed s.catalog.entries) s.cache (view s.disk).bytes_read;
-    bytes_read = λ rows are. omega arith;
-    bytes_unread = λ unread. omega arith;
+    meters = unread view (Err refusals.ReopenNeeded) release s refl;
   }
 
   -- a release was compared by a reader to which the disk, the cache and the segments were lent
@@ -100,10 +94,9 @@ module _ {D : Type 0} (view : D → DiskView) (release : Release) (limit : ℕ) 
         → MatchResult result (λ found. IsStill (record old { disk = disk; cache = cache }) new) (λ e. IsRefused e (record old { disk = disk; cache = cache }) new)
         → new.disk ≡ disk → new.cache ≡ cache → ((view disk).is_honest → new.needs_reopen ≡ false → IsAcknowledged view new)
         → IsListing result release limit view old new
-    listed_so rows_are still lent_is lent_cache_is entries_are shown_is sound lends found is_read why work unread counted stays looked_up calls answers left same kept acknowledged =
+    listed_so rows_are still lent_is lent_cache_is entries_are shown_is sound lends found is_read why work none_read counted stays looked_up calls answers left same kept acknowledged =
         let rows_so : rows_of shown ≡ full old.history = ap rows_of shown_is ∙ sym (ap (map (λ (s : StampedRow). s.row)) rows_are) in
         let stay = subst (λ x. MomentsStay (view x).is_honest (view disk).is_honest (view x).moments (view disk).moments) lent_is stays in
-        let counts = subst (λ x. CountsBy CountsAnyDiskFault read (view x).failures (view disk).failures) lent_is counted in
         let before = ap (λ d. (view d).bytes_read) lent_is in
         let after = ap (λ d. (view d).bytes_read) same in
         record {
@@ -113,20 +106,15 @@ module _ {D : Type 0} (view : D → DiskView) (release : Release) (limit : ℕ) 
               (λ fault h. inr (still, (fault, refl, unlisted_less (IsHonestReader × Lists places shown × Early pin shown) (view old.disk).is_honest release fault (λ up. (lends up, sound.0, sound.1)) h))) why;
           left = left_so result old new disk cache left;
           closed = λ closed. absurd (false≢true (sym still ∙ closed));
-          moments = λ up. ap (λ d. (view d).moments) same ∙ stay.1 up;
           acknowledged = λ up. acknowledged (stay.0.0 up);
-          honesty = subst (λ d. (view old.disk).is_honest ↔ (view d).is_honest) (sym same) stay.0;
-          failures = subst (λ d. Counts result (view old.disk).failures (view d).failures) (sym same) (counted_so read result (view old.disk).failures (view disk).failures answers counts);
-          other_calls = ap (λ d. (view d).other_calls) same ∙ calls ∙ ap (λ d. (view d).other_calls) lent_is;
-          looked_up =
-              subst (λ d. LooksUpSome (is_listed old.catalog.entries) old.cache new.cache (view old.disk).bytes_read (view d).bytes_read) (sym same)
-              (subst (λ c. LooksUpSome (is_listed old.catalog.entries) old.cache c (view old.disk).bytes_read (view disk).bytes_read) (sym kept)
-              (subst (λ d. LooksUpSome (is_listed old.catalog.entries) old.cache cache (view d).bytes_read (view disk).bytes_read) lent_is
-              (subst (λ c. LooksUpSome (is_listed old.catalog.entries) c cache (view lent).bytes_read (view disk).bytes_read) lent_cache_is
-              (subst (λ (e : List Entry). LooksUpSome (is_listed e) lent_cache cache (view lent).bytes_read (view disk).bytes_read) entries_are looked_up))));
-          bytes_read = λ rows are.
+          meters = read_so view result release old new entries lent lent_cache lent_is lent_cache_is entries_are
+              (subst (λ d. MomentsStay (view lent).is_honest (view d).is_honest (view lent).moments (view d).moments) (sym same) stays)
+              (subst (λ d. LooksUpSome (is_listed entries) lent_cache new.cache (view lent).bytes_read (view d).bytes_read) (sym same) (subst (λ c. LooksUpSome (is_listed entries) lent_cache c (view lent).bytes_read (view disk).bytes_read) (sym kept) looked_up))
+              (ap (λ d. (view d).other_calls) same ∙ calls)
+              (subst (λ d. Counts result (view lent).failures (view d).failures) (sym same) (counted_so read result (view lent).failures (view disk).failures answers counted))
+              (λ rows are.
               let least = work sound.0 sound.1 rows are in
               let sum = ap (λ known. sum_by row_cost (already_known known rows)) rows_so in
-              omega (arith, least, before, after, sum);
-          bytes_unread = λ none. let least = unread none in omega (arith, least, before, after);
+              omega (arith, least, before, after, sum))
+              (λ none. let least = none_read none in omega (arith, least, before, after));
         }

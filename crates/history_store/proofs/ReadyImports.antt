@@ -1,9 +1,11 @@
 -- An import that publishes what was made ready.
-use Rattle.std.proofs.Common.{◌≡◌, ◌⊎◌, ◌+◌, false, [], ◌∷◌, length, Ok, refl, sym, ap, subst, ◌∙◌}
+use Rattle.std.proofs.Common.{◌≡◌, ◌⊎◌, ◌+◌, false, List, [], ◌∷◌, length, Ok, refl, sym, ap, subst, ◌∙◌}
 use Rattle.disk_model.specs.Disk.{Moments, IsImage, LeavesOnly}
 use Rattle.blocks.specs.Extents.{byte_range}
 use Rattle.blocks.specs.Outside.{StemsWithin}
 use Rattle.blocks.specs.Slots.{slots_range}
+use Rattle.rf2_values.specs.Row.{RowValue}
+use Rattle.history_model.specs.declared.receipt.Receipt.{Receipt}
 use Rattle.history_model.specs.History.{stamped, after_release}
 use Rattle.directory.specs.Listings.{DirectoryValue, next_layout}
 use Rattle.directory.specs.Places.{extent_of}
@@ -18,12 +20,14 @@ use Rattle.history_store.specs.Private.StoreValue.{with_imports, with_rows}
 use Rattle.history_store.specs.Private.Prepared.{IsPreparedFor}
 use Rattle.history_store.specs.Private.Ready.{IsMadeReady, IsNext}
 use Rattle.history_store.specs.Written.{StemsWithinAll}
+use Rattle.history_store.specs.Meters.{calls_for}
 use Rattle.history_store.specs.Answers.{IsStill, IsImportOf, IsImportOnAnyDisk, IsBeforeOrAfter, StemsWithinNew}
 use Rattle.history_store.proofs.Apart.{prepared_for}
 use Rattle.history_store.proofs.Imported.{from_mid, leaves_taken, leaves_extended, relisted_leaves, without_new, none_after, extended_catalog, taken, extended}
 use Rattle.history_store.proofs.TakenByKey.{taken_by_key, extended_by_key}
 use Rattle.history_store.proofs.ImportWrites.{after_reading, slots_written, segment_written}
 use Rattle.history_store.proofs.Checked.{at_ready, room_ready, brings_ready}
+use Rattle.history_store.proofs.MeteredImports.{calls_for_rows}
 
 module _ {D : Type 0} (honest : Type 0) (old mid : StoreValue D) (release : Release) (ready : Ready) (is : IsMadeReady honest mid release ready) (still : IsStill old mid) where
   -- no row is new
@@ -46,6 +50,10 @@ module _ {D : Type 0} (honest : Type 0) (old mid : StoreValue D) (release : Rele
     kept_without new step =
         subst (λ receipt. IsImportOnAnyDisk (Ok receipt) old new release) (sym is.receipt_is)
         (taken_by_key old old mid release is.fresh new.history new.catalog (mid.history.imports + 1) (length is.fresh.rows.items) refl (room_ready honest mid release ready is old still) still (brings_ready honest mid release ready is old still) (history_without new step.0) (catalog_without new step.1) refl refl, still.open_before, step.2)
+
+    -- the calls of a publication
+    pub calls_without : calls_for ready.receipt.new ≡ 6
+    calls_without = ap (λ (r : Receipt). calls_for r.new) is.receipt_is ∙ ap (λ (rows : List RowValue). calls_for (length rows)) none_ready.0
 
     -- what a crash leaves
     pub moments_without : (before between after : Moments) → between ≡ before → honest → LeavesOnly between after (λ c. RepresentsAs mid.catalog.layout mid.history c ⊎ RepresentsAs d.layout (with_imports mid.history d.imports) c) → LeavesOnly before after (IsBeforeOrAfter old.catalog.layout old.history release)
@@ -76,6 +84,10 @@ module _ {D : Type 0} (honest : Type 0) (old mid : StoreValue D) (release : Rele
     kept_with new step =
         subst (λ receipt. IsImportOnAnyDisk (Ok receipt) old new release) (sym is.receipt_is)
         (extended_by_key old old mid mid release is.fresh p new.history new.catalog (mid.history.imports + 1) (length is.fresh.rows.items) refl (room_ready honest mid release ready is old still) refl is.history still (brings_ready honest mid release ready is old still) segment_ready.1.index_is segment_ready.1.placed segment_ready.0 step.0 step.1 refl refl, still.open_before, step.2)
+
+    -- the calls that write a segment, and those of a publication
+    pub calls_with : calls_for ready.receipt.new ≡ 8
+    calls_with = ap (λ (r : Receipt). calls_for r.new) is.receipt_is ∙ calls_for_rows (length is.fresh.rows.items) segment_ready.0
 
     pub moments_with : (before between after : Moments) → between ≡ before → honest → LeavesOnly between after (λ c. RepresentsAs mid.catalog.layout mid.history c ⊎ RepresentsAs (next_layout mid.catalog.layout) (with_rows mid.history p.index) c) → LeavesOnly before after (IsBeforeOrAfter old.catalog.layout old.history release)
     moments_with before between after same up leaves =

@@ -1,5 +1,5 @@
 -- The only segment of a store, written anew.
-use Rattle.std.specs.Prelude.{◌≢◌, ◌⊎◌, Some, None, Option, slice_get}
+use Rattle.std.specs.Prelude.{◌≢◌, ◌⊎◌, Some, None, Option, Result, slice_get}
 use Rattle.std.specs.Int.{div_ceil}
 use Rattle.std.proofs.lemmas.Grind.{div_ceil_times}
 use Rattle.std.specs.List.{AllByRecursion, AllZip}
@@ -12,6 +12,7 @@ use Rattle.std.proofs.lemmas.List.Sums.{sum_by-cons, sum_by-append}
 use Rattle.list_lemmas.proofs.Parts.{zip_lengths}
 use Rattle.lru.specs.LruCache.{LruCache}
 use Rattle.disk_model.specs.Disk.{DiskState, Moments, IsImage, LeavesOnly}
+use Rattle.disk_model.specs.View.{DiskView}
 use Rattle.disk_model.proofs.MomentSteps.{weaker}
 use Rattle.blocks.specs.declared.extent.Extent.{Extent}
 use Rattle.blocks.specs.declared.slots.Slot.{Slot}
@@ -53,7 +54,9 @@ use Rattle.history_store.specs.declared.refusal.Refusal.{Refusal}
 use Rattle.history_store.specs.declared.refusal.Refusal.TheVariants as refusals
 use Rattle.history_store.specs.MergeInProgress.{IsMergingOf, HasMerge}
 use Rattle.history_store.specs.StoreValue.{IsHeld}
-use Rattle.history_store.specs.Rewriting.{checked_at}
+use Rattle.history_store.specs.Answers.{Counts}
+use Rattle.history_store.specs.Rewriting.{checked_at, rewrite_cost, rewrite_calls}
+use Rattle.history_store.specs.Meters.{IsMeteredRewrite}
 use Rattle.history_store.specs.Private.Stepping.{StandsIn, AreAscending, bytes_at, cost_at, IsUnread}
 use Rattle.history_store.specs.Private.Rewriting.{as_taken, IsAnew, only_listing, is_disk_fault}
 use Rattle.history_store.proofs.Held.{slot_beside}
@@ -380,3 +383,33 @@ has_no_merge honest now d lists merge needs none = subst (λ (m : Option MergeIn
 
 pub no_disk : (e : Refusal) → IsUnread e → e ≢ refusals.DiskFault → is_disk_fault e ≡ false
 no_disk e why other = elim why [ inl memory ↦ ap is_disk_fault memory | inr rest ↦ elim rest [ inl disk ↦ absurd (other disk) | inr damage ↦ ap is_disk_fault damage ] ]
+
+-- ---- the meters
+
+module _ (d : DirectoryValue) (entry : Entry) (anew : IsAnew d entry) where
+  cost_is : rewrite_cost d.entries ≡ entry.bytes + 8192 * entry.rows + 1
+  cost_is =
+      let all : rewrite_cost d.entries ≡ rewrite_cost (anew.old ∷ []) = ap rewrite_cost anew.only.alone in
+      let bytes : entry.bytes ≡ anew.old.bytes = ap (λ (e : Entry). e.bytes) anew.is in
+      let rows : entry.rows ≡ anew.old.rows = ap (λ (e : Entry). e.rows) anew.is in
+      omega (arith, all, bytes, rows)
+
+  calls_are : rewrite_calls d.entries ≡ div_ceil entry.rows 1000 + 7
+  calls_are =
+      let all : rewrite_calls d.entries ≡ rewrite_calls (anew.old ∷ []) = ap rewrite_calls anew.only.alone in
+      let rows : div_ceil entry.rows 1000 ≡ div_ceil anew.old.rows 1000 = ap (λ (e : Entry). div_ceil e.rows 1000) anew.is in
+      omega (arith, all, rows)
+
+  pub metered_anew : {T U : Type 0} (r : Result T Refusal) (s : Result U Refusal) (old new : DiskView) (cache cached : LruCache ℕ (List ℕ))
+      → IsMeteredRewrite r (entry.bytes + 8192 * entry.rows + 1) (div_ceil entry.rows 1000 + 7) old new cache cached → Counts s old.failures new.failures
+      → IsMeteredRewrite s (rewrite_cost d.entries) (rewrite_calls d.entries) old new cache cached
+  metered_anew r s old new cache cached w counted = record {
+    counts = record {
+      honesty = w.counts.honesty;
+      failures = counted;
+      bytes_read = omega (arith, w.counts.bytes_read, cost_is);
+      other_calls = omega (arith, w.counts.other_calls, calls_are);
+    };
+    calls = λ up. omega (arith, w.calls up, calls_are);
+    capacity = w.capacity;
+  }

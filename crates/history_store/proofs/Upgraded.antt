@@ -1,7 +1,8 @@
 -- An upgrade to version 3.
-use Rattle.std.specs.Prelude.{Result, Ok, Err, OnOk, IfErr}
+use Rattle.std.specs.Prelude.{Result, Ok, Err, OnOk}
 use Rattle.std.proofs.Common.{◌≡◌, ◌≢◌, ◌⊎◌, inr, ℕ, ◌+◌, false, List, [], ◌∷◌, map, refl, sym, ap, subst, ◌∙◌, arith}
 use Rattle.disk_model.specs.Disk.{Moments, LeavesOnly}
+use Rattle.disk_model.specs.View.{DiskView, AtMost}
 use Rattle.blocks.specs.Calls.{MakesCalls}
 use Rattle.blocks.specs.Extents.{byte_range}
 use Rattle.blocks.specs.Outside.{SameOutside}
@@ -15,7 +16,6 @@ use Rattle.directory.specs.Private.{next_in}
 use Rattle.store_image.specs.Images.{RepresentsAs}
 use Rattle.store_image.specs.Next.{IsRepeated}
 use Rattle.history_store.specs.declared.refusal.Refusal.{Refusal}
-use Rattle.history_store.specs.declared.refusal.Refusal.TheVariants as refusals
 use Rattle.history_store.specs.Catalog.{Catalog, catalog_of}
 use Rattle.history_store.specs.StoreValue.{StoreValue}
 use Rattle.history_store.specs.Private.StoreValue.{directory_of, with_imports}
@@ -23,6 +23,7 @@ use Rattle.history_store.specs.Private.Answers.{IsStep}
 use Rattle.history_store.specs.Answers.{IsRefusedFor}
 use Rattle.history_store.specs.Upgrading.{MayBeUpgraded, IsNotUpgraded, IsUpgradingOf, upgrade_calls}
 use Rattle.history_store.specs.Queries.{ForgetsWritten}
+use Rattle.history_store.specs.Meters.{IsMeteredWrite}
 use Rattle.history_store.specs.Written.{added_entries, added_ranges}
 use Rattle.history_store.proofs.WrittenWhere.{none_behind}
 
@@ -62,7 +63,7 @@ elsewhere_upgraded (Ok done) old new next a b is step same =
     subst (λ (l : List Entry). SameOutside (slots_range ∷ map byte_range (extents_of l)) a b) (none_behind old.catalog.entries new.catalog.entries (same_entries done old new next is step)) same
 elsewhere_upgraded (Err e) old new next a b is step same = tt
 
-pub forgets_upgraded : {D : Type 0} (r : Result (Unit {0}) Refusal) (old new : StoreValue D) (next : DirectoryValue) → next ≡ next_in layouts.Three (directory_of old)
+forgets_upgraded : {D : Type 0} (r : Result (Unit {0}) Refusal) (old new : StoreValue D) (next : DirectoryValue) → next ≡ next_in layouts.Three (directory_of old)
     → IsStep r old new (with_imports old.history next.imports) (catalog_of next old.catalog.merge) → OnOk r (ForgetsWritten (added_entries old.catalog new.catalog) old.cache new.cache)
     → OnOk r ((new.cache ≡ old.cache) ⊎ ForgetsWritten [] old.cache new.cache)
 forgets_upgraded (Ok done) old new next is step forgets =
@@ -74,12 +75,25 @@ six_calls layouts.One other = refl
 six_calls layouts.Two other = refl
 six_calls layouts.Three other = absurd (other refl)
 
-pub calls_upgraded : (r : Result (Unit {0}) Refusal) (layout : Layout) (old new : Moments) → layout ≢ layouts.Three → MakesCalls r 6 old new → MakesCalls r (upgrade_calls layout) old new
+calls_upgraded : (r : Result (Unit {0}) Refusal) (layout : Layout) (old new : Moments) → layout ≢ layouts.Three → MakesCalls r 6 old new → MakesCalls r (upgrade_calls layout) old new
 calls_upgraded r layout old new other calls = subst (λ n. MakesCalls r n old new) (sym (six_calls layout other)) calls
 
-pub uncalled_upgraded : {D : Type 0} (r : Result (Unit {0}) Refusal) (old new : StoreValue D) (next : DirectoryValue) (a b : ℕ) → IsStep r old new (with_imports old.history next.imports) (catalog_of next old.catalog.merge) → IfErr r (λ e. e ≢ refusals.DiskFault → b ≡ a)
-uncalled_upgraded (Ok done) old new next a b step = tt
-uncalled_upgraded (Err e) old new next a b step = λ other. absurd (other step.0)
+pub metered_upgraded : {D : Type 0} (view : D → DiskView) (r : Result (Unit {0}) Refusal) (old new : StoreValue D) (next : DirectoryValue) → old.catalog.layout ≢ layouts.Three → next ≡ next_in layouts.Three (directory_of old)
+    → IsStep r old new (with_imports old.history next.imports) (catalog_of next old.catalog.merge)
+    → IsMeteredWrite r (AtMost 1) 6 (ForgetsWritten (added_entries old.catalog new.catalog)) (view old.disk) (view new.disk) old.cache new.cache
+    → IsMeteredWrite r (AtMost 1) (upgrade_calls old.catalog.layout) (λ cache cached. (cached ≡ cache) ⊎ ForgetsWritten [] cache cached) (view old.disk) (view new.disk) old.cache new.cache
+metered_upgraded view r old new next older is step w = record {
+  counts = record {
+    honesty = w.counts.honesty;
+    failures = w.counts.failures;
+    bytes_read = w.counts.bytes_read;
+    other_calls = omega (arith, w.counts.other_calls, six_calls old.catalog.layout older);
+  };
+  uncalled = w.uncalled;
+  calls = λ up. calls_upgraded r old.catalog.layout (view old.disk).moments (view new.disk).moments older (w.calls up);
+  drops = forgets_upgraded r old new next is step w.drops;
+  keeps = w.keeps;
+}
 
 pub no_calls : (layout : Layout) (n : ℕ) → layout ≡ layouts.Three → n ≡ n + upgrade_calls layout
 no_calls layout n is = subst (λ (v : Layout). n ≡ n + upgrade_calls v) (sym is) (omega arith)

@@ -1,22 +1,16 @@
 -- The result of checking a release: whether an import would accept it, and with which receipt.
-use Rattle.std.specs.Prelude.{◌≡◌, ◌⊎◌, ◌↔◌, ℕ, ◌+◌, ◌≤◌, true, false, List, Result, Ok, Err}
-use Rattle.std.specs.List.{sum_by}
+use Rattle.std.specs.Prelude.{◌≡◌, ◌⊎◌, ◌↔◌, true, false, Result, Ok, Err}
 use Rattle.disk_model.specs.View.{DiskView}
-use Rattle.rf2_values.specs.Row.{RowValue}
 use Rattle.history_model.specs.declared.receipt.Receipt.{Receipt}
-use Rattle.history_model.specs.History.{History, full}
+use Rattle.history_model.specs.History.{History}
 use Rattle.import_check.specs.declared.release.Release.{Release}
-use Rattle.import_check.specs.Known.{already_known}
-use Rattle.import_check.specs.Release.{IsReleaseOf}
-use Rattle.import_check.specs.NewRows.{IsRead}
 use Rattle.history_store.specs.declared.refusal.Refusal.{Refusal}
 use Rattle.history_store.specs.declared.refusal.Refusal.TheVariants as refusals
 use Rattle.history_store.specs.Catalog.{Catalog}
-use Rattle.history_store.specs.Reading.{row_cost}
 use Rattle.history_store.specs.StoreValue.{StoreValue, IsAcknowledged}
 use Rattle.history_store.specs.Prepared.{IsNotSpent, IsForLater}
-use Rattle.history_store.specs.Queries.{ReadsThroughCache}
-use Rattle.history_store.specs.Answers.{Counts, IsTaken, IsTakenByKey, IsRefused, IsStill}
+use Rattle.history_store.specs.Meters.{IsMeteredReading}
+use Rattle.history_store.specs.Answers.{IsTaken, IsTakenByKey, IsRefused, IsStill}
 use Rattle.history_store.specs.Answers.{IsRefusedFor, IsNotTaken, IsNotTakenByKey}
 use Rattle.history_store.specs.Answers.{IsImportOf, IsImportOnAnyDisk}
 
@@ -42,26 +36,16 @@ IsCheckingOnAnyDisk (Err e) old new release =
 
 -- A release was checked. Whatever the result, history and catalog are unchanged, and only a disk
 -- failure closes the store. The store is left unchanged if it has to be opened again, or if the
--- release is for a later version. Only reads are made: each stored row whose key is in the release
--- is read at most once, through the cache, and no other row; if a file isn't a valid release file,
--- nothing is read. What a crash may leave is unchanged, and as long as no call has failed it
--- represents what the store holds.
+-- release is for a later version. As long as no call has failed, what a crash may leave represents
+-- what the store holds. Only reads are made.
 pub record IsChecking {D : Type 0} (result : Result Receipt Refusal) (release : Release)
     (view : D → DiskView) (old new : StoreValue D) : Type 0 where
   pub answer : (view old.disk).is_honest → IsCheckingOf result old new release
   pub kept : IsCheckingOnAnyDisk result old new release
   pub closed : old.needs_reopen ≡ true → new ≡ old
   pub later : IsForLater old.catalog.layout release → new ≡ old
-  pub moments : (view old.disk).is_honest → (view new.disk).moments ≡ (view old.disk).moments
   pub acknowledged : (view old.disk).is_honest → new.needs_reopen ≡ false → IsAcknowledged view new
-  pub honesty : (view old.disk).is_honest ↔ (view new.disk).is_honest
-  pub failures : Counts result (view old.disk).failures (view new.disk).failures
-  pub other_calls : (view new.disk).other_calls ≡ (view old.disk).other_calls
-  pub looked_up : ReadsThroughCache view old new
-  pub bytes_read : (rows : List RowValue) → IsReleaseOf release rows
-      → (view new.disk).bytes_read ≤ (view old.disk).bytes_read
-      + sum_by row_cost (already_known (full old.history) rows)
-  pub bytes_unread : (IsRead release → ⊥) → (view new.disk).bytes_read ≤ (view old.disk).bytes_read
+  pub meters : IsMeteredReading result release view old new
 
 -- ---- an import returns what a check returned
 

@@ -1,10 +1,8 @@
 -- The result of listing the contradictions of a release.
-use Rattle.std.specs.Prelude.{◌≡◌, ◌⊎◌, ◌↔◌, ℕ, ◌+◌, ◌≤◌, true, false, List, map, MatchResult}
+use Rattle.std.specs.Prelude.{◌≡◌, ◌⊎◌, ℕ, true, false, List, map, MatchResult}
 use Rattle.std.specs.Prelude.{Option, MatchOption, Result, IfOk, IfErr}
-use Rattle.std.specs.List.{sum_by}
 use Rattle.disk_model.specs.View.{DiskView}
 use Rattle.rf2_values.specs.declared.key.Key.{Key}
-use Rattle.rf2_values.specs.Row.{RowValue}
 use Rattle.rf2_values.specs.Key.{key_of}
 use Rattle.history_model.specs.declared.stamped.StampedRow.{StampedRow}
 use Rattle.history_model.specs.InOrder.{Has}
@@ -12,17 +10,15 @@ use Rattle.history_model.specs.History.{full}
 use Rattle.import_check.specs.declared.release.Release.{Release}
 use Rattle.import_check.specs.declared.fault.ImportFault.{ImportFault}
 use Rattle.import_check.specs.declared.contradicting.Contradictions.{Contradictions}
-use Rattle.import_check.specs.Known.{IsUnknown, already_known}
-use Rattle.import_check.specs.Release.{IsReleaseOf}
+use Rattle.import_check.specs.Known.{IsUnknown}
 use Rattle.import_check.specs.NewRows.{IsRead}
 use Rattle.import_check.specs.Contradictions.{AreContradictionsOf, IsNotListed}
 use Rattle.history_store.specs.declared.refusal.Refusal.{Refusal}
 use Rattle.history_store.specs.declared.refusal.Refusal.TheVariants as refusals
 use Rattle.history_store.specs.Refusals.{refusal_of}
-use Rattle.history_store.specs.Reading.{row_cost}
 use Rattle.history_store.specs.StoreValue.{StoreValue, IsAcknowledged}
-use Rattle.history_store.specs.Queries.{ReadsThroughCache}
-use Rattle.history_store.specs.Answers.{Counts, IsRefused, IsStill}
+use Rattle.history_store.specs.Meters.{IsMeteredReading}
+use Rattle.history_store.specs.Answers.{IsRefused, IsStill}
 
 -- the number of the import that brought the row with this key; none if no row has the key
 abbrev pub IsBroughtBy : List StampedRow → Key → Option ℕ → Type 0
@@ -37,10 +33,8 @@ IsUnlisted honest e release =
 -- The contradictions of a release were listed, unless the store has to be opened again, a file
 -- isn't a valid release file, or a row can't be read. Whatever the result, history and catalog are
 -- unchanged, and only a disk failure closes the store. A store that has to be opened again is left
--- unchanged. Only reads are made: each stored row whose key is in the release is read at most once,
--- through the cache, and no other row; if a file isn't a valid release file, nothing is read. What
--- a crash may leave is unchanged, and as long as no call has failed it represents what the store
--- holds.
+-- unchanged. As long as no call has failed, what a crash may leave represents what the store holds.
+-- Only reads are made.
 pub record IsListing {D : Type 0} (result : Result Contradictions Refusal) (release : Release)
     (limit : ℕ) (view : D → DiskView) (old new : StoreValue D) : Type 0 where
   pub found : (view old.disk).is_honest
@@ -51,13 +45,5 @@ pub record IsListing {D : Type 0} (result : Result Contradictions Refusal) (rele
       ⊎ ((old.needs_reopen ≡ false) × IsUnlisted (view old.disk).is_honest e release))
   pub left : MatchResult result (λ found. IsStill old new) (λ e. IsRefused e old new)
   pub closed : old.needs_reopen ≡ true → new ≡ old
-  pub moments : (view old.disk).is_honest → (view new.disk).moments ≡ (view old.disk).moments
   pub acknowledged : (view old.disk).is_honest → new.needs_reopen ≡ false → IsAcknowledged view new
-  pub honesty : (view old.disk).is_honest ↔ (view new.disk).is_honest
-  pub failures : Counts result (view old.disk).failures (view new.disk).failures
-  pub other_calls : (view new.disk).other_calls ≡ (view old.disk).other_calls
-  pub looked_up : ReadsThroughCache view old new
-  pub bytes_read : (rows : List RowValue) → IsReleaseOf release rows
-      → (view new.disk).bytes_read ≤ (view old.disk).bytes_read
-      + sum_by row_cost (already_known (full old.history) rows)
-  pub bytes_unread : (IsRead release → ⊥) → (view new.disk).bytes_read ≤ (view old.disk).bytes_read
+  pub meters : IsMeteredReading result release view old new

@@ -3,6 +3,7 @@ pub mod Catalog
 pub mod MergeInProgress
 pub mod Merging
 pub mod StoreValue
+pub mod Crashes
 pub mod Prepared
 pub mod Answers
 pub mod Openings
@@ -11,7 +12,7 @@ pub mod Auditing
 pub mod Checking
 pub mod Contradicting
 pub mod Written
-pub mod Calls
+pub mod Meters
 pub mod MergeAnswers
 pub mod Upgrading
 pub mod Rewriting

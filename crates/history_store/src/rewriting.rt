@@ -1,12 +1,10 @@
 //! Rewrites the only segment of a store with checksums.
 
-ghost use Rattle.std.specs.Prelude.{◌≡◌, ◌≢◌, ◌↔◌, ◌+◌, ◌*◌, ◌^◌, ◌<◌, ◌≤◌, ◌∷◌, []};
+ghost use Rattle.std.specs.Prelude.{◌≡◌, ◌≢◌, ◌↔◌, ◌+◌, ◌*◌, ◌^◌, ◌<◌, ◌∷◌, []};
 ghost use Rattle.std.specs.Prelude.{List, length, take, None, IsNone, IfSome, IfOk, IfErr, OnOk};
 ghost use Rattle.std.specs.Prelude.{false, true};
 ghost use Rattle.std.specs.Int.{div_ceil};
 ghost use Rattle.disk_model.specs.Disk.{LeavesOnly};
-ghost use Rattle.disk_model.specs.View.{Calls, AtMost};
-ghost use Rattle.blocks.specs.Calls.{call_count};
 ghost use Rattle.blocks.specs.Extents.{byte_range};
 ghost use Rattle.blocks.specs.Outside.{SameOutside};
 ghost use Rattle.blocks.specs.declared.slots.Slot.{Slot};
@@ -18,7 +16,7 @@ ghost use Rattle.segment.specs.Records.{segment_in};
 ghost use Rattle.store_image.specs.Kept.{history_of};
 ghost use Rattle.store_image.specs.Images.{RepresentsAs};
 ghost use Rattle.store_image.specs.Ahead.{BeginsWith};
-ghost use Rattle.history_store.specs.Answers.{Counts};
+ghost use Rattle.history_store.specs.Meters.{IsMeteredRewrite};
 ghost use Rattle.history_store.specs.StoreValue.{IsHeld};
 ghost use Rattle.history_store.specs.Rewriting.{IsOnlyPlain, place_beside};
 ghost use Rattle.history_store.specs.Private.Stepping.{IsUnread, is_fault};
@@ -134,11 +132,8 @@ fn write_rows<D: Disk>(
     ensures elsewhere { (D.view disk.old).is_honest → OnOk result
         (SameOutside (byte_range (extent_of entry) ∷ [])
         (D.view disk.old).moments.state.now (D.view disk.new).moments.state.now) }
-    ensures calls { (D.view disk.old).is_honest → call_count (D.view disk.new).moments
-        ≤ call_count (D.view disk.old).moments + div_ceil entry.rows 1000 }
-    ensures meters { Calls (Counts result) (AtMost (entry.bytes + 8192 * entry.rows))
-        (AtMost (div_ceil entry.rows 1000)) (D.view disk.old) (D.view disk.new) }
-    ensures capacity { cache.new.cap ≡ cache.old.cap }
+    ensures meters { IsMeteredRewrite result (entry.bytes + 8192 * entry.rows)
+        (div_ceil entry.rows 1000) (D.view disk.old) (D.view disk.new) cache.old cache.new }
 {
     let places = index.places().list(0);
     for part in 0..places.len().div_ceil(ROWS) {
@@ -182,11 +177,8 @@ fn write_and_list<D: Disk>(
     ensures elsewhere { (D.view disk.old).is_honest → OnOk result
         (SameOutside (byte_range (extent_of entry) ∷ slots_range ∷ [])
         (D.view disk.old).moments.state.now (D.view disk.new).moments.state.now) }
-    ensures calls { (D.view disk.old).is_honest → call_count (D.view disk.new).moments
-        ≤ call_count (D.view disk.old).moments + (div_ceil entry.rows 1000 + 7) }
-    ensures meters { Calls (Counts result) (AtMost (entry.bytes + 8192 * entry.rows + 1))
-        (AtMost (div_ceil entry.rows 1000 + 7)) (D.view disk.old) (D.view disk.new) }
-    ensures capacity { cache.new.cap ≡ cache.old.cap }
+    ensures meters { IsMeteredRewrite result (entry.bytes + 8192 * entry.rows + 1)
+        (div_ceil entry.rows 1000 + 7) (D.view disk.old) (D.view disk.new) cache.old cache.new }
 {
     write_rows(alloc, disk, cache, directory, index, entry)?;
     let listed = sync_and_publish(disk, slot, next)?;
@@ -195,7 +187,7 @@ fn write_and_list<D: Disk>(
 }
 
 impl<D: Disk> Store<D> {
-    ghost use Rattle.history_store.specs.StoreValue.{IsAcknowledged};
+    ghost use Rattle.history_store.specs.Crashes.{IsCrashSafe};
     ghost use Rattle.history_store.specs.Rewriting.{IsRewritingOf, rewrite_cost, rewrite_calls};
     ghost use Rattle.history_store.specs.Rewriting.{written_ranges};
 
@@ -207,24 +199,18 @@ impl<D: Disk> Store<D> {
         ensures undamaged { (D.view self.old.disk).is_honest
             → IfErr result (λ e. e ≢ refusals.Damaged) }
         // A crash at any moment leaves the history.
-        ensures any_moment { (D.view self.old.disk).is_honest → self.old.needs_reopen ≡ false
-            → LeavesOnly (D.view self.old.disk).moments (D.view self.new.disk).moments
-            (RepresentsAs self.old.catalog.layout self.old.history) }
-        ensures acknowledged { (D.view self.old.disk).is_honest → self.new.needs_reopen ≡ false
-            → IsAcknowledged D.view self.new }
+        ensures crash { IsCrashSafe D.view
+            (RepresentsAs self.old.catalog.layout self.old.history) self.old self.new }
         // After `Ok` the disk is unchanged outside the slots and the segment that is listed then.
         ensures elsewhere { (D.view self.old.disk).is_honest → OnOk result
             (SameOutside (written_ranges self.new.catalog.entries)
             (D.view self.old.disk).moments.state.now (D.view self.new.disk).moments.state.now) }
-        ensures closed { self.old.needs_reopen ≡ true → self.new ≡ self.old }
-        ensures calls { (D.view self.old.disk).is_honest → call_count (D.view self.new.disk).moments
-            ≤ call_count (D.view self.old.disk).moments + rewrite_calls self.old.catalog.entries }
-        ensures capacity { self.new.cache.cap ≡ self.old.cache.cap }
-        // On every disk and whatever the result: reads no more bytes than this, and makes no other
-        // calls than reads and these.
-        ensures meters { Calls (Counts result) (AtMost (rewrite_cost self.old.catalog.entries))
-            (AtMost (rewrite_calls self.old.catalog.entries))
-            (D.view self.old.disk) (D.view self.new.disk) }
+        // On every disk and whatever the result: reads each row once, with two blocks, and a gate,
+        // and makes a write for each thousand rows, a sync, and the six calls of a publication, at
+        // most.
+        ensures meters { IsMeteredRewrite result (rewrite_cost self.old.catalog.entries)
+            (rewrite_calls self.old.catalog.entries)
+            (D.view self.old.disk) (D.view self.new.disk) self.old.cache self.new.cache }
     {
         if self.needs_reopen {
             return Err(Refusal::ReopenNeeded);

@@ -1,10 +1,8 @@
 //! An empty store, and what a store keeps in memory besides its directory.
 
-ghost use Rattle.std.specs.Prelude.{◌≡◌, ◌≢◌, ◌↔◌, ◌+◌, ◌≤◌, [], length, IfOk};
+ghost use Rattle.std.specs.Prelude.{◌≡◌, ◌≢◌, ◌↔◌, ◌≤◌, [], length, IfOk};
 ghost use Rattle.std.specs.Prelude.{IfErr, OnOk};
 ghost use Rattle.disk_model.specs.Disk.{LeavesOnly};
-ghost use Rattle.disk_model.specs.View.{Calls, Stays, AtMost};
-ghost use Rattle.blocks.specs.Calls.{MakesCalls};
 ghost use Rattle.blocks.specs.Outside.{StemsWithin};
 ghost use Rattle.blocks.specs.Slots.{slots_range};
 ghost use Rattle.history_model.specs.Lists.{AreLists};
@@ -13,8 +11,9 @@ ghost use Rattle.store_image.specs.OnDisk.{IsOnDisk};
 ghost use Rattle.directory.specs.Listings.{empty_listing};
 ghost use Rattle.store_image.specs.Answers.{IsNewStore};
 ghost use Rattle.store_image.specs.declared.fault.MakeFault.{MakeFault};
-ghost use Rattle.history_store.specs.Answers.{Counts, IsNotMade};
+ghost use Rattle.history_store.specs.Answers.{IsNotMade};
 ghost use Rattle.history_store.specs.Refusals.{of_making};
+ghost use Rattle.history_store.specs.Private.Meters.{IsMeteredStart};
 ghost use Rattle.history_store.specs.StoreValue.{no_blocks};
 ghost use Rattle.history_store.specs.declared.refusal.Refusal.TheVariants as refusals;
 
@@ -77,11 +76,7 @@ pub(crate) fn start<D: Disk>(
     ensures inside { (D.view disk.old).is_honest
         → LeavesOnly (D.view disk.old).moments (D.view disk.new).moments
         (StemsWithin (D.view disk.old).moments.state slots_range) }
-    ensures calls { (D.view disk.old).is_honest
-        → MakesCalls result 9 (D.view disk.old).moments (D.view disk.new).moments }
-    ensures meters { Calls (Counts result) Stays (AtMost 11) (D.view disk.old) (D.view disk.new) }
-    ensures looked { IfErr result (λ e. e ≢ refusals.DiskFault
-        → (D.view disk.new).other_calls ≤ (D.view disk.old).other_calls + 2) }
+    ensures meters { IsMeteredStart result (D.view disk.old) (D.view disk.new) }
 {
     check_empty(disk)?;
     let index = StoreIndex::new(alloc)?;

@@ -1,10 +1,9 @@
 //! The type `Store`, and the calls that make, open, change and describe a store.
 
-ghost use Rattle.std.specs.Prelude.{◌≡◌, ◌≢◌, ◌⊎◌, ◌↔◌, ◌+◌, ◌≤◌, ◌∷◌, [], List, length};
-ghost use Rattle.std.specs.List.{sum_by};
-ghost use Rattle.std.specs.Prelude.{IfOk, IfErr, OnOk, OnErr, true, false};
-ghost use Rattle.disk_model.specs.Disk.{IsImage, EachImage, LeavesOnly, raised_by};
-ghost use Rattle.disk_model.specs.View.{OnlyReads, Calls, AtMost, Unsaid};
+ghost use Rattle.std.specs.Prelude.{◌≡◌, ◌⊎◌, ◌↔◌, ◌∷◌, [], length};
+ghost use Rattle.std.specs.Prelude.{IfOk, IfErr, OnOk, true, false};
+ghost use Rattle.disk_model.specs.Disk.{IsImage, EachImage, LeavesOnly};
+ghost use Rattle.disk_model.specs.View.{AtMost};
 
 use crate::checking::{Next, Ready};
 use crate::counting::{blocks_in_use, plain_count, row_count};
@@ -70,45 +69,34 @@ impl<D: Disk> Store<D> {
     ghost use Rattle.history_model.specs.Brought.{IsLatestDay};
     ghost use Rattle.directory.specs.declared.layout.Layout.TheVariants as layouts;
     ghost use Rattle.directory.specs.Listings.{next_layout, number_of};
-    ghost use Rattle.rf2_values.specs.Row.{RowValue};
-    ghost use Rattle.import_check.specs.Known.{already_known};
-    ghost use Rattle.import_check.specs.Release.{IsReleaseOf};
-    ghost use Rattle.history_store.specs.Reading.{row_cost};
     ghost use Rattle.import_check.specs.NewRows.{IsAcceptedAs, IsRead};
     ghost use Rattle.import_check.specs.NewRows.{BringsByKey};
     ghost use Rattle.store_image.specs.Images.{Represents, RepresentsAs};
     ghost use Rattle.store_image.specs.Next.{IsRepeated};
     ghost use Rattle.history_store.specs.Catalog.{catalog_of, blocks_in_use, plain_count};
-    ghost use Rattle.history_store.specs.StoreValue.{IsAcknowledged};
     ghost use Rattle.history_store.specs.Prepared.{IsForLater};
     ghost use Rattle.history_store.specs.Private.StoreValue.{directory_of, with_imports, with_rows};
     ghost use Rattle.history_store.specs.Private.Prepared.{IsPreparedFor};
-    ghost use Rattle.blocks.specs.Calls.{MakesCalls};
     ghost use Rattle.blocks.specs.Outside.{SameOutside, StemsWithin};
     ghost use Rattle.blocks.specs.Extents.{byte_range};
     ghost use Rattle.directory.specs.Places.{extent_of};
-    ghost use Rattle.blocks.specs.Slots.{slots_range, slots_read};
-    ghost use Rattle.store_image.specs.Kept.{bytes_listed};
+    ghost use Rattle.blocks.specs.Slots.{slots_range};
     ghost use Rattle.history_store.specs.Written.{added_entries, added_ranges, StemsWithinAll};
-    ghost use Rattle.history_store.specs.Calls.{MakesImportCalls, MakesNoOtherCalls};
-    ghost use Rattle.history_store.specs.Answers.{Counts, disk_of};
     ghost use Rattle.history_store.specs.Private.Answers.{IsStep, IsNotFresh};
-    ghost use Rattle.history_store.specs.Openings.{IsMaking, IsOpening, StopsIn};
+    ghost use Rattle.history_store.specs.Openings.{IsMaking, IsOpening};
+    ghost use Rattle.history_store.specs.Crashes.{IsCrashSafe};
+    ghost use Rattle.history_store.specs.Meters.{IsMeteredMaking, IsMeteredOpening};
+    ghost use Rattle.history_store.specs.Meters.{IsMeteredReading, IsMeteredWrite};
+    ghost use Rattle.history_store.specs.Meters.{IsMeteredImport};
     ghost use Rattle.history_store.specs.Answers.{IsStill, IsRefused};
     ghost use Rattle.history_store.specs.Answers.{IsImportOf, IsImportOnAnyDisk};
     ghost use Rattle.history_store.specs.Answers.{IsBeforeOrAfter, KeepsMoments, StemsWithinNew};
-    ghost use Rattle.history_store.specs.Queries.{ReadsThroughCache, ForgetsWritten};
-    ghost use Rattle.history_store.specs.Queries.{ImportsThroughCache};
-    ghost use Rattle.history_store.specs.declared.refusal.Refusal.TheVariants as refusals;
+    ghost use Rattle.history_store.specs.Queries.{ForgetsWritten};
 
     /// Makes a store of version 2 on an empty disk, as `create_in` does.
     pub fn create(alloc: Global, disk: D) -> Result<Store<D>, (Refusal, D)>
         ensures made { IsMaking layouts.Two result D.view disk }
-        ensures bytes_read { (D.view (disk_of result)).bytes_read ≡ (D.view disk).bytes_read }
-        ensures other_calls { (D.view (disk_of result)).other_calls
-            ≤ (D.view disk).other_calls + 11 }
-        ensures looked { IfErr result (λ e. e.0 ≢ refusals.DiskFault
-            → (D.view e.1).other_calls ≤ (D.view disk).other_calls + 2) }
+        ensures meters { IsMeteredMaking result D.view disk }
     {
         Store::create_in(alloc, disk, Layout::Two)
     }
@@ -117,14 +105,7 @@ impl<D: Disk> Store<D> {
     /// then allocates all memory, then writes.
     pub fn create_in(alloc: Global, disk: D, layout: Layout) -> Result<Store<D>, (Refusal, D)>
         ensures made { IsMaking layout result D.view disk }
-        // On every disk and whatever the result: reads no bytes, asks for the length at most twice,
-        // and makes at most nine other calls; if it is refused for a reason other than a disk
-        // failure, none of the nine.
-        ensures bytes_read { (D.view (disk_of result)).bytes_read ≡ (D.view disk).bytes_read }
-        ensures other_calls { (D.view (disk_of result)).other_calls
-            ≤ (D.view disk).other_calls + 11 }
-        ensures looked { IfErr result (λ e. e.0 ≢ refusals.DiskFault
-            → (D.view e.1).other_calls ≤ (D.view disk).other_calls + 2) }
+        ensures meters { IsMeteredMaking result D.view disk }
     {
         let mut disk = disk;
         match start(alloc, &mut disk, layout) {
@@ -153,23 +134,7 @@ impl<D: Disk> Store<D> {
     /// returns the disk.
     pub fn open(alloc: Global, disk: D) -> Result<Store<D>, (Refusal, D)>
         ensures opened { IsOpening result D.view disk }
-        // After `Ok`, on every disk: it has read the slots, and each byte of the listed segments
-        // once, at most.
-        ensures bytes_read { IfOk result (λ s. (D.view s.disk).bytes_read
-            ≤ (D.view disk).bytes_read + slots_read + bytes_listed s.catalog.entries) }
-        // Besides its reads it made one sync, and asked for the length once for the slots and once
-        // for each segment, at most.
-        ensures other_calls { IfOk result (λ s. (D.view s.disk).other_calls
-            ≤ (D.view disk).other_calls + 2 + length s.catalog.entries) }
-        // Whatever the result: makes one call before the first read. A sync that failed isn't tried
-        // again.
-        ensures synced_once { ((D.view (disk_of result)).other_calls
-            ≤ (D.view disk).other_calls + 1)
-            ⊎ (raised_by (D.view disk).bytes_read 1 ≤ (D.view (disk_of result)).bytes_read) }
-        // After an error it has read no further than the fault, on every disk.
-        ensures stops { IfErr result
-            (λ e. StopsIn e.0 (D.view disk).bytes_read (D.view e.1).bytes_read
-            (D.view disk).other_calls (D.view e.1).other_calls) }
+        ensures meters { IsMeteredOpening result D.view disk }
     {
         let mut disk = disk;
         let Loaded {
@@ -207,14 +172,7 @@ impl<D: Disk> Store<D> {
             (full self.old.history) release) }
         ensures still { IfOk result (λ fresh. IsStill self.old self.new) }
         ensures closed { IfErr result (λ e. IsRefused e self.old self.new) }
-        ensures looked_up { ReadsThroughCache D.view self.old self.new }
-        ensures bytes_read { (rows : List RowValue) → IsReleaseOf release rows
-            → (D.view self.new.disk).bytes_read ≤ (D.view self.old.disk).bytes_read
-            + sum_by row_cost (already_known (full self.old.history) rows) }
-        ensures bytes_unread { (IsRead release → ⊥)
-            → (D.view self.new.disk).bytes_read ≤ (D.view self.old.disk).bytes_read }
-        ensures meters { OnlyReads (Counts result) Unsaid
-            (D.view self.old.disk) (D.view self.new.disk) }
+        ensures meters { IsMeteredReading result release D.view self.old self.new }
     {
         let pin = self.directory.imports();
         let mut reader = DiskRows::new(
@@ -241,28 +199,22 @@ impl<D: Disk> Store<D> {
         ensures step { IsStep result self.old self.new
             (with_imports self.old.history next.imports)
             (catalog_of next self.old.catalog.merge) }
-        ensures any_moment { (D.view self.old.disk).is_honest
-            → LeavesOnly (D.view self.old.disk).moments (D.view self.new.disk).moments
+        ensures crash { IsCrashSafe D.view
             (λ c. RepresentsAs self.old.catalog.layout self.old.history c
-            ⊎ RepresentsAs next.layout (with_imports self.old.history next.imports) c) }
+            ⊎ RepresentsAs next.layout (with_imports self.old.history next.imports) c)
+            self.old self.new }
         ensures refused { (D.view self.old.disk).is_honest
             → KeepsMoments D.view result self.old self.new }
         ensures elsewhere { (D.view self.old.disk).is_honest → OnOk result
             (SameOutside (slots_range ∷ added_ranges self.old.catalog self.new.catalog)
             (D.view self.old.disk).moments.state.now (D.view self.new.disk).moments.state.now) }
-        ensures acknowledged { (D.view self.old.disk).is_honest → self.new.needs_reopen ≡ false
-            → IsAcknowledged D.view self.new }
-        ensures calls { (D.view self.old.disk).is_honest
-            → MakesCalls result 6 (D.view self.old.disk).moments (D.view self.new.disk).moments }
-        ensures capacity { self.new.cache.cap ≡ self.old.cache.cap }
         ensures inside { (D.view self.old.disk).is_honest
             → LeavesOnly (D.view self.old.disk).moments (D.view self.new.disk).moments
             (StemsWithin (D.view self.old.disk).moments.state slots_range) }
-        ensures forgets { OnOk result (ForgetsWritten
-            (added_entries self.old.catalog self.new.catalog) self.old.cache self.new.cache) }
-        ensures keeps { OnErr result (self.new.cache ≡ self.old.cache) }
-        ensures meters { Calls (Counts result) (AtMost 1) (AtMost 6)
-            (D.view self.old.disk) (D.view self.new.disk) }
+        // Reads the gate of a slot, and makes the six changing calls of a publication.
+        ensures meters { IsMeteredWrite result (AtMost 1) 6
+            (ForgetsWritten (added_entries self.old.catalog self.new.catalog))
+            (D.view self.old.disk) (D.view self.new.disk) self.old.cache self.new.cache }
     {
         match publish_directory(&mut self.disk, self.slot, &next) {
             Ok(slot) => {
@@ -285,30 +237,23 @@ impl<D: Disk> Store<D> {
         ensures step { IsStep result self.old self.new
             (with_rows self.old.history prepared.index)
             (catalog_of prepared.directory self.old.catalog.merge) }
-        ensures any_moment { (D.view self.old.disk).is_honest
-            → LeavesOnly (D.view self.old.disk).moments (D.view self.new.disk).moments
+        ensures crash { IsCrashSafe D.view
             (λ c. RepresentsAs self.old.catalog.layout self.old.history c
             ⊎ RepresentsAs (next_layout self.old.catalog.layout)
-            (with_rows self.old.history prepared.index) c) }
+            (with_rows self.old.history prepared.index) c) self.old self.new }
         ensures refused { (D.view self.old.disk).is_honest
             → KeepsMoments D.view result self.old self.new }
         ensures elsewhere { (D.view self.old.disk).is_honest → OnOk result
             (SameOutside (slots_range ∷ added_ranges self.old.catalog self.new.catalog)
             (D.view self.old.disk).moments.state.now (D.view self.new.disk).moments.state.now) }
-        ensures acknowledged { (D.view self.old.disk).is_honest → self.new.needs_reopen ≡ false
-            → IsAcknowledged D.view self.new }
-        ensures calls { (D.view self.old.disk).is_honest
-            → MakesCalls result 8 (D.view self.old.disk).moments (D.view self.new.disk).moments }
-        ensures capacity { self.new.cache.cap ≡ self.old.cache.cap }
         ensures inside { (D.view self.old.disk).is_honest
             → LeavesOnly (D.view self.old.disk).moments (D.view self.new.disk).moments
             (StemsWithinAll (D.view self.old.disk).moments.state
             (slots_range ∷ byte_range (extent_of prepared.entry) ∷ [])) }
-        ensures forgets { OnOk result (ForgetsWritten
-            (added_entries self.old.catalog self.new.catalog) self.old.cache self.new.cache) }
-        ensures keeps { OnErr result (self.new.cache ≡ self.old.cache) }
-        ensures meters { Calls (Counts result) (AtMost 1) (AtMost 8)
-            (D.view self.old.disk) (D.view self.new.disk) }
+        // Reads the gate of a slot, and makes two changing calls before those of a publication.
+        ensures meters { IsMeteredWrite result (AtMost 1) 8
+            (ForgetsWritten (added_entries self.old.catalog self.new.catalog))
+            (D.view self.old.disk) (D.view self.new.disk) self.old.cache self.new.cache }
     {
         let Prepared {
             directory,
@@ -338,14 +283,12 @@ impl<D: Disk> Store<D> {
             → IsImportOf result self.old self.new release }
         // What is promised on every disk.
         ensures kept { IsImportOnAnyDisk result self.old self.new release }
+        // A store below version 3 is left unchanged, if the release has members of reference sets.
+        ensures later { IsForLater self.old.catalog.layout release → self.new ≡ self.old }
         // A crash at any moment leaves the history from before in the layout version from before,
-        // or the history with the release in the next version.
-        ensures any_moment { (D.view self.old.disk).is_honest → self.old.needs_reopen ≡ false
-            → LeavesOnly (D.view self.old.disk).moments (D.view self.new.disk).moments
-            (IsBeforeOrAfter self.old.catalog.layout self.old.history release) }
-        // After `Ok` every crash leaves the new history.
-        ensures acknowledged { (D.view self.old.disk).is_honest → self.new.needs_reopen ≡ false
-            → IsAcknowledged D.view self.new }
+        // or the history with the release in the next version; after `Ok` it leaves the latter.
+        ensures crash { IsCrashSafe D.view
+            (IsBeforeOrAfter self.old.catalog.layout self.old.history release) self.old self.new }
         // If it is refused for a reason other than a disk failure, the images that a crash may
         // leave are unchanged.
         ensures refused { (D.view self.old.disk).is_honest
@@ -361,31 +304,9 @@ impl<D: Disk> Store<D> {
             (λ c. IsImage (D.view self.old.disk).moments.state c
             ⊎ StemsWithinNew self.old.history self.old.catalog release
             (D.view self.old.disk).moments.state c) }
-        // A store that has to be opened again is left unchanged.
-        ensures closed { self.old.needs_reopen ≡ true → self.new ≡ self.old }
-        // So is a store below version 3, if the release has members of reference sets.
-        ensures later { IsForLater self.old.catalog.layout release → self.new ≡ self.old }
-        // Makes eight changing calls if a row is new, and otherwise six; no more than that if it is
-        // refused.
-        ensures calls { (D.view self.old.disk).is_honest → MakesImportCalls result
-            (D.view self.old.disk).moments (D.view self.new.disk).moments }
-        // On every disk it makes no other calls than reads and these; if it is refused for a reason
-        // other than a disk failure, none of these.
-        ensures meters { Calls (Counts result) Unsaid (MakesNoOtherCalls result)
-            (D.view self.old.disk) (D.view self.new.disk) }
-        // On every disk and whatever the result: reads only blocks of listed segments, through the
-        // cache, and the gate of a slot. Drops from the cache the blocks that it wrote, and no
-        // others.
-        ensures looked_up { ImportsThroughCache result D.view self.old self.new }
-        // Reads each stored row whose key is in the release at most once, no other row, and the
-        // gate. If a file isn't a valid release file, reads nothing.
-        ensures bytes_read { (rows : List RowValue) → IsReleaseOf release rows
-            → (D.view self.new.disk).bytes_read ≤ (D.view self.old.disk).bytes_read + 1
-            + sum_by row_cost (already_known (full self.old.history) rows) }
-        ensures bytes_unread { (IsRead release → ⊥)
-            → (D.view self.new.disk).bytes_read ≤ (D.view self.old.disk).bytes_read }
-        // The capacity of the cache is unchanged.
-        ensures capacity { self.new.cache.cap ≡ self.old.cache.cap }
+        // On every disk: eight changing calls if a row is new, and otherwise six; reads of blocks
+        // of listed segments, through the cache, and of the gate of a slot.
+        ensures meters { IsMeteredImport result release D.view self.old self.new }
     {
         let Ready { receipt, next } = self.make_ready(release)?;
         match next {

@@ -72,7 +72,7 @@ module _ {D : Type 0} (source : SourceView) (view : D → DiskView) (name : List
           replies = inl (session, Check name, asks, inr (record { free = free; comes_out = (receipt, record { release = release; has = given h; at_all = c.kept; checked = c.answer; pins = refl }, refl); damage = refl }));
           asked = tt;
         })
-        (check_made view old new release (Ok receipt) c) c.failures (c.moments, c.looked_up) (omega (arith, same))
+        (check_made view old new release (Ok receipt) c) c.meters.counts.failures (c.meters.counts.moments, c.meters.looked_up) (omega (arith, same))
 
     -- it would be refused
     pub unchecked : (e : Refusal) → IsChecking (Err e) release view old new
@@ -81,7 +81,7 @@ module _ {D : Type 0} (source : SourceView) (view : D → DiskView) (name : List
         carried_out source view (Err (refusals.Store e)) session (Check name) (Err (refusals.Store e)) Other (server state old) (server (refused_by e state) new) (λ k n. Some (files_of release)) refl
         (λ line asks. record { replies = inl (session, Check name, asks, inr (record { free = free; comes_out = refused (λ k n. Some (files_of release)) e refl refl; damage = refl })); asked = tt })
         (λ h line asks. record { replies = inl (session, Check name, asks, inr (record { free = free; comes_out = refused source.releases e refl (given h); damage = refl })); asked = tt })
-        (check_made view old new release (Err e) c) c.failures (c.moments, c.looked_up) (refused_imports e old new c.kept.1) where
+        (check_made view old new release (Err e) c) c.meters.counts.failures (c.meters.counts.moments, c.meters.looked_up) (refused_imports e old new c.kept.1) where
           refused : (releases : Releases) (r : Refusal) → r ≡ e → releases (scope_of old.catalog.layout) name ≡ Some (files_of release) → IsStoreRefusal (view old.disk).is_honest releases session (Check name) r (server state old) (server (refused_by e state) new)
           refused releases store.OutOfMemory is has_it =
               record { pins = refl; store = record { history = c.kept.1.history; catalog = c.kept.1.catalog; needs_reopen = c.kept.1.still (λ f. lack_is_no_fault (is ∙ f)) } }

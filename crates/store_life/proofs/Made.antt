@@ -14,6 +14,7 @@ use Rattle.history_store.specs.declared.refusal.Refusal.{Refusal}
 use Rattle.history_store.specs.declared.refusal.Refusal.TheVariants as store
 use Rattle.history_store.specs.StoreValue.{StoreValue, IsAcknowledged}
 use Rattle.history_store.specs.Answers.{IsRefused, IsImportOf, IsImportOnAnyDisk, IsRefusedFor, IsNotTakenByKey, IsBeforeOrAfter, IsReadingOf}
+use Rattle.history_store.specs.Crashes.{IsCrashSafe}
 use Rattle.history_store.specs.Checking.{IsCheckingOnAnyDisk}
 use Rattle.history_store.specs.MergeAnswers.{IsBeginningOf, IsSteppingOf, IsAbandoningOf, IsTrimmingOf}
 use Rattle.disk_model.specs.View.{DiskView}
@@ -54,12 +55,11 @@ module _ {D : Type 0} (view : D → DiskView) (old new : StoreValue D) where
       still history closed (λ h. subst (λ d. (view d).is_honest) (sym disk) h, λ h. subst (λ d. (view d).is_honest) disk h) (λ h. ap (λ d. (view d).moments) disk) ack
 
   -- it is, and a crash leaves the history in the version from before
-  busy : new.history ≡ old.history → ((view old.disk).is_honest → old.needs_reopen ≡ false → LeavesOnly (view old.disk).moments (view new.disk).moments (RepresentsAs old.catalog.layout old.history))
-      → ((view old.disk).is_honest → new.needs_reopen ≡ false → IsAcknowledged view new) → (old.needs_reopen ≡ true → new ≡ old) → ((view old.disk).is_honest ↔ (view new.disk).is_honest) → IsCall view old Other new
-  busy history any ack closed honesty =
-      kept (λ h. history) closed honesty
-      (λ h a. weaker (view old.disk).moments (view new.disk).moments (RepresentsAs old.catalog.layout old.history) (RepresentsHistory old.history) (λ c s. (old.catalog.layout, s)) (any h a.open_still))
-      (λ h a open_still. ack h open_still)
+  busy : new.history ≡ old.history → IsCrashSafe view (RepresentsAs old.catalog.layout old.history) old new → ((view old.disk).is_honest ↔ (view new.disk).is_honest) → IsCall view old Other new
+  busy history crash honesty =
+      kept (λ h. history) crash.closed honesty
+      (λ h a. weaker (view old.disk).moments (view new.disk).moments (RepresentsAs old.catalog.layout old.history) (RepresentsHistory old.history) (λ c s. (old.catalog.layout, s)) (crash.any_moment h a.open_still))
+      (λ h a open_still. crash.acknowledged h open_still)
 
 -- no call at all
 pub unmade : {D : Type 0} (view : D → DiskView) (s : StoreValue D) → IsCall view s Other s
@@ -77,7 +77,7 @@ open_at_fault e s release is cause = at_fault (subst (λ (r : Refusal). IsRefuse
   at_fault : IsRefusedFor (IsNotTakenByKey s.history s.catalog release) store.DiskFault s → s.needs_reopen ≡ false
   at_fault h = h.0
 
-module _ {D : Type 0} (view : D → DiskView) (old new : StoreValue D) (release : Release) (any : (view old.disk).is_honest → old.needs_reopen ≡ false → LeavesOnly (view old.disk).moments (view new.disk).moments (IsBeforeOrAfter old.catalog.layout old.history release)) (ack : (view old.disk).is_honest → new.needs_reopen ≡ false → IsAcknowledged view new) (honesty : (view old.disk).is_honest ↔ (view new.disk).is_honest) where
+module _ {D : Type 0} (view : D → DiskView) (old new : StoreValue D) (release : Release) (crash : IsCrashSafe view (IsBeforeOrAfter old.catalog.layout old.history release) old new) (honesty : (view old.disk).is_honest ↔ (view new.disk).is_honest) where
   before_or_after : (c : List ℕ) → IsBeforeOrAfter old.catalog.layout old.history release c → RepresentsHistory old.history c ⊎ RepresentsNext old.history release c
   before_or_after c (inl s) = inl (old.catalog.layout, s)
   before_or_after c (inr w) = inr (next_layout old.catalog.layout, w)
@@ -89,8 +89,8 @@ module _ {D : Type 0} (view : D → DiskView) (old new : StoreValue D) (release 
     needs_reopen = at_all.2;
     closed = λ needs. absurd (false≢true (sym at_all.1 ∙ needs));
     honesty = honesty;
-    any_moment = λ h a. weaker (view old.disk).moments (view new.disk).moments (IsBeforeOrAfter old.catalog.layout old.history release) (RepresentsAround old.history (Imported release)) before_or_after (any h at_all.1);
-    acknowledged = λ h a open_still. ack h open_still;
+    any_moment = λ h a. weaker (view old.disk).moments (view new.disk).moments (IsBeforeOrAfter old.catalog.layout old.history release) (RepresentsAround old.history (Imported release)) before_or_after (crash.any_moment h at_all.1);
+    acknowledged = λ h a open_still. crash.acknowledged h open_still;
   }
 
   -- the disk failed
@@ -102,16 +102,16 @@ module _ {D : Type 0} (view : D → DiskView) (old new : StoreValue D) (release 
         needs_reopen = r.closed is_fault;
         closed = λ needs. absurd (false≢true (sym open_before ∙ needs));
         honesty = honesty;
-        any_moment = λ h a. weaker (view old.disk).moments (view new.disk).moments (IsBeforeOrAfter old.catalog.layout old.history release) (RepresentsAround old.history (Failed release)) before_or_after (any h open_before);
-        acknowledged = λ h a open_still. ack h open_still;
+        any_moment = λ h a. weaker (view old.disk).moments (view new.disk).moments (IsBeforeOrAfter old.catalog.layout old.history release) (RepresentsAround old.history (Failed release)) before_or_after (crash.any_moment h open_before);
+        acknowledged = λ h a open_still. crash.acknowledged h open_still;
       }
 
 module _ {D : Type 0} (view : D → DiskView) where
   pub import_made : ImportIsACall D view
-  import_made old new release (Ok receipt) answer at_all any ack same closed honesty = imported view old new release any ack honesty receipt at_all answer
-  import_made old new release (Err store.DiskFault) answer at_all any ack same closed honesty = failed view old new release any ack honesty store.DiskFault refl at_all.0 at_all.1
-  import_made old new release (Err e) answer at_all any ack same closed honesty =
-      still view old new at_all.1.history closed honesty (λ h. same h (λ is. false≢true (ap is_fault is))) ack
+  import_made old new release (Ok receipt) answer at_all crash same honesty = imported view old new release crash honesty receipt at_all answer
+  import_made old new release (Err store.DiskFault) answer at_all crash same honesty = failed view old new release crash honesty store.DiskFault refl at_all.0 at_all.1
+  import_made old new release (Err e) answer at_all crash same honesty =
+      still view old new at_all.1.history crash.closed honesty (λ h. same h (λ is. false≢true (ap is_fault is))) crash.acknowledged
 
   -- ---- checks
 
@@ -120,7 +120,7 @@ module _ {D : Type 0} (view : D → DiskView) where
   same_checked release (Err e) old new kept = kept.1.history
 
   pub check_made : CheckIsACall D view
-  check_made old new release result c = still view old new (same_checked release result old new c.kept) c.closed c.honesty c.moments c.acknowledged
+  check_made old new release result c = still view old new (same_checked release result old new c.kept) c.closed c.meters.counts.honesty c.meters.counts.moments c.acknowledged
 
   -- ---- questions
 
@@ -148,28 +148,28 @@ module _ {D : Type 0} (view : D → DiskView) where
   same_stepped (Err e) rows old new a = a.1.history
 
   pub step_made : MergeStepIsACall D view
-  step_made result rows old new a any ack closed honesty = busy view old new (same_stepped result rows old new a) any ack closed honesty
+  step_made result rows old new a crash honesty = busy view old new (same_stepped result rows old new a) crash honesty
 
   either : (h : History) (old next : Layout) (c : List ℕ) → RepresentsAs old h c ⊎ RepresentsAs next h c → RepresentsHistory h c
   either h old next c (inl s) = (old, s)
   either h old next c (inr s) = (next, s)
 
   pub publish_made : MergePublishIsACall D view
-  publish_made old new history any ack closed honesty =
-      kept view old new (λ h. history) closed honesty
+  publish_made old new history crash honesty =
+      kept view old new (λ h. history) crash.closed honesty
       (λ h a. weaker (view old.disk).moments (view new.disk).moments (λ c. RepresentsAs old.catalog.layout old.history c ⊎ RepresentsAs (next_layout old.catalog.layout) old.history c) (RepresentsHistory old.history)
-      (either old.history old.catalog.layout (next_layout old.catalog.layout)) (any h a.open_still))
-      (λ h a open_still. ack h open_still)
+      (either old.history old.catalog.layout (next_layout old.catalog.layout)) (crash.any_moment h a.open_still))
+      (λ h a open_still. crash.acknowledged h open_still)
 
   pub upgrade_made : UpgradeIsACall D view
-  upgrade_made old new history any ack closed honesty =
-      kept view old new (λ h. history) closed honesty
+  upgrade_made old new history crash honesty =
+      kept view old new (λ h. history) crash.closed honesty
       (λ h a. weaker (view old.disk).moments (view new.disk).moments (λ c. RepresentsAs old.catalog.layout old.history c ⊎ RepresentsAs layouts.Three old.history c) (RepresentsHistory old.history)
-      (either old.history old.catalog.layout layouts.Three) (any h a.open_still))
-      (λ h a open_still. ack h open_still)
+      (either old.history old.catalog.layout layouts.Three) (crash.any_moment h a.open_still))
+      (λ h a open_still. crash.acknowledged h open_still)
 
   pub rewrite_made : RewriteIsACall D view
-  rewrite_made old new history any ack closed honesty = busy view old new history any ack closed honesty
+  rewrite_made old new history crash honesty = busy view old new history crash honesty
 
   same_abandoned : (result : Result (Unit {0}) Refusal) (old new : StoreValue D) → IsAbandoningOf result old new → new.history ≡ old.history
   same_abandoned (Ok done) old new a = a.2.history
@@ -183,4 +183,4 @@ module _ {D : Type 0} (view : D → DiskView) where
   same_trimmed (Err e) old new a = a.1.history
 
   pub trim_made : TrimIsACall D view
-  trim_made result old new a any ack closed honesty = busy view old new (same_trimmed result old new a) any ack closed honesty
+  trim_made result old new a crash honesty = busy view old new (same_trimmed result old new a) crash honesty

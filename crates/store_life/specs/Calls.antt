@@ -1,7 +1,6 @@
 -- Which call of a life each call of `Store` is, according to what it ensures: the premises are its
 -- clauses.
 use Rattle.std.specs.Prelude.{◌≡◌, ◌⊎◌, ◌↔◌, true, false, ℕ, Result, Ok, Err}
-use Rattle.disk_model.specs.Disk.{LeavesOnly}
 use Rattle.history_model.specs.declared.receipt.Receipt.{Receipt}
 use Rattle.import_check.specs.declared.release.Release.{Release}
 use Rattle.directory.specs.declared.layout.Layout.TheVariants as layouts
@@ -12,6 +11,7 @@ use Rattle.history_store.specs.declared.refusal.Refusal.TheVariants as refusals
 use Rattle.history_store.specs.StoreValue.{StoreValue, IsAcknowledged}
 use Rattle.history_store.specs.Answers.{IsImportOf, IsImportOnAnyDisk, IsBeforeOrAfter}
 use Rattle.history_store.specs.Answers.{KeepsMoments}
+use Rattle.history_store.specs.Crashes.{IsCrashSafe}
 use Rattle.history_store.specs.Checking.{IsChecking}
 use Rattle.history_store.specs.MergeAnswers.{IsBeginningOf, IsSteppingOf, IsAbandoningOf}
 use Rattle.history_store.specs.MergeAnswers.{IsTrimmingOf}
@@ -25,18 +25,14 @@ call_of (Ok receipt) release = Imported release
 call_of (Err refusals.DiskFault) release = Failed release
 call_of (Err refusal) release = Other
 
--- by `Store::import · answer, kept, any_moment, acknowledged, refused, closed, meters`
+-- by `Store::import · answer, kept, crash, refused, meters`
 abbrev pub ImportIsACall : (D : Type 0) → (D → DiskView) → Type 0
 ImportIsACall D view =
     (old new : StoreValue D) (release : Release) (result : Result Receipt Refusal)
     → ((view old.disk).is_honest → IsImportOf result old new release)
     → IsImportOnAnyDisk result old new release
-    → ((view old.disk).is_honest → old.needs_reopen ≡ false
-    → LeavesOnly (view old.disk).moments (view new.disk).moments
-    (IsBeforeOrAfter old.catalog.layout old.history release))
-    → ((view old.disk).is_honest → new.needs_reopen ≡ false → IsAcknowledged view new)
+    → IsCrashSafe view (IsBeforeOrAfter old.catalog.layout old.history release) old new
     → ((view old.disk).is_honest → KeepsMoments view result old new)
-    → (old.needs_reopen ≡ true → new ≡ old)
     → ((view old.disk).is_honest ↔ (view new.disk).is_honest)
     → IsCall view old (call_of result release) new
 
@@ -69,53 +65,37 @@ MergeBeginIsACall D view = (result : Result ℕ Refusal) (old new : StoreValue D
     → ((view old.disk).is_honest → new.needs_reopen ≡ false → IsAcknowledged view new)
     → IsCall view old Other new
 
--- by `Store::merge_step · answer, any_moment, acknowledged, closed, meters`
+-- by `Store::merge_step · answer, crash, meters`
 abbrev pub MergeStepIsACall : (D : Type 0) → (D → DiskView) → Type 0
 MergeStepIsACall D view = (result : Result ℕ Refusal) (rows : ℕ) (old new : StoreValue D)
     → IsSteppingOf result old new rows
-    → ((view old.disk).is_honest → old.needs_reopen ≡ false
-    → LeavesOnly (view old.disk).moments (view new.disk).moments
-    (RepresentsAs old.catalog.layout old.history))
-    → ((view old.disk).is_honest → new.needs_reopen ≡ false → IsAcknowledged view new)
-    → (old.needs_reopen ≡ true → new ≡ old)
+    → IsCrashSafe view (RepresentsAs old.catalog.layout old.history) old new
     → ((view old.disk).is_honest ↔ (view new.disk).is_honest)
     → IsCall view old Other new
 
--- by `Store::merge_publish · history, any_moment, acknowledged, closed, meters`
+-- by `Store::merge_publish · history, crash, meters`
 abbrev pub MergePublishIsACall : (D : Type 0) → (D → DiskView) → Type 0
 MergePublishIsACall D view = (old new : StoreValue D)
     → new.history ≡ old.history
-    → ((view old.disk).is_honest → old.needs_reopen ≡ false
-    → LeavesOnly (view old.disk).moments (view new.disk).moments
-    (λ c. RepresentsAs old.catalog.layout old.history c
-    ⊎ RepresentsAs (next_layout old.catalog.layout) old.history c))
-    → ((view old.disk).is_honest → new.needs_reopen ≡ false → IsAcknowledged view new)
-    → (old.needs_reopen ≡ true → new ≡ old)
+    → IsCrashSafe view (λ c. RepresentsAs old.catalog.layout old.history c
+    ⊎ RepresentsAs (next_layout old.catalog.layout) old.history c) old new
     → ((view old.disk).is_honest ↔ (view new.disk).is_honest)
     → IsCall view old Other new
 
--- by `Store::upgrade · history, any_moment, acknowledged, closed, meters`
+-- by `Store::upgrade · history, crash, meters`
 abbrev pub UpgradeIsACall : (D : Type 0) → (D → DiskView) → Type 0
 UpgradeIsACall D view = (old new : StoreValue D)
     → new.history ≡ old.history
-    → ((view old.disk).is_honest → old.needs_reopen ≡ false
-    → LeavesOnly (view old.disk).moments (view new.disk).moments
-    (λ c. RepresentsAs old.catalog.layout old.history c
-    ⊎ RepresentsAs layouts.Three old.history c))
-    → ((view old.disk).is_honest → new.needs_reopen ≡ false → IsAcknowledged view new)
-    → (old.needs_reopen ≡ true → new ≡ old)
+    → IsCrashSafe view (λ c. RepresentsAs old.catalog.layout old.history c
+    ⊎ RepresentsAs layouts.Three old.history c) old new
     → ((view old.disk).is_honest ↔ (view new.disk).is_honest)
     → IsCall view old Other new
 
--- by `Store::rewrite · history, any_moment, acknowledged, closed, meters`
+-- by `Store::rewrite · history, crash, meters`
 abbrev pub RewriteIsACall : (D : Type 0) → (D → DiskView) → Type 0
 RewriteIsACall D view = (old new : StoreValue D)
     → new.history ≡ old.history
-    → ((view old.disk).is_honest → old.needs_reopen ≡ false
-    → LeavesOnly (view old.disk).moments (view new.disk).moments
-    (RepresentsAs old.catalog.layout old.history))
-    → ((view old.disk).is_honest → new.needs_reopen ≡ false → IsAcknowledged view new)
-    → (old.needs_reopen ≡ true → new ≡ old)
+    → IsCrashSafe view (RepresentsAs old.catalog.layout old.history) old new
     → ((view old.disk).is_honest ↔ (view new.disk).is_honest)
     → IsCall view old Other new
 
@@ -128,14 +108,10 @@ MergeAbandonIsACall D view = (result : Result (Unit {0}) Refusal) (old new : Sto
     → ((view old.disk).is_honest → new.needs_reopen ≡ false → IsAcknowledged view new)
     → IsCall view old Other new
 
--- by `Store::trim · answer, any_moment, acknowledged, closed, meters`
+-- by `Store::trim · answer, crash, meters`
 abbrev pub TrimIsACall : (D : Type 0) → (D → DiskView) → Type 0
 TrimIsACall D view = (result : Result ℕ Refusal) (old new : StoreValue D)
     → IsTrimmingOf result old new
-    → ((view old.disk).is_honest → old.needs_reopen ≡ false
-    → LeavesOnly (view old.disk).moments (view new.disk).moments
-    (RepresentsAs old.catalog.layout old.history))
-    → ((view old.disk).is_honest → new.needs_reopen ≡ false → IsAcknowledged view new)
-    → (old.needs_reopen ≡ true → new ≡ old)
+    → IsCrashSafe view (RepresentsAs old.catalog.layout old.history) old new
     → ((view old.disk).is_honest ↔ (view new.disk).is_honest)
     → IsCall view old Other new

@@ -10,7 +10,7 @@ returns-after-anew g c =
       result = c.rewrite.result;
       mid = c.rewrite.new.self;
       rewriting = r.answer;
-      call = rewrite_made view _ _ r.history r.any_moment r.acknowledged r.closed r.meters.honesty;
+      call = rewrite_made view _ _ r.history r.crash r.meters.counts.honesty;
       goes_on = rw c.in-Ok.is c.merge_lines.ensures;
     }
 
@@ -22,6 +22,6 @@ returns-in-Err g c =
       result = c.rewrite.result;
       mid = c.rewrite.new.self;
       rewriting = r.answer;
-      call = rewrite_made view _ _ r.history r.any_moment r.acknowledged r.closed r.meters.honesty;
+      call = rewrite_made view _ _ r.history r.crash r.meters.counts.honesty;
       goes_on = rw c.in-Err.is (c.refuse.ensures, refl);
     }

@@ -10,7 +10,7 @@ returns-in-Ok g c =
       result = c.upgrade.result;
       after = c.upgrade.new.self;
       answer = u.answer;
-      call = upgrade_made view _ _ u.history u.any_moment u.acknowledged u.closed u.meters.honesty;
+      call = upgrade_made view _ _ u.history u.crash u.meters.counts.honesty;
       told = rw c.in-Ok.is c.tell_done.ensures;
       left_so = refl;
     }
@@ -23,7 +23,7 @@ returns-in-Err g c =
       result = c.upgrade.result;
       after = c.upgrade.new.self;
       answer = u.answer;
-      call = upgrade_made view _ _ u.history u.any_moment u.acknowledged u.closed u.meters.honesty;
+      call = upgrade_made view _ _ u.history u.crash u.meters.counts.honesty;
       told = rw c.in-Err.is c.refuse.ensures;
       left_so = refl;
     }

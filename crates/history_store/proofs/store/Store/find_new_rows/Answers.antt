@@ -1,3 +1,4 @@
+use Rattle.std.specs.Prelude.{Ok, Err}
 use Rattle.std.proofs.Common.{◌≡◌, false, ap, sym, subst, arith}
 use Rattle.std.specs.List.{sum_by}
 use Rattle.import_check.specs.Known.{already_known}
@@ -5,11 +6,14 @@ use Rattle.history_store.specs.Reading.{row_cost}
 use Rattle.import_check.specs.NewRows.{IsAcceptedAs, IsRefusal}
 use Rattle.import_check.specs.NewRows.{BringsByKey}
 use Rattle.history_store.specs.StoreValue.{StoreValue}
+use Rattle.history_store.specs.Answers.{CountsRefusal}
 use Rattle.history_store.specs.Private.Reading.{rows_of}
 use Rattle.history_store.proofs.Refusing.{refused_less}
 use Rattle.history_store.proofs.Held.{lent_sound}
 use Rattle.history_store.proofs.Lent.{reader_honest, held_left}
+use Rattle.history_store.proofs.MeteredReading.{counted_fault, read_so}
 use Rattle.history_store.proofs.store.Store.find_new_rows.Goals as goal
+use Rattle.history_store.proofs.store.Store.find_new_rows.Goals.{then-matches, else-matches}
 
 pub invariant_of-self : goal.invariant_of-self
 invariant_of-self g c =
@@ -42,28 +46,53 @@ returns-after-matches-clause-refused g c =
           (refused_less _ _ _ _ c.in-Err.fault (λ up. ((reader_honest g.D.Disk.view _ _ _ _ _ _ _ _ _ _ c.self.invariant.0 c.new-reader.ensures.disk c.new-reader.ensures.cache c.new-reader.ensures.entries c.new-reader.ensures.shown up still (g.met.D.Disk.now_is_image c.self.inside.disk up)), (lent_sound _ _ _ _ _ _ _ c.self.invariant.0 c.places.result.now c.new-reader.result.shown.now c.imports-pin.result c.places.ensures c.new-reader.ensures.shown c.imports-pin.ensures).0, (lent_sound _ _ _ _ _ _ _ c.self.invariant.0 c.places.result.now c.new-reader.result.shown.now c.imports-pin.result c.places.ensures c.new-reader.ensures.shown c.imports-pin.ensures).1)) c.in-Err.ensures.refused),
     )
 
-pub returns-in-Ok-clause-bytes_read : goal.returns-in-Ok-clause-bytes_read
-returns-in-Ok-clause-bytes_read g c = rw (← c.self.view_is) (λ rows are.
-    let least = c.in-Ok.ensures.work (lent_sound _ _ _ _ _ _ _ c.self.invariant.0 c.places.result.now c.new-reader.result.shown.now c.imports-pin.result c.places.ensures c.new-reader.ensures.shown c.imports-pin.ensures).0 (lent_sound _ _ _ _ _ _ _ c.self.invariant.0 c.places.result.now c.new-reader.result.shown.now c.imports-pin.result c.places.ensures c.new-reader.ensures.shown c.imports-pin.ensures).1 rows are in
-    let from = ap (λ d. (g.D.Disk.view d).bytes_read) c.new-reader.ensures.disk in
-    let sum = ap (λ l. sum_by row_cost (already_known (rows_of l) rows)) c.new-reader.ensures.shown in
+pub returns-in-Ok-clause-meters : goal.returns-in-Ok-clause-meters
+returns-in-Ok-clause-meters g c =
+    let sound = lent_sound _ _ _ _ _ _ _ c.self.invariant.0 c.places.result.now c.new-reader.result.shown.now c.imports-pin.result c.places.ensures c.new-reader.ensures.shown c.imports-pin.ensures in
+    let r = c.new-reader.ensures in
+    let lent = c.new-reader.result in
+    let now = c.find_new_rows.new.reader in
+    let stays = c.find_new_rows.ensures.stays in
+    let m = c.in-Ok.ensures.meters in
+    rw (← c.self.view_is) (read_so g.D.Disk.view (Ok c.in-Ok.fresh) c.args.release _ _ lent.entries.now lent.disk.now lent.cache.now r.disk r.cache r.entries stays.0 stays.5 stays.6 m.disk_faults
+    (λ rows are.
+    let least = m.work sound.0 sound.1 rows are in
+    let from = ap (λ d. (g.D.Disk.view d).bytes_read) r.disk in
+    let sum = ap (λ l. sum_by row_cost (already_known (rows_of l) rows)) r.shown in
     omega (arith, least, from, sum))
+    (λ unread.
+    let least = m.work_unread unread in
+    let from = ap (λ d. (g.D.Disk.view d).bytes_read) r.disk in
+    omega (arith, least, from)))
 
-pub returns-in-Ok-clause-bytes_unread : goal.returns-in-Ok-clause-bytes_unread
-returns-in-Ok-clause-bytes_unread g c = rw (← c.self.view_is) (λ unread.
-    let least = c.in-Ok.ensures.work_unread unread in
-    let from = ap (λ d. (g.D.Disk.view d).bytes_read) c.new-reader.ensures.disk in
-    omega (arith, least, from))
-
-pub returns-after-matches-clause-bytes_read : goal.returns-after-matches-clause-bytes_read
-returns-after-matches-clause-bytes_read g c = rw (← c.self.view_is) (λ rows are.
-    let least = c.in-Err.ensures.work (lent_sound _ _ _ _ _ _ _ c.self.invariant.0 c.places.result.now c.new-reader.result.shown.now c.imports-pin.result c.places.ensures c.new-reader.ensures.shown c.imports-pin.ensures).0 (lent_sound _ _ _ _ _ _ _ c.self.invariant.0 c.places.result.now c.new-reader.result.shown.now c.imports-pin.result c.places.ensures c.new-reader.ensures.shown c.imports-pin.ensures).1 rows are in
-    let from = ap (λ d. (g.D.Disk.view d).bytes_read) c.new-reader.ensures.disk in
-    let sum = ap (λ l. sum_by row_cost (already_known (rows_of l) rows)) c.new-reader.ensures.shown in
-    grind (arith, least, from, sum))
-
-pub returns-after-matches-clause-bytes_unread : goal.returns-after-matches-clause-bytes_unread
-returns-after-matches-clause-bytes_unread g c = rw (← c.self.view_is) (λ unread.
-    let least = c.in-Err.ensures.work_unread unread in
-    let from = ap (λ d. (g.D.Disk.view d).bytes_read) c.new-reader.ensures.disk in
-    grind (arith, least, from))
+pub returns-after-matches-clause-meters : goal.returns-after-matches-clause-meters
+returns-after-matches-clause-meters g c =
+    let sound = lent_sound _ _ _ _ _ _ _ c.self.invariant.0 c.places.result.now c.new-reader.result.shown.now c.imports-pin.result c.places.ensures c.new-reader.ensures.shown c.imports-pin.ensures in
+    let r = c.new-reader.ensures in
+    let lent = c.new-reader.result in
+    let now = c.find_new_rows.new.reader in
+    let stays = c.find_new_rows.ensures.stays in
+    let m = c.in-Err.ensures.meters in
+    let counted : CountsRefusal c.from.result (g.D.Disk.view lent.disk.now).failures (g.D.Disk.view now.disk.now).failures = rw c.from.ensures (counted_fault c.in-Err.fault (g.D.Disk.view lent.disk.now).failures (g.D.Disk.view now.disk.now).failures m.disk_faults) in
+    elim c.if-matches.branch [
+      | then-matches w ↦ rw (w.self-is, ← c.self.view_is) (read_so g.D.Disk.view (Err c.from.result) c.args.release _ _ lent.entries.now lent.disk.now lent.cache.now r.disk r.cache r.entries stays.0 stays.5 stays.6 counted
+          (λ rows are.
+          let least = m.work sound.0 sound.1 rows are in
+          let from = ap (λ d. (g.D.Disk.view d).bytes_read) r.disk in
+          let sum = ap (λ l. sum_by row_cost (already_known (rows_of l) rows)) r.shown in
+          omega (arith, least, from, sum))
+          (λ unread.
+          let least = m.work_unread unread in
+          let from = ap (λ d. (g.D.Disk.view d).bytes_read) r.disk in
+          omega (arith, least, from)))
+      | else-matches w ↦ rw (w.self-is, ← c.self.view_is) (read_so g.D.Disk.view (Err c.from.result) c.args.release _ _ lent.entries.now lent.disk.now lent.cache.now r.disk r.cache r.entries stays.0 stays.5 stays.6 counted
+          (λ rows are.
+          let least = m.work sound.0 sound.1 rows are in
+          let from = ap (λ d. (g.D.Disk.view d).bytes_read) r.disk in
+          let sum = ap (λ l. sum_by row_cost (already_known (rows_of l) rows)) r.shown in
+          omega (arith, least, from, sum))
+          (λ unread.
+          let least = m.work_unread unread in
+          let from = ap (λ d. (g.D.Disk.view d).bytes_read) r.disk in
+          omega (arith, least, from)))
+    ]

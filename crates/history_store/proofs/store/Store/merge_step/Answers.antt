@@ -1,6 +1,7 @@
 use Rattle.std.specs.Prelude.{Option, Some, Ok, Err}
 use Rattle.std.specs.Option.{option_to_list}
-use Rattle.std.proofs.Common.{◌≡◌, ◌≢◌, ◌+◌, ◌≤◌, map, refl, sym, ap, subst, ◌∙◌, rules}
+use Rattle.std.proofs.Common.{◌≡◌, ◌≢◌, map, refl, sym, ap, subst, ◌∙◌}
+use Rattle.std.proofs.lemmas.Bool.{false≢true}
 use Rattle.disk_model.proofs.MomentSteps.{stayed}
 use Rattle.history_store.specs.declared.refusal.Refusal.TheVariants as refusals
 use Rattle.blocks.specs.Extents.{byte_range}
@@ -10,29 +11,19 @@ use Rattle.store_image.specs.Kept.{history_of}
 use Rattle.history_store.specs.StoreValue.{IsHeld}
 use Rattle.history_store.specs.Catalog.{reserved_by}
 use Rattle.history_store.specs.MergeInProgress.{merge_of}
-use Rattle.history_store.specs.Merging.{step_cost}
-use Rattle.history_store.specs.Queries.{is_listed, LooksUpAndForgets}
-use Rattle.history_store.proofs.KeptBlocks.{none_stepped}
 use Rattle.history_store.proofs.Held.{held_stands}
+use Rattle.history_store.proofs.Metered.{step_refused, step_ok, step_err}
 use Rattle.history_store.proofs.SteppedStore.{held_lent, held_back, merge_back, same_lists, no_fault, is_stepped, stepping_refused}
 use Rattle.history_store.proofs.StepWrites.{some_rows, none_unfinished, wrote_shown, wrote_ok, wrote_err}
 use Rattle.history_store.proofs.store.Store.merge_step.Goals as goal
 use Rattle.history_store.proofs.store.Store.merge_step.Goals.{in-DiskFault, in_default-matches}
-
-pub returns-in_default-clause-any_moment : goal.returns-in_default-clause-any_moment
-returns-in_default-clause-any_moment g c =
-    rw (← c.self.view_is) (λ honest still. stayed _ _ _ refl (λ f image. (_, _, held_stands _ _ _ _ _ _ _ c.self.invariant.0 honest still f image)))
-
-pub returns-in_default-clause-acknowledged : goal.returns-in_default-clause-acknowledged
-returns-in_default-clause-acknowledged g c =
-    rw (← c.self.view_is) (λ honest still. record { open_still = still; each = held_stands _ _ _ _ _ _ _ c.self.invariant.0 honest still })
 
 pub invariant_of-self-in-Ok : goal.invariant_of-self-in-Ok
 invariant_of-self-in-Ok g c =
     let s = c.self.inside in
     let new = c.step-stepped.new in
     let lent = held_lent (g.D.Disk.view s.disk).is_honest (g.D.Disk.view s.disk).moments.state s.cache s.slot s.directory s.index s.needs_reopen c.self.invariant.0 c.if-self.false in
-    same_lists (g.D.Disk.view new.disk).is_honest (g.D.Disk.view new.disk).moments.state new.cache s.slot s.directory s.index new.index (Some new.merge) s.needs_reopen c.step-stepped.ensures.index (
+    same_lists (g.D.Disk.view new.disk).is_honest (g.D.Disk.view new.disk).moments.state new.cache s.slot s.directory s.index new.index (Some new.merge) s.needs_reopen c.step-stepped.ensures.step.0 (
       held_back (g.D.Disk.view new.disk).is_honest (g.D.Disk.view new.disk).moments.state new.cache s.slot s.directory s.index _ s.needs_reopen (c.in-Ok.ensures.held s.slot lent) (sym c.if-self.false),
       merge_back (g.D.Disk.view new.disk).is_honest (g.D.Disk.view new.disk).moments.state.now s.directory s.index new.merge _ s.needs_reopen c.in-Ok.ensures.merge (sym c.if-self.false),
     )
@@ -42,44 +33,26 @@ invariant_of-self-else-matches g c =
     let s = c.self.inside in
     let new = c.step-stepped.new in
     let other : c.in-Err.refusal ≢ refusals.DiskFault = elim c.match-matches.branch [ in-DiskFault w ↦ absurd (let off = c.if-matches.false in let on = w.matches-is in cc) | in_default-matches w ↦ λ is. w.in_default-matches.not-DiskFault is ] in
-    let open_still = no_fault c.in-Err.refusal c.in-Err.ensures.step.0 other ∙ sym c.if-self.false in
+    let open_still = no_fault c.in-Err.refusal c.in-Err.ensures.step.1.0 other ∙ sym c.if-self.false in
     let lent = held_lent (g.D.Disk.view s.disk).is_honest (g.D.Disk.view s.disk).moments.state s.cache s.slot s.directory s.index s.needs_reopen c.self.invariant.0 c.if-self.false in
-    same_lists (g.D.Disk.view new.disk).is_honest (g.D.Disk.view new.disk).moments.state new.cache s.slot s.directory s.index new.index (Some new.merge) s.needs_reopen c.step-stepped.ensures.index (
+    same_lists (g.D.Disk.view new.disk).is_honest (g.D.Disk.view new.disk).moments.state new.cache s.slot s.directory s.index new.index (Some new.merge) s.needs_reopen c.step-stepped.ensures.step.0 (
       held_back (g.D.Disk.view new.disk).is_honest (g.D.Disk.view new.disk).moments.state new.cache s.slot s.directory s.index _ s.needs_reopen (c.in-Err.ensures.held s.slot lent) open_still,
       merge_back (g.D.Disk.view new.disk).is_honest (g.D.Disk.view new.disk).moments.state.now s.directory s.index new.merge _ s.needs_reopen c.in-Err.ensures.merge open_still,
     )
 
 pub returns-in-Ok-clause-answer : goal.returns-in-Ok-clause-answer
 returns-in-Ok-clause-answer g c =
-    rw (← c.self.view_is) (is_stepped c.args.n c.left-left.result c.self.inside.directory c.self.inside.merge c.in-Some.merge c.step-stepped.new.merge c.in-Some.ensures.value c.left-left.ensures c.in-Ok.ensures.step, record { history = ap (λ l. history_of c.self.inside.directory l) c.step-stepped.ensures.index; was_open = c.if-self.false; open_still = c.if-self.false })
-
-pub returns-in-Ok-clause-acknowledged : goal.returns-in-Ok-clause-acknowledged
-returns-in-Ok-clause-acknowledged g c =
-    let s = c.self.inside in
-    let new = c.step-stepped.new in
-    let lent = held_lent (g.D.Disk.view s.disk).is_honest (g.D.Disk.view s.disk).moments.state s.cache s.slot s.directory s.index s.needs_reopen c.self.invariant.0 c.if-self.false in
-    let held = held_back (g.D.Disk.view new.disk).is_honest (g.D.Disk.view new.disk).moments.state new.cache s.slot s.directory s.index _ s.needs_reopen (c.in-Ok.ensures.held s.slot lent) (sym c.if-self.false) in
-    rw (← c.self.view_is) (λ honest still. record { open_still = still; each = held_stands _ _ _ _ _ _ _ (subst (λ l. IsHeld (g.D.Disk.view new.disk).is_honest (g.D.Disk.view new.disk).moments.state new.cache s.slot s.directory l s.needs_reopen) (sym c.step-stepped.ensures.index) held) (c.step-stepped.ensures.meters.honesty.0 honest) still })
+    rw (← c.self.view_is) (is_stepped c.args.n c.left-left.result c.self.inside.directory c.self.inside.merge c.in-Some.merge c.step-stepped.new.merge c.in-Some.ensures.value c.left-left.ensures c.in-Ok.ensures.step.1, record { history = ap (λ l. history_of c.self.inside.directory l) c.step-stepped.ensures.step.0; was_open = c.if-self.false; open_still = c.if-self.false })
 
 pub returns-then-matches-clause-answer : goal.returns-then-matches-clause-answer
 returns-then-matches-clause-answer g c =
     let disk : c.in-Err.refusal ≡ refusals.DiskFault = elim c.match-matches.branch [ in-DiskFault w ↦ w.in-DiskFault.is | in_default-matches w ↦ absurd (let on = c.if-matches.true in let off = w.matches-is in cc) ] in
-    rw (← c.self.view_is) (stepping_refused c.in-Err.refusal _ _ c.args.n c.self.inside.directory c.self.inside.merge c.in-Some.merge c.step-stepped.new.merge c.in-Some.ensures.value c.if-self.false refl refl (ap (λ l. history_of c.self.inside.directory l) c.step-stepped.ensures.index) c.in-Err.ensures.step (λ is. refl) (λ other. absurd (other disk)))
+    rw (← c.self.view_is) (stepping_refused c.in-Err.refusal _ _ c.args.n c.self.inside.directory c.self.inside.merge c.in-Some.merge c.step-stepped.new.merge c.in-Some.ensures.value c.if-self.false refl refl (ap (λ l. history_of c.self.inside.directory l) c.step-stepped.ensures.step.0) c.in-Err.ensures.step.1 (λ is. refl) (λ other. absurd (other disk)))
 
 pub returns-else-matches-clause-answer : goal.returns-else-matches-clause-answer
 returns-else-matches-clause-answer g c =
     let other : c.in-Err.refusal ≢ refusals.DiskFault = elim c.match-matches.branch [ in-DiskFault w ↦ absurd (let off = c.if-matches.false in let on = w.matches-is in cc) | in_default-matches w ↦ λ is. w.in_default-matches.not-DiskFault is ] in
-    rw (← c.self.view_is) (stepping_refused c.in-Err.refusal _ _ c.args.n c.self.inside.directory c.self.inside.merge c.in-Some.merge c.step-stepped.new.merge c.in-Some.ensures.value c.if-self.false refl refl (ap (λ l. history_of c.self.inside.directory l) c.step-stepped.ensures.index) c.in-Err.ensures.step (λ is. absurd (other is)) (λ still. refl))
-
-pub returns-else-matches-clause-acknowledged : goal.returns-else-matches-clause-acknowledged
-returns-else-matches-clause-acknowledged g c =
-    let s = c.self.inside in
-    let new = c.step-stepped.new in
-    let other : c.in-Err.refusal ≢ refusals.DiskFault = elim c.match-matches.branch [ in-DiskFault w ↦ absurd (let off = c.if-matches.false in let on = w.matches-is in cc) | in_default-matches w ↦ λ is. w.in_default-matches.not-DiskFault is ] in
-    let open_still = no_fault c.in-Err.refusal c.in-Err.ensures.step.0 other ∙ sym c.if-self.false in
-    let lent = held_lent (g.D.Disk.view s.disk).is_honest (g.D.Disk.view s.disk).moments.state s.cache s.slot s.directory s.index s.needs_reopen c.self.invariant.0 c.if-self.false in
-    let held = held_back (g.D.Disk.view new.disk).is_honest (g.D.Disk.view new.disk).moments.state new.cache s.slot s.directory s.index _ s.needs_reopen (c.in-Err.ensures.held s.slot lent) open_still in
-    rw (← c.self.view_is) (λ honest still. record { open_still = still; each = held_stands _ _ _ _ _ _ _ (subst (λ l. IsHeld (g.D.Disk.view new.disk).is_honest (g.D.Disk.view new.disk).moments.state new.cache s.slot s.directory l s.needs_reopen) (sym c.step-stepped.ensures.index) held) (c.step-stepped.ensures.meters.honesty.0 honest) still })
+    rw (← c.self.view_is) (stepping_refused c.in-Err.refusal _ _ c.args.n c.self.inside.directory c.self.inside.merge c.in-Some.merge c.step-stepped.new.merge c.in-Some.ensures.value c.if-self.false refl refl (ap (λ l. history_of c.self.inside.directory l) c.step-stepped.ensures.step.0) c.in-Err.ensures.step.1 (λ is. absurd (other is)) (λ still. refl))
 
 pub returns-in-Ok-clause-elsewhere : goal.returns-in-Ok-clause-elsewhere
 returns-in-Ok-clause-elsewhere g c =
@@ -119,64 +92,71 @@ returns-else-matches-clause-wrote g c =
     wrote_shown (Err c.in-Err.refusal) c.args.n s.directory s.index s.merge m (g.D.Disk.view s.disk).moments (g.D.Disk.view c.step-stepped.new.disk).moments value
     (wrote_err c.in-Err.refusal c.args.n _ _ _ _ (c.in-Err.ensures.wrote honest some (some_rows s.directory s.merge m value going))))
 
--- ---- what is looked up
+-- ---- what a crash leaves
 
-pub returns-then-self-clause-looked_up : goal.returns-then-self-clause-looked_up
-returns-then-self-clause-looked_up g c = rw (← c.self.view_is) (none_stepped _ (reserved_by (merge_of c.self.inside.merge)) _ _)
+pub returns-then-self-clause-crash : goal.returns-then-self-clause-crash
+returns-then-self-clause-crash g c =
+    rw (← c.self.view_is) (record {
+      closed = λ needs. refl;
+      any_moment = λ honest still. absurd (false≢true (sym still ∙ c.if-self.true));
+      acknowledged = λ honest still. absurd (false≢true (sym still ∙ c.if-self.true));
+    })
 
-pub returns-in_default-clause-looked_up : goal.returns-in_default-clause-looked_up
-returns-in_default-clause-looked_up g c = rw (← c.self.view_is) (none_stepped _ (reserved_by (merge_of c.self.inside.merge)) _ _)
+pub returns-in_default-clause-crash : goal.returns-in_default-clause-crash
+returns-in_default-clause-crash g c =
+    rw (← c.self.view_is) (record {
+      closed = λ needs. absurd (false≢true (sym c.if-self.false ∙ needs));
+      any_moment = λ honest still. stayed _ _ _ refl (λ f image. (_, _, held_stands _ _ _ _ _ _ _ c.self.invariant.0 honest still f image));
+      acknowledged = λ honest still. record { open_still = still; each = held_stands _ _ _ _ _ _ _ c.self.invariant.0 honest still };
+    })
 
-pub returns-in-Ok-clause-looked_up : goal.returns-in-Ok-clause-looked_up
-returns-in-Ok-clause-looked_up g c =
+pub returns-in-Ok-clause-crash : goal.returns-in-Ok-clause-crash
+returns-in-Ok-clause-crash g c =
     let s = c.self.inside in
     let new = c.step-stepped.new in
-    rw (← c.self.view_is) (subst (λ (o : Option MergeInProgress). LooksUpAndForgets (is_listed s.directory.entries) (reserved_by (merge_of o)) s.cache new.cache (g.D.Disk.view s.disk).bytes_read (g.D.Disk.view new.disk).bytes_read)
-    c.in-Some.ensures.value c.step-stepped.ensures.looked_up)
+    let lent = held_lent (g.D.Disk.view s.disk).is_honest (g.D.Disk.view s.disk).moments.state s.cache s.slot s.directory s.index s.needs_reopen c.self.invariant.0 c.if-self.false in
+    let held = held_back (g.D.Disk.view new.disk).is_honest (g.D.Disk.view new.disk).moments.state new.cache s.slot s.directory s.index _ s.needs_reopen (c.in-Ok.ensures.held s.slot lent) (sym c.if-self.false) in
+    rw (← c.self.view_is) (record {
+      closed = λ needs. absurd (false≢true (sym c.if-self.false ∙ needs));
+      any_moment = λ honest still. c.step-stepped.ensures.any_moment honest;
+      acknowledged = λ honest still. record { open_still = still; each = held_stands _ _ _ _ _ _ _ (subst (λ l. IsHeld (g.D.Disk.view new.disk).is_honest (g.D.Disk.view new.disk).moments.state new.cache s.slot s.directory l s.needs_reopen) (sym c.step-stepped.ensures.step.0) held) (c.step-stepped.ensures.meters.counts.honesty.0 honest) still };
+    })
 
-pub returns-then-matches-clause-looked_up : goal.returns-then-matches-clause-looked_up
-returns-then-matches-clause-looked_up g c =
+pub returns-then-matches-clause-crash : goal.returns-then-matches-clause-crash
+returns-then-matches-clause-crash g c =
+    rw (← c.self.view_is) (record {
+      closed = λ needs. absurd (false≢true (sym c.if-self.false ∙ needs));
+      any_moment = λ honest still. c.step-stepped.ensures.any_moment honest;
+      acknowledged = λ honest still. absurd (false≢true (sym still));
+    })
+
+pub returns-else-matches-clause-crash : goal.returns-else-matches-clause-crash
+returns-else-matches-clause-crash g c =
     let s = c.self.inside in
     let new = c.step-stepped.new in
-    rw (← c.self.view_is) (subst (λ (o : Option MergeInProgress). LooksUpAndForgets (is_listed s.directory.entries) (reserved_by (merge_of o)) s.cache new.cache (g.D.Disk.view s.disk).bytes_read (g.D.Disk.view new.disk).bytes_read)
-    c.in-Some.ensures.value c.step-stepped.ensures.looked_up)
+    let other : c.in-Err.refusal ≢ refusals.DiskFault = elim c.match-matches.branch [ in-DiskFault w ↦ absurd (let off = c.if-matches.false in let on = w.matches-is in cc) | in_default-matches w ↦ λ is. w.in_default-matches.not-DiskFault is ] in
+    let open_still = no_fault c.in-Err.refusal c.in-Err.ensures.step.1.0 other ∙ sym c.if-self.false in
+    let lent = held_lent (g.D.Disk.view s.disk).is_honest (g.D.Disk.view s.disk).moments.state s.cache s.slot s.directory s.index s.needs_reopen c.self.invariant.0 c.if-self.false in
+    let held = held_back (g.D.Disk.view new.disk).is_honest (g.D.Disk.view new.disk).moments.state new.cache s.slot s.directory s.index _ s.needs_reopen (c.in-Err.ensures.held s.slot lent) open_still in
+    rw (← c.self.view_is) (record {
+      closed = λ needs. absurd (false≢true (sym c.if-self.false ∙ needs));
+      any_moment = λ honest still. c.step-stepped.ensures.any_moment honest;
+      acknowledged = λ honest still. record { open_still = still; each = held_stands _ _ _ _ _ _ _ (subst (λ l. IsHeld (g.D.Disk.view new.disk).is_honest (g.D.Disk.view new.disk).moments.state new.cache s.slot s.directory l s.needs_reopen) (sym c.step-stepped.ensures.step.0) held) (c.step-stepped.ensures.meters.counts.honesty.0 honest) still };
+    })
 
-pub returns-else-matches-clause-looked_up : goal.returns-else-matches-clause-looked_up
-returns-else-matches-clause-looked_up g c =
-    let s = c.self.inside in
-    let new = c.step-stepped.new in
-    rw (← c.self.view_is) (subst (λ (o : Option MergeInProgress). LooksUpAndForgets (is_listed s.directory.entries) (reserved_by (merge_of o)) s.cache new.cache (g.D.Disk.view s.disk).bytes_read (g.D.Disk.view new.disk).bytes_read)
-    c.in-Some.ensures.value c.step-stepped.ensures.looked_up)
+-- ---- the meters
+
+pub returns-then-self-clause-meters : goal.returns-then-self-clause-meters
+returns-then-self-clause-meters g c = rw (← c.self.view_is) (step_refused refusals.ReopenNeeded _ _ _ _ _ refl)
+
+pub returns-in_default-clause-meters : goal.returns-in_default-clause-meters
+returns-in_default-clause-meters g c = rw (← c.self.view_is) (step_refused refusals.NoMerge _ _ _ _ _ refl)
 
 pub returns-in-Ok-clause-meters : goal.returns-in-Ok-clause-meters
-returns-in-Ok-clause-meters g c = record {
-  honesty = search rules;
-  failures = search rules;
-  bytes_read =
-      let s = c.self.inside in
-      let new = c.step-stepped.new in
-      rw (← c.self.view_is) (subst (λ (o : Option MergeInProgress). (g.D.Disk.view new.disk).bytes_read ≤ (g.D.Disk.view s.disk).bytes_read + step_cost c.args.n (merge_of o)) c.in-Some.ensures.value c.step-stepped.ensures.meters.bytes_read);
-  other_calls = search rules;
-}
+returns-in-Ok-clause-meters g c = rw (← c.self.view_is) (step_ok c.args.n _ _ _ _ _ _ _ c.in-Some.ensures.value tt c.left-left.result c.in-Ok.ensures.meters)
 
 pub returns-then-matches-clause-meters : goal.returns-then-matches-clause-meters
-returns-then-matches-clause-meters g c = record {
-  honesty = search rules;
-  failures = search rules;
-  bytes_read =
-      let s = c.self.inside in
-      let new = c.step-stepped.new in
-      rw (← c.self.view_is) (subst (λ (o : Option MergeInProgress). (g.D.Disk.view new.disk).bytes_read ≤ (g.D.Disk.view s.disk).bytes_read + step_cost c.args.n (merge_of o)) c.in-Some.ensures.value c.step-stepped.ensures.meters.bytes_read);
-  other_calls = search rules;
-}
+returns-then-matches-clause-meters g c = rw (← c.self.view_is) (step_err c.args.n _ _ _ _ _ _ _ c.in-Some.ensures.value c.in-Err.refusal c.in-Err.ensures.meters)
 
 pub returns-else-matches-clause-meters : goal.returns-else-matches-clause-meters
-returns-else-matches-clause-meters g c = record {
-  honesty = search rules;
-  failures = search rules;
-  bytes_read =
-      let s = c.self.inside in
-      let new = c.step-stepped.new in
-      rw (← c.self.view_is) (subst (λ (o : Option MergeInProgress). (g.D.Disk.view new.disk).bytes_read ≤ (g.D.Disk.view s.disk).bytes_read + step_cost c.args.n (merge_of o)) c.in-Some.ensures.value c.step-stepped.ensures.meters.bytes_read);
-  other_calls = search rules;
-}
+returns-else-matches-clause-meters g c = rw (← c.self.view_is) (step_err c.args.n _ _ _ _ _ _ _ c.in-Some.ensures.value c.in-Err.refusal c.in-Err.ensures.meters)

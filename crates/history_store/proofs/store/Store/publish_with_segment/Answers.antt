@@ -1,5 +1,5 @@
 use Rattle.std.proofs.Common.{◌≡◌, false, subst, sym, ap, ◌∙◌, refl, arith, length}
-use Rattle.store_image.proofs.Damaged.{segments_count as lists_count}
+use Rattle.std.proofs.lemmas.Bool.{false≢true}
 use Rattle.blocks.specs.Slots.{other}
 use Rattle.blocks.specs.Cache.{is_in, Forgets}
 use Rattle.directory.specs.Listings.{DirectoryValue}
@@ -51,45 +51,65 @@ returns-in-Ok-clause-step g c =
     let still = subst (λ (s : StoreValue g.row.D.Denot). s.needs_reopen ≡ false) (sym c.self.view_is) c.requires.still in
     rw (← c.self.view_is) (with_more c.self.inside.directory c.args.prepared.directory c.self.inside.index c.add.new.self c.args.prepared.index c.self.invariant.0.kept c.add.ensures for.apart (ap (λ (l : DirectoryValue). l.imports) for.prepared.directory_is), refl, still)
 
-pub returns-in-Ok-clause-any_moment : goal.returns-in-Ok-clause-any_moment
-returns-in-Ok-clause-any_moment g c =
-    let still = subst (λ (s : StoreValue g.row.D.Denot). s.needs_reopen ≡ false) (sym c.self.view_is) c.requires.still in
-    let for = subst (λ (s : StoreValue g.row.D.Denot). IsPreparedFor s c.args.prepared) (sym c.self.view_is) c.requires.prepared in
-    let added = is_added _ c.self.inside.directory c.self.inside.index c.args.prepared c.self.invariant.0.kept refl refl refl refl refl for in
-    rw (← c.self.view_is) (λ up. leaves_added _ _ _ c.self.inside.cache _ c.self.inside.directory c.args.prepared.directory c.args.prepared.entry _ c.args.prepared.index _ c.self.invariant.0 up still added for.apart (ap (λ (l : DirectoryValue). l.imports) for.prepared.directory_is) (ap (λ (l : DirectoryValue). l.layout) for.prepared.directory_is)
-    (λ honest given lists segment on is same. c.in-Ok.ensures.any_moment honest given lists segment on is (c.deref.ensures.value ∙ for.prepared.bytes_are ∙ ap (segment_in c.args.prepared.entry.form) (sym same))))
-
-pub returns-in-Ok-clause-acknowledged : goal.returns-in-Ok-clause-acknowledged
-returns-in-Ok-clause-acknowledged g c =
-    let for = subst (λ (s : StoreValue g.row.D.Denot). IsPreparedFor s c.args.prepared) (sym c.self.view_is) c.requires.prepared in
-    let added = is_added _ c.self.inside.directory c.self.inside.index c.args.prepared c.self.invariant.0.kept refl refl refl refl refl for in
-    let held = held_added _ (g.D.Disk.view c.add_segment.new.disk).is_honest _ (g.D.Disk.view c.add_segment.new.disk).moments.state c.self.inside.cache c.forget.new.self c.forget-in-Ok.new.self _ c.in-Ok.slot c.self.inside.directory c.args.prepared.directory c.args.prepared.entry c.self.inside.index c.add.new.self c.args.prepared.index c.self.inside.needs_reopen c.self.invariant.0 c.add_segment.ensures.meters.honesty.1 added c.in-Ok.ensures.next
-    (λ honest given lists segment on is same. c.in-Ok.ensures.on_disk honest given lists segment on is (c.deref.ensures.value ∙ for.prepared.bytes_are ∙ ap (segment_in c.args.prepared.entry.form) (sym same)))
-    c.in-Ok.ensures.elsewhere (subst (λ x. Forgets (is_in x) c.self.inside.cache c.forget.new.self) c.extent.ensures c.forget.ensures) (subst (λ x. Forgets (is_in x) c.forget.new.self c.forget-in-Ok.new.self) c.extent-in-Ok.ensures c.forget-in-Ok.ensures)
-    c.add.ensures in
-    rw (← c.self.view_is) (λ honest still. record { open_still = still; each = held_stands _ _ _ _ _ _ _ held (c.add_segment.ensures.meters.honesty.0 honest) still })
-
-pub returns-in-Err-clause-any_moment : goal.returns-in-Err-clause-any_moment
-returns-in-Err-clause-any_moment g c =
-    let still = subst (λ (s : StoreValue g.row.D.Denot). s.needs_reopen ≡ false) (sym c.self.view_is) c.requires.still in
-    let for = subst (λ (s : StoreValue g.row.D.Denot). IsPreparedFor s c.args.prepared) (sym c.self.view_is) c.requires.prepared in
-    let added = is_added _ c.self.inside.directory c.self.inside.index c.args.prepared c.self.invariant.0.kept refl refl refl refl refl for in
-    rw (← c.self.view_is) (λ up. leaves_added _ _ _ c.self.inside.cache _ c.self.inside.directory c.args.prepared.directory c.args.prepared.entry _ c.args.prepared.index _ c.self.invariant.0 up still added for.apart (ap (λ (l : DirectoryValue). l.imports) for.prepared.directory_is) (ap (λ (l : DirectoryValue). l.layout) for.prepared.directory_is)
-    (λ honest given lists segment on is same. c.in-Err.ensures.any_moment honest given lists segment on is (c.deref.ensures.value ∙ for.prepared.bytes_are ∙ ap (segment_in c.args.prepared.entry.form) (sym same))))
-
 pub returns-in-Ok-clause-elsewhere : goal.returns-in-Ok-clause-elsewhere
 returns-in-Ok-clause-elsewhere g c =
     let for = subst (λ (s : StoreValue g.row.D.Denot). IsPreparedFor s c.args.prepared) (sym c.self.view_is) c.requires.prepared in
     rw (← c.self.view_is) (λ honest. one_added (other c.self.inside.slot) c.args.prepared.entry c.self.inside.directory.entries c.args.prepared.directory.entries _ _ (ap (λ (l : DirectoryValue). l.entries) for.prepared.directory_is) (c.in-Ok.ensures.elsewhere honest))
-
-pub returns-in-Ok-clause-forgets : goal.returns-in-Ok-clause-forgets
-returns-in-Ok-clause-forgets g c =
-    let for = subst (λ (s : StoreValue g.row.D.Denot). IsPreparedFor s c.args.prepared) (sym c.self.view_is) c.requires.prepared in
-    rw (← c.self.view_is) (segment_forgotten c.args.prepared.entry c.self.inside.directory.entries c.args.prepared.directory.entries c.in-Ok.slot _ c.forget.new.self _ (ap (λ (l : DirectoryValue). l.entries) for.prepared.directory_is)
-    (subst (λ x. Forgets (is_in x) c.self.inside.cache c.forget.new.self) c.extent.ensures c.forget.ensures) (subst (λ x. Forgets (is_in x) c.forget.new.self c.forget-in-Ok.new.self) c.extent-in-Ok.ensures c.forget-in-Ok.ensures))
 
 pub returns-in-Ok-clause-inside : goal.returns-in-Ok-clause-inside
 returns-in-Ok-clause-inside g c = rw (← c.self.view_is) (λ honest. leaves_but_segment (other c.self.inside.slot) _ _ _ (c.in-Ok.ensures.inside honest))
 
 pub returns-in-Err-clause-inside : goal.returns-in-Err-clause-inside
 returns-in-Err-clause-inside g c = rw (← c.self.view_is) (λ honest. leaves_but_segment (other c.self.inside.slot) _ _ _ (c.in-Err.ensures.inside honest))
+
+pub returns-in-Ok-clause-crash : goal.returns-in-Ok-clause-crash
+returns-in-Ok-clause-crash g c =
+    let was_open = subst (λ (s : StoreValue g.row.D.Denot). s.needs_reopen ≡ false) (sym c.self.view_is) c.requires.still in
+    let for = subst (λ (s : StoreValue g.row.D.Denot). IsPreparedFor s c.args.prepared) (sym c.self.view_is) c.requires.prepared in
+    let added = is_added _ c.self.inside.directory c.self.inside.index c.args.prepared c.self.invariant.0.kept refl refl refl refl refl for in
+    let held = held_added _ (g.D.Disk.view c.add_segment.new.disk).is_honest _ (g.D.Disk.view c.add_segment.new.disk).moments.state c.self.inside.cache c.forget.new.self c.forget-in-Ok.new.self _ c.in-Ok.slot c.self.inside.directory c.args.prepared.directory c.args.prepared.entry c.self.inside.index c.add.new.self c.args.prepared.index c.self.inside.needs_reopen c.self.invariant.0 c.add_segment.ensures.meters.honesty.1 added c.in-Ok.ensures.next
+    (λ honest given lists segment on is same. c.in-Ok.ensures.on_disk honest given lists segment on is (c.deref.ensures.value ∙ for.prepared.bytes_are ∙ ap (segment_in c.args.prepared.entry.form) (sym same)))
+    c.in-Ok.ensures.elsewhere (subst (λ x. Forgets (is_in x) c.self.inside.cache c.forget.new.self) c.extent.ensures c.forget.ensures) (subst (λ x. Forgets (is_in x) c.forget.new.self c.forget-in-Ok.new.self) c.extent-in-Ok.ensures c.forget-in-Ok.ensures)
+    c.add.ensures in
+    rw (← c.self.view_is) (record {
+      closed = λ needs. absurd (false≢true (sym was_open ∙ needs));
+      any_moment = λ honest still. leaves_added _ _ _ c.self.inside.cache _ c.self.inside.directory c.args.prepared.directory c.args.prepared.entry _ c.args.prepared.index _ c.self.invariant.0 honest still added for.apart (ap (λ (l : DirectoryValue). l.imports) for.prepared.directory_is) (ap (λ (l : DirectoryValue). l.layout) for.prepared.directory_is)
+          (λ honest given lists segment on is same. c.in-Ok.ensures.any_moment honest given lists segment on is (c.deref.ensures.value ∙ for.prepared.bytes_are ∙ ap (segment_in c.args.prepared.entry.form) (sym same)));
+      acknowledged = λ honest still. record { open_still = still; each = held_stands _ _ _ _ _ _ _ held (c.add_segment.ensures.meters.honesty.0 honest) still };
+    })
+
+pub returns-in-Err-clause-crash : goal.returns-in-Err-clause-crash
+returns-in-Err-clause-crash g c =
+    let was_open = subst (λ (s : StoreValue g.row.D.Denot). s.needs_reopen ≡ false) (sym c.self.view_is) c.requires.still in
+    let for = subst (λ (s : StoreValue g.row.D.Denot). IsPreparedFor s c.args.prepared) (sym c.self.view_is) c.requires.prepared in
+    let added = is_added _ c.self.inside.directory c.self.inside.index c.args.prepared c.self.invariant.0.kept refl refl refl refl refl for in
+    rw (← c.self.view_is) (record {
+      closed = λ needs. absurd (false≢true (sym was_open ∙ needs));
+      any_moment = λ honest still. leaves_added _ _ _ c.self.inside.cache _ c.self.inside.directory c.args.prepared.directory c.args.prepared.entry _ c.args.prepared.index _ c.self.invariant.0 honest still added for.apart (ap (λ (l : DirectoryValue). l.imports) for.prepared.directory_is) (ap (λ (l : DirectoryValue). l.layout) for.prepared.directory_is)
+          (λ honest given lists segment on is same. c.in-Err.ensures.any_moment honest given lists segment on is (c.deref.ensures.value ∙ for.prepared.bytes_are ∙ ap (segment_in c.args.prepared.entry.form) (sym same)));
+      acknowledged = λ honest still. absurd (false≢true (sym still));
+    })
+
+pub returns-in-Ok-clause-meters : goal.returns-in-Ok-clause-meters
+returns-in-Ok-clause-meters g c =
+    let for = subst (λ (s : StoreValue g.row.D.Denot). IsPreparedFor s c.args.prepared) (sym c.self.view_is) c.requires.prepared in
+    let m = c.in-Ok.ensures.meters in
+    rw (← c.self.view_is) (record {
+      counts = record { honesty = m.honesty; failures = m.failures; bytes_read = m.bytes_read; other_calls = m.other_calls };
+      uncalled = tt;
+      calls = c.in-Ok.ensures.calls;
+      drops = segment_forgotten c.args.prepared.entry c.self.inside.directory.entries c.args.prepared.directory.entries c.in-Ok.slot _ c.forget.new.self _ (ap (λ (l : DirectoryValue). l.entries) for.prepared.directory_is)
+          (subst (λ x. Forgets (is_in x) c.self.inside.cache c.forget.new.self) c.extent.ensures c.forget.ensures) (subst (λ x. Forgets (is_in x) c.forget.new.self c.forget-in-Ok.new.self) c.extent-in-Ok.ensures c.forget-in-Ok.ensures);
+      keeps = tt;
+    })
+
+pub returns-in-Err-clause-meters : goal.returns-in-Err-clause-meters
+returns-in-Err-clause-meters g c =
+    let m = c.in-Err.ensures.meters in
+    rw (← c.self.view_is, c.from.ensures) (record {
+      counts = record { honesty = m.honesty; failures = m.failures; bytes_read = m.bytes_read; other_calls = m.other_calls };
+      uncalled = λ other. absurd (other refl);
+      calls = c.in-Err.ensures.calls;
+      drops = tt;
+      keeps = refl;
+    })
