@@ -1,9 +1,10 @@
 -- Which answer a line gets, and the server after it.
 use Rattle.std.specs.Prelude.{◌≡◌, ◌≢◌, ℕ, ◌≤◌, ◌<◌, ◌⊎◌, Bool, true, false, List, [], ◌∷◌, length}
-use Rattle.std.specs.Prelude.{codes}
+use Rattle.std.specs.Prelude.{map, codes}
 use Rattle.std.specs.Prelude.{decimal, slice_set, option_map, Option, Some, None, Result, Ok, Err}
 use Rattle.std.specs.Prelude.{option_to_list}
 use Rattle.rf2_values.specs.Row.{RowValue}
+use Rattle.rf2_values.specs.Key.{key_of}
 use Rattle.history_model.specs.declared.receipt.Receipt.{Receipt}
 use Rattle.history_model.specs.History.{rows_at}
 use Rattle.history_model.specs.Brought.{ImportReceiptOf}
@@ -96,9 +97,16 @@ IsFound AskDates rows answer = answer ≡ Dates (dates rows)
 IsFound Digest rows answer = answer ≡ digits_of (digest_of rows)
 IsFound (AskReceipt number) rows answer = ⊥
 
+-- the rows have the same keys as those that the question finds
+abbrev pub HaveKeysFound : Question → List RowValue → List RowValue → Type 0
+HaveKeysFound question rows given =
+    (wanted : List RowValue) → IsFound question rows (Rows wanted)
+    → map key_of given ≡ map key_of wanted
+
 -- The answer is what the question finds: on every disk if the index alone finds it, and otherwise,
--- when rows are read, on an honest disk. On every disk the answer consists of rows; for ANCESTORS
--- of identifiers, and for DIGEST of the digits of 32 bytes.
+-- when rows are read, on an honest disk. On every disk the answer consists of rows with the same
+-- keys as those that the question finds; for ANCESTORS of identifiers, and for DIGEST of the digits
+-- of 32 bytes.
 abbrev pub IsFinding : Type 0 → Question → List RowValue → Answer → Type 0
 IsFinding honest (Children concept date) rows answer =
     IsFound (Children concept date) rows answer
@@ -110,8 +118,8 @@ IsFinding honest (Ancestors concept date) rows answer =
     (ids : List ℕ) × (answer ≡ Ids ids) × (honest → IsFound (Ancestors concept date) rows answer)
 IsFinding honest Digest rows answer = (digest : List ℕ) × (length digest ≡ 32)
     × (answer ≡ digits_of digest) × (honest → IsFound Digest rows answer)
-IsFinding honest question rows answer =
-    (given : List RowValue) × (answer ≡ Rows given) × (honest → IsFound question rows answer)
+IsFinding honest question rows answer = (given : List RowValue) × (answer ≡ Rows given)
+    × HaveKeysFound question rows given × (honest → IsFound question rows answer)
 
 -- the session's pin is set or removed; the store and its disk are unchanged
 abbrev pub IsPinned : {D : Type 0} → Server D → Server D → ℕ → Option ℕ → Type 0
