@@ -18,7 +18,7 @@ use Rattle.history_store.specs.declared.refusal.Refusal.{Refusal}
 use Rattle.history_store.specs.declared.refusal.Refusal.TheVariants as store
 use Rattle.history_store.specs.Catalog.{Merge as CatalogMerge}
 use Rattle.history_store.specs.StoreValue.{StoreValue}
-use Rattle.store_digest.specs.Digest.{digest_of}
+use Rattle.store_digest.specs.Digest.{digest_of, IsDigestByKey}
 use Rattle.history_store.specs.Answers.{IsImportOf, IsImportOnAnyDisk, IsReadRefusal, IsRefused}
 use Rattle.history_store.specs.Checking.{IsCheckingOf, IsCheckingOnAnyDisk}
 use Rattle.history_store.specs.MergeAnswers.{IsBeginningOf, IsSteppingOf, IsPublishingOf}
@@ -106,7 +106,7 @@ HaveKeysFound question rows given =
 -- The answer is what the question finds: on every disk if the index alone finds it, and otherwise,
 -- when rows are read, on an honest disk. On every disk the answer consists of rows with the same
 -- keys as those that the question finds; for ANCESTORS of identifiers, and for DIGEST of the digits
--- of 32 bytes.
+-- of a digest of rows with the keys of all.
 abbrev pub IsFinding : Type 0 → Question → List RowValue → Answer → Type 0
 IsFinding honest (Children concept date) rows answer =
     IsFound (Children concept date) rows answer
@@ -117,7 +117,8 @@ IsFinding honest (AskReceipt number) rows answer = ⊥
 IsFinding honest (Ancestors concept date) rows answer =
     (ids : List ℕ) × (answer ≡ Ids ids) × (honest → IsFound (Ancestors concept date) rows answer)
 IsFinding honest Digest rows answer = (digest : List ℕ) × (length digest ≡ 32)
-    × (answer ≡ digits_of digest) × (honest → IsFound Digest rows answer)
+    × (answer ≡ digits_of digest) × IsDigestByKey digest rows
+    × (honest → IsFound Digest rows answer)
 IsFinding honest question rows answer = (given : List RowValue) × (answer ≡ Rows given)
     × HaveKeysFound question rows given × (honest → IsFound question rows answer)
 
