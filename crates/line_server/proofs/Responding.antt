@@ -13,7 +13,7 @@ use Rattle.history_store.specs.Queries.{is_listed}
 use Rattle.blocks.proofs.Looked.{none_looks_up}
 use Rattle.history_store.specs.Answers.{CountsRefusal}
 use Rattle.line_commands.specs.declared.unread.Unread.{Unread}
-use Rattle.line_commands.specs.Questions.{Question, Children, Descendants, Dates, Digest, Receipt as AskReceipt}
+use Rattle.line_commands.specs.Questions.{Question, Children, Ancestors, Descendants, Dates, Digest, Receipt as AskReceipt}
 use Rattle.line_commands.specs.Commands.{Command, At, Import, Check, Pin, Unpin, Merge, Step, Publish, Status}
 use Rattle.line_commands.specs.Requests.{Asks, IsUnread}
 use Rattle.line_commands.proofs.Readings.{asked_is_read, one_reading}
@@ -178,8 +178,9 @@ module _ {D : Type 0} (view : D → DiskView) (number : ℕ) (question : Questio
         unseen_left (Descendants concept date) = refl
         unseen_left Dates = refl
         unseen_left (AskReceipt other) = refl
+        unseen_left (Ancestors concept date) = ((λ h. refl, none_looks_up (is_listed old.catalog.entries) old.cache (view old.disk).bytes_read), tt, λ up above are. omega arith)
         unseen_left Digest = ((λ h. refl, none_looks_up (is_listed old.catalog.entries) old.cache (view old.disk).bytes_read), omega arith)
-        unseen_left other = ((λ h. refl, none_looks_up (is_listed old.catalog.entries) old.cache (view old.disk).bytes_read), tt)
+        unseen_left other = ((λ h. refl, none_looks_up (is_listed old.catalog.entries) old.cache (view old.disk).bytes_read), tt, λ wanted found. omega arith)
 
 -- ---- pins
 
@@ -235,8 +236,8 @@ module _ {D : Type 0} (source : SourceView) (view : D → DiskView) (line : List
     held_left seen (Import name) h = λ up. refl
     held_left seen (Check name) h = (λ up. refl, none_looks_up (is_listed s.store.catalog.entries) s.store.cache (view s.store.disk).bytes_read)
     held_left seen Merge h = refl
-    held_left seen (Step rows) h = (λ up. refl, (s.store.cache, none_looks_up (is_listed s.store.catalog.entries) s.store.cache (view s.store.disk).bytes_read, inl refl))
-    held_left seen Publish h = (λ up. refl, omega arith)
+    held_left seen (Step rows) h = (λ up. refl, (s.store.cache, none_looks_up (is_listed s.store.catalog.entries) s.store.cache (view s.store.disk).bytes_read, inl refl), (omega arith, omega arith))
+    held_left seen Publish h = (λ up. refl, (omega arith, omega arith))
     held_left seen c h = absurd h
 
     goes_held : (releases : Releases) → GoesBy (view s.store.disk).is_honest releases s (turn_of (Err (refusals.Store store.Damaged)) Other s s line) s
