@@ -221,6 +221,7 @@ module _ {D : Type 0} (source : SourceView) (view : D → DiskView) where
       rest = h.part;
       front = ([], sym (append-nil piece));
       all = refl;
+      dropped = tt;
       lines = h.cut;
       number = ends_behind piece (length h.turns) h.ends;
       kept_is = h.buffer_is;
@@ -244,6 +245,7 @@ module _ {D : Type 0} (source : SourceView) (view : D → DiskView) where
           rest = [];
           front = (more, is);
           all = tt;
+          dropped = refl;
           lines = subst (λ (l : List ℕ). AreCut l (lines_asked (h.turns ++ t ∷ [])) []) (append_assoc part taken (10 ∷ []))
               (subst (λ (ls : List (List ℕ)). AreCut ((part ++ taken) ++ 10 ∷ []) ls []) (asked_more h.turns t) (cut_line (part ++ taken) (lines_asked h.turns) h.part h.cut));
           number = ends_behind (taken ++ 10 ∷ []) (length (h.turns ++ t ∷ []))
@@ -268,6 +270,7 @@ module _ {D : Type 0} (source : SourceView) (view : D → DiskView) where
       rest = f.rest;
       front = f.front;
       all = f.all;
+      dropped = f.dropped;
       lines = f.lines;
       number = f.number;
       kept_is = f.kept_is;
