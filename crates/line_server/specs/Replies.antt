@@ -313,6 +313,12 @@ NamesRelease (Import name) other = other ≡ name
 NamesRelease (Check name) other = other ≡ name
 NamesRelease command other = ⊥
 
+-- the line asks the source for no release: its command names none, or is held back
+abbrev pub AsksNoRelease : (line : List ℕ) (met_damage : Bool) → Type 0
+AsksNoRelease line met_damage =
+    (session : ℕ) (command : Command) (name : List ℕ) → Asks line session command
+    → NamesRelease command name → HoldsBack met_damage command
+
 -- the refusal of a command, and the server after it
 abbrev pub IsRefusal : {D : Type 0} → Type 0 → Releases → ℕ → Command → LineRefusal → Server D
     → Server D → Type 0

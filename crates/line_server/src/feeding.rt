@@ -3,7 +3,7 @@
 ghost use Rattle.std.specs.Prelude.{◌≡◌, ℕ, List};
 ghost use Rattle.line_server.specs.Sources.{source_view};
 ghost use Rattle.line_server.specs.Pins.{AreWithin};
-ghost use Rattle.line_server.specs.Replies.{server};
+ghost use Rattle.line_server.specs.Replies.{server, AsksNoRelease};
 ghost use Rattle.line_server.specs.Steps.{kept};
 ghost use Rattle.line_server.specs.ReplyValue.{reply_value, bytes_of};
 ghost use Rattle.line_server.specs.Turns.{HasTurn};
@@ -36,6 +36,7 @@ pub(crate) fn answer_line<W: Write, S: Source, D: Disk>(
         (server state.old store.old) (server state.new store.new)
         (λ turn. IsPut result (W.contents writer.old) (W.contents writer.new)
         (bytes_of (reply_value turn.outcome))) }
+    ensures unasked { AsksNoRelease line.now state.old.met_damage → source.new ≡ source.old }
     ensures source { S.is_honest source.old → S.is_honest source.new }
     ensures stays { S.is_honest source.old → S.releases source.new ≡ S.releases source.old }
 {
