@@ -1,5 +1,5 @@
 -- Lines that are answered one after the other.
-use Rattle.std.specs.Prelude.{◌≡◌, ℕ, ◌≤◌, List, [], ◌∷◌, map, take, Some}
+use Rattle.std.specs.Prelude.{◌≡◌, Bool, ℕ, ◌≤◌, List, [], ◌∷◌, map, take, Some}
 use Rattle.std.specs.Prelude.{Result, Ok, Err, OnOk, sum_by, ◌+◌}
 use Rattle.disk_model.specs.View.{DiskView, AtMost}
 use Rattle.std.specs.List.{flat_map}
@@ -24,7 +24,8 @@ use Rattle.line_server.specs.declared.refusal.LineRefusal.{LineRefusal}
 use Rattle.line_server.specs.declared.refusal.LineRefusal.TheVariants as refusals
 use Rattle.line_server.specs.Sources.{Releases, SourceView, scope_of}
 use Rattle.line_server.specs.ReplyValue.{Answer, Rows, Ids, ReplyValue, reply_value, bytes_of}
-use Rattle.line_server.specs.Replies.{Server, Replies, IsFound, imports_seen}
+use Rattle.line_server.specs.StateValue.{met_after}
+use Rattle.line_server.specs.Replies.{Server, Replies, IsFound, AsksNoRelease, imports_seen}
 use Rattle.store_life.specs.Life.{Call, Imported, Failed, Other, IsCall}
 
 -- a line, its outcome, and how it changed the store's history
@@ -197,6 +198,13 @@ abbrev pub Run : {D : Type 0} → SourceView → (D → DiskView) → Server D �
 Run {D} source view old [] new = new ≡ old
 Run {D} source view old (turn ∷ turns) new =
     (mid : Server D) × IsTurn source view old turn mid × Run source view mid turns new
+
+-- None of the lines asks the source for a release: none names one, unless it is held back. The
+-- first argument says whether damage was found before them.
+abbrev pub AskNoRelease : (met_damage : Bool) → List Turn → Type 0
+AskNoRelease met_damage [] = Unit {0}
+AskNoRelease met_damage (turn ∷ turns) = AsksNoRelease turn.line met_damage
+    × AskNoRelease (met_after turn.outcome met_damage) turns
 
 abbrev pub lines_asked : List Turn → List (List ℕ)
 lines_asked turns = map (λ turn. turn.line) turns
