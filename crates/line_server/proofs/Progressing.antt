@@ -214,8 +214,8 @@ module _ {D : Type 0} (source : SourceView) (view : D → DiskView) where
   -- ---- pieces
 
   -- a piece was taken, and the source is the same, if none of its lines asked it for a release
-  abbrev pub Fed : {E : Type 0} → Type 0 → Result ℕ E → Intake → Server D → Server D → Type 0
-  Fed same result taken before after = (f : IsFed result source view taken before after) × (AskNoRelease before.met_damage f.turns → same)
+  abbrev pub IsFedUnasked : {E : Type 0} → Type 0 → Result ℕ E → Intake → Server D → Server D → Type 0
+  IsFedUnasked same result taken before after = (f : IsFed result source view taken before after) × (AskNoRelease before.met_damage f.turns → same)
 
   module _ (old mid : Option (List ℕ)) (before now : Server D) (part piece : List ℕ) (free : IsUnended part) where
     -- as many lines ended as ended behind the part
@@ -223,7 +223,7 @@ module _ {D : Type 0} (source : SourceView) (view : D → DiskView) where
     ends_behind taken n e = let b = ends_both part taken in let z = none_ends part free in omega (arith, e, b, z)
 
     -- all of the piece was taken
-    pub fed : {E same : Type 0} (buffer : List ℕ) (answered : ℕ) → Progress same old mid before now (part ++ piece) buffer answered → Fed {E = E} same (Ok answered) (intake part piece buffer old mid) before now
+    pub fed : {E same : Type 0} (buffer : List ℕ) (answered : ℕ) → Progress same old mid before now (part ++ piece) buffer answered → IsFedUnasked {E = E} same (Ok answered) (intake part piece buffer old mid) before now
     fed buffer answered h = (
       record {
         turns = h.turns;
@@ -246,7 +246,7 @@ module _ {D : Type 0} (source : SourceView) (view : D → DiskView) where
     pub not_replied : {E same left : Type 0} (fault : E) (new : Option (List ℕ)) (after : Server D) (taken more buffer later : List ℕ) (answered : ℕ) (outcome : Result Answer LineRefusal) (call : Call)
         → Progress same old mid before now (part ++ taken) buffer answered → piece ≡ (taken ++ 10 ∷ []) ++ more
         → Gives outcome call now after (no_cr buffer) → (AsksNoRelease (no_cr buffer) now.met_damage → same → left) → AppendsSome mid new (bytes_of (reply_value outcome)) → later ≡ []
-        → Fed left (Err fault) (intake part piece later old new) before after
+        → IsFedUnasked left (Err fault) (intake part piece later old new) before after
     unfolding room
     not_replied fault new after taken more buffer later answered outcome call h is g step w empty =
         let t = turn outcome call now after (no_cr h.part) in
@@ -277,7 +277,7 @@ module _ {D : Type 0} (source : SourceView) (view : D → DiskView) where
     run_now (turn ∷ turns) old new run =
         (run.0, turn_now turn.outcome turn.call old run.0 source view now turn.line same run.1, run_now turns run.0 new run.2)
 
-    pub fed_now : {E unchanged : Type 0} (result : Result ℕ E) (taken : Intake) (before after : Server D) → (f : IsFed result now view taken before after) × (AskNoRelease before.met_damage f.turns → unchanged) → Fed unchanged result taken before after
+    pub fed_now : {E unchanged : Type 0} (result : Result ℕ E) (taken : Intake) (before after : Server D) → (f : IsFed result now view taken before after) × (AskNoRelease before.met_damage f.turns → unchanged) → IsFedUnasked unchanged result taken before after
     fed_now result taken before after fed = (
       record {
         turns = fed.0.turns;
@@ -310,7 +310,7 @@ module _ {D : Type 0} (source : SourceView) (view : D → DiskView) where
 
   module _ (same : Type 0) (old mid : Option (List ℕ)) (before now : Server D) (seen buffer : List ℕ) (served : ℕ) (h : Progress same old mid before now seen buffer served) where
     -- a piece was fed
-    pub piece_more : {E step whole : Type 0} (new : Option (List ℕ)) (after : Server D) (piece later : List ℕ) (n : ℕ) → Fed {E = E} step (Ok n) (intake h.part piece later mid new) now after → (step → same → whole)
+    pub piece_more : {E step whole : Type 0} (new : Option (List ℕ)) (after : Server D) (piece later : List ℕ) (n : ℕ) → IsFedUnasked {E = E} step (Ok n) (intake h.part piece later mid new) now after → (step → same → whole)
         → Progress whole old new before after (seen ++ piece) later (min (served + n) (2 ^ 64 - 1))
     piece_more new after piece later n fed both = let f = fed.0 in record {
       turns = h.turns ++ f.turns;
@@ -415,7 +415,7 @@ module _ {D : Type 0} (source : SourceView) (view : D → DiskView) where
 
     -- the reply to a line of a piece wasn't written whole
     pub unwritten : {E same step whole : Type 0} (fault : E) (mid new : Option (List ℕ)) (state later : StateValue) (now after : StoreValue D) (seen buffer piece left : List ℕ) (served : ℕ) (h : Progress same old mid start (server state now) seen buffer served)
-        → Fed step (Err fault) (intake h.part piece left mid new) (server state now) (server later after) → (step → same → whole)
+        → IsFedUnasked step (Err fault) (intake h.part piece left mid new) (server state now) (server later after) → (step → same → whole)
         → Consumes input rest (seen ++ piece) → length (seen ++ piece) ≤ most * 4096 → length piece ≤ 4096
         → (pieces : List Reading) → All IsPiece pieces → seen ≡ all_of pieces → Makes begun made (pieces ++ Gave piece ∷ []) → length pieces < most → Out whole (Err faults.Write) new after
     unwritten fault mid new state later now after seen buffer piece left served h fed both c few short pieces each all makes lt =

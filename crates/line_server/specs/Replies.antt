@@ -38,8 +38,8 @@ use Rattle.line_server.specs.StateValue.{StateValue, HoldsBack, met_after}
 use Rattle.line_server.specs.Sources.{Releases, scope_of}
 use Rattle.line_server.specs.ReplyValue.{Answer, Rows, Ids, Dates, Done, digits_of}
 
--- what a reply depends on: the pins of the sessions, the store, and whether a call of the store has
--- returned refusal 8 since it was opened
+-- what a reply depends on: the pins of the sessions, the store, and whether a line was refused with
+-- 8 (`Damaged`) since the store was opened
 pub record Server (D : Type 0) : Type 0 where
   pub pins : List (Option ℕ)
   pub store : StoreValue D
