@@ -5,7 +5,9 @@ use Rattle.disk_model.specs.View.{DiskView, AtMost}
 use Rattle.std.specs.List.{flat_map}
 use Rattle.import_check.specs.declared.scope.Scope.{Scope}
 use Rattle.import_check.specs.declared.release.Release.{Release}
-use Rattle.import_check.specs.Release.{files_of}
+use Rattle.import_check.specs.Release.{files_of, IsReleaseOf}
+use Rattle.import_check.specs.Known.{already_known}
+use Rattle.import_check.specs.NewRows.{IsRead}
 use Rattle.history_store.specs.declared.refusal.Refusal.TheVariants as store
 use Rattle.history_store.specs.StoreValue.{StoreValue}
 use Rattle.history_store.specs.Answers.{CountsRefusal}
@@ -14,7 +16,7 @@ use Rattle.history_store.specs.Queries.{ReadsThroughCache, StepsThroughCache}
 use Rattle.history_store.specs.Reading.{row_cost}
 use Rattle.history_store.specs.Auditing.{relationships_cost}
 use Rattle.rf2_values.specs.Row.{RowValue}
-use Rattle.history_model.specs.History.{rows_at}
+use Rattle.history_model.specs.History.{rows_at, full}
 use Rattle.history_model.specs.Hierarchy.{AreAncestors}
 use Rattle.line_commands.specs.Questions.{Question, Children, Ancestors, Descendants, Dates}
 use Rattle.line_commands.specs.Questions.{Digest, Receipt}
@@ -46,13 +48,6 @@ abbrev pub IsOfAsked : Releases → Scope → List ℕ → Call → Type 0
 IsOfAsked releases scope line (Imported release) = IsAskedFor releases scope line release
 IsOfAsked releases scope line (Failed release) = IsAskedFor releases scope line release
 IsOfAsked releases scope line Other = Unit {0}
-
--- the turn's outcome is that of a server whose source has these releases, and which asks it for the
--- files that the store's version keeps
-pub record GoesBy {D : Type 0} (honest : Type 0) (releases : Releases) (old : Server D)
-    (turn : Turn) (new : Server D) : Type 0 where
-  pub replies : Replies honest releases turn.line turn.outcome old new
-  pub asked : IsOfAsked releases (scope_of old.store.catalog.layout) turn.line turn.call
 
 -- the count of the disk's failures: it has risen if the outcome is `ERR 2`, and otherwise is
 -- unchanged
@@ -125,54 +120,81 @@ LeavesAsked view seen question outcome old new =
     × ReadsFound question (rows_at seen old.history.rows) (view old.disk).bytes_read
     (view new.disk).bytes_read
 
+-- Of the stored rows only those were read whose keys are in the release, each at most once, and
+-- `besides` more bytes. If a file isn't a valid release file, nothing was read.
+pub record ReadsKnown {D : Type 0} (view : D → DiskView) (besides : ℕ) (release : Release)
+    (old new : StoreValue D) : Type 0 where
+  pub bytes_read : (rows : List RowValue) → IsReleaseOf release rows
+      → (view new.disk).bytes_read ≤ (view old.disk).bytes_read + besides
+      + sum_by row_cost (already_known (full old.history) rows)
+  pub bytes_unread : (IsRead release → ⊥) → (view new.disk).bytes_read ≤ (view old.disk).bytes_read
+
+-- this holds for a release of the name, in the scope of the store's version
+abbrev pub ReadsKnownOf : {D : Type 0} → (D → DiskView) → Releases → List ℕ → (besides : ℕ)
+    → StoreValue D → StoreValue D → Type 0
+ReadsKnownOf view releases name besides old new =
+    (release : Release) → releases (scope_of old.catalog.layout) name ≡ Some (files_of release)
+    → ReadsKnown view besides release old new
+
 -- What a command leaves of the disk. On an honest one IMPORT, STEP and PUBLISH may change what a
 -- crash leaves, but not if they are refused for a reason other than a disk failure. After TRIM a
 -- read returns what it returned before, up to the last block that is listed or reserved, and
 -- nothing after it. CHECK and STEP look up blocks as a question does, and STEP may then drop those
--- from the cache that the merge reserved. On every disk and whatever the outcome, STEP reads no
+-- from the cache that the merge reserved. On every disk and whatever the outcome, CHECK and IMPORT
+-- read no rows but those with the keys of the release, and IMPORT one byte besides; STEP reads no
 -- more than the output has bytes and two blocks for each row, PUBLISH one byte at most, and TRIM
 -- none; besides reads, STEP makes one call at most, PUBLISH seven, and TRIM three. A question in a
 -- session that sees `seen` imports leaves the disk as `LeavesAsked` says, and every other command
 -- leaves the disk unchanged.
-abbrev pub LeavesDisk : {D : Type 0} → (D → DiskView) → ℕ → Command → Result Answer LineRefusal
-    → StoreValue D → StoreValue D → Type 0
-LeavesDisk view seen (Ask question) outcome old new = LeavesAsked view seen question outcome old new
-LeavesDisk view seen (At number question) outcome old new =
+abbrev pub LeavesDisk : {D : Type 0} → (D → DiskView) → Releases → ℕ → Command
+    → Result Answer LineRefusal → StoreValue D → StoreValue D → Type 0
+LeavesDisk view releases seen (Ask question) outcome old new =
+    LeavesAsked view seen question outcome old new
+LeavesDisk view releases seen (At number question) outcome old new =
     LeavesAsked view number question outcome old new
-LeavesDisk view seen (Import name) outcome old new =
-    (view old.disk).is_honest
-    → IfRefused outcome ((view new.disk).moments ≡ (view old.disk).moments)
-LeavesDisk view seen (Check name) outcome old new = LeavesQueried view old new
-LeavesDisk view seen (Step rows) outcome old new =
+LeavesDisk view releases seen (Import name) outcome old new =
+    ((view old.disk).is_honest
+    → IfRefused outcome ((view new.disk).moments ≡ (view old.disk).moments))
+    × ReadsKnownOf view releases name 1 old new
+LeavesDisk view releases seen (Check name) outcome old new =
+    LeavesQueried view old new × ReadsKnownOf view releases name 0 old new
+LeavesDisk view releases seen (Step rows) outcome old new =
     ((view old.disk).is_honest
     → IfRefused outcome ((view new.disk).moments ≡ (view old.disk).moments))
     × StepsThroughCache view old new
     × CostsAtMost (step_cost rows old.catalog.merge) 1 (view old.disk) (view new.disk)
-LeavesDisk view seen Publish outcome old new =
+LeavesDisk view releases seen Publish outcome old new =
     ((view old.disk).is_honest
     → IfRefused outcome ((view new.disk).moments ≡ (view old.disk).moments))
     × CostsAtMost 1 7 (view old.disk) (view new.disk)
-LeavesDisk view seen Trim outcome old new =
+LeavesDisk view releases seen Trim outcome old new =
     ((view old.disk).is_honest
     → OnOk outcome ((view new.disk).moments.state.now ≡ take (trimmed_len old.catalog)
     (view old.disk).moments.state.now)
     × IfRefused outcome ((view new.disk).moments ≡ (view old.disk).moments))
     × ((view new.disk).bytes_read ≡ (view old.disk).bytes_read)
     × AtMost 3 (view old.disk).other_calls (view new.disk).other_calls
-LeavesDisk view seen command outcome old new = new.disk ≡ old.disk
+LeavesDisk view releases seen command outcome old new = new.disk ≡ old.disk
+
+-- The turn's outcome is that of a server whose source has these releases, and which asks it for the
+-- files that the store's version keeps; and the disk is left so.
+pub record GoesBy {D : Type 0} (view : D → DiskView) (releases : Releases) (old : Server D)
+    (turn : Turn) (new : Server D) : Type 0 where
+  pub replies : Replies (view old.store.disk).is_honest releases turn.line turn.outcome old new
+  pub asked : IsOfAsked releases (scope_of old.store.catalog.layout) turn.line turn.call
+  pub disk : (session : ℕ) (command : Command) → Asks turn.line session command
+      → LeavesDisk view releases (imports_seen old session) command turn.outcome old.store new.store
 
 -- One line was answered, as a server answers it whose source has some releases; if the source is
 -- honest, these are its own.
 pub record IsTurn {D : Type 0} (source : SourceView) (view : D → DiskView) (old : Server D)
     (turn : Turn) (new : Server D) : Type 0 where
   pub releases : Releases
-  pub goes : GoesBy (view old.store.disk).is_honest releases old turn new
-  pub own : source.is_honest → GoesBy (view old.store.disk).is_honest source.releases old turn new
+  pub goes : GoesBy view releases old turn new
+  pub own : source.is_honest → GoesBy view source.releases old turn new
   pub call : IsCall view old.store turn.call new.store
   pub counts : CountsOutcome turn.outcome (view old.store.disk).failures
       (view new.store.disk).failures
-  pub disk : (session : ℕ) (command : Command) → Asks turn.line session command
-      → LeavesDisk view (imports_seen old session) command turn.outcome old.store new.store
 
 -- a line was answered by a turn of which this holds
 abbrev pub HasTurn : {D : Type 0} → SourceView → (D → DiskView) → List ℕ → Server D → Server D
