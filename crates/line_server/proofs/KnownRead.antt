@@ -1,8 +1,8 @@
 -- What is read of the rows whose keys are in a release.
-use Rattle.std.proofs.Common.{◌≡◌, ℕ, ◌+◌, ◌≤◌, List, Some, Option, sym, ◌∙◌, arith}
+use Rattle.std.proofs.Common.{◌≡◌, ℕ, ◌+◌, ◌≤◌, List, Some, sym, arith}
 use Rattle.std.specs.List.{sum_by}
+use Rattle.list_lemmas.proofs.Tests.{one_value}
 use Rattle.disk_model.specs.View.{DiskView}
-use Rattle.rf2_values.specs.declared.row.Kind.{Kind}
 use Rattle.rf2_values.specs.Row.{RowValue}
 use Rattle.history_model.specs.History.{full}
 use Rattle.import_check.specs.declared.release.Release.{Release}
@@ -14,10 +14,6 @@ use Rattle.history_store.specs.Reading.{row_cost}
 use Rattle.store_life.proofs.AlikeReleases.{release_alike, read_alike}
 use Rattle.line_server.specs.Sources.{Releases, scope_of}
 use Rattle.line_server.specs.Turns.{ReadsKnown, ReadsKnownOf}
-
--- the same files are named twice
-some_is : (x y : List (Kind × List ℕ)) (o : Option (List (Kind × List ℕ))) → o ≡ Some x → o ≡ Some y → x ≡ y
-some_is x y o e f = let g : Some x ≡ Some y = sym e ∙ f in cc
 
 module _ {D : Type 0} (view : D → DiskView) where
   -- nothing was read
@@ -33,7 +29,7 @@ module _ {D : Type 0} (view : D → DiskView) where
   pub known_of : (besides : ℕ) (old new : StoreValue D) (release : Release) (releases : Releases) (name : List ℕ) → releases (scope_of old.catalog.layout) name ≡ Some (files_of release) → ReadsKnown view besides release old new
       → ReadsKnownOf view releases name besides old new
   known_of besides old new release releases name has reads other also =
-      let same : files_of other ≡ files_of release = some_is (files_of other) (files_of release) (releases (scope_of old.catalog.layout) name) also has in
+      let same : files_of other ≡ files_of release = one_value (releases (scope_of old.catalog.layout) name) (files_of other) (files_of release) also has in
       record {
         bytes_read = λ rows is. reads.bytes_read rows (release_alike other release same is);
         bytes_unread = λ unread. reads.bytes_unread (λ is. unread (read_alike release other (sym same) is));
