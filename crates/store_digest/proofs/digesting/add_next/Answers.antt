@@ -12,8 +12,8 @@ returns-in-Some g c = record {
       (ap (λ items. slice_get items 0) (sym c.deref.ensures.value) ∙ sym c.in-Some.ensures.value) c.key.ensures.key c.in_ok-add_row-in-Some.ensures;
 }
 
-pub returns-in-None : goal.returns-in-None
-returns-in-None g c = record {
+pub returns : goal.returns
+returns g c = record {
   added =
       let d = g.D.Disk in
       none_added d.view c.args.pin c.args.after c.args.store.now c.rows_after.new.self row_items c.in_ok-rows.rows c.args.hasher.now c.in_ok-rows.ensures.answer
