@@ -35,21 +35,21 @@ module _ {D : Type 0} (outcome : Result Answer LineRefusal) (call : Call) (old n
   replies_alike honest releases x y long other (inl h) = let short = h.2.short in absurd (omega arith)
   replies_alike honest releases x y long other (inr h) = inr (h.0, unread_alike x y h.0 long other h.1, h.2, h.3)
 
-  goes_alike : (honest : Type 0) (releases : Releases) (x y : List ℕ) → 4096 < length x → 4096 < length y → GoesBy honest releases old (turn_of x) new → GoesBy honest releases old (turn_of y) new
-  goes_alike honest releases x y long other g = record {
-    replies = replies_alike honest releases x y long other g.replies;
+  goes_alike : (view : D → DiskView) (releases : Releases) (x y : List ℕ) → 4096 < length x → 4096 < length y → GoesBy view releases old (turn_of x) new → GoesBy view releases old (turn_of y) new
+  goes_alike view releases x y long other g = record {
+    replies = replies_alike (view old.store.disk).is_honest releases x y long other g.replies;
     asked = asked_alike releases (scope_of old.store.catalog.layout) x y call long g.asked;
+    disk = λ session command asks. let short = asks.short in absurd (omega (arith, short, other));
   }
 
   module _ (source : SourceView) (view : D → DiskView) where
     pub turn_alike : (x y : List ℕ) → 4096 < length x → 4096 < length y → IsTurn source view old (turn_of x) new → IsTurn source view old (turn_of y) new
     turn_alike x y long other t = record {
       releases = t.releases;
-      goes = goes_alike (view old.store.disk).is_honest t.releases x y long other t.goes;
-      own = λ h. goes_alike (view old.store.disk).is_honest source.releases x y long other (t.own h);
+      goes = goes_alike view t.releases x y long other t.goes;
+      own = λ h. goes_alike view source.releases x y long other (t.own h);
       call = t.call;
       counts = t.counts;
-      disk = λ session command asks. let short = asks.short in absurd (omega (arith, short, other));
     }
 
     -- what was answered for the source as it is now was answered for the source as it was
@@ -58,10 +58,9 @@ module _ {D : Type 0} (outcome : Result Answer LineRefusal) (call : Call) (old n
     turn_now now line same t = record {
       releases = t.releases;
       goes = t.goes;
-      own = λ h. subst (λ (r : Releases). GoesBy (view old.store.disk).is_honest r old (turn_of line) new) (same h).1 (t.own (same h).0);
+      own = λ h. subst (λ (r : Releases). GoesBy view r old (turn_of line) new) (same h).1 (t.own (same h).0);
       call = t.call;
       counts = t.counts;
-      disk = t.disk;
     }
 
 -- a turn on a line, as a turn on the same line under another name
@@ -73,7 +72,7 @@ turn_on source view old new turn line same t = subst (λ (l : List ℕ). IsTurn 
 
 turn_of_none : {D : Type 0} (source : SourceView) (has : Releases) (view : D → DiskView) (old : Server D) (turn : Turn) (new : Server D) → IsTurn source view old turn new → IsTurn (source_view ⊥ has) view old turn new
 turn_of_none source has view old turn new t =
-    record { releases = t.releases; goes = t.goes; own = λ none. absurd none; call = t.call; counts = t.counts; disk = t.disk }
+    record { releases = t.releases; goes = t.goes; own = λ none. absurd none; call = t.call; counts = t.counts }
 
 pub run_of_none : {D : Type 0} (source : SourceView) (has : Releases) (view : D → DiskView) (turns : List Turn) (old new : Server D) → Run source view old turns new → Run (source_view ⊥ has) view old turns new
 run_of_none source has view [] old new run = run

@@ -67,8 +67,8 @@ module _ {D : Type 0} (honest : Type 0) (releases : Releases) (session : ℕ) (q
         subst (λ (c : Command). IsOutcome honest releases session c outcome old new) (sym is) (comes_out outcome (subst (λ (k : ℕ). OutcomeAt honest k question outcome old new) (sym at) h))
     outcome_of (inr (is, within)) h = subst (λ (c : Command). IsOutcome honest releases session c outcome old new) (sym is) (comes_out_at pin outcome within h)
 
-    pub leaves_of : (view : D → DiskView) → IsAskedOf old session command question pin → LeavesAsked view pin question outcome old.store new.store → LeavesDisk view (imports_seen old session) command outcome old.store new.store
+    pub leaves_of : (view : D → DiskView) → IsAskedOf old session command question pin → LeavesAsked view pin question outcome old.store new.store → LeavesDisk view releases (imports_seen old session) command outcome old.store new.store
     leaves_of view (inl (is, at)) h =
-        subst (λ (c : Command). LeavesDisk view (imports_seen old session) c outcome old.store new.store) (sym is)
+        subst (λ (c : Command). LeavesDisk view releases (imports_seen old session) c outcome old.store new.store) (sym is)
         (subst (λ (k : ℕ). LeavesAsked view k question outcome old.store new.store) (sym at) h)
-    leaves_of view (inr (is, within)) h = subst (λ (c : Command). LeavesDisk view (imports_seen old session) c outcome old.store new.store) (sym is) h
+    leaves_of view (inr (is, within)) h = subst (λ (c : Command). LeavesDisk view releases (imports_seen old session) c outcome old.store new.store) (sym is) h

@@ -1,5 +1,5 @@
 -- The check of the release under a name, as a response.
-use Rattle.std.proofs.Common.{◌≡◌, ℕ, List, refl, sym, ap, subst, ◌∙◌, Ok, Err, inl, inr, Some, None, arith}
+use Rattle.std.proofs.Common.{◌≡◌, ℕ, List, refl, sym, ap, subst, ◌∙◌, Result, Ok, Err, inl, inr, Some, None, arith}
 use Rattle.disk_model.specs.View.{DiskView}
 use Rattle.history_model.specs.declared.receipt.Receipt.{Receipt}
 use Rattle.history_model.specs.History.{History}
@@ -21,10 +21,11 @@ use Rattle.line_server.specs.ReplyValue.{Done, ReplyValue, reply_value}
 use Rattle.line_server.specs.StateValue.{StateValue, HoldsBack}
 use Rattle.line_server.specs.Replies.{IsChecked, IsStoreRefusal, import_words, server}
 use Rattle.store_life.specs.Life.{Other}
-use Rattle.line_server.specs.Turns.{LeavesQueried}
+use Rattle.line_server.specs.Turns.{LeavesQueried, ReadsKnownOf}
 use Rattle.line_server.specs.Private.{IsResponse}
 use Rattle.store_life.proofs.Made.{check_made, unmade}
 use Rattle.line_server.proofs.Importing.{same_server, refused_imports}
+use Rattle.line_server.proofs.KnownRead.{none_known, known_alone, known_of}
 use Rattle.line_server.proofs.Queried.{carried_out, refused_as, refused_by, lack_is_no_fault}
 
 module _ {D : Type 0} (source : SourceView) (view : D → DiskView) (name : List ℕ) (session : ℕ) (state : StateValue) (free : HoldsBack state.met_damage (Check name) → ⊥) where
@@ -38,7 +39,7 @@ module _ {D : Type 0} (source : SourceView) (view : D → DiskView) (name : List
       carried_out source view (Err (refusals.Store store.OutOfMemory)) session (Check name) (Err (refusals.Store store.OutOfMemory)) Other (server state s) (server state s) source.releases refl
       (λ line asks. record { replies = inl (session, Check name, asks, inr (record { free = free; comes_out = same_server state s; damage = refl })); asked = tt })
       (λ h line asks. record { replies = inl (session, Check name, asks, inr (record { free = free; comes_out = same_server state s; damage = refl })); asked = tt })
-      (unmade view s) refl (unread s) (omega arith)
+      (unmade view s) refl (unread s, none_known view source.releases name 0 s) (λ h. (unread s, none_known view source.releases name 0 s)) (omega arith)
 
   -- it has no release under the name
   missing : (s : StoreValue D) → (source.is_honest → source.releases (scope_of s.catalog.layout) name ≡ None) → IsResponse (Err refusals.NoFolder) source view session (Check name) (server state s) (server state s)
@@ -46,7 +47,7 @@ module _ {D : Type 0} (source : SourceView) (view : D → DiskView) (name : List
       carried_out source view (Err refusals.NoFolder) session (Check name) (Err refusals.NoFolder) Other (server state s) (server state s) (λ k n. None) refl
       (λ line asks. record { replies = inl (session, Check name, asks, inr (record { free = free; comes_out = (name, refl, refl, refl); damage = refl })); asked = tt })
       (λ h line asks. record { replies = inl (session, Check name, asks, inr (record { free = free; comes_out = (name, refl, none h, refl); damage = refl })); asked = tt })
-      (unmade view s) refl (unread s) (omega arith)
+      (unmade view s) refl (unread s, none_known view (λ k n. None) name 0 s) (λ h. (unread s, none_known view source.releases name 0 s)) (omega arith)
 
   -- no release was had, for this reason
   pub unhad : (s : StoreValue D) (scope : Scope) → scope ≡ scope_of s.catalog.layout → (fault : SourceFault) → (source.is_honest → IsGiven (Err fault) (source.releases scope name)) → IsResponse (Err (of_source fault)) source view session (Check name) (server state s) (server (refused_as (of_source fault) state) s)
@@ -57,6 +58,10 @@ module _ {D : Type 0} (source : SourceView) (view : D → DiskView) (name : List
     -- what was given, in the scope of the store's version
     given : source.is_honest → source.releases (scope_of old.catalog.layout) name ≡ Some (files_of release)
     given h = ap (λ (k : Scope). source.releases k name) (sym scope_is) ∙ had h
+
+    -- whatever came of it, the disk was left so
+    left : {result : Result Receipt Refusal} (releases : Releases) → releases (scope_of old.catalog.layout) name ≡ Some (files_of release) → IsChecking result release view old new → LeavesQueried view old new × ReadsKnownOf view releases name 0 old new
+    left releases has c = ((c.meters.counts.moments, c.meters.looked_up), known_of view 0 old new release releases name has (known_alone view old new release c.meters.bytes_read c.meters.bytes_unread))
 
     -- an import of it would be taken
     pub checked : (receipt : Receipt) (reply : ReplyValue) → IsChecking (Ok receipt) release view old new
@@ -72,7 +77,7 @@ module _ {D : Type 0} (source : SourceView) (view : D → DiskView) (name : List
           replies = inl (session, Check name, asks, inr (record { free = free; comes_out = (receipt, record { release = release; has = given h; at_all = c.kept; checked = c.answer; pins = refl }, refl); damage = refl }));
           asked = tt;
         })
-        (check_made view old new release (Ok receipt) c) c.meters.counts.failures (c.meters.counts.moments, c.meters.looked_up) (omega (arith, same))
+        (check_made view old new release (Ok receipt) c) c.meters.counts.failures (left (λ k n. Some (files_of release)) refl c) (λ h. left source.releases (given h) c) (omega (arith, same))
 
     -- it would be refused
     pub unchecked : (e : Refusal) → IsChecking (Err e) release view old new
@@ -81,7 +86,7 @@ module _ {D : Type 0} (source : SourceView) (view : D → DiskView) (name : List
         carried_out source view (Err (refusals.Store e)) session (Check name) (Err (refusals.Store e)) Other (server state old) (server (refused_by e state) new) (λ k n. Some (files_of release)) refl
         (λ line asks. record { replies = inl (session, Check name, asks, inr (record { free = free; comes_out = refused (λ k n. Some (files_of release)) e refl refl; damage = refl })); asked = tt })
         (λ h line asks. record { replies = inl (session, Check name, asks, inr (record { free = free; comes_out = refused source.releases e refl (given h); damage = refl })); asked = tt })
-        (check_made view old new release (Err e) c) c.meters.counts.failures (c.meters.counts.moments, c.meters.looked_up) (refused_imports e old new c.kept.1) where
+        (check_made view old new release (Err e) c) c.meters.counts.failures (left (λ k n. Some (files_of release)) refl c) (λ h. left source.releases (given h) c) (refused_imports e old new c.kept.1) where
           refused : (releases : Releases) (r : Refusal) → r ≡ e → releases (scope_of old.catalog.layout) name ≡ Some (files_of release) → IsStoreRefusal (view old.disk).is_honest releases session (Check name) r (server state old) (server (refused_by e state) new)
           refused releases store.OutOfMemory is has_it =
               record { pins = refl; store = record { history = c.kept.1.history; catalog = c.kept.1.catalog; needs_reopen = c.kept.1.still (λ f. lack_is_no_fault (is ∙ f)) } }

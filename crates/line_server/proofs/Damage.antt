@@ -26,7 +26,7 @@ is_damage _ = false
 -- ---- what is held back
 
 -- by the outcome of a line it is known whether damage was met
-met_by_line : {D : Type 0} (honest : Type 0) (releases : Releases) (line : List ℕ) (outcome : Result Answer LineRefusal) (old new : Server D) → Replies honest releases line outcome old new → new.met_damage ≡ met_after outcome old.met_damage
+pub met_by_line : {D : Type 0} (honest : Type 0) (releases : Releases) (line : List ℕ) (outcome : Result Answer LineRefusal) (old new : Server D) → Replies honest releases line outcome old new → new.met_damage ≡ met_after outcome old.met_damage
 met_by_line {D} honest releases line outcome old new (inl (session, command, asks, inl h)) =
     ap (λ (d : Server D). d.met_damage) h.unchanged ∙ h.held_back.0 ∙ sym (ap (λ (o : Result Answer LineRefusal). met_after o old.met_damage) h.refused)
 met_by_line honest releases line outcome old new (inl (session, command, asks, inr h)) = h.damage

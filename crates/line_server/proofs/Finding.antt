@@ -101,8 +101,9 @@ module _ {D : Type 0} (honest : Type 0) (up : honest) (seen : ℕ) (old new : Se
   answer_found (Children concept date) answer q a = (a.0, a.1, a.2)
   answer_found (Descendants concept date) answer q a = (a.0, a.1, a.2)
   answer_found Dates answer q a = (a.0, a.1, a.2)
-  answer_found Digest answer q a = (a.0, a.1, a.2.3 up)
-  answer_found question answer q a = (a.0, a.1, a.2.2 up)
+  answer_found (Ancestors concept date) answer q a = (a.0, a.1, a.2.2 up)
+  answer_found Digest answer q a = (a.0, a.1, a.2.4 up)
+  answer_found question answer q a = (a.0, a.1, a.2.3 up)
 
   -- an open store refuses it only for want of memory or the disk
   unfound : (refusal : Refusal) → IsSure (Err (refusals.Store refusal)) → IsUnfound honest refusal old new → IsShut (Err (refusals.Store refusal)) old × Same old new

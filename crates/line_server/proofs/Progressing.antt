@@ -18,15 +18,16 @@ use Rattle.line_server.specs.declared.serving.ServeFault.TheVariants as faults
 use Rattle.line_server.specs.Sources.{SourceView}
 use Rattle.line_server.specs.ReplyValue.{Answer, reply_value, bytes_of}
 use Rattle.line_server.specs.StateValue.{StateValue, fresh}
-use Rattle.line_server.specs.Replies.{Server, server}
+use Rattle.line_server.specs.Replies.{Server, server, AsksNoRelease}
 use Rattle.store_life.specs.Life.{Call}
-use Rattle.line_server.specs.Turns.{Turn, Run, IsTurn, lines_asked, replies}
+use Rattle.line_server.specs.Turns.{Turn, Run, IsTurn, AskNoRelease, lines_asked, replies}
 use Rattle.line_server.specs.Streams.{ends_in, AppendsSome, streams, with_reads}
 use Rattle.line_server.specs.Reads.{Reading, Gave, Failed, came_of, all_of, IsPiece, Makes}
 use Rattle.line_server.specs.Serving.{IsServed, AreLines, IsRead, IsWritten, IsCount, AreReads}
 use Rattle.line_server.specs.Steps.{kept, room}
 use Rattle.line_server.specs.Feeding.{IsFront, IsUnended, AreCut, IsFed, Intake, intake}
 use Rattle.line_server.proofs.Alike.{turn_of, turn_alike, turn_now}
+use Rattle.line_server.proofs.Unasked.{ended_asks_none, unended_asks_none, first_ask_none, rest_ask_none}
 use Rattle.line_server.proofs.Cuts.{cut_none, cut_part, cut_more, cut_byte, cut_line, cut_end, cut_rest, cut_front, kept_more, kept_none, kept_some, kept_ended, kept_unended}
 
 -- ---- how many lines end in what came
@@ -88,8 +89,8 @@ is_piece n buf some within long = (omega (arith, some, within, length-take n buf
 -- ---- the turns so far
 
 module _ {D : Type 0} (source : SourceView) (view : D → DiskView) where
-  -- the bytes that came, and what became of them
-  pub record Progress (old new : Option (List ℕ)) (before now : Server D) (seen buffer : List ℕ) (served : ℕ) : Type 0 where
+  -- the bytes that came, and what became of them; and that the source is the same, if no line asked it for a release
+  pub record Progress (same : Type 0) (old new : Option (List ℕ)) (before now : Server D) (seen buffer : List ℕ) (served : ℕ) : Type 0 where
     pub turns : List Turn
     pub part : List ℕ
     pub cut : AreCut seen (lines_asked turns) part
@@ -98,6 +99,7 @@ module _ {D : Type 0} (source : SourceView) (view : D → DiskView) where
     pub run : Run source view before turns now
     pub written : Appends old new (replies turns)
     pub count : served ≡ min (length turns) (2 ^ 64 - 1)
+    pub unasked : AskNoRelease before.met_damage turns → same
 
   -- one line more
   run_more : (old mid new : Server D) (turns : List Turn) (turn : Turn) → Run source view old turns mid → IsTurn source view mid turn new
@@ -115,9 +117,9 @@ module _ {D : Type 0} (source : SourceView) (view : D → DiskView) where
   count_more : (turns : List Turn) (turn : Turn) (served : ℕ) → served ≡ min (length turns) (2 ^ 64 - 1) → min (served + 1) (2 ^ 64 - 1) ≡ min (length (turns ++ turn ∷ [])) (2 ^ 64 - 1)
   count_more turns turn served e = omega (arith, e, length-append turns (turn ∷ []))
 
-  pub starts : (old : Option (List ℕ)) (before : Server D) → Progress old old before before [] [] 0
+  pub starts : (same : Type 0) → same → (old : Option (List ℕ)) (before : Server D) → Progress same old old before before [] [] 0
   unfolding room
-  starts old before = record {
+  starts same unchanged old before = record {
     turns = [];
     part = [];
     cut = cut_none;
@@ -126,11 +128,12 @@ module _ {D : Type 0} (source : SourceView) (view : D → DiskView) where
     run = refl;
     written = Appends-nil old;
     count = refl;
+    unasked = λ none. unchanged;
   }
 
   -- a part of a line alone has come
-  pub begins : (old : Option (List ℕ)) (before : Server D) (part buffer : List ℕ) → IsUnended part → buffer ≡ kept part → Progress old old before before part buffer 0
-  begins old before part buffer free is = record {
+  pub begins : (same : Type 0) → same → (old : Option (List ℕ)) (before : Server D) (part buffer : List ℕ) → IsUnended part → buffer ≡ kept part → Progress same old old before before part buffer 0
+  begins same unchanged old before part buffer free is = record {
     turns = [];
     part = part;
     cut = cut_part part free;
@@ -139,10 +142,11 @@ module _ {D : Type 0} (source : SourceView) (view : D → DiskView) where
     run = refl;
     written = Appends-nil old;
     count = refl;
+    unasked = λ none. unchanged;
   }
 
-  pub byte_more : (old new : Option (List ℕ)) (before now : Server D) (seen buffer : List ℕ) (served b : ℕ) → Progress old new before now seen buffer served → eqb b 10 ≡ false
-      → Progress old new before now (seen ++ b ∷ []) (kept (buffer ++ b ∷ [])) served
+  pub byte_more : {same : Type 0} (old new : Option (List ℕ)) (before now : Server D) (seen buffer : List ℕ) (served b : ℕ) → Progress same old new before now seen buffer served → eqb b 10 ≡ false
+      → Progress same old new before now (seen ++ b ∷ []) (kept (buffer ++ b ∷ [])) served
   byte_more old new before now seen buffer served b h other = record {
     turns = h.turns;
     part = h.part ++ b ∷ [];
@@ -152,6 +156,7 @@ module _ {D : Type 0} (source : SourceView) (view : D → DiskView) where
     run = h.run;
     written = h.written;
     count = h.count;
+    unasked = h.unasked;
   }
 
   -- ---- what is known of the input
@@ -188,11 +193,11 @@ module _ {D : Type 0} (source : SourceView) (view : D → DiskView) where
     gives_unended part buffer e g =
         kept_unended Gives (λ x y long other. turn_alike outcome call now after source view x y long other) part (subst Gives e g)
 
-    pub line_more : (old mid new : Option (List ℕ)) (before : Server D) (seen buffer : List ℕ) (served : ℕ) → Progress old mid before now seen buffer served
-        → Gives (no_cr buffer) → Appends mid new (bytes_of (reply_value outcome))
-        → Progress old new before after (seen ++ 10 ∷ []) [] (min (served + 1) (2 ^ 64 - 1))
+    pub line_more : {same later : Type 0} (old mid new : Option (List ℕ)) (before : Server D) (seen buffer : List ℕ) (served : ℕ) → Progress same old mid before now seen buffer served
+        → Gives (no_cr buffer) → (AsksNoRelease (no_cr buffer) now.met_damage → same → later) → Appends mid new (bytes_of (reply_value outcome))
+        → Progress later old new before after (seen ++ 10 ∷ []) [] (min (served + 1) (2 ^ 64 - 1))
     unfolding room
-    line_more old mid new before seen buffer served h g w =
+    line_more old mid new before seen buffer served h g step w =
         let t = turn (no_cr h.part) in
         record {
           turns = h.turns ++ t ∷ [];
@@ -203,9 +208,14 @@ module _ {D : Type 0} (source : SourceView) (view : D → DiskView) where
           run = run_more before now after h.turns t h.run (gives_ended h.part buffer h.buffer_is g);
           written = subst (λ (bs : List ℕ). Appends old new bs) (replies_more h.turns t) (Appends-trans old mid new (replies h.turns) (bytes_of (reply_value outcome)) h.written w);
           count = count_more h.turns t served h.count;
+          unasked = λ none. step (ended_asks_none h.part buffer now.met_damage h.buffer_is (rest_ask_none source view h.turns (t ∷ []) before now h.run none).0) (h.unasked (first_ask_none before.met_damage h.turns (t ∷ []) none));
         }
 
   -- ---- pieces
+
+  -- a piece was taken, and the source is the same, if none of its lines asked it for a release
+  abbrev pub IsFedUnasked : {E : Type 0} → Type 0 → Result ℕ E → Intake → Server D → Server D → Type 0
+  IsFedUnasked same result taken before after = (f : IsFed result source view taken before after) × (AskNoRelease before.met_damage f.turns → same)
 
   module _ (old mid : Option (List ℕ)) (before now : Server D) (part piece : List ℕ) (free : IsUnended part) where
     -- as many lines ended as ended behind the part
@@ -213,45 +223,52 @@ module _ {D : Type 0} (source : SourceView) (view : D → DiskView) where
     ends_behind taken n e = let b = ends_both part taken in let z = none_ends part free in omega (arith, e, b, z)
 
     -- all of the piece was taken
-    pub fed : {E : Type 0} (buffer : List ℕ) (answered : ℕ) → Progress old mid before now (part ++ piece) buffer answered → IsFed {E = E} (Ok answered) source view (intake part piece buffer old mid) before now
-    fed buffer answered h = record {
-      turns = h.turns;
-      run = h.run;
-      taken = piece;
-      rest = h.part;
-      front = ([], sym (append-nil piece));
-      all = refl;
-      lines = h.cut;
-      number = ends_behind piece (length h.turns) h.ends;
-      kept_is = h.buffer_is;
-      replied = h.written;
-      count = h.count;
-    }
+    pub fed : {E same : Type 0} (buffer : List ℕ) (answered : ℕ) → Progress same old mid before now (part ++ piece) buffer answered → IsFedUnasked {E = E} same (Ok answered) (intake part piece buffer old mid) before now
+    fed buffer answered h = (
+      record {
+        turns = h.turns;
+        run = h.run;
+        taken = piece;
+        rest = h.part;
+        front = ([], sym (append-nil piece));
+        all = refl;
+        dropped = tt;
+        lines = h.cut;
+        number = ends_behind piece (length h.turns) h.ends;
+        kept_is = h.buffer_is;
+        replied = h.written;
+        count = h.count;
+      },
+      h.unasked,
+    )
 
     -- the reply to a line wasn't written whole
-    pub not_replied : {E : Type 0} (fault : E) (new : Option (List ℕ)) (after : Server D) (taken more buffer later : List ℕ) (answered : ℕ) (outcome : Result Answer LineRefusal) (call : Call)
-        → Progress old mid before now (part ++ taken) buffer answered → piece ≡ (taken ++ 10 ∷ []) ++ more
-        → Gives outcome call now after (no_cr buffer) → AppendsSome mid new (bytes_of (reply_value outcome)) → later ≡ []
-        → IsFed (Err fault) source view (intake part piece later old new) before after
+    pub not_replied : {E same left : Type 0} (fault : E) (new : Option (List ℕ)) (after : Server D) (taken more buffer later : List ℕ) (answered : ℕ) (outcome : Result Answer LineRefusal) (call : Call)
+        → Progress same old mid before now (part ++ taken) buffer answered → piece ≡ (taken ++ 10 ∷ []) ++ more
+        → Gives outcome call now after (no_cr buffer) → (AsksNoRelease (no_cr buffer) now.met_damage → same → left) → AppendsSome mid new (bytes_of (reply_value outcome)) → later ≡ []
+        → IsFedUnasked left (Err fault) (intake part piece later old new) before after
     unfolding room
-    not_replied fault new after taken more buffer later answered outcome call h is g w empty =
+    not_replied fault new after taken more buffer later answered outcome call h is g step w empty =
         let t = turn outcome call now after (no_cr h.part) in
-        let run = run_more before now after h.turns t h.run (gives_ended outcome call now after h.part buffer h.buffer_is g) in
-        record {
-          turns = h.turns ++ t ∷ [];
-          run = run;
-          taken = taken ++ 10 ∷ [];
-          rest = [];
-          front = (more, is);
-          all = tt;
-          lines = subst (λ (l : List ℕ). AreCut l (lines_asked (h.turns ++ t ∷ [])) []) (append_assoc part taken (10 ∷ []))
-              (subst (λ (ls : List (List ℕ)). AreCut ((part ++ taken) ++ 10 ∷ []) ls []) (asked_more h.turns t) (cut_line (part ++ taken) (lines_asked h.turns) h.part h.cut));
-          number = ends_behind (taken ++ 10 ∷ []) (length (h.turns ++ t ∷ []))
-              (length-append h.turns (t ∷ []) ∙ ap (λ (n : ℕ). n + 1) h.ends ∙ sym (ends_feed (part ++ taken)) ∙ ap ends_in (append_assoc part taken (10 ∷ [])));
-          kept_is = empty;
-          replied = (h.turns, t, mid, refl, h.written, w);
-          count = tt;
-        }
+        let run = run_more before now after h.turns t h.run (gives_ended outcome call now after h.part buffer h.buffer_is g) in (
+          record {
+            turns = h.turns ++ t ∷ [];
+            run = run;
+            taken = taken ++ 10 ∷ [];
+            rest = [];
+            front = (more, is);
+            all = tt;
+            dropped = refl;
+            lines = subst (λ (l : List ℕ). AreCut l (lines_asked (h.turns ++ t ∷ [])) []) (append_assoc part taken (10 ∷ []))
+                (subst (λ (ls : List (List ℕ)). AreCut ((part ++ taken) ++ 10 ∷ []) ls []) (asked_more h.turns t) (cut_line (part ++ taken) (lines_asked h.turns) h.part h.cut));
+            number = ends_behind (taken ++ 10 ∷ []) (length (h.turns ++ t ∷ []))
+                (length-append h.turns (t ∷ []) ∙ ap (λ (n : ℕ). n + 1) h.ends ∙ sym (ends_feed (part ++ taken)) ∙ ap ends_in (append_assoc part taken (10 ∷ [])));
+            kept_is = empty;
+            replied = (h.turns, t, mid, refl, h.written, w);
+            count = tt;
+          },
+          λ none. step (ended_asks_none h.part buffer now.met_damage h.buffer_is (rest_ask_none source view h.turns (t ∷ []) before now h.run none).0) (h.unasked (first_ask_none before.met_damage h.turns (t ∷ []) none)),
+        )
 
   -- what holds for the source as it is now holds for the source as it was
   module _ (now : SourceView) (same : source.is_honest → now.is_honest × (now.releases ≡ source.releases)) where
@@ -260,20 +277,24 @@ module _ {D : Type 0} (source : SourceView) (view : D → DiskView) where
     run_now (turn ∷ turns) old new run =
         (run.0, turn_now turn.outcome turn.call old run.0 source view now turn.line same run.1, run_now turns run.0 new run.2)
 
-    pub fed_now : {E : Type 0} (result : Result ℕ E) (taken : Intake) (before after : Server D) → IsFed result now view taken before after → IsFed result source view taken before after
-    fed_now result taken before after f = record {
-      turns = f.turns;
-      run = run_now f.turns before after f.run;
-      taken = f.taken;
-      rest = f.rest;
-      front = f.front;
-      all = f.all;
-      lines = f.lines;
-      number = f.number;
-      kept_is = f.kept_is;
-      replied = f.replied;
-      count = f.count;
-    }
+    pub fed_now : {E unchanged : Type 0} (result : Result ℕ E) (taken : Intake) (before after : Server D) → (f : IsFed result now view taken before after) × (AskNoRelease before.met_damage f.turns → unchanged) → IsFedUnasked unchanged result taken before after
+    fed_now result taken before after fed = (
+      record {
+        turns = fed.0.turns;
+        run = run_now fed.0.turns before after fed.0.run;
+        taken = fed.0.taken;
+        rest = fed.0.rest;
+        front = fed.0.front;
+        all = fed.0.all;
+        dropped = fed.0.dropped;
+        lines = fed.0.lines;
+        number = fed.0.number;
+        kept_is = fed.0.kept_is;
+        replied = fed.0.replied;
+        count = fed.0.count;
+      },
+      fed.1,
+    )
 
   -- several lines more
   run_both : (old mid new : Server D) (turns more : List Turn) → Run source view old turns mid → Run source view mid more new
@@ -287,11 +308,11 @@ module _ {D : Type 0} (source : SourceView) (view : D → DiskView) where
   replies_both : (turns more : List Turn) → replies turns ++ replies more ≡ replies (turns ++ more)
   replies_both turns more = sym (flat_map-append (λ (t : Turn). bytes_of (reply_value t.outcome)) turns more)
 
-  module _ (old mid : Option (List ℕ)) (before now : Server D) (seen buffer : List ℕ) (served : ℕ) (h : Progress old mid before now seen buffer served) where
+  module _ (same : Type 0) (old mid : Option (List ℕ)) (before now : Server D) (seen buffer : List ℕ) (served : ℕ) (h : Progress same old mid before now seen buffer served) where
     -- a piece was fed
-    pub piece_more : {E : Type 0} (new : Option (List ℕ)) (after : Server D) (piece later : List ℕ) (n : ℕ) → IsFed {E = E} (Ok n) source view (intake h.part piece later mid new) now after
-        → Progress old new before after (seen ++ piece) later (min (served + n) (2 ^ 64 - 1))
-    piece_more new after piece later n f = record {
+    pub piece_more : {E step whole : Type 0} (new : Option (List ℕ)) (after : Server D) (piece later : List ℕ) (n : ℕ) → IsFedUnasked {E = E} step (Ok n) (intake h.part piece later mid new) now after → (step → same → whole)
+        → Progress whole old new before after (seen ++ piece) later (min (served + n) (2 ^ 64 - 1))
+    piece_more new after piece later n fed both = let f = fed.0 in record {
       turns = h.turns ++ f.turns;
       part = f.rest;
       cut = subst (λ (ls : List (List ℕ)). AreCut (seen ++ piece) ls f.rest) (asked_both h.turns f.turns)
@@ -301,6 +322,7 @@ module _ {D : Type 0} (source : SourceView) (view : D → DiskView) where
       run = run_both before now after h.turns f.turns h.run f.run;
       written = subst (λ (bs : List ℕ). Appends old new bs) (replies_both h.turns f.turns) (Appends-trans old mid new (replies h.turns) (replies f.turns) h.written f.replied);
       count = let a = h.count in let b = f.count in omega (arith, a, b, length-append h.turns f.turns);
+      unasked = λ none. both (fed.1 (rest_ask_none source view h.turns f.turns before now h.run none)) (h.unasked (first_ask_none before.met_damage h.turns f.turns none));
     }
 
   -- ---- the ways out
@@ -309,51 +331,54 @@ module _ {D : Type 0} (source : SourceView) (view : D → DiskView) where
     abbrev start : Server D
     start = server fresh before
 
-    abbrev Out : Result ℕ ServeFault → Option (List ℕ) → StoreValue D → Type 0
-    Out result new after = IsServed result most source view (with_reads (streams input rest old new) begun made) before after
+    abbrev Out : Type 0 → Result ℕ ServeFault → Option (List ℕ) → StoreValue D → Type 0
+    Out same result new after = (s : IsServed result most source view (with_reads (streams input rest old new) begun made) before after) × (AskNoRelease false s.turns → same)
 
-    out : (result : Result ℕ ServeFault) (new : Option (List ℕ)) (state : StateValue) (after : StoreValue D) (turns : List Turn)
+    out : {same : Type 0} (result : Result ℕ ServeFault) (new : Option (List ℕ)) (state : StateValue) (after : StoreValue D) (turns : List Turn)
         → Run source view start turns (server state after) → IfSome input (AreLines result (lines_asked turns))
         → (came : List ℕ) → Consumes input rest came → length came ≤ most * 4096 → IsRead result most came rest (length turns) → IsWritten result old new turns → IsCount result (length turns)
         → (reads : List Reading) → Makes begun made reads → length reads ≤ most → came ≡ all_of reads → AreReads result most reads (length turns)
-        → Out result new after
-    out result new state after turns run lines came consumed few read written count reads makes within all are = record {
-      turns = turns;
-      state = state;
-      run = run;
-      lines = lines;
-      read = (came, consumed, read, few);
-      written = written;
-      count = count;
-      reads = reads;
-      made = makes;
-      few = within;
-      bytes = all;
-      rightly = are;
-    }
+        → (AskNoRelease false turns → same) → Out same result new after
+    out result new state after turns run lines came consumed few read written count reads makes within all are unasked = (
+      record {
+        turns = turns;
+        state = state;
+        run = run;
+        lines = lines;
+        read = (came, consumed, read, few);
+        written = written;
+        count = count;
+        reads = reads;
+        made = makes;
+        few = within;
+        bytes = all;
+        rightly = are;
+      },
+      unasked,
+    )
 
-    module _ (mid : Option (List ℕ)) (state : StateValue) (now : StoreValue D) (seen buffer : List ℕ) (served : ℕ) (h : Progress old mid start (server state now) seen buffer served) (c : Consumes input rest seen) (few : length seen ≤ most * 4096)
+    module _ (same : Type 0) (mid : Option (List ℕ)) (state : StateValue) (now : StoreValue D) (seen buffer : List ℕ) (served : ℕ) (h : Progress same old mid start (server state now) seen buffer served) (c : Consumes input rest seen) (few : length seen ≤ most * 4096)
         (pieces : List Reading) (each : All IsPiece pieces) (all : seen ≡ all_of pieces) where
       fronts : (fault : ServeFault) → IfSome input (AreLines (Err fault) (lines_asked h.turns))
       fronts fault = first_lines input rest seen h.part (lines_asked h.turns) fault c (λ more. cut_front seen (lines_asked h.turns) h.part more h.cut)
 
       -- a read failed
-      pub unread : Makes begun made (pieces ++ Failed ∷ []) → length pieces < most → Out (Err faults.Read) mid now
+      pub unread : Makes begun made (pieces ++ Failed ∷ []) → length pieces < most → Out same (Err faults.Read) mid now
       unread makes lt = out (Err faults.Read) mid state now h.turns h.run (fronts faults.Read) seen c few h.ends h.written tt
-          (pieces ++ Failed ∷ []) makes (room_for_one pieces Failed most lt) (came_none pieces Failed seen refl all) (pieces, each, refl)
+          (pieces ++ Failed ∷ []) makes (room_for_one pieces Failed most lt) (came_none pieces Failed seen refl all) (pieces, each, refl) h.unasked
 
       -- there were too many reads
-      pub stopped : most ≤ length seen → Makes begun made pieces → length pieces ≡ most → Out (Err faults.Reads) mid now
+      pub stopped : most ≤ length seen → Makes begun made pieces → length pieces ≡ most → Out same (Err faults.Reads) mid now
       stopped le makes number = out (Err faults.Reads) mid state now h.turns h.run (fronts faults.Reads) seen c few (h.ends, le) h.written tt
-          pieces makes (omega (arith, number)) all (each, number)
+          pieces makes (omega (arith, number)) all (each, number) h.unasked
 
       module _ (end : IsAtEnd rest) (makes : Makes begun made (pieces ++ Gave [] ∷ [])) (lt : length pieces < most) where
         -- the input ended after a line's end
-        pub ended : length buffer ≡ 0 → Out (Ok served) mid now
+        pub ended : length buffer ≡ 0 → Out same (Ok served) mid now
         ended none =
             let empty : h.part ≡ [] = kept_none h.part (ap length (sym h.buffer_is) ∙ none) in
             out (Ok served) mid state now h.turns h.run (all_lines input rest seen (lines_asked h.turns) served c end (cut_end seen (lines_asked h.turns) h.part h.cut empty)) seen c few end h.written h.count
-            (pieces ++ Gave [] ∷ []) makes (room_for_one pieces (Gave []) most lt) (came_none pieces (Gave []) seen refl all) (pieces, each, refl)
+            (pieces ++ Gave [] ∷ []) makes (room_for_one pieces (Gave []) most lt) (came_none pieces (Gave []) seen refl all) (pieces, each, refl) h.unasked
 
         -- it ended within a line, which was answered so
         module _ (outcome : Result Answer LineRefusal) (call : Call) (new : Option (List ℕ)) (later : StateValue) (after : StoreValue D) (some : 0 < length buffer)
@@ -369,28 +394,32 @@ module _ {D : Type 0} (source : SourceView) (view : D → DiskView) where
               let left : 0 < length h.part = kept_some h.part (subst (λ (l : List ℕ). 0 < length l) h.buffer_is some) in
               all_lines input rest seen (lines_asked (h.turns ++ last ∷ [])) 0 c end (sym (asked_more h.turns last) ∙ cut_rest seen (lines_asked h.turns) h.part h.cut left)
 
-          pub ended_within : Appends mid new (bytes_of (reply_value outcome)) → Out (Ok (min (served + 1) (2 ^ 64 - 1))) new after
-          ended_within w =
+          last_unasked : {whole : Type 0} → (AsksNoRelease buffer state.met_damage → same → whole) → AskNoRelease false (h.turns ++ last ∷ []) → whole
+          last_unasked step none = step (unended_asks_none h.part buffer state.met_damage h.buffer_is (rest_ask_none source view h.turns (last ∷ []) start (server state now) h.run none).0) (h.unasked (first_ask_none false h.turns (last ∷ []) none))
+
+          pub ended_within : {whole : Type 0} → (AsksNoRelease buffer state.met_damage → same → whole) → Appends mid new (bytes_of (reply_value outcome)) → Out whole (Ok (min (served + 1) (2 ^ 64 - 1))) new after
+          ended_within step w =
               out (Ok (min (served + 1) (2 ^ 64 - 1))) new later after (h.turns ++ last ∷ []) last_run last_lines seen c few end
               (subst (λ (bs : List ℕ). Appends old new bs) (replies_more h.turns last) (Appends-trans old mid new (replies h.turns) (bytes_of (reply_value outcome)) h.written w))
               (count_more h.turns last served h.count)
-              (pieces ++ Gave [] ∷ []) makes (room_for_one pieces (Gave []) most lt) (came_none pieces (Gave []) seen refl all) (pieces, each, refl)
+              (pieces ++ Gave [] ∷ []) makes (room_for_one pieces (Gave []) most lt) (came_none pieces (Gave []) seen refl all) (pieces, each, refl) (last_unasked step)
 
-          pub unwritten_within : AppendsSome mid new (bytes_of (reply_value outcome)) → Out (Err faults.Write) new after
-          unwritten_within w =
+          pub unwritten_within : {whole : Type 0} → (AsksNoRelease buffer state.met_damage → same → whole) → AppendsSome mid new (bytes_of (reply_value outcome)) → Out whole (Err faults.Write) new after
+          unwritten_within step w =
               let later_than : ends_in (all_of pieces) < length (h.turns ++ last ∷ []) = omega (arith, h.ends, ap ends_in all, length-append h.turns (last ∷ [])) in
               out (Err faults.Write) new later after (h.turns ++ last ∷ []) last_run (all_are_first input (lines_asked (h.turns ++ last ∷ [])) faults.Write last_lines) seen c few
               (record { before = seen; piece = []; whole = sym (append-nil seen); short = omega arith; later = omega (arith, h.ends, length-append h.turns (last ∷ [])) })
               (h.turns, last, mid, refl, h.written, w)
               tt
-              (pieces ++ Gave [] ∷ []) makes (room_for_one pieces (Gave []) most lt) (came_none pieces (Gave []) seen refl all) (pieces, [], each, omega arith, refl, later_than)
+              (pieces ++ Gave [] ∷ []) makes (room_for_one pieces (Gave []) most lt) (came_none pieces (Gave []) seen refl all) (pieces, [], each, omega arith, refl, later_than) (last_unasked step)
 
     -- the reply to a line of a piece wasn't written whole
-    pub unwritten : {E : Type 0} (fault : E) (mid new : Option (List ℕ)) (state later : StateValue) (now after : StoreValue D) (seen buffer piece left : List ℕ) (served : ℕ) (h : Progress old mid start (server state now) seen buffer served)
-        → IsFed (Err fault) source view (intake h.part piece left mid new) (server state now) (server later after)
+    pub unwritten : {E same step whole : Type 0} (fault : E) (mid new : Option (List ℕ)) (state later : StateValue) (now after : StoreValue D) (seen buffer piece left : List ℕ) (served : ℕ) (h : Progress same old mid start (server state now) seen buffer served)
+        → IsFedUnasked step (Err fault) (intake h.part piece left mid new) (server state now) (server later after) → (step → same → whole)
         → Consumes input rest (seen ++ piece) → length (seen ++ piece) ≤ most * 4096 → length piece ≤ 4096
-        → (pieces : List Reading) → All IsPiece pieces → seen ≡ all_of pieces → Makes begun made (pieces ++ Gave piece ∷ []) → length pieces < most → Out (Err faults.Write) new after
-    unwritten fault mid new state later now after seen buffer piece left served h f c few short pieces each all makes lt =
+        → (pieces : List Reading) → All IsPiece pieces → seen ≡ all_of pieces → Makes begun made (pieces ++ Gave piece ∷ []) → length pieces < most → Out whole (Err faults.Write) new after
+    unwritten fault mid new state later now after seen buffer piece left served h fed both c few short pieces each all makes lt =
+        let f = fed.0 in
         let turns = h.turns ++ f.turns in
         let cut = subst (λ (ls : List (List ℕ)). AreCut (seen ++ f.taken) ls f.rest) (asked_both h.turns f.turns)
         (cut_more seen f.taken h.part f.rest (lines_asked h.turns) (lines_asked f.turns) h.cut f.lines) in
@@ -413,13 +442,15 @@ module _ {D : Type 0} (source : SourceView) (view : D → DiskView) where
         tt
         (pieces ++ Gave piece ∷ []) makes (room_for_one pieces (Gave piece) most lt) (came_more pieces (Gave piece) seen all)
         (pieces, piece, each, short, refl, subst (λ (l : List ℕ). ends_in l < length turns) all more)
+        (λ none. both (fed.1 (rest_ask_none source view h.turns f.turns start (server state now) h.run none)) (h.unasked (first_ask_none false h.turns f.turns none)))
 
   -- no memory for the buffer
-  pub not_started : (most : ℕ) (input old : Option (List ℕ)) (begun : Option (List Reading)) (before : StoreValue D) → IsServed (Err faults.OutOfMemory) most source view (with_reads (streams input input old old) begun begun) before before
-  not_started most input old begun before =
+  pub not_started : (same : Type 0) → same → (most : ℕ) (input old : Option (List ℕ)) (begun : Option (List Reading)) (before : StoreValue D)
+      → (s : IsServed (Err faults.OutOfMemory) most source view (with_reads (streams input input old old) begun begun) before before) × (AskNoRelease false s.turns → same)
+  not_started same unchanged most input old begun before =
       out most input input old begun begun before (Err faults.OutOfMemory) old fresh before [] refl (first_lines input input [] [] [] faults.OutOfMemory (Consumes-nil input) (λ more. (lines_in more, refl)))
       [] (Consumes-nil input) (omega arith) (refl, refl) (Appends-nil old) tt
-      [] (makes_none begun) (omega arith) refl refl
+      [] (makes_none begun) (omega arith) refl refl (λ none. unchanged)
 
 -- ---- pieces
 

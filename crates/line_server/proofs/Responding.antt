@@ -13,7 +13,7 @@ use Rattle.history_store.specs.Queries.{is_listed}
 use Rattle.blocks.proofs.Looked.{none_looks_up}
 use Rattle.history_store.specs.Answers.{CountsRefusal}
 use Rattle.line_commands.specs.declared.unread.Unread.{Unread}
-use Rattle.line_commands.specs.Questions.{Question, Children, Descendants, Dates, Digest, Receipt as AskReceipt}
+use Rattle.line_commands.specs.Questions.{Question, Children, Ancestors, Descendants, Dates, Digest, Receipt as AskReceipt}
 use Rattle.line_commands.specs.Commands.{Command, At, Import, Check, Pin, Unpin, Merge, Step, Publish, Status}
 use Rattle.line_commands.specs.Requests.{Asks, IsUnread}
 use Rattle.line_commands.proofs.Readings.{asked_is_read, one_reading}
@@ -31,6 +31,7 @@ use Rattle.line_server.proofs.Alike.{turn_of}
 use Rattle.store_life.proofs.Made.{unmade}
 use Rattle.line_server.proofs.Finding.{AsksIndex, same_from}
 use Rattle.line_server.proofs.Queried.{responded, queried, refused_by}
+use Rattle.line_server.proofs.KnownRead.{none_known}
 
 abbrev is_fault : Refusal → Bool
 is_fault store.DiskFault = true
@@ -107,7 +108,7 @@ pub any_source : {D : Type 0} (source : SourceView) (view : D → DiskView) (res
 any_source source view result session command old new r = record {
   turned = λ line asks.
       let t = r.turned line asks in
-      (t.0, t.1, record { releases = t.2.releases; goes = t.2.goes; own = λ h. t.2.own tt; call = t.2.call; counts = t.2.counts; disk = t.2.disk }, t.3);
+      (t.0, t.1, record { releases = t.2.releases; goes = t.2.goes; own = λ h. t.2.own tt; call = t.2.call; counts = t.2.counts }, t.3);
   grows = r.grows;
 }
 
@@ -178,8 +179,9 @@ module _ {D : Type 0} (view : D → DiskView) (number : ℕ) (question : Questio
         unseen_left (Descendants concept date) = refl
         unseen_left Dates = refl
         unseen_left (AskReceipt other) = refl
+        unseen_left (Ancestors concept date) = ((λ h. refl, none_looks_up (is_listed old.catalog.entries) old.cache (view old.disk).bytes_read), tt, λ up above are. omega arith)
         unseen_left Digest = ((λ h. refl, none_looks_up (is_listed old.catalog.entries) old.cache (view old.disk).bytes_read), omega arith)
-        unseen_left other = ((λ h. refl, none_looks_up (is_listed old.catalog.entries) old.cache (view old.disk).bytes_read), tt)
+        unseen_left other = ((λ h. refl, none_looks_up (is_listed old.catalog.entries) old.cache (view old.disk).bytes_read), tt, λ wanted found. omega arith)
 
 -- ---- pins
 
@@ -219,28 +221,39 @@ module _ {D : Type 0} (source : SourceView) (view : D → DiskView) (line : List
     refl,
     record {
       releases = source.releases;
-      goes = record { replies = inr (reason, is, refl, refl); asked = tt };
-      own = λ h. record { replies = inr (reason, is, refl, refl); asked = tt };
+      goes = none_goes source.releases;
+      own = λ h. none_goes source.releases;
       call = unmade view s.store;
       counts = refl;
-      disk = λ session command asks. absurd (asked_is_read line session command reason asks is);
     },
     refl,
-  )
+  ) where
+    none_goes : (releases : Releases) → GoesBy view releases s (turn_of (Err (refusals.Unread reason)) Other s s line) s
+    none_goes releases = record {
+      replies = inr (reason, is, refl, refl);
+      asked = tt;
+      disk = λ session command asks. absurd (asked_is_read line session command reason asks is);
+    }
 
   -- the line asks a command that is held back
   module _ (session : ℕ) (command : Command) (s : Server D) (asks : Asks line session command) (held : HoldsBack s.met_damage command) where
     -- the store isn't called
-    held_left : (seen : ℕ) (c : Command) → IsHeldBack c → LeavesDisk view seen c (Err (refusals.Store store.Damaged)) s.store s.store
-    held_left seen (Import name) h = λ up. refl
-    held_left seen (Check name) h = (λ up. refl, none_looks_up (is_listed s.store.catalog.entries) s.store.cache (view s.store.disk).bytes_read)
-    held_left seen Merge h = refl
-    held_left seen (Step rows) h = (λ up. refl, (s.store.cache, none_looks_up (is_listed s.store.catalog.entries) s.store.cache (view s.store.disk).bytes_read, inl refl))
-    held_left seen Publish h = (λ up. refl, omega arith)
-    held_left seen c h = absurd h
+    held_left : (releases : Releases) (seen : ℕ) (c : Command) → IsHeldBack c → LeavesDisk view releases seen c (Err (refusals.Store store.Damaged)) s.store s.store
+    held_left releases seen (Import name) h = (λ up. refl, none_known view releases name 1 s.store)
+    held_left releases seen (Check name) h = ((λ up. refl, none_looks_up (is_listed s.store.catalog.entries) s.store.cache (view s.store.disk).bytes_read), none_known view releases name 0 s.store)
+    held_left releases seen Merge h = refl
+    held_left releases seen (Step rows) h = (λ up. refl, (s.store.cache, none_looks_up (is_listed s.store.catalog.entries) s.store.cache (view s.store.disk).bytes_read, inl refl), (omega arith, omega arith))
+    held_left releases seen Publish h = (λ up. refl, (omega arith, omega arith))
+    held_left releases seen c h = absurd h
 
-    goes_held : (releases : Releases) → GoesBy (view s.store.disk).is_honest releases s (turn_of (Err (refusals.Store store.Damaged)) Other s s line) s
-    goes_held releases = record { replies = inl (session, command, asks, inl (record { held_back = held; refused = refl; unchanged = refl })); asked = tt }
+    goes_held : (releases : Releases) → GoesBy view releases s (turn_of (Err (refusals.Store store.Damaged)) Other s s line) s
+    goes_held releases = record {
+      replies = inl (session, command, asks, inl (record { held_back = held; refused = refl; unchanged = refl }));
+      asked = tt;
+      disk = λ other also asked.
+          let one = one_reading line session other command also asks asked in
+          subst (λ (c : Command). LeavesDisk view releases (imports_seen s other) c (Err (refusals.Store store.Damaged)) s.store s.store) one.1 (held_left releases (imports_seen s other) command held.1);
+    }
 
     pub held_back : HasTurn source view line s s (λ turn. IsToldBy (Err (refusals.Store store.Damaged)) turn.outcome)
     held_back = (
@@ -252,9 +265,6 @@ module _ {D : Type 0} (source : SourceView) (view : D → DiskView) (line : List
         own = λ h. goes_held source.releases;
         call = unmade view s.store;
         counts = refl;
-        disk = λ other also asked.
-            let one = one_reading line session other command also asks asked in
-            subst (λ (c : Command). LeavesDisk view (imports_seen s other) c (Err (refusals.Store store.Damaged)) s.store s.store) one.1 (held_left (imports_seen s other) command held.1);
       },
       refl,
     )

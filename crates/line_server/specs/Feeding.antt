@@ -1,6 +1,6 @@
 -- What feeding a piece of the input to the server does.
 use Rattle.std.specs.Prelude.{◌≡◌, ◌⊎◌, ◌==◌, ◌^◌, ◌-◌, false, ℕ, List, [], ◌∷◌, ◌++◌, length, min}
-use Rattle.std.specs.Prelude.{All, Option, Result, Ok, Err, IfOk, OnOk}
+use Rattle.std.specs.Prelude.{All, Option, Result, Ok, Err, IfOk, OnOk, OnErr}
 use Rattle.disk_model.specs.View.{DiskView}
 use Rattle.std.specs.Io.KnownBytes.{Appends}
 use Rattle.rf2_rows.specs.File.{lines_in}
@@ -54,7 +54,8 @@ intake part piece buffer old new =
 
 -- A piece of the input was taken after a part of a line. Each line that ended in the piece was
 -- answered, in order, and its reply written; the beginning of the next line is kept. After a fault
--- of the writer this holds of the piece up to the end of the line whose reply wasn't written.
+-- of the writer this holds of the piece up to the end of the line whose reply wasn't written, and
+-- nothing is kept.
 pub record IsFed {D E : Type 0} (result : Result ℕ E) (source : SourceView) (view : D → DiskView)
     (intake : Intake) (before after : Server D) : Type 0 where
   pub turns : List Turn
@@ -64,6 +65,7 @@ pub record IsFed {D E : Type 0} (result : Result ℕ E) (source : SourceView) (v
   pub rest : List ℕ
   pub front : IsFront taken intake.piece
   pub all : OnOk result (taken ≡ intake.piece)
+  pub dropped : OnErr result (rest ≡ [])
   pub lines : AreCut (intake.part ++ taken) (lines_asked turns) rest
   pub number : length turns ≡ ends_in taken
   pub kept_is : intake.buffer ≡ kept rest

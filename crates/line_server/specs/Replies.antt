@@ -1,9 +1,10 @@
 -- Which answer a line gets, and the server after it.
 use Rattle.std.specs.Prelude.{◌≡◌, ◌≢◌, ℕ, ◌≤◌, ◌<◌, ◌⊎◌, Bool, true, false, List, [], ◌∷◌, length}
-use Rattle.std.specs.Prelude.{codes}
+use Rattle.std.specs.Prelude.{map, codes}
 use Rattle.std.specs.Prelude.{decimal, slice_set, option_map, Option, Some, None, Result, Ok, Err}
 use Rattle.std.specs.Prelude.{option_to_list}
 use Rattle.rf2_values.specs.Row.{RowValue}
+use Rattle.rf2_values.specs.Key.{key_of}
 use Rattle.history_model.specs.declared.receipt.Receipt.{Receipt}
 use Rattle.history_model.specs.History.{rows_at}
 use Rattle.history_model.specs.Brought.{ImportReceiptOf}
@@ -17,7 +18,7 @@ use Rattle.history_store.specs.declared.refusal.Refusal.{Refusal}
 use Rattle.history_store.specs.declared.refusal.Refusal.TheVariants as store
 use Rattle.history_store.specs.Catalog.{Merge as CatalogMerge}
 use Rattle.history_store.specs.StoreValue.{StoreValue}
-use Rattle.store_digest.specs.Digest.{digest_of}
+use Rattle.store_digest.specs.Digest.{digest_of, IsDigestByKey}
 use Rattle.history_store.specs.Answers.{IsImportOf, IsImportOnAnyDisk, IsReadRefusal, IsRefused}
 use Rattle.history_store.specs.Checking.{IsCheckingOf, IsCheckingOnAnyDisk}
 use Rattle.history_store.specs.MergeAnswers.{IsBeginningOf, IsSteppingOf, IsPublishingOf}
@@ -37,8 +38,8 @@ use Rattle.line_server.specs.StateValue.{StateValue, HoldsBack, met_after}
 use Rattle.line_server.specs.Sources.{Releases, scope_of}
 use Rattle.line_server.specs.ReplyValue.{Answer, Rows, Ids, Dates, Done, digits_of}
 
--- what a reply depends on: the pins of the sessions, the store, and whether a call of the store has
--- returned refusal 8 since it was opened
+-- what a reply depends on: the pins of the sessions, the store, and whether a line was refused with
+-- 8 (`Damaged`) since the store was opened
 pub record Server (D : Type 0) : Type 0 where
   pub pins : List (Option ℕ)
   pub store : StoreValue D
@@ -96,9 +97,16 @@ IsFound AskDates rows answer = answer ≡ Dates (dates rows)
 IsFound Digest rows answer = answer ≡ digits_of (digest_of rows)
 IsFound (AskReceipt number) rows answer = ⊥
 
+-- the rows have the same keys as those that the question finds
+abbrev pub HaveKeysFound : Question → List RowValue → List RowValue → Type 0
+HaveKeysFound question rows given =
+    (wanted : List RowValue) → IsFound question rows (Rows wanted)
+    → map key_of given ≡ map key_of wanted
+
 -- The answer is what the question finds: on every disk if the index alone finds it, and otherwise,
--- when rows are read, on an honest disk. On every disk the answer consists of rows; for ANCESTORS
--- of identifiers, and for DIGEST of the digits of 32 bytes.
+-- when rows are read, on an honest disk. On every disk the answer consists of rows with the same
+-- keys as those that the question finds; for ANCESTORS of identifiers, and for DIGEST of the digits
+-- of a digest of rows with the keys of all.
 abbrev pub IsFinding : Type 0 → Question → List RowValue → Answer → Type 0
 IsFinding honest (Children concept date) rows answer =
     IsFound (Children concept date) rows answer
@@ -109,9 +117,10 @@ IsFinding honest (AskReceipt number) rows answer = ⊥
 IsFinding honest (Ancestors concept date) rows answer =
     (ids : List ℕ) × (answer ≡ Ids ids) × (honest → IsFound (Ancestors concept date) rows answer)
 IsFinding honest Digest rows answer = (digest : List ℕ) × (length digest ≡ 32)
-    × (answer ≡ digits_of digest) × (honest → IsFound Digest rows answer)
-IsFinding honest question rows answer =
-    (given : List RowValue) × (answer ≡ Rows given) × (honest → IsFound question rows answer)
+    × (answer ≡ digits_of digest) × IsDigestByKey digest rows
+    × (honest → IsFound Digest rows answer)
+IsFinding honest question rows answer = (given : List RowValue) × (answer ≡ Rows given)
+    × HaveKeysFound question rows given × (honest → IsFound question rows answer)
 
 -- the session's pin is set or removed; the store and its disk are unchanged
 abbrev pub IsPinned : {D : Type 0} → Server D → Server D → ℕ → Option ℕ → Type 0
@@ -303,6 +312,12 @@ abbrev pub NamesRelease : Command → List ℕ → Type 0
 NamesRelease (Import name) other = other ≡ name
 NamesRelease (Check name) other = other ≡ name
 NamesRelease command other = ⊥
+
+-- the line asks the source for no release: its command names none, or is held back
+abbrev pub AsksNoRelease : (line : List ℕ) (met_damage : Bool) → Type 0
+AsksNoRelease line met_damage =
+    (session : ℕ) (command : Command) (name : List ℕ) → Asks line session command
+    → NamesRelease command name → HoldsBack met_damage command
 
 -- the refusal of a command, and the server after it
 abbrev pub IsRefusal : {D : Type 0} → Type 0 → Releases → ℕ → Command → LineRefusal → Server D

@@ -9,7 +9,7 @@ use Rattle.line_server.specs.Pins.{unpinned}
 pub record StateValue : Type 0 where
   -- the pin of each session, if it has one
   pub pins : List (Option ℕ)
-  -- a call of the store has returned refusal 8 since the store was opened
+  -- a line was refused with 8 (`Damaged`) since the store was opened
   pub met_damage : Bool
 
 -- the initial state: no session is pinned, and no damage was found
@@ -38,6 +38,6 @@ IsHeldBack (Step rows) = Unit {0}
 IsHeldBack Publish = Unit {0}
 IsHeldBack command = ⊥
 
--- the command is refused without calling the store
+-- the command is held back: it is refused, and nothing changes
 abbrev pub HoldsBack : (met_damage : Bool) → Command → Type 0
 HoldsBack met_damage command = (met_damage ≡ true) × IsHeldBack command

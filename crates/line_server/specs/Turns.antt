@@ -1,20 +1,23 @@
 -- Lines that are answered one after the other.
-use Rattle.std.specs.Prelude.{◌≡◌, ℕ, ◌≤◌, List, [], ◌∷◌, map, take, Some}
+use Rattle.std.specs.Prelude.{◌≡◌, Bool, ℕ, ◌≤◌, List, [], ◌∷◌, map, take, Some}
 use Rattle.std.specs.Prelude.{Result, Ok, Err, OnOk, sum_by, ◌+◌}
-use Rattle.disk_model.specs.View.{DiskView}
+use Rattle.disk_model.specs.View.{DiskView, AtMost}
 use Rattle.std.specs.List.{flat_map}
 use Rattle.import_check.specs.declared.scope.Scope.{Scope}
 use Rattle.import_check.specs.declared.release.Release.{Release}
-use Rattle.import_check.specs.Release.{files_of}
+use Rattle.import_check.specs.Release.{files_of, IsReleaseOf}
+use Rattle.import_check.specs.Known.{already_known}
+use Rattle.import_check.specs.NewRows.{IsRead}
 use Rattle.history_store.specs.declared.refusal.Refusal.TheVariants as store
 use Rattle.history_store.specs.StoreValue.{StoreValue}
 use Rattle.history_store.specs.Answers.{CountsRefusal}
-use Rattle.history_store.specs.Merging.{trimmed_len}
+use Rattle.history_store.specs.Merging.{trimmed_len, step_cost}
 use Rattle.history_store.specs.Queries.{ReadsThroughCache, StepsThroughCache}
 use Rattle.history_store.specs.Reading.{row_cost}
 use Rattle.history_store.specs.Auditing.{relationships_cost}
 use Rattle.rf2_values.specs.Row.{RowValue}
-use Rattle.history_model.specs.History.{rows_at}
+use Rattle.history_model.specs.History.{rows_at, full}
+use Rattle.history_model.specs.Hierarchy.{AreAncestors}
 use Rattle.line_commands.specs.Questions.{Question, Children, Ancestors, Descendants, Dates}
 use Rattle.line_commands.specs.Questions.{Digest, Receipt}
 use Rattle.line_commands.specs.Commands.{Command, Ask, At, Import, Check, Step, Publish, Trim}
@@ -23,7 +26,8 @@ use Rattle.line_server.specs.declared.refusal.LineRefusal.{LineRefusal}
 use Rattle.line_server.specs.declared.refusal.LineRefusal.TheVariants as refusals
 use Rattle.line_server.specs.Sources.{Releases, SourceView, scope_of}
 use Rattle.line_server.specs.ReplyValue.{Answer, Rows, Ids, ReplyValue, reply_value, bytes_of}
-use Rattle.line_server.specs.Replies.{Server, Replies, imports_seen}
+use Rattle.line_server.specs.StateValue.{met_after}
+use Rattle.line_server.specs.Replies.{Server, Replies, IsFound, AsksNoRelease, imports_seen}
 use Rattle.store_life.specs.Life.{Call, Imported, Failed, Other, IsCall}
 
 -- a line, its outcome, and how it changed the store's history
@@ -45,13 +49,6 @@ IsOfAsked releases scope line (Imported release) = IsAskedFor releases scope lin
 IsOfAsked releases scope line (Failed release) = IsAskedFor releases scope line release
 IsOfAsked releases scope line Other = Unit {0}
 
--- the turn's outcome is that of a server whose source has these releases, and which asks it for the
--- files that the store's version keeps
-pub record GoesBy {D : Type 0} (honest : Type 0) (releases : Releases) (old : Server D)
-    (turn : Turn) (new : Server D) : Type 0 where
-  pub replies : Replies honest releases turn.line turn.outcome old new
-  pub asked : IsOfAsked releases (scope_of old.store.catalog.layout) turn.line turn.call
-
 -- the count of the disk's failures: it has risen if the outcome is `ERR 2`, and otherwise is
 -- unchanged
 abbrev pub CountsOutcome : Result Answer LineRefusal → ℕ → ℕ → Type 0
@@ -64,10 +61,16 @@ IfRefused (Ok answer) so = Unit {0}
 IfRefused (Err (refusals.Store store.DiskFault)) so = Unit {0}
 IfRefused (Err refusal) so = so
 
--- An answer with rows read no more than these rows take.
+-- an answer with rows read no more than these rows take
 abbrev pub ReadsFor : Result Answer LineRefusal → ℕ → ℕ → Type 0
 ReadsFor (Ok (Rows rows)) old new = new ≤ old + sum_by row_cost rows
 ReadsFor _ old new = Unit {0}
+
+-- Whatever the outcome, no more was read than the rows take that the question finds.
+abbrev pub ReadsFound : Question → List RowValue → ℕ → ℕ → Type 0
+ReadsFound question rows old new =
+    (wanted : List RowValue) → IsFound question rows (Rows wanted)
+    → new ≤ old + sum_by row_cost wanted
 
 -- Finding the ancestors of a concept read no more than the active relationships take whose source
 -- is the concept or one of them.
@@ -75,6 +78,18 @@ abbrev pub ReadsAbove : ℕ → ℕ → List RowValue → Result Answer LineRefu
 ReadsAbove concept date rows (Ok (Ids ids)) old new =
     new ≤ old + relationships_cost date rows (concept ∷ ids)
 ReadsAbove concept date rows _ old new = Unit {0}
+
+-- Whatever the outcome, no more was read than those take whose source is the concept or one of all
+-- its ancestors.
+abbrev pub ReadsAllAbove : ℕ → ℕ → List RowValue → ℕ → ℕ → Type 0
+ReadsAllAbove concept date rows old new =
+    (above : List ℕ) → AreAncestors concept date rows above
+    → new ≤ old + relationships_cost date rows (concept ∷ above)
+
+-- Reads asked for at most so many bytes, and at most so many other calls were made.
+abbrev pub CostsAtMost : (bytes calls : ℕ) → DiskView → DiskView → Type 0
+CostsAtMost bytes calls old new =
+    AtMost bytes old.bytes_read new.bytes_read × AtMost calls old.other_calls new.other_calls
 
 -- Reading through the cache doesn't change what a crash may leave of an honest disk. On every disk
 -- only blocks of listed segments are read, and none that is cached.
@@ -94,57 +109,92 @@ LeavesAsked view seen (Receipt number) outcome old new = new.disk ≡ old.disk
 LeavesAsked view seen (Ancestors concept date) outcome old new = LeavesQueried view old new
     × ReadsAbove concept date (rows_at seen old.history.rows) outcome (view old.disk).bytes_read
     (view new.disk).bytes_read
+    × ((view old.disk).is_honest → ReadsAllAbove concept date (rows_at seen old.history.rows)
+    (view old.disk).bytes_read (view new.disk).bytes_read)
 LeavesAsked view seen Digest outcome old new = LeavesQueried view old new
     × ((view new.disk).bytes_read
     ≤ (view old.disk).bytes_read + sum_by row_cost (rows_at seen old.history.rows))
 LeavesAsked view seen question outcome old new =
     LeavesQueried view old new
     × ReadsFor outcome (view old.disk).bytes_read (view new.disk).bytes_read
+    × ReadsFound question (rows_at seen old.history.rows) (view old.disk).bytes_read
+    (view new.disk).bytes_read
+
+-- Of the stored rows only those were read whose keys are in the release, each at most once, and
+-- `besides` more bytes. If a file isn't a valid release file, nothing was read.
+pub record ReadsKnown {D : Type 0} (view : D → DiskView) (besides : ℕ) (release : Release)
+    (old new : StoreValue D) : Type 0 where
+  pub bytes_read : (rows : List RowValue) → IsReleaseOf release rows
+      → (view new.disk).bytes_read ≤ (view old.disk).bytes_read + besides
+      + sum_by row_cost (already_known (full old.history) rows)
+  pub bytes_unread : (IsRead release → ⊥) → (view new.disk).bytes_read ≤ (view old.disk).bytes_read
+
+-- this holds for a release of the name, in the scope of the store's version
+abbrev pub ReadsKnownOf : {D : Type 0} → (D → DiskView) → Releases → List ℕ → (besides : ℕ)
+    → StoreValue D → StoreValue D → Type 0
+ReadsKnownOf view releases name besides old new =
+    (release : Release) → releases (scope_of old.catalog.layout) name ≡ Some (files_of release)
+    → ReadsKnown view besides release old new
 
 -- What a command leaves of the disk. On an honest one IMPORT, STEP and PUBLISH may change what a
 -- crash leaves, but not if they are refused for a reason other than a disk failure. After TRIM a
 -- read returns what it returned before, up to the last block that is listed or reserved, and
 -- nothing after it. CHECK and STEP look up blocks as a question does, and STEP may then drop those
--- from the cache that the merge reserved; PUBLISH reads one byte at most, and TRIM none. A question
--- in a session that sees `seen` imports leaves the disk as `LeavesAsked` says, and every other
--- command leaves the disk unchanged.
-abbrev pub LeavesDisk : {D : Type 0} → (D → DiskView) → ℕ → Command → Result Answer LineRefusal
-    → StoreValue D → StoreValue D → Type 0
-LeavesDisk view seen (Ask question) outcome old new = LeavesAsked view seen question outcome old new
-LeavesDisk view seen (At number question) outcome old new =
+-- from the cache that the merge reserved. On every disk and whatever the outcome, CHECK and IMPORT
+-- read no rows but those with the keys of the release, and IMPORT one byte besides; STEP reads no
+-- more than the output has bytes and two blocks for each row, PUBLISH one byte at most, and TRIM
+-- none; besides reads, STEP makes one call at most, PUBLISH seven, and TRIM three. A question in a
+-- session that sees `seen` imports leaves the disk as `LeavesAsked` says, and every other command
+-- leaves the disk unchanged.
+abbrev pub LeavesDisk : {D : Type 0} → (D → DiskView) → Releases → ℕ → Command
+    → Result Answer LineRefusal → StoreValue D → StoreValue D → Type 0
+LeavesDisk view releases seen (Ask question) outcome old new =
+    LeavesAsked view seen question outcome old new
+LeavesDisk view releases seen (At number question) outcome old new =
     LeavesAsked view number question outcome old new
-LeavesDisk view seen (Import name) outcome old new =
-    (view old.disk).is_honest
-    → IfRefused outcome ((view new.disk).moments ≡ (view old.disk).moments)
-LeavesDisk view seen (Check name) outcome old new = LeavesQueried view old new
-LeavesDisk view seen (Step rows) outcome old new =
+LeavesDisk view releases seen (Import name) outcome old new =
+    ((view old.disk).is_honest
+    → IfRefused outcome ((view new.disk).moments ≡ (view old.disk).moments))
+    × ReadsKnownOf view releases name 1 old new
+LeavesDisk view releases seen (Check name) outcome old new =
+    LeavesQueried view old new × ReadsKnownOf view releases name 0 old new
+LeavesDisk view releases seen (Step rows) outcome old new =
     ((view old.disk).is_honest
     → IfRefused outcome ((view new.disk).moments ≡ (view old.disk).moments))
     × StepsThroughCache view old new
-LeavesDisk view seen Publish outcome old new =
+    × CostsAtMost (step_cost rows old.catalog.merge) 1 (view old.disk) (view new.disk)
+LeavesDisk view releases seen Publish outcome old new =
     ((view old.disk).is_honest
     → IfRefused outcome ((view new.disk).moments ≡ (view old.disk).moments))
-    × ((view new.disk).bytes_read ≤ (view old.disk).bytes_read + 1)
-LeavesDisk view seen Trim outcome old new =
+    × CostsAtMost 1 7 (view old.disk) (view new.disk)
+LeavesDisk view releases seen Trim outcome old new =
     ((view old.disk).is_honest
     → OnOk outcome ((view new.disk).moments.state.now ≡ take (trimmed_len old.catalog)
     (view old.disk).moments.state.now)
     × IfRefused outcome ((view new.disk).moments ≡ (view old.disk).moments))
     × ((view new.disk).bytes_read ≡ (view old.disk).bytes_read)
-LeavesDisk view seen command outcome old new = new.disk ≡ old.disk
+    × AtMost 3 (view old.disk).other_calls (view new.disk).other_calls
+LeavesDisk view releases seen command outcome old new = new.disk ≡ old.disk
+
+-- The turn's outcome is that of a server whose source has these releases, and which asks it for the
+-- files that the store's version keeps; and the disk is left so.
+pub record GoesBy {D : Type 0} (view : D → DiskView) (releases : Releases) (old : Server D)
+    (turn : Turn) (new : Server D) : Type 0 where
+  pub replies : Replies (view old.store.disk).is_honest releases turn.line turn.outcome old new
+  pub asked : IsOfAsked releases (scope_of old.store.catalog.layout) turn.line turn.call
+  pub disk : (session : ℕ) (command : Command) → Asks turn.line session command
+      → LeavesDisk view releases (imports_seen old session) command turn.outcome old.store new.store
 
 -- One line was answered, as a server answers it whose source has some releases; if the source is
 -- honest, these are its own.
 pub record IsTurn {D : Type 0} (source : SourceView) (view : D → DiskView) (old : Server D)
     (turn : Turn) (new : Server D) : Type 0 where
   pub releases : Releases
-  pub goes : GoesBy (view old.store.disk).is_honest releases old turn new
-  pub own : source.is_honest → GoesBy (view old.store.disk).is_honest source.releases old turn new
+  pub goes : GoesBy view releases old turn new
+  pub own : source.is_honest → GoesBy view source.releases old turn new
   pub call : IsCall view old.store turn.call new.store
   pub counts : CountsOutcome turn.outcome (view old.store.disk).failures
       (view new.store.disk).failures
-  pub disk : (session : ℕ) (command : Command) → Asks turn.line session command
-      → LeavesDisk view (imports_seen old session) command turn.outcome old.store new.store
 
 -- a line was answered by a turn of which this holds
 abbrev pub HasTurn : {D : Type 0} → SourceView → (D → DiskView) → List ℕ → Server D → Server D
@@ -170,6 +220,13 @@ abbrev pub Run : {D : Type 0} → SourceView → (D → DiskView) → Server D �
 Run {D} source view old [] new = new ≡ old
 Run {D} source view old (turn ∷ turns) new =
     (mid : Server D) × IsTurn source view old turn mid × Run source view mid turns new
+
+-- None of the lines asks the source for a release: none names one, unless it is held back. The
+-- first argument says whether damage was found before them.
+abbrev pub AskNoRelease : (met_damage : Bool) → List Turn → Type 0
+AskNoRelease met_damage [] = Unit {0}
+AskNoRelease met_damage (turn ∷ turns) = AsksNoRelease turn.line met_damage
+    × AskNoRelease (met_after turn.outcome met_damage) turns
 
 abbrev pub lines_asked : List Turn → List (List ℕ)
 lines_asked turns = map (λ turn. turn.line) turns

@@ -3,10 +3,10 @@
 ghost use Rattle.std.specs.Prelude.{◌≡◌, ℕ, List};
 ghost use Rattle.line_server.specs.Sources.{source_view};
 ghost use Rattle.line_server.specs.Pins.{AreWithin};
-ghost use Rattle.line_server.specs.Replies.{server};
+ghost use Rattle.line_server.specs.Replies.{server, AsksNoRelease};
 ghost use Rattle.line_server.specs.Steps.{kept};
 ghost use Rattle.line_server.specs.ReplyValue.{reply_value, bytes_of};
-ghost use Rattle.line_server.specs.Turns.{HasTurn};
+ghost use Rattle.line_server.specs.Turns.{HasTurn, AskNoRelease};
 ghost use Rattle.line_server.specs.Streams.{IsPut};
 ghost use Rattle.line_server.specs.Feeding.{IsUnended, IsFed, intake};
 
@@ -36,6 +36,7 @@ pub(crate) fn answer_line<W: Write, S: Source, D: Disk>(
         (server state.old store.old) (server state.new store.new)
         (λ turn. IsPut result (W.contents writer.old) (W.contents writer.new)
         (bytes_of (reply_value turn.outcome))) }
+    ensures unasked { AsksNoRelease line.now state.old.met_damage → source.new ≡ source.old }
     ensures source { S.is_honest source.old → S.is_honest source.new }
     ensures stays { S.is_honest source.old → S.releases source.new ≡ S.releases source.old }
 {
@@ -58,11 +59,13 @@ pub fn feed<W: Write, S: Source, D: Disk>(
 ) -> Result<u64, WriteFault>
     requires { AreWithin store.old.history.imports state.old.pins }
     ensures pins { AreWithin store.new.history.imports state.new.pins }
-    // This holds whatever part of a line came before the piece; the buffer has its first bytes.
-    ensures fed { (part : List ℕ) → IsUnended part → line.old ≡ kept part → IsFed result
+    // This holds whatever part of a line came before the piece; the buffer has its first bytes. The
+    // source is unchanged if none of the lines asks it for a release.
+    ensures fed { (part : List ℕ) → IsUnended part → line.old ≡ kept part → (taken : IsFed result
         (source_view (S.is_honest source.old) (S.releases source.old)) D.view
         (intake part piece.now line.new (W.contents writer.old) (W.contents writer.new))
-        (server state.old store.old) (server state.new store.new) }
+        (server state.old store.old) (server state.new store.new))
+        × (AskNoRelease state.old.met_damage taken.turns → source.new ≡ source.old) }
     ensures source { S.is_honest source.old → S.is_honest source.new }
     ensures stays { S.is_honest source.old → S.releases source.new ≡ S.releases source.old }
 {

@@ -1,10 +1,11 @@
 //! Serves an input: reads lines and writes replies.
 
-ghost use Rattle.std.specs.Prelude.{◌≡◌, IsErrOf};
+ghost use Rattle.std.specs.Prelude.{◌≡◌, IsErrOf, false};
 ghost use Rattle.line_server.specs.Sources.{source_view};
 ghost use Rattle.line_server.specs.declared.serving.ServeFault.TheVariants.{OutOfMemory};
 ghost use Rattle.line_server.specs.Serving.{IsServed};
 ghost use Rattle.line_server.specs.Streams.{streams, with_reads};
+ghost use Rattle.line_server.specs.Turns.{AskNoRelease};
 
 use crate::buffer::LineBuffer;
 use crate::feeding::{answer_line, feed};
@@ -46,11 +47,12 @@ pub fn serve<R: PieceReader, W: Write, S: Source, D: Disk>(
     store: &mut Store<D>,
     max_reads: u32,
 ) -> Result<u64, ServeFault>
-    ensures served { IsServed result max_reads
+    // The source is unchanged if none of the lines asks it for a release.
+    ensures served { (done : IsServed result max_reads
         (source_view (S.is_honest source.old) (S.releases source.old)) D.view
         (with_reads (streams (R.remaining reader.old) (R.remaining reader.new)
         (W.contents writer.old) (W.contents writer.new)) (R.reads reader.old) (R.reads reader.new))
-        store.old store.new }
+        store.old store.new) × (AskNoRelease false done.turns → source.new ≡ source.old) }
     // The buffer is allocated before anything else is done.
     ensures memory { IsErrOf result OutOfMemory
         → (reader.new ≡ reader.old) × (writer.new ≡ writer.old)

@@ -61,7 +61,7 @@ impl ServerState {
         self.pins[session as usize] = pin;
     }
 
-    /// Whether the command is refused without calling the store, because damage was found.
+    /// Whether the command is held back, because damage was found.
     pub(crate) fn holds_back(&self, command: &Command<'_>) -> bool
         ensures { IsTrue result ↔ HoldsBack self.now.met_damage (command_of command.now) }
     {

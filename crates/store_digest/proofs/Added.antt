@@ -1,5 +1,5 @@
 -- One row was read, and its line was added.
-use Rattle.std.proofs.Common.{◌≡◌, ℕ, Option, Some, Ok, List, [], ◌∷◌, ◌++◌, take, map, refl, sym, ap, subst, ◌∙◌, append-nil}
+use Rattle.std.proofs.Common.{◌≡◌, ℕ, Option, Some, None, Ok, List, [], ◌∷◌, ◌++◌, take, map, refl, sym, ap, subst, ◌∙◌, append-nil}
 use Rattle.std.specs.List.{filter, slice_get}
 use Rattle.std.proofs.lemmas.List.Concat.{flat_map-cons}
 use Rattle.sha2.specs.declared.Sha256.{Sha256}
@@ -12,7 +12,7 @@ use Rattle.disk_model.specs.View.{DiskView}
 use Rattle.history_store.specs.StoreValue.{StoreValue}
 use Rattle.history_store.specs.Queries.{IsRowsQuery}
 use Rattle.store_digest.specs.Digest.{text_line, text_of}
-use Rattle.store_digest.specs.Private.{next_row, IsNextAdded}
+use Rattle.store_digest.specs.Private.{IsNextAdded}
 use Rattle.store_digest.proofs.Composed.{answered_otherwise}
 
 none_behind : (row : RowValue) (rest : List RowValue) (after : Option Key) (rows : List RowValue) → map key_of (row ∷ rest) ≡ map key_of (rows_after after 1 rows) → rest ≡ []
@@ -30,17 +30,41 @@ one_only (first ∷ rest) row after rows e keys =
     let same : first ≡ row = cc in
     ap (λ x. x ∷ rest) same ∙ ap (λ xs. row ∷ xs) (none_behind first rest after rows keys)
 
+-- a list that has no first item has none
+pub none_first : (items : List RowValue) → None ≡ slice_get items 0 → items ≡ []
+none_first [] e = refl
+none_first (row ∷ rest) e = absurd (cc)
+
 module _ {D : Type 0} (view : D → DiskView) (pin : ℕ) (after : Option Key) (old new : StoreValue D) where
   pub row_added : {T : Type 0} (rows_of : T → List RowValue) (x : T) (row : RowValue) (key : Key) (before more : Sha256) → IsRowsQuery (Ok x) rows_of (rows_after after 1) pin view old new → slice_get (rows_of x) 0 ≡ Some row → key ≡ key_of row → ((m : List ℕ) → Holds256 before m → Holds256 more (m ++ text_line row)) → IsNextAdded (Ok (Some key)) after pin before more view old new
   row_added rows_of x row key before more q first key_is holds =
-      let one = one_only (rows_of x) row after _ first q.keys in record {
-        holds = λ h m holding.
-            let text : text_line row ≡ text_of (next_row after pin old) =
-            sym (append-nil (text_line row)) ∙ sym (flat_map-cons text_line row []) ∙ ap text_of (sym one ∙ q.found h) in
-            subst (λ t. Holds256 more (m ++ t)) text (holds m holding);
+      let one = one_only (rows_of x) row after _ first q.keys in
+      let text : text_line row ≡ text_of (row ∷ []) = sym (append-nil (text_line row)) ∙ sym (flat_map-cons text_line row []) in
+      record {
+        hashed = record {
+          read = row ∷ [];
+          keys = ap (map key_of) (sym one) ∙ q.keys;
+          found = λ h. sym one ∙ q.found h;
+          holds = λ m holding. subst (λ t. Holds256 more (m ++ t)) text (holds m holding);
+        };
         key = ap (λ k. k ∷ []) key_is ∙ ap (map key_of) (sym one) ∙ q.keys;
         query = answered_otherwise view old new x (Some key) q.query;
         other_calls = q.other_calls;
         looked_up = q.looked_up;
         bytes_read = q.bytes_read_always;
       }
+
+  pub none_added : {T : Type 0} (rows_of : T → List RowValue) (x : T) (hasher : Sha256) → IsRowsQuery (Ok x) rows_of (rows_after after 1) pin view old new → rows_of x ≡ [] → IsNextAdded (Ok None) after pin hasher hasher view old new
+  none_added rows_of x hasher q none = record {
+    hashed = record {
+      read = [];
+      keys = ap (map key_of) (sym none) ∙ q.keys;
+      found = λ h. sym none ∙ q.found h;
+      holds = λ m holding. subst (Holds256 hasher) (sym (append-nil m)) holding;
+    };
+    key = ap (map key_of) (sym none) ∙ q.keys;
+    query = answered_otherwise view old new x None q.query;
+    other_calls = q.other_calls;
+    looked_up = q.looked_up;
+    bytes_read = q.bytes_read_always;
+  }

@@ -119,9 +119,9 @@ module _ (last : Option Key) (rows : List RowValue) (b : RowValue) (first : IsFi
         | inr t ↦ t
       ])
 
-  -- one row more is done
-  pub one_more : IsAscending row_cmp rows → (done : List RowValue) → done ++ filter (is_after last) rows ≡ rows → (done ++ b ∷ []) ++ filter (is_after (Some (key_of b))) rows ≡ rows
-  one_more up done so_far =
+  -- one row more is done, and one less is left
+  pub one_moved : IsAscending row_cmp rows → (done : List RowValue) → (done ++ b ∷ []) ++ filter (is_after (Some (key_of b))) rows ≡ done ++ filter (is_after last) rows
+  one_moved up done =
       append_assoc done (b ∷ []) (filter (is_after (Some (key_of b))) rows)
       ∙ ap (λ ys. done ++ b ∷ ys) (sym (rest_left up))
-      ∙ ap (λ ys. done ++ ys) (sym first.left_is) ∙ so_far
+      ∙ ap (λ ys. done ++ ys) (sym first.left_is)

@@ -1,9 +1,11 @@
 -- The digest of rows, and the result of asking a store for the digest of all its rows.
-use Rattle.std.specs.Prelude.{◌≡◌, ℕ, ◌+◌, ◌≤◌, List, [], ◌∷◌, ◌++◌, codes, Result, IfOk}
+use Rattle.std.specs.Prelude.{◌≡◌, ℕ, ◌+◌, ◌≤◌, List, [], ◌∷◌, ◌++◌, map, codes, Result, IfOk}
 use Rattle.std.specs.List.{flat_map, sum_by}
 use Rattle.sha2.specs.Sha256.{sha256}
 use Rattle.rf2_values.specs.Row.{RowValue, kind_of, canonical}
-use Rattle.history_model.specs.History.{rows_at}
+use Rattle.rf2_values.specs.Key.{key_of}
+use Rattle.history_model.specs.InOrder.{IsAscending}
+use Rattle.history_model.specs.History.{row_cmp, rows_at}
 use Rattle.disk_model.specs.View.{DiskView}
 use Rattle.line_commands.specs.Questions.{letter}
 use Rattle.history_store.specs.declared.refusal.Refusal.{Refusal}
@@ -23,13 +25,21 @@ text_of rows = flat_map text_line rows
 abbrev pub digest_of : List RowValue → List ℕ
 digest_of rows = sha256 (text_of rows)
 
+-- The digest is that of rows which have the same keys as these, if these are in key order, as the
+-- rows of a history are.
+abbrev pub IsDigestByKey : List ℕ → List RowValue → Type 0
+IsDigestByKey digest shown = (rows : List RowValue) × (digest ≡ digest_of rows)
+    × (IsAscending row_cmp shown → map key_of rows ≡ map key_of shown)
+
 -- On an honest disk the digest is that of all rows that the pin shows, in key order. On every disk
--- no calls but reads are made, cached blocks aren't read again, and no more is read than these rows
--- take, each counted once.
+-- it is that of rows with the same keys: no row is left out. On every disk no calls but reads are
+-- made, cached blocks aren't read again, and no more is read than these rows take, each counted
+-- once.
 pub record IsDigestQuery {D : Type 0} (result : Result (List ℕ) Refusal) (pin : ℕ)
     (view : D → DiskView) (old new : StoreValue D) : Type 0 where
   pub found : (view old.disk).is_honest
       → IfOk result (λ digest. digest ≡ digest_of (rows_at pin old.history.rows))
+  pub keys : IfOk result (λ digest. IsDigestByKey digest (rows_at pin old.history.rows))
   pub query : IsQuery result view old new
   pub other_calls : (view new.disk).other_calls ≡ (view old.disk).other_calls
   pub looked_up : ReadsThroughCache view old new

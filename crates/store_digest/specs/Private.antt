@@ -1,5 +1,5 @@
 -- What hashing one row does. No public clause cites these definitions.
-use Rattle.std.specs.Prelude.{◌≡◌, ℕ, ◌+◌, ◌≤◌, List, ◌++◌, map, Option, Result, IfOk}
+use Rattle.std.specs.Prelude.{◌≡◌, ℕ, ◌+◌, ◌≤◌, List, ◌++◌, map, Option, Result, IfOk, OnOk}
 use Rattle.std.specs.Option.{option_to_list}
 use Rattle.std.specs.List.{sum_by}
 use Rattle.sha2.specs.declared.Sha256.{Sha256}
@@ -20,12 +20,21 @@ use Rattle.store_digest.specs.Digest.{text_of}
 abbrev pub next_row : {D : Type 0} → Option Key → ℕ → StoreValue D → List RowValue
 next_row after pin store = rows_after after 1 (rows_at pin store.history.rows)
 
+-- Text was hashed after what was hashed before: that of rows with the keys of these rows, which on
+-- an honest disk are these.
+pub record AreHashed (honest : Type 0) (rows : List RowValue) (before after_it : Sha256)
+    : Type 0 where
+  pub read : List RowValue
+  pub keys : map key_of read ≡ map key_of rows
+  pub found : honest → read ≡ rows
+  pub holds : (m : List ℕ) → Holds256 before m → Holds256 after_it (m ++ text_of read)
+
 -- The next row after a key was hashed, and its key is returned; or there is none.
 pub record IsNextAdded {D : Type 0} (result : Result (Option Key) Refusal) (after : Option Key)
     (pin : ℕ) (before after_it : Sha256)
     (view : D → DiskView) (old new : StoreValue D) : Type 0 where
-  pub holds : (view old.disk).is_honest → IfOk result (λ key. (m : List ℕ) → Holds256 before m
-      → Holds256 after_it (m ++ text_of (next_row after pin old)))
+  pub hashed : OnOk result
+      (AreHashed (view old.disk).is_honest (next_row after pin old) before after_it)
   pub key : IfOk result (λ key. option_to_list key ≡ map key_of (next_row after pin old))
   pub query : IsQuery result view old new
   pub other_calls : (view new.disk).other_calls ≡ (view old.disk).other_calls

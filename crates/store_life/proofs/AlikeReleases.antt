@@ -17,6 +17,7 @@ use Rattle.import_check.specs.declared.release.ReleaseFile.{ReleaseFile}
 use Rattle.import_check.specs.declared.release.Release.{Release}
 use Rattle.import_check.specs.Release.{IsAccepted, SpellFiles, IsReleaseOf, IsFaultOfRelease, HasContradiction}
 use Rattle.import_check.specs.Release.{files_of}
+use Rattle.import_check.specs.NewRows.{IsRead}
 use Rattle.history_store.specs.declared.refusal.Refusal.{Refusal}
 use Rattle.history_store.specs.declared.refusal.Refusal.TheVariants as store
 use Rattle.history_store.specs.Catalog.{Catalog}
@@ -103,8 +104,11 @@ cut_alike (x ∷ before) after faulty (y ∷ ys) e =
     }
 
 module _ (release other : Release) (same : files_of release ≡ files_of other) where
-  release_alike : {rows : List RowValue} → IsReleaseOf release rows → IsReleaseOf other rows
+  pub release_alike : {rows : List RowValue} → IsReleaseOf release rows → IsReleaseOf other rows
   release_alike r = record { lists = r.lists; spelled = spell_alike release.files.items other.files.items r.lists same r.spelled; rows_are = r.rows_are }
+
+  pub read_alike : IsRead release → IsRead other
+  read_alike r = record { lists = r.lists; spelled = spell_alike release.files.items other.files.items r.lists same r.spelled }
 
   contradiction_alike : {known : List RowValue} {file line : ℕ} {key : Key} → HasContradiction known release file line key → HasContradiction known other file line key
   contradiction_alike c = record { lists = c.lists; spelled = spell_alike release.files.items other.files.items c.lists same c.spelled; first = c.first }

@@ -1,10 +1,11 @@
 -- Calls on a store, as calls of a life.
-use Rattle.std.proofs.Common.{◌≡◌, ◌↔◌, ◌⊎◌, ℕ, Bool, true, false, List, refl, sym, ap, subst, ◌∙◌, Result, Ok, Err, inl, inr}
+use Rattle.std.proofs.Common.{◌≡◌, ◌↔◌, ◌⊎◌, ℕ, Bool, true, false, List, refl, sym, ap, subst, ◌∙◌, Result, Ok, Err, MatchResult, inl, inr}
 use Rattle.std.proofs.lemmas.Bool.{false≢true}
 use Rattle.disk_model.specs.Disk.{EachImage, LeavesOnly}
 use Rattle.disk_model.proofs.MomentSteps.{stayed, weaker}
 use Rattle.history_model.specs.declared.receipt.Receipt.{Receipt}
 use Rattle.import_check.specs.declared.release.Release.{Release}
+use Rattle.import_check.specs.declared.contradicting.Contradictions.{Contradictions}
 use Rattle.directory.specs.declared.layout.Layout.{Layout}
 use Rattle.directory.specs.declared.layout.Layout.TheVariants as layouts
 use Rattle.directory.specs.Listings.{next_layout}
@@ -13,13 +14,13 @@ use Rattle.store_image.specs.Images.{RepresentsAs, RepresentsHistory}
 use Rattle.history_store.specs.declared.refusal.Refusal.{Refusal}
 use Rattle.history_store.specs.declared.refusal.Refusal.TheVariants as store
 use Rattle.history_store.specs.StoreValue.{StoreValue, IsAcknowledged}
-use Rattle.history_store.specs.Answers.{IsRefused, IsImportOf, IsImportOnAnyDisk, IsRefusedFor, IsNotTakenByKey, IsBeforeOrAfter, IsReadingOf}
+use Rattle.history_store.specs.Answers.{IsStill, IsRefused, IsImportOf, IsImportOnAnyDisk, IsRefusedFor, IsNotTakenByKey, IsBeforeOrAfter, IsReadingOf}
 use Rattle.history_store.specs.Crashes.{IsCrashSafe}
 use Rattle.history_store.specs.Checking.{IsCheckingOnAnyDisk}
 use Rattle.history_store.specs.MergeAnswers.{IsBeginningOf, IsSteppingOf, IsAbandoningOf, IsTrimmingOf}
 use Rattle.disk_model.specs.View.{DiskView}
 use Rattle.store_life.specs.Life.{Imported, Failed, Other, RepresentsAround, RepresentsNext, IsCall}
-use Rattle.store_life.specs.Calls.{ImportIsACall, CheckIsACall, QueryIsACall, UnchangedIsACall, MergeBeginIsACall, MergeStepIsACall, MergePublishIsACall, UpgradeIsACall, RewriteIsACall, MergeAbandonIsACall, TrimIsACall}
+use Rattle.store_life.specs.Calls.{ImportIsACall, CheckIsACall, ListingIsACall, QueryIsACall, UnchangedIsACall, MergeBeginIsACall, MergeStepIsACall, MergePublishIsACall, UpgradeIsACall, RewriteIsACall, MergeAbandonIsACall, TrimIsACall}
 
 -- ---- calls that leave the history
 
@@ -121,6 +122,13 @@ module _ {D : Type 0} (view : D → DiskView) where
 
   pub check_made : CheckIsACall D view
   check_made old new release result c = still view old new (same_checked release result old new c.kept) c.closed c.meters.counts.honesty c.meters.counts.moments c.acknowledged
+
+  same_listed : (result : Result Contradictions Refusal) (old new : StoreValue D) → MatchResult result (λ found. IsStill old new) (λ e. IsRefused e old new) → new.history ≡ old.history
+  same_listed (Ok found) old new left = left.history
+  same_listed (Err e) old new left = left.history
+
+  pub listing_made : ListingIsACall D view
+  listing_made old new release limit result l = still view old new (same_listed result old new l.left) l.closed l.meters.counts.honesty l.meters.counts.moments l.acknowledged
 
   -- ---- questions
 

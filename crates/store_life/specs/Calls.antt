@@ -3,6 +3,7 @@
 use Rattle.std.specs.Prelude.{◌≡◌, ◌⊎◌, ◌↔◌, true, false, ℕ, Result, Ok, Err}
 use Rattle.history_model.specs.declared.receipt.Receipt.{Receipt}
 use Rattle.import_check.specs.declared.release.Release.{Release}
+use Rattle.import_check.specs.declared.contradicting.Contradictions.{Contradictions}
 use Rattle.directory.specs.declared.layout.Layout.TheVariants as layouts
 use Rattle.directory.specs.Listings.{next_layout}
 use Rattle.store_image.specs.Images.{RepresentsAs}
@@ -13,6 +14,7 @@ use Rattle.history_store.specs.Answers.{IsImportOf, IsImportOnAnyDisk, IsBeforeO
 use Rattle.history_store.specs.Answers.{KeepsMoments}
 use Rattle.history_store.specs.Crashes.{IsCrashSafe}
 use Rattle.history_store.specs.Checking.{IsChecking}
+use Rattle.history_store.specs.Contradicting.{IsListing}
 use Rattle.history_store.specs.MergeAnswers.{IsBeginningOf, IsSteppingOf, IsAbandoningOf}
 use Rattle.history_store.specs.MergeAnswers.{IsTrimmingOf}
 use Rattle.history_store.specs.Queries.{IsQuery}
@@ -41,6 +43,13 @@ abbrev pub CheckIsACall : (D : Type 0) → (D → DiskView) → Type 0
 CheckIsACall D view =
     (old new : StoreValue D) (release : Release) (result : Result Receipt Refusal)
     → IsChecking result release view old new → IsCall view old Other new
+
+-- by `Store::contradictions · answer`: listing contradictions imports nothing either
+abbrev pub ListingIsACall : (D : Type 0) → (D → DiskView) → Type 0
+ListingIsACall D view =
+    (old new : StoreValue D) (release : Release) (limit : ℕ)
+    (result : Result Contradictions Refusal)
+    → IsListing result release limit view old new → IsCall view old Other new
 
 -- by `query` of the answers of `get`, `versions`, `page`, `about`, `search`, `terms`,
 -- `replacements`, `replaces`, `timeline`, `delta`, `members`, `values` and `called`

@@ -1,7 +1,7 @@
 //! Laws of the definitions, each the contract of a function that does nothing.
 
 ghost use Rattle.store_life.specs.Calls.{ImportIsACall, CheckIsACall, QueryIsACall};
-ghost use Rattle.store_life.specs.Calls.{UnchangedIsACall};
+ghost use Rattle.store_life.specs.Calls.{ListingIsACall, UnchangedIsACall};
 ghost use Rattle.store_life.specs.Calls.{MergeBeginIsACall, MergeStepIsACall, UpgradeIsACall};
 ghost use Rattle.store_life.specs.Calls.{MergePublishIsACall, MergeAbandonIsACall, TrimIsACall};
 ghost use Rattle.store_life.specs.Calls.{RewriteIsACall};
@@ -21,6 +21,11 @@ pub fn import_is_a_call<D: Disk>()
 /// What `Store::check` ensures makes it a call that leaves the history unchanged.
 pub fn check_is_a_call<D: Disk>()
     ensures { CheckIsACall D D.view }
+{}
+
+/// So does what `Store::contradictions` ensures: it leaves the history unchanged.
+pub fn listing_is_a_call<D: Disk>()
+    ensures { ListingIsACall D D.view }
 {}
 
 /// So does what each question ensures that reads rows: it leaves the history unchanged.

@@ -6,7 +6,7 @@ returns-in-Ok g c = record {
   result = c.serve.result;
   ends = rw c.in-Ok.is refl;
   after = c.serve.new.store;
-  served = c.serve.ensures.served;
+  served = c.serve.ensures.served.0;
   left_so = refl;
 }
 
@@ -15,6 +15,6 @@ returns-in-Err g c = record {
   result = c.serve.result;
   ends = rw c.in-Err.is refl;
   after = c.serve.new.store;
-  served = c.serve.ensures.served;
+  served = c.serve.ensures.served.0;
   left_so = refl;
 }

@@ -9,11 +9,11 @@ returns-in_err-merge_publish g c =
     let e = c.in_err-merge_publish.ensures in
     let view = g.D.Disk.view in
     let made = publish_made view c.args.store.now c.merge_publish.new.self e.history e.crash e.meters.counts.honesty in
-    rw (p.1, p.2) (not_published view c.args.store.now c.merge_publish.new.self c.in_err-merge_publish.field-0.0 made e.meters.counts.bytes_read e.answer e.meters.counts.failures e.refused)
+    rw (p.1, p.2) (not_published view c.args.store.now c.merge_publish.new.self c.in_err-merge_publish.field-0.0 made (e.meters.counts.bytes_read, e.meters.counts.other_calls) e.answer e.meters.counts.failures e.refused)
 
 pub returns : goal.returns
 returns g c =
     let e = c.in_ok-merge_publish.ensures in
     let view = g.D.Disk.view in
     let made = publish_made view c.args.store.now c.merge_publish.new.self e.history e.crash e.meters.counts.honesty in
-    published view c.args.store.now c.merge_publish.new.self c.reply_done.result made e.meters.counts.bytes_read e.answer e.history e.meters.counts.failures c.reply_done.ensures
+    published view c.args.store.now c.merge_publish.new.self c.reply_done.result made (e.meters.counts.bytes_read, e.meters.counts.other_calls) e.answer e.history e.meters.counts.failures c.reply_done.ensures

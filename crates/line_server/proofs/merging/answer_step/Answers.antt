@@ -10,11 +10,11 @@ returns-in_err-left g c =
     let e = c.in_err-left.ensures in
     let view = g.D.Disk.view in
     let made = step_made view (Err c.in_err-left.field-0.0) c.args.rows c.args.store.now c.merge_step.new.self e.answer e.crash e.meters.counts.honesty in
-    rw (p.1, p.2) (not_stepped view c.args.store.now c.merge_step.new.self c.args.rows c.in_err-left.field-0.0 made e.meters.looked_up e.answer e.undamaged e.meters.counts.failures e.refused)
+    rw (p.1, p.2) (not_stepped view c.args.store.now c.merge_step.new.self c.args.rows c.in_err-left.field-0.0 made e.meters.looked_up (e.meters.counts.bytes_read, e.meters.counts.other_calls) e.answer e.undamaged e.meters.counts.failures e.refused)
 
 pub returns : goal.returns
 returns g c =
     let e = c.in_ok-left.ensures in
     let view = g.D.Disk.view in
     let made = step_made view (Ok c.in_ok-left.left) c.args.rows c.args.store.now c.merge_step.new.self e.answer e.crash e.meters.counts.honesty in
-    stepped view c.args.store.now c.merge_step.new.self c.args.rows c.in_ok-left.left c.reply_number.result made e.meters.looked_up e.answer e.meters.counts.failures c.reply_number.ensures
+    stepped view c.args.store.now c.merge_step.new.self c.args.rows c.in_ok-left.left c.reply_number.result made e.meters.looked_up (e.meters.counts.bytes_read, e.meters.counts.other_calls) e.answer e.meters.counts.failures c.reply_number.ensures

@@ -9,12 +9,12 @@ use Rattle.line_server.proofs.refsets.answer_values.Goals as goal
 pub returns-in_err-found : goal.returns-in_err-found
 returns-in_err-found g c =
     let p = err_from_is_err_and c.from_residual.result c.from_residual.ensures.1 in
-    rw (p.1, p.2) (rows_unfound g.D.Disk.view (Values c.args.refset c.args.as_of.date c.args.after c.args.limit) c.args.as_of.pin c.args.store.now c.values.new.self tt c.in_err-found.field-0.0 c.in_err-found.ensures.answer)
+    rw (p.1, p.2) (rows_unfound g.D.Disk.view (Values c.args.refset c.args.as_of.date c.args.after c.args.limit) c.args.as_of.pin c.args.store.now c.values.new.self tt c.in_err-found.field-0.0 c.in_err-found.ensures.answer (λ answer e. e))
 
 pub returns-in_err-reply_rows : goal.returns-in_err-reply_rows
 returns-in_err-reply_rows g c =
     let p = err_from_is_err_and c.from_residual-in_err-reply_rows.result c.from_residual-in_err-reply_rows.ensures.1 in
-    rw (p.1, p.2) (rows_untold g.D.Disk.view (Values c.args.refset c.args.as_of.date c.args.after c.args.limit) c.args.as_of.pin c.args.store.now c.values.new.self tt c.in_ok-found.found c.in_ok-found.ensures.answer)
+    rw (p.1, p.2) (rows_untold g.D.Disk.view (Values c.args.refset c.args.as_of.date c.args.after c.args.limit) c.args.as_of.pin c.args.store.now c.values.new.self tt c.in_ok-found.found c.in_ok-found.ensures.answer (λ answer e. e))
 
 pub returns : goal.returns
 returns g c =

@@ -11,7 +11,7 @@ use Rattle.line_server.proofs.serving.serve.Given as goal
 -- each byte that came is in a line that was answered, or in what has come of the next, and each read gave a piece
 abbrev pub invariant-loop-reads : goal.invariant-loop-reads
 invariant-loop-reads g l = (seen : List ℕ) × (reads : List Reading) × Consumes (g.R.PieceReader.remaining l.fn.reader) (g.R.PieceReader.remaining l.reader) seen
-    × Progress (source_view (g.S.Source.is_honest l.fn.source) (g.S.Source.releases l.fn.source)) g.D.Disk.view (g.W.Write.contents l.fn.writer) (g.W.Write.contents l.writer)
+    × Progress (source_view (g.S.Source.is_honest l.fn.source) (g.S.Source.releases l.fn.source)) g.D.Disk.view (l.source ≡ l.fn.source) (g.W.Write.contents l.fn.writer) (g.W.Write.contents l.writer)
     (server fresh l.fn.store) (server l.state l.store) seen l.line l.served
     × (l._reads ≤ length seen)
     × (length l.piece ≡ 4096)
