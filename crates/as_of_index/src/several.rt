@@ -6,7 +6,7 @@ ghost use Rattle.as_of_index.specs.Private.Search.{IsNext, IsNextVersion};
 
 use crate::as_of::AsOf;
 use crate::place_list::PlaceList;
-use crate::search::{Start, is_of, later, latest_in, next_in, sooner};
+use crate::search::{Start, is_of, later, latest_before, next_in, place_near, sooner};
 use rf2_values::{EffectiveTime, Kind};
 use segment::RowPlace;
 
@@ -32,10 +32,13 @@ pub(crate) fn latest(
 ) -> Option<(usize, RowPlace)>
     ensures { IsPick kind id as_of.now (λ x. x.1) (all_places 0 lists.now) result }
 {
+    let time = as_of.date;
+    let start = Start::AfterVersion { kind, id, time };
     let mut best = None;
     for (segment, list) in lists.iter().enumerate() {
         let places = list.shown_part(as_of);
-        let found = latest_in(places, number_in(near, segment), kind, id, as_of);
+        let end = place_near(places, number_in(near, segment), &start);
+        let found = latest_before(places, end, kind, id, as_of);
         best = later(best, segment, found);
     }
     best
