@@ -66,8 +66,10 @@ pub(crate) fn command<'a>(word: Word, rest: Option<&'a [u8]>) -> Option<Command<
     ensures { IsReadAs (text_of_word word) (option_map (λ text. text.now) rest.entry) result }
 {
     if let Word::Question(word) = word {
-        let question = question(word, rest)?;
-        return Some(Command::Ask(question));
+        return match question(word, rest) {
+            Some(question) => Some(Command::Ask(question)),
+            None => None,
+        };
     }
     match rest {
         Some(text) => match word {
