@@ -5,6 +5,9 @@ ghost use Rattle.line_server.specs.Sources.{source_view};
 ghost use Rattle.line_server.specs.Pins.{AreWithin};
 ghost use Rattle.line_server.specs.Replies.{server};
 ghost use Rattle.line_server.specs.Steps.{kept};
+ghost use Rattle.line_server.specs.ReplyValue.{reply_value, bytes_of};
+ghost use Rattle.line_server.specs.Turns.{HasTurn};
+ghost use Rattle.line_server.specs.Streams.{IsPut};
 ghost use Rattle.line_server.specs.Feeding.{IsUnended, IsFed, intake};
 
 use crate::answering::answer;
@@ -16,6 +19,29 @@ use disk_model::Disk;
 use history_store::Store;
 use std::alloc::Global;
 use std::io::Write;
+
+/// Answers a line, and writes the reply.
+pub(crate) fn answer_line<W: Write, S: Source, D: Disk>(
+    alloc: Global,
+    line: &[u8],
+    state: &mut ServerState,
+    source: &mut S,
+    store: &mut Store<D>,
+    writer: &mut W,
+) -> Result<(), WriteFault>
+    requires { AreWithin store.old.history.imports state.old.pins }
+    ensures pins { AreWithin store.new.history.imports state.new.pins }
+    ensures served { HasTurn (source_view (S.is_honest source.old) (S.releases source.old))
+        D.view line.now
+        (server state.old store.old) (server state.new store.new)
+        (λ turn. IsPut result (W.contents writer.old) (W.contents writer.new)
+        (bytes_of (reply_value turn.outcome))) }
+    ensures source { S.is_honest source.old → S.is_honest source.new }
+    ensures stays { S.is_honest source.old → S.releases source.new ≡ S.releases source.old }
+{
+    let reply = answer(alloc, line, state, source, store);
+    reply.write_to(writer)
+}
 
 /// Takes a piece of the input. Before it returns, each line that ended in the piece is answered and
 /// its reply written, so that a client which waits for a reply before its next line gets it.
@@ -43,8 +69,7 @@ pub fn feed<W: Write, S: Source, D: Disk>(
     let mut answered = 0u64;
     for &byte in piece {
         if byte == b'\n' {
-            let reply = answer(alloc, line.ended(), state, source, store);
-            let replied = reply.write_to(writer);
+            let replied = answer_line(alloc, line.ended(), state, source, store, writer);
             line.clear();
             match replied {
                 Ok(()) => {}

@@ -6,9 +6,8 @@ ghost use Rattle.line_server.specs.declared.serving.ServeFault.TheVariants.{OutO
 ghost use Rattle.line_server.specs.Serving.{IsServed};
 ghost use Rattle.line_server.specs.Streams.{streams, with_reads};
 
-use crate::answering::answer;
 use crate::buffer::LineBuffer;
-use crate::feeding::feed;
+use crate::feeding::{answer_line, feed};
 use crate::pieces::PieceReader;
 use crate::source::Source;
 use crate::state::ServerState;
@@ -74,8 +73,7 @@ pub fn serve<R: PieceReader, W: Write, S: Source, D: Disk>(
             if line.as_bytes().is_empty() {
                 return Ok(served);
             }
-            let reply = answer(alloc, line.as_bytes(), &mut state, source, store);
-            return match reply.write_to(writer) {
+            return match answer_line(alloc, line.as_bytes(), &mut state, source, store, writer) {
                 Ok(()) => Ok(served.saturating_add(1)),
                 Err(_) => Err(ServeFault::Write),
             };

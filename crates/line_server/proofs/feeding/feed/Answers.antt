@@ -3,7 +3,6 @@ use Rattle.line_server.specs.Sources.{source_view}
 use Rattle.std.proofs.lemmas.Bool.{ne_eqb}
 use Rattle.std.proofs.lemmas.List.{take_all}
 use Rattle.line_server.proofs.Alike.{turn_now, turn_on}
-use Rattle.line_server.proofs.Sent.{put_alike}
 use Rattle.line_server.proofs.Progressing.{begins, fed, not_replied, line_more, byte_more, next_seen, all_seen}
 use Rattle.line_server.proofs.feeding.feed.Goals.{then-byte-eq10+in-Ok, else-byte-eq10}
 use Rattle.line_server.proofs.feeding.feed.Goals as goal
@@ -19,8 +18,7 @@ returns-in-Err-clause-fed g c =
     let i = c.loop-byte.invariant in
     let piece = c.args.piece.now in
     let at = c.loop-byte.byte-index in
-    let step = c.answer-reply.ensures.turn in
-    let put = put_alike c.write_to-replied.result _ _ _ _ step.3 c.write_to-replied.ensures in
+    let step = c.answer_line-replied.ensures.served in
     let line_is = rw c.ended.ensures at step.1 in
     let turn = turn_on _ _ _ _ step.0 _ line_is step.2 in
     let gives = turn_now step.0.outcome step.0.call _ _ source g.D.Disk.view _ _ i.2 turn in
@@ -29,14 +27,14 @@ returns-in-Err-clause-fed g c =
     (i.0 part free is)
     (sym (all_seen [] piece at 10 c.loop-byte-test.true c.if-byte-eq10.true))
     gives
-    (rw c.in-Err.is at put)
+    (rw c.in-Err.is at step.3)
     c.clear.ensures
 
 pub returns-in-Err-clause-source : goal.returns-in-Err-clause-source
-returns-in-Err-clause-source g c = λ h. c.answer-reply.ensures.source (c.loop-byte.invariant.2 h).0
+returns-in-Err-clause-source g c = λ h. c.answer_line-replied.ensures.source (c.loop-byte.invariant.2 h).0
 
 pub returns-in-Err-clause-stays : goal.returns-in-Err-clause-stays
-returns-in-Err-clause-stays g c = λ h. c.answer-reply.ensures.stays (c.loop-byte.invariant.2 h).0 ∙ (c.loop-byte.invariant.2 h).1
+returns-in-Err-clause-stays g c = λ h. c.answer_line-replied.ensures.stays (c.loop-byte.invariant.2 h).0 ∙ (c.loop-byte.invariant.2 h).1
 
 pub loop-byte-preserved : goal.loop-byte-preserved
 loop-byte-preserved g c =
@@ -46,15 +44,14 @@ loop-byte-preserved g c =
     let at = c.loop-byte.byte-index in
     elim c.if-byte-eq10.branch [
       | then-byte-eq10+in-Ok w ↦
-          let step = w.answer-reply.ensures.turn in
-          let put = put_alike w.write_to-replied.result _ _ _ _ step.3 w.write_to-replied.ensures in
-          let line_is = rw w.ended.ensures at step.1 in
-          let turn = turn_on _ _ _ _ step.0 _ line_is step.2 in
-          let gives = turn_now step.0.outcome step.0.call _ _ source g.D.Disk.view _ _ i.2 turn in (
+          let step = w.answer_line-replied.ensures in
+          let line_is = rw w.ended.ensures at step.served.1 in
+          let turn = turn_on _ _ _ _ step.served.0 _ line_is step.served.2 in
+          let gives = turn_now step.served.0.outcome step.served.0.call _ _ source g.D.Disk.view _ _ i.2 turn in (
             λ part free is. rw (w.writer-is, w.state-is, w.store-is, w.line-is, w.clear.ensures, w.answered-is, w.saturating_add-answered.ensures, ← next_seen part piece at 10 c.loop-byte-test.true w.if-byte-eq10.true)
-                (line_more source g.D.Disk.view step.0.outcome step.0.call _ _ _ _ _ _ (part ++ take at piece) _ _ (i.0 part free is) gives (rw w.in-Ok.is at put)),
-            rw (w.state-is, w.store-is) w.answer-reply.ensures.pins,
-            λ h. rw w.source-is (w.answer-reply.ensures.source (i.2 h).0, w.answer-reply.ensures.stays (i.2 h).0 ∙ (i.2 h).1),
+                (line_more source g.D.Disk.view step.served.0.outcome step.served.0.call _ _ _ _ _ _ (part ++ take at piece) _ _ (i.0 part free is) gives (rw w.in-Ok.is at step.served.3)),
+            rw (w.state-is, w.store-is) step.pins,
+            λ h. rw w.source-is (step.source (i.2 h).0, step.stays (i.2 h).0 ∙ (i.2 h).1),
           )
       | else-byte-eq10 w ↦ (
         λ part free is. rw (w.writer-is, w.state-is, w.store-is, w.line-is, w.push.ensures, w.answered-is, ← next_seen part piece at (get_or piece at 0) c.loop-byte-test.true refl)

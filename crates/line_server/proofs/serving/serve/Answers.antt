@@ -2,12 +2,11 @@ use Rattle.std.proofs.Common.{refl, ◌≡◌, ◌<◌, ℕ, List, [], ◌∷◌
 use Rattle.line_server.specs.Sources.{source_view}
 use Rattle.std.proofs.KnownBytes.{Consumes-nil, Consumes-trans, Consumes-kept}
 use Rattle.line_server.proofs.Alike.{turn_now, turn_on}
-use Rattle.line_server.proofs.Sent.{put_alike}
 use Rattle.std.proofs.lemmas.List.Elements.{All-nil, All-push}
 use Rattle.line_server.specs.Reads.{Gave, IsPiece}
 use Rattle.line_server.proofs.Progressing.{makes_none, makes_more, makes_end, came_more, is_piece, starts, not_started, unread, stopped, ended, ended_within, unwritten, unwritten_within, fed_now, piece_more, few_bytes, few_before, few_after, few_taken, few_more, at_end, not_none}
 use Rattle.std.proofs.lemmas.Bool.{eqb-true}
-use Rattle.line_server.proofs.serving.serve.Goals.{in-Ok-write_to, in-Err-write_to}
+use Rattle.line_server.proofs.serving.serve.Goals.{in-Ok-answer_line, in-Err-answer_line}
 use Rattle.line_server.proofs.serving.serve.Goals as goal
 
 pub loop-reads-init : goal.loop-reads-init
@@ -45,17 +44,16 @@ returns-then-n-eq0-clause-served g c =
     let e = at_end _ _ _ i.0 c.read.new.piece c.in-Ok-read.n i.2 c.in-Ok-read.ensures.bytes c.if-n-eq0.true (omega (arith, i.5, c.read.auto.piece)) in
     let makes = makes_end _ _ _ i.1 c.in-Ok-read.n c.read.new.piece i.10 c.in-Ok-read.ensures.made c.if-n-eq0.true in
     let lt : length i.1 < c.args.max_reads = omega (arith, i.13, c.loop-reads-test.true) in
-    let step = c.answer-reply.ensures.turn in
-    let put = put_alike c.write_to.result _ _ _ _ step.3 c.write_to.ensures in
+    let step = c.answer_line.ensures.served in
     let some : 0 < length c.loop-reads.line = subst (λ (l : List ℕ). 0 < length l) c.as_bytes.ensures (not_none c.as_bytes.result.now c.is_empty.result c.is_empty.ensures c.if-is_empty.false) in
     let line_is = rw c.as_bytes-then-n-eq0.ensures at step.1 in
     let turn = turn_on _ _ _ _ step.0 _ line_is step.2 in
     let gives = turn_now step.0.outcome step.0.call _ _ source g.D.Disk.view _ _ i.7 turn in
-    elim c.match-write_to.branch [
-      | in-Ok-write_to w ↦ rw (w.result-is, w.saturating_add.ensures)
-          (ended_within source g.D.Disk.view _ _ _ _ _ _ _ _ _ _ i.0 _ _ i.3 e.0 (few_before _ _ _ i.8 c.loop-reads-test.true) i.1 i.11 i.12 e.1 makes lt step.0.outcome step.0.call _ _ _ some gives (rw w.in-Ok-write_to.is at put))
-      | in-Err-write_to w ↦ rw w.result-is
-          (unwritten_within source g.D.Disk.view _ _ _ _ _ _ _ _ _ _ i.0 _ _ i.3 e.0 (few_before _ _ _ i.8 c.loop-reads-test.true) i.1 i.11 i.12 e.1 makes lt step.0.outcome step.0.call _ _ _ some gives (rw w.in-Err-write_to.is at put))
+    elim c.match-answer_line.branch [
+      | in-Ok-answer_line w ↦ rw (w.result-is, w.saturating_add.ensures)
+          (ended_within source g.D.Disk.view _ _ _ _ _ _ _ _ _ _ i.0 _ _ i.3 e.0 (few_before _ _ _ i.8 c.loop-reads-test.true) i.1 i.11 i.12 e.1 makes lt step.0.outcome step.0.call _ _ _ some gives (rw w.in-Ok-answer_line.is at step.3))
+      | in-Err-answer_line w ↦ rw w.result-is
+          (unwritten_within source g.D.Disk.view _ _ _ _ _ _ _ _ _ _ i.0 _ _ i.3 e.0 (few_before _ _ _ i.8 c.loop-reads-test.true) i.1 i.11 i.12 e.1 makes lt step.0.outcome step.0.call _ _ _ some gives (rw w.in-Err-answer_line.is at step.3))
     ]
 
 pub returns-in_default-clause-served : goal.returns-in_default-clause-served
@@ -100,8 +98,8 @@ returns-in-Err-feed-clause-served g c =
 pub feed-requires : goal.feed-requires
 feed-requires g c = c.loop-reads.invariant.6
 
-pub answer-reply-requires : goal.answer-reply-requires
-answer-reply-requires g c = c.loop-reads.invariant.6
+pub answer_line-requires : goal.answer_line-requires
+answer_line-requires g c = c.loop-reads.invariant.6
 
 -- ---- what is left of the source
 
@@ -118,10 +116,10 @@ pub returns-then-is_empty-clause-stays : goal.returns-then-is_empty-clause-stays
 returns-then-is_empty-clause-stays g c = λ h. (c.loop-reads.invariant.7 h).1
 
 pub returns-then-n-eq0-clause-source : goal.returns-then-n-eq0-clause-source
-returns-then-n-eq0-clause-source g c = λ h. c.answer-reply.ensures.source (c.loop-reads.invariant.7 h).0
+returns-then-n-eq0-clause-source g c = λ h. c.answer_line.ensures.source (c.loop-reads.invariant.7 h).0
 
 pub returns-then-n-eq0-clause-stays : goal.returns-then-n-eq0-clause-stays
-returns-then-n-eq0-clause-stays g c = λ h. c.answer-reply.ensures.stays (c.loop-reads.invariant.7 h).0 ∙ (c.loop-reads.invariant.7 h).1
+returns-then-n-eq0-clause-stays g c = λ h. c.answer_line.ensures.stays (c.loop-reads.invariant.7 h).0 ∙ (c.loop-reads.invariant.7 h).1
 
 pub returns-in-Err-feed-clause-source : goal.returns-in-Err-feed-clause-source
 returns-in-Err-feed-clause-source g c = λ h. c.feed.ensures.source (c.loop-reads.invariant.7 h).0
