@@ -132,30 +132,13 @@ impl Index {
     }
 
     /// The place of the component's row at the date, among those that the pin shows, and the number
-    /// of its list. `near` may give a list and the number in it of a version of the component up to
-    /// the date; then no binary search is made in that list.
-    fn place_near(
-        &self,
-        near: Option<(usize, usize)>,
-        kind: Kind,
-        id: u128,
-        as_of: &AsOf,
-    ) -> Option<(usize, RowPlace)>
-        ensures places { ArePlaces self.now }
-        ensures found { (lists : List (List StampedRow)) → Lists self.now lists
-            → IsPlaceOf lists (get kind id as_of.now.date (rows_seen as_of.now lists)) result }
-    {
-        latest(self.lists.as_slice(), near, kind, id, as_of)
-    }
-
-    /// The place of the component's row at the date, among those that the pin shows, and the number
     /// of its list. Makes one binary search in each list, and reads no row.
     pub fn place_at(&self, kind: Kind, id: u128, as_of: AsOf) -> Option<(usize, RowPlace)>
         ensures places { ArePlaces self.now }
         ensures found { (lists : List (List StampedRow)) → Lists self.now lists
             → IsPlaceOf lists (get kind id as_of.date (rows_seen as_of lists)) result }
     {
-        self.place_near(None, kind, id, &as_of)
+        latest(self.lists.as_slice(), None, kind, id, &as_of)
     }
 
     /// The same result as `place_at`. If components are looked up in key order, each search in a
@@ -228,7 +211,7 @@ impl Index {
         if !is_early(at, as_of) {
             return false;
         }
-        match self.place_near(near, at.key.kind, at.key.id, as_of) {
+        match latest(self.lists.as_slice(), near, at.key.kind, at.key.id, as_of) {
             Some((n, p)) => is_same_place(n, &p, segment, at),
             None => false,
         }

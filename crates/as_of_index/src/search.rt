@@ -136,7 +136,7 @@ fn is_passed(list: &[RowPlace], number: usize, start: &Start) -> bool
 /// The number of the first place that `start` doesn't skip. If the place with the number `near` is
 /// skipped, it steps on from there and makes no binary search, which is good if `near` is shortly
 /// before the result.
-fn place_near(list: &[RowPlace], near: Option<usize>, start: &Start) -> usize
+pub(crate) fn place_near(list: &[RowPlace], near: Option<usize>, start: &Start) -> usize
     ensures within { result ≤ length list.now }
     ensures split { IsAscending place_cmp list.now
         → SplitsAt (is_before start.now) list.now result }
@@ -195,22 +195,6 @@ pub(crate) fn latest_from(
     if end == cursor {
         return None;
     }
-    latest_before(list, end, kind, id, as_of)
-}
-
-/// The latest version of the component in the list, up to the date, that the pin shows. `near` may
-/// give the number of a version of it up to the date; then no binary search is made.
-pub(crate) fn latest_in(
-    list: &[RowPlace],
-    near: Option<usize>,
-    kind: Kind,
-    id: u128,
-    as_of: &AsOf,
-) -> Option<RowPlace>
-    ensures { IsAscending place_cmp list.now → IsPick kind id as_of.now (λ p. p) list.now result }
-{
-    let time = as_of.date;
-    let end = place_near(list, near, &Start::AfterVersion { kind, id, time });
     latest_before(list, end, kind, id, as_of)
 }
 

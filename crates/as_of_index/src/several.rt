@@ -1,24 +1,13 @@
 //! Searches several lists of places, by a binary search in each.
 
-ghost use Rattle.std.specs.Prelude.{◌≡◌};
-ghost use Rattle.as_of_index.specs.Private.Search.{all_places, number_in, IsPick};
+ghost use Rattle.as_of_index.specs.Private.Search.{all_places, IsPick};
 ghost use Rattle.as_of_index.specs.Private.Search.{IsNext, IsNextVersion};
 
 use crate::as_of::AsOf;
 use crate::place_list::PlaceList;
-use crate::search::{Start, is_of, later, latest_in, next_in, sooner};
+use crate::search::{Start, is_of, later, latest_before, next_in, place_near, sooner};
 use rf2_values::{EffectiveTime, Kind};
 use segment::RowPlace;
-
-/// The number that `near` gives for this list, if it is for this one.
-fn number_in(near: Option<(usize, usize)>, segment: usize) -> Option<usize>
-    ensures { result ≡ number_in near segment }
-{
-    match near {
-        Some((own, number)) if own == segment => Some(number),
-        _ => None,
-    }
-}
 
 /// The latest version of the component up to the date that the pin shows, and the number of its
 /// list. `near` may give a list and the number in it of a version of the component up to the date;
@@ -32,10 +21,17 @@ pub(crate) fn latest(
 ) -> Option<(usize, RowPlace)>
     ensures { IsPick kind id as_of.now (λ x. x.1) (all_places 0 lists.now) result }
 {
+    let time = as_of.date;
+    let start = Start::AfterVersion { kind, id, time };
     let mut best = None;
     for (segment, list) in lists.iter().enumerate() {
         let places = list.shown_part(as_of);
-        let found = latest_in(places, number_in(near, segment), kind, id, as_of);
+        let number = match near {
+            Some((own, number)) if own == segment => Some(number),
+            _ => None,
+        };
+        let end = place_near(places, number, &start);
+        let found = latest_before(places, end, kind, id, as_of);
         best = later(best, segment, found);
     }
     best

@@ -20,6 +20,10 @@ pub none_read : (word : List ℕ) (rest : Option (List ℕ)) (r : Option RustQue
 none_read word rest None e h = h
 none_read word rest (Some x) e h = absurd (none-some x (sym e))
 
+-- a text that isn't read as a date spells none
+pub not_a_time : (text : List ℕ) → ((t : ℕ) → IsTime t → text ≡ decimal t → None ≡ Some t) → (t : ℕ) → IsTime t → text ≢ decimal t
+not_a_time text none t is e = none-some t (none t is e)
+
 pub told : (texts : List (List ℕ)) (arguments : List (List ℕ)) (text whole : List ℕ) → behind arguments ≡ Some text → arguments ≡ texts → behind texts ≡ Some whole → text ≡ whole
 told texts arguments text whole e f g = same_Some _ _ (sym e ∙ ap behind f ∙ g)
 

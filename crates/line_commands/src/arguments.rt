@@ -1,24 +1,14 @@
 //! Parses the arguments of each command. Each function takes what follows its command's word, and
 //! returns none if that isn't such a command.
 
-ghost use Rattle.std.specs.Prelude.{Some, None, codes, option_map};
-ghost use Rattle.line_commands.specs.Private.{IsReadAs, text_of_question, text_of_word};
+ghost use Rattle.std.specs.Prelude.{Some, codes, option_map};
+ghost use Rattle.line_commands.specs.Private.{IsReadAs, text_of_word};
 
 use crate::columns::{import_number, limit};
 use crate::command::Command;
 use crate::names::release_name;
 use crate::questions::question;
-use crate::words::{QuestionWord, Word, cut, first_word, question_word};
-
-/// The question with this word, and with the text after it, as a command.
-fn ask<'a>(word: QuestionWord, rest: Option<&'a [u8]>) -> Option<Command<'a>>
-    ensures { IsReadAs (text_of_question word) (option_map (λ text. text.now) rest.entry) result }
-{
-    match question(word, rest) {
-        Some(question) => Some(Command::Ask(question)),
-        None => None,
-    }
-}
+use crate::words::{Word, cut, first_word, question_word};
 
 fn at(text: &[u8]) -> Option<Command<'_>>
     ensures { IsReadAs (codes "AT") (Some text.now) result }
@@ -71,44 +61,34 @@ fn step(text: &[u8]) -> Option<Command<'_>>
     }
 }
 
-/// The command with this word and no arguments.
-fn alone<'a>(word: Word) -> Option<Command<'a>>
-    ensures { IsReadAs (text_of_word word) None result }
-{
-    match word {
-        Word::Question(word) => ask(word, None),
-        Word::Pin => Some(Command::Pin { number: None }),
-        Word::Unpin => Some(Command::Unpin),
-        Word::Merge => Some(Command::Merge),
-        Word::Publish => Some(Command::Publish),
-        Word::Abandon => Some(Command::Abandon),
-        Word::Trim => Some(Command::Trim),
-        Word::Status => Some(Command::Status),
-        _ => None,
-    }
-}
-
-/// The command with this word and these arguments.
-fn with_arguments(word: Word, text: &[u8]) -> Option<Command<'_>>
-    ensures { IsReadAs (text_of_word word) (Some text.now) result }
-{
-    match word {
-        Word::Question(word) => ask(word, Some(text)),
-        Word::At => at(text),
-        Word::Import => import(text),
-        Word::Check => check(text),
-        Word::Pin => pin(text),
-        Word::Step => step(text),
-        _ => None,
-    }
-}
-
 /// The command with this word, and with the text after it.
 pub(crate) fn command<'a>(word: Word, rest: Option<&'a [u8]>) -> Option<Command<'a>>
     ensures { IsReadAs (text_of_word word) (option_map (λ text. text.now) rest.entry) result }
 {
+    if let Word::Question(word) = word {
+        return match question(word, rest) {
+            Some(question) => Some(Command::Ask(question)),
+            None => None,
+        };
+    }
     match rest {
-        Some(text) => with_arguments(word, text),
-        None => alone(word),
+        Some(text) => match word {
+            Word::At => at(text),
+            Word::Import => import(text),
+            Word::Check => check(text),
+            Word::Pin => pin(text),
+            Word::Step => step(text),
+            _ => None,
+        },
+        None => match word {
+            Word::Pin => Some(Command::Pin { number: None }),
+            Word::Unpin => Some(Command::Unpin),
+            Word::Merge => Some(Command::Merge),
+            Word::Publish => Some(Command::Publish),
+            Word::Abandon => Some(Command::Abandon),
+            Word::Trim => Some(Command::Trim),
+            Word::Status => Some(Command::Status),
+            _ => None,
+        },
     }
 }

@@ -3,7 +3,6 @@
 ghost use Rattle.std.specs.Prelude.{◌≡◌, ◌≢◌, ◌≤◌, ◌<◌, ◌^◌, ℕ, Option, MatchOption, decimal};
 ghost use Rattle.std.specs.Prelude.{length};
 ghost use Rattle.std.specs.Str.{IsUtf8};
-ghost use Rattle.rf2_values.specs.Time.{IsTime};
 ghost use Rattle.rf2_values.specs.Member.{SpellsMember};
 ghost use Rattle.rf2_values.specs.Row.{IsOfClass, IsComponent, IsIdOf, SpellsId};
 ghost use Rattle.line_commands.specs.Questions.{letter, IsSubjectOf, SpellsAfter};
@@ -11,7 +10,7 @@ ghost use Rattle.line_commands.specs.Questions.{SpellsComponentAfter};
 ghost use Rattle.line_commands.specs.Requests.{sessions};
 
 use crate::command::SESSIONS;
-use rf2_values::{Class, EffectiveTime, Kind, Member, Sctid, number};
+use rf2_values::{Class, Kind, Member, Sctid, number};
 
 /// A session's number.
 pub(crate) fn session(text: &[u8]) -> Option<u16>
@@ -88,17 +87,6 @@ fn member(text: &[u8]) -> Option<u128>
 {
     match Member::parse(text) {
         Some(member) => Some(member.value()),
-        None => None,
-    }
-}
-
-/// A date, in the form of the column `effectiveTime`.
-pub(crate) fn date(text: &[u8]) -> Option<EffectiveTime>
-    ensures { MatchOption result ((t : ℕ) → IsTime t → text.now ≢ decimal t)
-        (λ t. IsTime t × (text.now ≡ decimal t)) }
-{
-    match EffectiveTime::parse(text) {
-        Some(date) => Some(date),
         None => None,
     }
 }

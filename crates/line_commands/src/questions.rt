@@ -1,14 +1,14 @@
 //! Parses the arguments of each question. Each function takes what follows its question's word, and
 //! returns none if that isn't such a question.
 
-ghost use Rattle.std.specs.Prelude.{◌≡◌, ◌≢◌, ◌++◌, ◌∷◌, ℕ, MatchOption, Some, None, codes};
+ghost use Rattle.std.specs.Prelude.{◌≡◌, ◌≢◌, ◌++◌, ◌∷◌, ℕ, MatchOption, Some, codes};
 ghost use Rattle.std.specs.Prelude.{decimal, option_map};
 ghost use Rattle.rf2_values.specs.Row.{IsConcept, IsComponent};
 ghost use Rattle.rf2_values.specs.Time.{IsTime};
 ghost use Rattle.line_commands.specs.Private.{IsQuestionReadAs, text_of_question};
 
 use crate::columns::{
-    after, component, component_after, date, identifier, kind, limit, prefix, sctid_of, subject,
+    after, component, component_after, identifier, kind, limit, prefix, sctid_of, subject,
 };
 use crate::question::Question;
 use crate::words::{QuestionWord, cut, cut_thrice, cut_twice};
@@ -25,7 +25,7 @@ fn concept_and_date(text: &[u8]) -> Option<(Sctid, EffectiveTime)>
 {
     let (concept, day) = cut(text)?;
     let concept = sctid_of(concept, Class::Concept)?;
-    let date = date(day)?;
+    let date = EffectiveTime::parse(day)?;
     Some((concept, date))
 }
 
@@ -37,7 +37,7 @@ fn component_and_date(text: &[u8]) -> Option<(Sctid, EffectiveTime)>
 {
     let (id, day) = cut(text)?;
     let id = component(id)?;
-    let date = date(day)?;
+    let date = EffectiveTime::parse(day)?;
     Some((id, date))
 }
 
@@ -47,7 +47,7 @@ fn get(text: &[u8]) -> Option<Question<'_>>
     let (letter, id, day) = cut_twice(text)?;
     let kind = kind(letter)?;
     let id = identifier(kind, id)?;
-    let date = date(day)?;
+    let date = EffectiveTime::parse(day)?;
     Some(Question::Get { kind, id, date })
 }
 
@@ -85,7 +85,7 @@ fn terms(text: &[u8]) -> Option<Question<'_>>
     ensures { IsQuestionReadAs (codes "TERMS") (Some text.now) result }
 {
     let (day, most, rest) = cut_twice(text)?;
-    let date = date(day)?;
+    let date = EffectiveTime::parse(day)?;
     let limit = limit(most, MOST_ROWS)?;
     let prefix = prefix(rest)?;
     Some(Question::Terms {
@@ -100,7 +100,7 @@ fn search(text: &[u8]) -> Option<Question<'_>>
 {
     let (day, from, rest) = cut_twice(text)?;
     let (most, rest) = cut(rest)?;
-    let date = date(day)?;
+    let date = EffectiveTime::parse(day)?;
     let after = after(Kind::Description, from)?;
     let limit = limit(most, MOST_ROWS)?;
     let prefix = prefix(rest)?;
@@ -132,7 +132,7 @@ fn about(text: &[u8]) -> Option<Question<'_>>
     let (letter, id, day) = cut_twice(text)?;
     let kind = kind(letter)?;
     let id = subject(kind, id)?;
-    let date = date(day)?;
+    let date = EffectiveTime::parse(day)?;
     Some(Question::About { kind, id, date })
 }
 
@@ -151,7 +151,7 @@ fn page(text: &[u8]) -> Option<Question<'_>>
     let (letter, day, rest) = cut_twice(text)?;
     let (from, count) = cut(rest)?;
     let kind = kind(letter)?;
-    let date = date(day)?;
+    let date = EffectiveTime::parse(day)?;
     let after = after(kind, from)?;
     let limit = limit(count, MOST_ROWS)?;
     Some(Question::Page {
@@ -168,8 +168,8 @@ fn delta(text: &[u8]) -> Option<Question<'_>>
     let (letter, from, rest) = cut_twice(text)?;
     let (day, last, count) = cut_twice(rest)?;
     let kind = kind(letter)?;
-    let from = date(from)?;
-    let date = date(day)?;
+    let from = EffectiveTime::parse(from)?;
+    let date = EffectiveTime::parse(day)?;
     let after = after(kind, last)?;
     let limit = limit(count, MOST_ROWS)?;
     Some(Question::Delta {
@@ -186,7 +186,7 @@ fn members(text: &[u8]) -> Option<Question<'_>>
 {
     let (refset, day, from, count) = cut_thrice(text)?;
     let refset = sctid_of(refset, Class::Concept)?;
-    let date = date(day)?;
+    let date = EffectiveTime::parse(day)?;
     let after = after(Kind::Member, from)?;
     let limit = limit(count, MOST_ROWS)?;
     Some(Question::Members {
@@ -202,7 +202,7 @@ fn values(text: &[u8]) -> Option<Question<'_>>
 {
     let (set, day, from, count) = cut_thrice(text)?;
     let refset = sctid_of(set, Class::Concept)?;
-    let date = date(day)?;
+    let date = EffectiveTime::parse(day)?;
     let after = component_after(from)?;
     let limit = limit(count, MOST_ROWS)?;
     Some(Question::Values {
@@ -218,7 +218,7 @@ fn called(text: &[u8]) -> Option<Question<'_>>
 {
     let (named, day, language) = cut_twice(text)?;
     let concept = sctid_of(named, Class::Concept)?;
-    let date = date(day)?;
+    let date = EffectiveTime::parse(day)?;
     let refset = sctid_of(language, Class::Concept)?;
     Some(Question::Called {
         concept,
@@ -236,50 +236,36 @@ fn receipt(text: &[u8]) -> Option<Question<'_>>
     }
 }
 
-/// The question with this word and no arguments.
-fn alone<'a>(word: QuestionWord) -> Option<Question<'a>>
-    ensures { IsQuestionReadAs (text_of_question word) None result }
-{
-    match word {
-        QuestionWord::Dates => Some(Question::Dates),
-        QuestionWord::Digest => Some(Question::Digest),
-        _ => None,
-    }
-}
-
-/// The question with this word and these arguments.
-fn with_arguments(word: QuestionWord, text: &[u8]) -> Option<Question<'_>>
-    ensures { IsQuestionReadAs (text_of_question word) (Some text.now) result }
-{
-    match word {
-        QuestionWord::Get => get(text),
-        QuestionWord::History => history(text),
-        QuestionWord::Children => children(text),
-        QuestionWord::Ancestors => ancestors(text),
-        QuestionWord::Descendants => descendants(text),
-        QuestionWord::Terms => terms(text),
-        QuestionWord::Search => search(text),
-        QuestionWord::Replaced => replaced(text),
-        QuestionWord::Replaces => replaces(text),
-        QuestionWord::About => about(text),
-        QuestionWord::Timeline => timeline(text),
-        QuestionWord::Page => page(text),
-        QuestionWord::Delta => delta(text),
-        QuestionWord::Members => members(text),
-        QuestionWord::Values => values(text),
-        QuestionWord::Called => called(text),
-        QuestionWord::Receipt => receipt(text),
-        QuestionWord::Dates | QuestionWord::Digest => None,
-    }
-}
-
 /// The question with this word, and with the text after it.
 pub(crate) fn question<'a>(word: QuestionWord, rest: Option<&'a [u8]>) -> Option<Question<'a>>
     ensures { IsQuestionReadAs (text_of_question word) (option_map (λ text. text.now) rest.entry)
         result }
 {
     match rest {
-        Some(text) => with_arguments(word, text),
-        None => alone(word),
+        Some(text) => match word {
+            QuestionWord::Get => get(text),
+            QuestionWord::History => history(text),
+            QuestionWord::Children => children(text),
+            QuestionWord::Ancestors => ancestors(text),
+            QuestionWord::Descendants => descendants(text),
+            QuestionWord::Terms => terms(text),
+            QuestionWord::Search => search(text),
+            QuestionWord::Replaced => replaced(text),
+            QuestionWord::Replaces => replaces(text),
+            QuestionWord::About => about(text),
+            QuestionWord::Timeline => timeline(text),
+            QuestionWord::Page => page(text),
+            QuestionWord::Delta => delta(text),
+            QuestionWord::Members => members(text),
+            QuestionWord::Values => values(text),
+            QuestionWord::Called => called(text),
+            QuestionWord::Receipt => receipt(text),
+            QuestionWord::Dates | QuestionWord::Digest => None,
+        },
+        None => match word {
+            QuestionWord::Dates => Some(Question::Dates),
+            QuestionWord::Digest => Some(Question::Digest),
+            _ => None,
+        },
     }
 }

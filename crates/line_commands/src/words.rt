@@ -54,8 +54,8 @@ pub(crate) fn first_word(text: &[u8]) -> (&[u8], Option<&[u8]>)
     ensures word { IsWord result.0.now }
     ensures whole { text.now ≡ with_rest result.0.now (option_map (λ rest. rest.now) result.1) }
 {
-    match text.find_byte(b' ') {
-        Some(at) => (&text[..at], Some(&text[at + 1..])),
+    match cut(text) {
+        Some((word, rest)) => (word, Some(rest)),
         None => (text, None),
     }
 }

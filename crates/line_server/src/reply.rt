@@ -1,6 +1,7 @@
 //! The reply to a line.
 
-ghost use Rattle.std.specs.Prelude.{◌≡◌, ◌≤◌, length, IfSome};
+ghost use Rattle.std.specs.Prelude.{◌≡◌, ◌≤◌, ◌<◌, ◌++◌, ◌∷◌, [], length, IfSome};
+ghost use Rattle.arrayvec.specs.ArrayString.{array_string_len};
 ghost use Rattle.line_server.specs.ReplyValue.{bytes_of};
 ghost use Rattle.line_server.specs.Streams.{IsPut};
 
@@ -29,9 +30,13 @@ impl Model for Reply {
 }
 
 impl Reply {
-    pub(crate) fn new(body: Vec<u8>, last: ArrayString<128>) -> Reply
-        ensures { result ≡ record { body = body.items; last = last.bytes } }
+    /// The reply of these lines and a last one, to which its LF is added.
+    pub(crate) fn of_lines(body: Vec<u8>, text: ArrayString<128>) -> Reply
+        requires { array_string_len text < 128 }
+        ensures { result ≡ record { body = body.items; last = text.bytes ++ 10 ∷ [] } }
     {
+        let mut last = text;
+        last.push_str("\n");
         Reply { body, last }
     }
 

@@ -58,21 +58,11 @@ fn put_number_or_none(last: &mut ArrayString<128>, number: Option<u64>)
     }
 }
 
-/// The reply of these lines and a last one, to which its LF is added.
-fn reply(body: Vec<u8>, text: ArrayString<128>) -> Reply
-    requires { array_string_len text < 128 }
-    ensures { result ≡ record { body = body.items; last = text.bytes ++ 10 ∷ [] } }
-{
-    let mut last = text;
-    last.push_str("\n");
-    Reply::new(body, last)
-}
-
 /// The reply `OK` without more words. Allocates nothing.
 pub fn reply_done(alloc: Global) -> Reply
     ensures { result ≡ reply_value (Ok (Done [])) }
 {
-    reply(Vec::new(alloc), begin_line("OK"))
+    Reply::of_lines(Vec::new(alloc), begin_line("OK"))
 }
 
 /// The reply `OK` with a number.
@@ -81,7 +71,7 @@ pub(crate) fn reply_number(alloc: Global, number: u64) -> Reply
 {
     let mut last = begin_line("OK");
     put_number(&mut last, number);
-    reply(Vec::new(alloc), last)
+    Reply::of_lines(Vec::new(alloc), last)
 }
 
 /// The number of a date, such as 20200131.
@@ -102,7 +92,7 @@ pub(crate) fn reply_import(alloc: Global, receipt: Receipt) -> Reply
     put_number(&mut last, u64::from(receipt.number));
     put_number(&mut last, receipt.new);
     put_number(&mut last, receipt.repeated);
-    reply(Vec::new(alloc), last)
+    Reply::of_lines(Vec::new(alloc), last)
 }
 
 /// The reply to RECEIPT.
@@ -113,7 +103,7 @@ pub(crate) fn reply_receipt(alloc: Global, number: u32, receipt: ImportReceipt) 
     put_number(&mut last, u64::from(number));
     put_number(&mut last, receipt.new);
     put_number_or_none(&mut last, number_of_date(receipt.latest));
-    reply(Vec::new(alloc), last)
+    Reply::of_lines(Vec::new(alloc), last)
 }
 
 /// The reply to STATUS.
@@ -132,7 +122,7 @@ pub(crate) fn reply_status(
     put_number(&mut last, rows);
     put_number(&mut last, u64::from(segments));
     put_number_or_none(&mut last, left);
-    reply(Vec::new(alloc), last)
+    Reply::of_lines(Vec::new(alloc), last)
 }
 
 /// The reply to a refused line: `ERR`, the number, the name, and the file and line if there are
@@ -147,9 +137,9 @@ pub fn reply_refusal(alloc: Global, refusal: LineRefusal) -> Reply
         Some((file, line)) => {
             put_number(&mut last, file as u64);
             put_number(&mut last, line as u64);
-            reply(Vec::new(alloc), last)
+            Reply::of_lines(Vec::new(alloc), last)
         }
-        None => reply(Vec::new(alloc), last),
+        None => Reply::of_lines(Vec::new(alloc), last),
     }
 }
 
@@ -173,7 +163,7 @@ pub(crate) fn reply_rows(alloc: Global, rows: &[Row]) -> Result<Reply, AllocErro
         write_row(row, &mut body)?;
         body.push(b'\n')?;
     }
-    Ok(reply(body, end(rows.len())))
+    Ok(Reply::of_lines(body, end(rows.len())))
 }
 
 /// The reply that lists identifiers.
@@ -186,7 +176,7 @@ pub(crate) fn reply_ids(alloc: Global, ids: &[u64]) -> Result<Reply, AllocError>
         body.extend_from_slice(Buffer::new().format(id).as_bytes())?;
         body.push(b'\n')?;
     }
-    Ok(reply(body, end(ids.len())))
+    Ok(Reply::of_lines(body, end(ids.len())))
 }
 
 /// The reply with a digest, in lower-case hexadecimal digits.
@@ -197,7 +187,7 @@ pub(crate) fn reply_digest(alloc: Global, digest: [u8; 32]) -> Result<Reply, All
     let digits = hex::encode(alloc, digest)?;
     let mut last = begin_line("OK");
     put_word(&mut last, digits.as_str());
-    Ok(reply(Vec::new(alloc), last))
+    Ok(Reply::of_lines(Vec::new(alloc), last))
 }
 
 /// The reply that lists dates.
@@ -210,5 +200,5 @@ pub(crate) fn reply_dates(alloc: Global, dates: &[EffectiveTime]) -> Result<Repl
         body.extend_from_slice(Buffer::new().format(date.value()).as_bytes())?;
         body.push(b'\n')?;
     }
-    Ok(reply(body, end(dates.len())))
+    Ok(Reply::of_lines(body, end(dates.len())))
 }

@@ -104,11 +104,6 @@ ArePassed start (places ∷ lists) (cursor ∷ cursors) =
 abbrev pub stops : Kind → ℕ → ℕ → RowPlace → Bool
 stops kind id pin p = not (is_of kind id p) || nat_le p.import pin
 
--- the number that is given for list `n`, if one is given for it
-abbrev pub number_in : Option (ℕ × ℕ) → ℕ → Option ℕ
-number_in None n = None
-number_in (Some x) n = elim (x.0 == n) [ true ↦ Some x.1 | false ↦ None ]
-
 -- `b` is the latest of the candidates among these
 pub record IsLatestOf (kind : Kind) (id : ℕ) (as_of : AsOf) {X : Type 0} (place : X → RowPlace)
     (xs : List X) (b : X) : Type 0 where

@@ -11,9 +11,10 @@ pub loop-segment-preserved : goal.loop-segment-preserved
 loop-segment-preserved c =
     let a = c.args in
     let ps = c.index-lists-segment.result in
-    let found = pick_of_part a.as_of.now a.kind a.id ps c.latest_in-found.result (rw c.shown_part-places.ensures.part at (c.latest_in-found.ensures c.shown_part-places.ensures.ascending)) in
+    let up = c.shown_part-places.ensures.ascending in
+    let found = pick_of_part a.as_of.now a.kind a.id ps c.latest_before-found.result (rw c.shown_part-places.ensures.part at (c.latest_before-found.ensures up (c.place_near-end.ensures.split up))) in
     rw (c.later-best.ensures, places-more a.lists.now c.loop-segment.segment ps c.loop-segment-test.true c.index-lists-segment.is)
-    (pick_more a.kind a.id a.as_of.now c.loop-segment.segment ps (all_places 0 (take c.loop-segment.segment a.lists.now)) c.loop-segment.best c.latest_in-found.result c.loop-segment.invariant found)
+    (pick_more a.kind a.id a.as_of.now c.loop-segment.segment ps (all_places 0 (take c.loop-segment.segment a.lists.now)) c.loop-segment.best c.latest_before-found.result c.loop-segment.invariant found)
 
 pub returns : goal.returns
 returns c =

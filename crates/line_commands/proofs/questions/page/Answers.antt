@@ -1,4 +1,4 @@
-use Rattle.line_commands.proofs.Forms.{none_read, page_uncut, page_uncut_rest, page_no_kind, page_no_time, page_no_after, page_no_limit, page_found}
+use Rattle.line_commands.proofs.Forms.{none_read, page_uncut, page_uncut_rest, page_no_kind, page_no_time, page_no_after, page_no_limit, page_found, not_a_time}
 use Rattle.line_commands.proofs.questions.page.Goals as goal
 
 pub returns-in_err-letter : goal.returns-in_err-letter
@@ -11,7 +11,7 @@ pub returns-in_err-kind : goal.returns-in_err-kind
 returns-in_err-kind c = none_read _ _ c.from_residual-in_err-kind.result c.from_residual-in_err-kind.ensures (λ question s. page_no_kind _ _ _ _ c.in_ok-letter.ensures.0 c.in_ok-letter.ensures.1 c.in_ok-letter.ensures.2 question c.in_err-kind.ensures s)
 
 pub returns-in_err-date : goal.returns-in_err-date
-returns-in_err-date c = none_read _ _ c.from_residual-in_err-date.result c.from_residual-in_err-date.ensures (λ question s. page_no_time _ _ _ _ c.in_ok-letter.ensures.0 c.in_ok-letter.ensures.1 c.in_ok-letter.ensures.2 question c.in_err-date.ensures s)
+returns-in_err-date c = none_read _ _ c.from_residual-in_err-date.result c.from_residual-in_err-date.ensures (λ question s. page_no_time _ _ _ _ c.in_ok-letter.ensures.0 c.in_ok-letter.ensures.1 c.in_ok-letter.ensures.2 question (not_a_time _ c.in_err-date.ensures.only) s)
 
 pub returns-in_err-after : goal.returns-in_err-after
 returns-in_err-after c = none_read _ _ c.from_residual-in_err-after.result c.from_residual-in_err-after.ensures (λ question s. page_no_after _ _ _ _ c.in_ok-letter.ensures.0 c.in_ok-letter.ensures.1 c.in_ok-letter.ensures.2 question _ _ c.in_ok-from.ensures.0 c.in_ok-from.ensures.1 c.in_ok-kind.kind c.in_ok-kind.ensures c.in_err-after.ensures s)
@@ -20,4 +20,4 @@ pub returns-in_err-limit : goal.returns-in_err-limit
 returns-in_err-limit c = none_read _ _ c.from_residual-in_err-limit.result c.from_residual-in_err-limit.ensures (λ question s. page_no_limit _ _ _ _ c.in_ok-letter.ensures.0 c.in_ok-letter.ensures.1 c.in_ok-letter.ensures.2 question _ _ c.in_ok-from.ensures.0 c.in_ok-from.ensures.1 c.in_err-limit.ensures s)
 
 pub returns : goal.returns
-returns c = page_found _ _ _ _ _ _ c.in_ok-kind.kind c.in_ok-date.date c.in_ok-after.after c.in_ok-limit.limit c.in_ok-letter.ensures.2 c.in_ok-from.ensures.1 c.in_ok-kind.ensures c.in_ok-date.ensures.0 c.in_ok-date.ensures.1 c.in_ok-after.ensures c.in_ok-limit.ensures.0 c.in_ok-limit.ensures.1 c.in_ok-limit.ensures.2
+returns c = page_found _ _ _ _ _ _ c.in_ok-kind.kind c.in_ok-date.date c.in_ok-after.after c.in_ok-limit.limit c.in_ok-letter.ensures.2 c.in_ok-from.ensures.1 c.in_ok-kind.ensures c.in_ok-date.ensures.found.0 c.in_ok-date.ensures.found.1 c.in_ok-after.ensures c.in_ok-limit.ensures.0 c.in_ok-limit.ensures.1 c.in_ok-limit.ensures.2

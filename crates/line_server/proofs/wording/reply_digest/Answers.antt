@@ -9,8 +9,8 @@ put_word-requires c =
     let bytes : length c.args.digest ≡ 32 = search rules in
     omega (arith, digits, bytes, c.begin_line-last.ensures.len)
 
-pub reply-requires : goal.reply-requires
-reply-requires c =
+pub of_lines-requires : goal.of_lines-requires
+of_lines-requires c =
     let digits : length c.as_str.result.now ≡ 2 * length c.args.digest = ap length (c.as_str.ensures.value ∙ c.in_ok-digits.ensures) ∙ length-encode_with lower_digits c.args.digest in
     let bytes : length c.args.digest ≡ 32 = search rules in
     omega (arith, digits, bytes, c.begin_line-last.ensures.len, c.put_word.ensures.len)
