@@ -313,8 +313,8 @@ CALLS = [
          "store_cases", "a merge beside an import"),
     # The server and the program.
     Call("command_line", "Samples::release", "demonstration.rt",
-         "Result<Release, SourceFault> {", SOURCE, "test_program",
-         "the_demonstration_is_the_script"),
+         "Result<Release, SourceFault> {", SOURCE, "program_cases",
+         "streams that fail"),
     Call("line_server", "answer", "answering.rt",
          "pub fn answer<", "reply_refusal(alloc, LineRefusal::Store(Refusal::OutOfMemory))",
          "line_cases", "questions"),
