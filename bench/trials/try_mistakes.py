@@ -9,8 +9,9 @@ characters, a full disk, too few files that may be open, a store that is in use 
 is replaced. Each time its reply, its status and the line on standard error have to be as wanted
 within ten seconds, and the store has to be left as it was. Then four imports run on one store at
 once, and again beside a server: each release that was answered OK has to be there after the next
-opening, and no other. What the machine lacks for a try is said and not counted. The status is 1
-where something isn't as wanted. Standard library alone.
+opening, and no other. The lines in the help of `serve` have to be requests, and the demonstration
+what a case of line_cases says. What the machine lacks for a try is said and not counted. The status
+is 1 where something isn't as wanted. Standard library alone.
 """
 
 from __future__ import annotations
@@ -33,6 +34,14 @@ SECONDS = 10
 # How many bytes of a terminal are read at a time.
 READ_BYTES = 1 << 16
 ROOT = os.path.dirname(os.path.dirname(os.path.dirname(os.path.abspath(__file__))))
+# The lines of the demonstration with their replies, as cases are written, and what the names there
+# stand for.
+DEMONSTRATION = os.path.join(ROOT, "crates", "line_cases", "data", "cases", "demonstration.txt")
+MEANINGS = {"CORE": "900000000000207008", "PRIM": "900000000000074008",
+            "SYN": "900000000000013009", "ECI": "900000000000448009"}
+# How many lines the help of `serve` has as examples, and the refusals of a line that is no request.
+EXAMPLES = 32
+NO_REQUEST = ("ERR 40 ", "ERR 41 ", "ERR 42 ", "ERR 43 ")
 CONCEPTS = "sct2_Concept_Delta_INT_20200131.txt"
 FULL_CONCEPTS = "sct2_Concept_Full_INT_20200131.txt"
 # What is told of a file that stands in a folder which isn't read.
@@ -355,11 +364,41 @@ def try_new_rights(tries: Tries) -> None:
     tries.check("the rights behind a link", made[1] == "OK\n" and mode == 0o600, (made, oct(mode)))
 
 
+def try_help(tries: Tries) -> None:
+    """Each line that the help of `serve` has as an example is a request: it is indented by two
+    spaces, and what it asks stands behind two more."""
+    told = tries.run(["serve", "--help"])[1]
+    lines = [line[2:].split("  ")[0] for line in told.split("\n") if line.startswith("  0 ")]
+    tries.check("the lines in the help", len(lines) == EXAMPLES, lines)
+    made = tries.run(["init", "--store", "helped"])
+    tries.check("a store for the lines in the help", made == (0, "OK\n", ""), made)
+    os.mkdir(tries.path("nothing"))
+    for line in lines:
+        got = tries.run(["serve", "--store", "helped", "--releases", "nothing"], line + "\n")
+        fine = got[0] == 0 and got[1] != "" and not got[1].startswith(NO_REQUEST)
+        tries.check("a line in the help is a request: " + line, fine, got)
+
+
+def demonstrated() -> list[str]:
+    """The lines of the demonstration, as a terminal shows them, each before those of its reply."""
+    shown = []
+    with open(DEMONSTRATION, encoding="utf-8") as file:
+        for line in file.read().splitlines():
+            if line.startswith("> "):
+                shown.append(line)
+            elif line.startswith("< "):
+                columns = line[2:].split("|")
+                shown.append("\t".join(MEANINGS.get(column, column) for column in columns))
+    return shown
+
+
 def try_demonstration(tries: Tries) -> None:
-    """The questions of the demonstration are shown where its output is a terminal, and only
-    there."""
+    """The demonstration has the lines and replies of the case that line_cases has of it. Its
+    questions are shown where its output is a terminal, and only there."""
+    wanted = demonstrated()
+    replies = "".join(line + "\n" for line in wanted if not line.startswith("> "))
     plain = tries.run(["demo"])
-    tries.check("the demonstration", plain[0] == 0 and plain[2] == "", plain[2])
+    tries.check("the demonstration", plain == (0, replies, ""), plain)
     main, other = pty.openpty()
     ran = subprocess.run([tries.program, "demo"], cwd=tries.place, stdin=subprocess.DEVNULL,
                          stdout=other, stderr=other, timeout=SECONDS, check=False)
@@ -374,12 +413,10 @@ def try_demonstration(tries: Tries) -> None:
             break
         shown += piece
     os.close(main)
-    lines = shown.decode().replace("\r\n", "\n").split("\n")
-    asked = [line for line in lines if line.startswith("> ")]
-    others = "\n".join(line for line in lines if not line.startswith("> "))
-    fine = ran.returncode == 0 and lines[0] == "> 0 STATUS" and lines[1] == "OK 0 0 0 -"
-    tries.check("the demonstration on a terminal",
-                fine and len(asked) == 20 and others == plain[1], (lines[:4], len(asked)))
+    lines = shown.decode().replace("\r\n", "\n").splitlines()
+    differ = [pair for pair in zip(lines, wanted) if pair[0] != pair[1]]
+    tries.check("the demonstration on a terminal", ran.returncode == 0 and lines == wanted,
+                (differ[:2], len(lines), len(wanted)))
 
 
 def try_traps(tries: Tries) -> None:
@@ -653,7 +690,7 @@ def try_at_once(tries: Tries) -> None:
 
 ALL_TRIES: list[Callable[[Tries], None]] = [
     try_folders, try_names, try_telling, try_lacking, try_packages, try_refsets, try_forged,
-    try_new_rights, try_demonstration, try_traps, try_stores, try_rights, try_full_disk,
+    try_new_rights, try_help, try_demonstration, try_traps, try_stores, try_rights, try_full_disk,
     try_few_files, try_replaced, try_other_user, try_at_once]
 
 

@@ -9,6 +9,6 @@ mod server;
 mod streams;
 
 pub use releases::Examples;
-pub use script::{SCRIPT, Turn, demonstration, input_of, replies_of};
+pub use script::{SCRIPT, Turn, input_of, replies_of};
 pub use server::{Server, after};
 pub use streams::{Narrow, Pieces};

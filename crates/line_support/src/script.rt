@@ -132,11 +132,6 @@ pub const SCRIPT: [Turn; 40] = [
     ),
 ];
 
-/// The lines and replies of the program's demonstration, `sctd demo`.
-pub fn demonstration() -> &'static [Turn] {
-    &SCRIPT[..20]
-}
-
 /// The lines, each followed by an LF.
 pub fn input_of(alloc: Global, turns: &[Turn]) -> Result<Vec<u8>, AllocError> {
     let mut input = Vec::new(alloc);

@@ -2,7 +2,7 @@ use Rattle.std.proofs.Common.{◌≤◌, take}
 use Rattle.std.specs.List.{AllByRecursion}
 use Rattle.history_model.specs.InOrder.{IsAscending}
 use Rattle.history_model.specs.History.{stamped_cmp}
-use Rattle.segment_cases.proofs.rows.are_in_order.Given as goal
+use Rattle.layer_cases.proofs.segment_rows.are_in_order.Given as goal
 
 abbrev pub invariant-loop-i : goal.invariant-loop-i
 invariant-loop-i l = record {

@@ -8,8 +8,8 @@
 //!   and, if it differs, for the file with a byte order mark before them;
 //! - `names KIND` prints the column names, and `names_as KIND KIND` the result of reading a file of
 //!   the first kind's column names as one of the second kind;
-//! - `bytes KIND TEXT` prints how many bytes a line takes, and `term_bytes KIND TEXT` how many the
-//!   term of its row takes.
+//! - `line_bytes KIND TEXT` prints how many bytes a line takes, and `term_bytes KIND TEXT` how many
+//!   the term of its row takes.
 //!
 //! In each text a bar stands for a TAB, and a name in capitals for an identifier.
 
@@ -128,7 +128,7 @@ pub fn answer(alloc: Global, word: &str, rest: &str) -> Answer {
     }
     let text = row_bytes(alloc, text)?;
     match word {
-        "bytes" => spell_count(alloc, text.len()),
+        "line_bytes" => spell_count(alloc, text.len()),
         "term_bytes" => spell_count(alloc, count_term(&read_row(alloc, kind, text.as_slice())?)),
         "file" => outcome(alloc, kind, text.as_slice()),
         "file_of" => outcome_below(alloc, kind, text.as_slice()),

@@ -4,7 +4,7 @@ use Rattle.history_model.specs.InOrder.{IsAscending}
 use Rattle.history_model.specs.History.{stamped_cmp}
 use Rattle.history_model.proofs.Keys.{stamped_total}
 use Rattle.segment.proofs.Ascending.{ascends_push, last_split}
-use Rattle.segment_cases.proofs.rows.comes_after.Goals as goal
+use Rattle.layer_cases.proofs.segment_rows.comes_after.Goals as goal
 
 pub returns-in-len1-up : goal.returns-in-len1-up
 returns-in-len1-up c = λ below.

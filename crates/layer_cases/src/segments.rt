@@ -18,8 +18,8 @@
 
 use crate::checksums::{count_turned, spell_sum, spell_summed};
 use crate::records::{changed, count_rows, joined, spell_bytes, spell_record, with_length};
-use crate::rows::{are_same, segment_of};
-use case_files::{Answer, Answers, NoAnswer};
+use crate::segment_rows::{are_same, segment_of};
+use case_files::{Answer, NoAnswer};
 use case_values::{first_word, kind_of, number, read_row, row_text};
 use history_model::StampedRow;
 use segment::{Form, decode, encoded_len};
@@ -34,15 +34,15 @@ struct Given {
 
 /// The rows of all segments.
 #[derive(Drop)]
-pub struct Examples {
+pub struct Segments {
     alloc: Global,
     given: Vec<Given>,
 }
 
-impl Examples {
+impl Segments {
     /// No rows.
-    pub fn new(alloc: Global) -> Examples {
-        Examples {
+    pub fn new(alloc: Global) -> Segments {
+        Segments {
             alloc,
             given: Vec::new(alloc),
         }
@@ -103,23 +103,21 @@ impl Examples {
         }
         Ok(format!(in self.alloc; "{found}, and by itself {alone}")?)
     }
-}
 
-impl Answers for Examples {
-    fn begin(&mut self) {}
-
-    fn give(&mut self, part: &str, word: &str, rest: &str) -> Result<(), NoAnswer> {
+    /// Takes a row of the segment with this name.
+    pub fn give(&mut self, name: &str, word: &str, rest: &str) -> Result<(), NoAnswer> {
         let (import, line) = first_word(rest)?;
         let line = row_text(self.alloc, line)?;
         let row = read_row(self.alloc, kind_of(word)?, line.as_bytes())?;
         let import = number(import)?;
-        let name = String::from_str(self.alloc, part)?;
+        let name = String::from_str(self.alloc, name)?;
         let stamped = StampedRow { row, import };
         self.given.push(Given { name, stamped })?;
         Ok(())
     }
 
-    fn answer(&mut self, word: &str, rest: &str) -> Answer {
+    /// Answers a question about segments.
+    pub fn answer(&mut self, word: &str, rest: &str) -> Answer {
         match word {
             "encoded" => return self.encoded(Form::Plain, rest),
             "checked" => return self.encoded(Form::Checked, rest),

@@ -9,24 +9,24 @@ use crate::slots::{
     change_slots, choice_of, spell_changed, spell_crashes, spell_current, spell_other,
 };
 use blocks::{BlockCache, Current};
-use case_files::{Answer, Answers, NoAnswer};
+use case_files::{Answer, NoAnswer};
 use case_values::{first_word, number, read_hex};
 use disk_model::MemDisk;
 use std::alloc::Global;
 
 /// A disk, the slot of it that is current, and a cache of its blocks.
 #[derive(Drop)]
-pub struct Examples {
+pub struct OneDisk {
     alloc: Global,
     disk: MemDisk,
     current: Option<Current>,
     cache: Option<BlockCache>,
 }
 
-impl Examples {
+impl OneDisk {
     /// With an empty disk.
-    pub fn new(alloc: Global) -> Examples {
-        Examples {
+    pub fn new(alloc: Global) -> OneDisk {
+        OneDisk {
             alloc,
             disk: MemDisk::new(alloc),
             current: None,
@@ -73,20 +73,16 @@ impl Examples {
             None => Err(NoAnswer::NoQuestion),
         }
     }
-}
 
-impl Answers for Examples {
-    fn begin(&mut self) {
+    /// Begins a case, with an empty disk.
+    pub fn begin(&mut self) {
         self.disk = MemDisk::new(self.alloc);
         self.current = None;
         self.cache = None;
     }
 
-    fn give(&mut self, _part: &str, _word: &str, _rest: &str) -> Result<(), NoAnswer> {
-        Err(NoAnswer::NoQuestion)
-    }
-
-    fn answer(&mut self, word: &str, rest: &str) -> Answer {
+    /// Answers a question about the disk.
+    pub fn answer(&mut self, word: &str, rest: &str) -> Answer {
         let alloc = self.alloc;
         match word {
             "disk" => {
