@@ -14,6 +14,9 @@ DAY = "20220731"
 TERM_LETTERS = 60_000
 # Terms of a concept whose answer is just below the limit, and of one whose answer is above it.
 MANY, TOO_MANY = 65, 75
+# Terms of a concept whose rows are just few enough bytes to be remembered. A quotation mark of them
+# is two characters of an answer.
+REMEMBERED = 8
 LATE_SECONDS = 6.0
 
 
@@ -28,10 +31,14 @@ class LargeAnswers(unittest.TestCase):
         maker = Maker()
         # Other identifiers than those of the releases before.
         maker.items = {kind: 10_000_000 for kind in maker.items}
-        for name, count in (("large", MANY), ("too large", TOO_MANY)):
+        for name, count, letter in (
+            ("large", MANY, "x"),
+            ("too large", TOO_MANY, "x"),
+            ("quotes", REMEMBERED, '"'),
+        ):
             code = maker.concept(name, DAY, "Concept with long terms")
             for number in range(count):
-                maker.term(code, DAY, "%d %s" % (number, "x" * TERM_LETTERS))
+                maker.term(code, DAY, "%d %s" % (number, letter * TERM_LETTERS))
         maker.concept("page", DAY, "Page of concepts")
         for number in range(limits.PAGE_CONCEPTS):
             # Two terms of each, so that as many begin alike as a filter may find.
@@ -58,6 +65,11 @@ class LargeAnswers(unittest.TestCase):
     def expand(self, name: str, **words: Any) -> tuple[int, dict[str, Any]]:
         url = "%s?fhir_vs%s" % (SCT, "=isa/" + self.codes[name] if name else "")
         return self.house.gateway.fhir("ValueSet/$expand", url=url, **words)
+
+    def is_throttled(self, target: str) -> bool:
+        """Whether an answer is refused since too many wait to be taken."""
+        answer = self.house.gateway.send("GET", target)
+        return answer.status == 503 and issue(answer.json()) == "throttled"
 
     def test_answer_above_the_limit(self) -> None:
         self.assertEqual(self.lookup("large")[0], 200)
@@ -89,10 +101,12 @@ class LargeAnswers(unittest.TestCase):
             self.assertEqual((status, issue(said)), (422, "too-costly"))
 
     def test_answers_that_nobody_takes(self) -> None:
-        """Many answers that wait to be taken are refused from some number on, small ones never."""
-        gateway, places = self.house.gateway, limits.UNTAKEN_BYTES // limits.ANSWER_BYTES
-        self.assertEqual(self.lookup("large")[0], 200)
-        target = "/fhir/CodeSystem/$lookup?system=%s&code=%s" % (SCT, self.codes["large"])
+        """Many answers that wait to be taken are refused from some number on, small ones never.
+        Their replies are remembered: where `sctd` is slow, they would be refused for another
+        reason."""
+        gateway = self.house.gateway
+        target = "/fhir/CodeSystem/$lookup?system=%s&code=%s" % (SCT, self.codes["quotes"])
+        places = limits.UNTAKEN_BYTES // len(gateway.send("GET", target).body)
         clients, began = [], time.monotonic()
         for _ in range(places + 1):
             client = socket.socket(socket.AF_UNIX)
@@ -100,7 +114,7 @@ class LargeAnswers(unittest.TestCase):
             client.connect(gateway.socket)
             client.sendall(b"GET %s HTTP/1.1\r\nHost: x\r\n\r\n" % target.encode())
             clients.append(client)
-        self.assertTrue(until(lambda: gateway.send("GET", target).status == 503))
+        self.assertTrue(until(lambda: self.is_throttled(target), limits.TAKE_SECONDS))
         self.assertEqual(gateway.send("GET", "/health").status, 200)
         wait = began + limits.TAKE_SECONDS + LATE_SECONDS - time.monotonic()
         self.assertTrue(until(lambda: gateway.send("GET", target).status == 200, wait))
