@@ -132,8 +132,7 @@ as_read : {T U D : Type 0} {view : D → DiskView} {release : Release} (first : 
 as_read first result old mid counted read = record {
   counts = record { moments = read.counts.moments; honesty = read.counts.honesty; failures = counted; bytes_read = tt; other_calls = read.counts.other_calls };
   looked_up = read.looked_up;
-  bytes_read = read.bytes_read;
-  bytes_unread = read.bytes_unread;
+  known = read.known;
 }
 
 module _ {D : Type 0} (view : D → DiskView) (old mid : StoreValue D) (release : Release) where

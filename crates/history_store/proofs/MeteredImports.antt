@@ -38,8 +38,7 @@ module _ {D : Type 0} (view : D → DiskView) (release : Release) where
       forgets = tt;
       keeps = refl;
     };
-    bytes_read = λ rows are. omega (arith, c.meters.bytes_read rows are);
-    bytes_unread = c.meters.bytes_unread;
+    known = record { bytes_read = λ rows are. omega (arith, c.meters.known.bytes_read rows are); bytes_unread = c.meters.known.bytes_unread };
   }
 
   module _ (receipt : Receipt) (n : ℕ) (old mid new : StoreValue D) (c : IsChecking (Ok receipt) release view old mid) (read : IsRead release) where
@@ -65,8 +64,7 @@ module _ {D : Type 0} (view : D → DiskView) (release : Release) where
         forgets = subst (λ (k : Catalog). ForgetsWritten (added_entries k new.catalog) mid.cache new.cache) c.kept.1.catalog w.drops;
         keeps = tt;
       };
-      bytes_read = λ rows are. omega (arith, c.meters.bytes_read rows are, w.counts.bytes_read);
-      bytes_unread = λ unread. absurd (unread read);
+      known = record { bytes_read = λ rows are. omega (arith, c.meters.known.bytes_read rows are, w.counts.bytes_read); bytes_unread = λ unread. absurd (unread read) };
     }
 
     -- the disk failed while it was published
@@ -91,6 +89,5 @@ module _ {D : Type 0} (view : D → DiskView) (release : Release) where
         forgets = tt;
         keeps = w.keeps;
       };
-      bytes_read = λ rows are. omega (arith, c.meters.bytes_read rows are, w.counts.bytes_read);
-      bytes_unread = λ unread. absurd (unread read);
+      known = record { bytes_read = λ rows are. omega (arith, c.meters.known.bytes_read rows are, w.counts.bytes_read); bytes_unread = λ unread. absurd (unread read) };
     }

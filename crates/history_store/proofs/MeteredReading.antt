@@ -39,8 +39,7 @@ pub unread : {T D : Type 0} (view : D → DiskView) (result : Result T Refusal) 
 unread view result release s counted = record {
   counts = record { moments = λ up. refl; honesty = (λ up. up, λ up. up); failures = counted; bytes_read = tt; other_calls = refl };
   looked_up = none_looks_up (is_listed s.catalog.entries) s.cache (view s.disk).bytes_read;
-  bytes_read = λ rows are. omega arith;
-  bytes_unread = λ none. omega arith;
+  known = record { bytes_read = λ rows are. omega arith; bytes_unread = λ none. omega arith };
 }
 
 -- the rows were read by a reader to which the disk, the cache and the segments were lent
@@ -67,6 +66,5 @@ read_so view result release old new entries lent lent_cache lent_is cache_is ent
           subst (λ d. LooksUpSome (is_listed old.catalog.entries) old.cache new.cache (view d).bytes_read (view new.disk).bytes_read) lent_is
           (subst (λ c. LooksUpSome (is_listed old.catalog.entries) c new.cache (view lent).bytes_read (view new.disk).bytes_read) cache_is
           (subst (λ (e : List Entry). LooksUpSome (is_listed e) lent_cache new.cache (view lent).bytes_read (view new.disk).bytes_read) entries_are looked_up));
-      bytes_read = bytes;
-      bytes_unread = unread;
+      known = record { bytes_read = λ rows are. let few = bytes rows are in omega (arith, few); bytes_unread = unread };
     }

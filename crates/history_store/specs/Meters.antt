@@ -32,17 +32,23 @@ use Rattle.history_store.specs.Merging.{trimmed_blocks}
 abbrev pub UncalledIfRefused : {T : Type 0} → Result T Refusal → ℕ → ℕ → Type 0
 UncalledIfRefused result old new = IfErr result (λ e. e ≢ refusals.DiskFault → new ≡ old)
 
--- The meters of a call that compares a release with stored rows. Only reads are made, through the
--- cache, and what a crash may leave is unchanged. Each stored row whose key is in the release is
--- read at most once, and no other row; if a file isn't a valid release file, nothing is read.
+-- Of the stored rows only those were read whose keys are in the release, each at most once, and
+-- `besides` more bytes. If a file isn't a valid release file, nothing was read.
+pub record ReadsKnown {D : Type 0} (view : D → DiskView) (besides : ℕ) (release : Release)
+    (old new : StoreValue D) : Type 0 where
+  pub bytes_read : (rows : List RowValue) → IsReleaseOf release rows
+      → (view new.disk).bytes_read ≤ (view old.disk).bytes_read + besides
+      + sum_by row_cost (already_known (full old.history) rows)
+  pub bytes_unread : (IsRead release → ⊥) → (view new.disk).bytes_read ≤ (view old.disk).bytes_read
+
+-- The meters of a call that compares a release with stored rows, of which it reads those whose keys
+-- are in the release. Only reads are made, through the cache, and what a crash may leave is
+-- unchanged.
 pub record IsMeteredReading {T D : Type 0} (result : Result T Refusal) (release : Release)
     (view : D → DiskView) (old new : StoreValue D) : Type 0 where
   pub counts : OnlyReads (Counts result) Unsaid (view old.disk) (view new.disk)
   pub looked_up : ReadsThroughCache view old new
-  pub bytes_read : (rows : List RowValue) → IsReleaseOf release rows
-      → (view new.disk).bytes_read ≤ (view old.disk).bytes_read
-      + sum_by row_cost (already_known (full old.history) rows)
-  pub bytes_unread : (IsRead release → ⊥) → (view new.disk).bytes_read ≤ (view old.disk).bytes_read
+  pub known : ReadsKnown view 0 release old new
 
 -- The meters of a call that writes. It requests as many bytes as `reads` says, and makes at most
 -- `n` calls besides reads; if it is refused for a reason other than a disk failure, none. On an
@@ -69,9 +75,8 @@ import_calls (Ok receipt) = calls_for receipt.new
 import_calls (Err e) = 8
 
 -- The meters of an import. It makes at most `import_calls` calls besides reads; if it is refused
--- for a reason other than a disk failure, none. Whatever the result, it reads each stored row whose
--- key is in the release at most once, no other row, and one byte besides, the gate of a slot; if a
--- file isn't a valid release file, it reads nothing.
+-- for a reason other than a disk failure, none. Whatever the result, it reads the stored rows whose
+-- keys are in the release, and one byte besides, the gate of a slot.
 pub record IsMeteredImport {D : Type 0} (result : Result Receipt Refusal) (release : Release)
     (view : D → DiskView) (old new : StoreValue D) : Type 0 where
   pub counts : Calls (Counts result) Unsaid (AtMost (import_calls result))
@@ -80,10 +85,7 @@ pub record IsMeteredImport {D : Type 0} (result : Result Receipt Refusal) (relea
   pub calls : (view old.disk).is_honest
       → MakesCalls result (import_calls result) (view old.disk).moments (view new.disk).moments
   pub cache : ImportsThroughCache result view old new
-  pub bytes_read : (rows : List RowValue) → IsReleaseOf release rows
-      → (view new.disk).bytes_read ≤ (view old.disk).bytes_read + 1
-      + sum_by row_cost (already_known (full old.history) rows)
-  pub bytes_unread : (IsRead release → ⊥) → (view new.disk).bytes_read ≤ (view old.disk).bytes_read
+  pub known : ReadsKnown view 1 release old new
 
 -- The meters of a step of a merge. It requests at most so many bytes, through the cache, in which
 -- it looks up blocks of these segments, and then drops from it the blocks of the output's extent,

@@ -1,29 +1,19 @@
 -- What is read of the rows whose keys are in a release.
-use Rattle.std.proofs.Common.{◌≡◌, ℕ, ◌+◌, ◌≤◌, List, Some, sym, arith}
-use Rattle.std.specs.List.{sum_by}
+use Rattle.std.proofs.Common.{◌≡◌, ℕ, List, Some, sym, arith}
 use Rattle.list_lemmas.proofs.Tests.{one_value}
 use Rattle.disk_model.specs.View.{DiskView}
-use Rattle.rf2_values.specs.Row.{RowValue}
-use Rattle.history_model.specs.History.{full}
 use Rattle.import_check.specs.declared.release.Release.{Release}
-use Rattle.import_check.specs.Known.{already_known}
-use Rattle.import_check.specs.Release.{files_of, IsReleaseOf}
-use Rattle.import_check.specs.NewRows.{IsRead}
+use Rattle.import_check.specs.Release.{files_of}
 use Rattle.history_store.specs.StoreValue.{StoreValue}
-use Rattle.history_store.specs.Reading.{row_cost}
 use Rattle.store_life.proofs.AlikeReleases.{release_alike, read_alike}
 use Rattle.line_server.specs.Sources.{Releases, scope_of}
-use Rattle.line_server.specs.Turns.{ReadsKnown, ReadsKnownOf}
+use Rattle.history_store.specs.Meters.{ReadsKnown}
+use Rattle.line_server.specs.Turns.{ReadsKnownOf}
 
 module _ {D : Type 0} (view : D → DiskView) where
   -- nothing was read
   pub none_known : (releases : Releases) (name : List ℕ) (besides : ℕ) (s : StoreValue D) → ReadsKnownOf view releases name besides s s
   none_known releases name besides s release has = record { bytes_read = λ rows is. omega arith; bytes_unread = λ unread. omega arith }
-
-  -- by what is said of checks, which read nothing besides
-  pub known_alone : (old new : StoreValue D) (release : Release) → ((rows : List RowValue) → IsReleaseOf release rows → (view new.disk).bytes_read ≤ (view old.disk).bytes_read + sum_by row_cost (already_known (full old.history) rows))
-      → ((IsRead release → ⊥) → (view new.disk).bytes_read ≤ (view old.disk).bytes_read) → ReadsKnown view 0 release old new
-  known_alone old new release read unread = record { bytes_read = λ rows is. let few = read rows is in omega (arith, few); bytes_unread = unread }
 
   -- what holds for a release holds for each with the same files
   pub known_of : (besides : ℕ) (old new : StoreValue D) (release : Release) (releases : Releases) (name : List ℕ) → releases (scope_of old.catalog.layout) name ≡ Some (files_of release) → ReadsKnown view besides release old new

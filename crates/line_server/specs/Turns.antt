@@ -5,18 +5,17 @@ use Rattle.disk_model.specs.View.{DiskView, AtMost}
 use Rattle.std.specs.List.{flat_map}
 use Rattle.import_check.specs.declared.scope.Scope.{Scope}
 use Rattle.import_check.specs.declared.release.Release.{Release}
-use Rattle.import_check.specs.Release.{files_of, IsReleaseOf}
-use Rattle.import_check.specs.Known.{already_known}
-use Rattle.import_check.specs.NewRows.{IsRead}
+use Rattle.import_check.specs.Release.{files_of}
 use Rattle.history_store.specs.declared.refusal.Refusal.TheVariants as store
 use Rattle.history_store.specs.StoreValue.{StoreValue}
 use Rattle.history_store.specs.Answers.{CountsRefusal}
+use Rattle.history_store.specs.Meters.{ReadsKnown}
 use Rattle.history_store.specs.Merging.{trimmed_len, step_cost}
 use Rattle.history_store.specs.Queries.{ReadsThroughCache, StepsThroughCache}
 use Rattle.history_store.specs.Reading.{row_cost}
 use Rattle.history_store.specs.Auditing.{relationships_cost}
 use Rattle.rf2_values.specs.Row.{RowValue}
-use Rattle.history_model.specs.History.{rows_at, full}
+use Rattle.history_model.specs.History.{rows_at}
 use Rattle.history_model.specs.Hierarchy.{AreAncestors}
 use Rattle.line_commands.specs.Questions.{Question, Children, Ancestors, Descendants, Dates}
 use Rattle.line_commands.specs.Questions.{Digest, Receipt}
@@ -120,16 +119,8 @@ LeavesAsked view seen question outcome old new =
     × ReadsFound question (rows_at seen old.history.rows) (view old.disk).bytes_read
     (view new.disk).bytes_read
 
--- Of the stored rows only those were read whose keys are in the release, each at most once, and
--- `besides` more bytes. If a file isn't a valid release file, nothing was read.
-pub record ReadsKnown {D : Type 0} (view : D → DiskView) (besides : ℕ) (release : Release)
-    (old new : StoreValue D) : Type 0 where
-  pub bytes_read : (rows : List RowValue) → IsReleaseOf release rows
-      → (view new.disk).bytes_read ≤ (view old.disk).bytes_read + besides
-      + sum_by row_cost (already_known (full old.history) rows)
-  pub bytes_unread : (IsRead release → ⊥) → (view new.disk).bytes_read ≤ (view old.disk).bytes_read
-
--- this holds for a release of the name, in the scope of the store's version
+-- the stored rows whose keys are in the release of the name are read, in the scope of the store's
+-- version, and so many bytes besides
 abbrev pub ReadsKnownOf : {D : Type 0} → (D → DiskView) → Releases → List ℕ → (besides : ℕ)
     → StoreValue D → StoreValue D → Type 0
 ReadsKnownOf view releases name besides old new =
