@@ -2,7 +2,7 @@
 use Rattle.std.proofs.Common.{◌≡◌, ℕ, Bool, false, List, sym, subst}
 use Rattle.std.specs.Prelude.{Option}
 use Rattle.disk_model.specs.View.{DiskView}
-use Rattle.disk_model.specs.Disk.{Moments, IsImage}
+use Rattle.disk_model.specs.Disk.{IsImage}
 use Rattle.lru.specs.LruCache.{LruCache}
 use Rattle.blocks.specs.declared.slots.Slot.{Slot}
 use Rattle.blocks.specs.Cache.{AgreesWith}

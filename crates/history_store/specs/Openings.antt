@@ -1,7 +1,7 @@
 -- How a store is made, and how it is opened.
 use Rattle.std.specs.Prelude.{◌≡◌, ◌↔◌, ◌≤◌, ℕ, length, IfOk, IfErr}
 use Rattle.disk_model.specs.View.{DiskView}
-use Rattle.disk_model.specs.Disk.{Moments, IsImage, LeavesOnly}
+use Rattle.disk_model.specs.Disk.{IsImage, LeavesOnly}
 use Rattle.blocks.specs.Calls.{MakesCalls}
 use Rattle.blocks.specs.Outside.{StemsWithin}
 use Rattle.blocks.specs.Slots.{slots_range}

@@ -1,7 +1,7 @@
 -- The value of a store, as clauses see it.
 use Rattle.std.specs.Prelude.{◌≡◌, ℕ, [], Bool, false, List}
 use Rattle.disk_model.specs.View.{DiskView}
-use Rattle.disk_model.specs.Disk.{DiskState, Moments, EachImage}
+use Rattle.disk_model.specs.Disk.{DiskState, EachImage}
 use Rattle.blocks.specs.declared.slots.Slot.{Slot}
 use Rattle.history_model.specs.declared.stamped.StampedRow.{StampedRow}
 use Rattle.history_model.specs.History.{History}

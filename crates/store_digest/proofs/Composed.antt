@@ -1,5 +1,5 @@
 -- One question after another, of a store that answered those before.
-use Rattle.std.proofs.Common.{◌≡◌, ◌↔◌, ℕ, true, Ok, Err, Result, refl, sym, subst, ◌∙◌}
+use Rattle.std.proofs.Common.{◌≡◌, ◌↔◌, true, Ok, Err, Result, refl, sym, subst, ◌∙◌}
 use Rattle.disk_model.specs.View.{DiskView}
 use Rattle.blocks.proofs.Looked.{none_looks_up, some_more}
 use Rattle.history_store.specs.declared.refusal.Refusal.{Refusal}

@@ -63,7 +63,7 @@ fed_all : (honest : Type 0) (hasher more : Sha256) (last : Option Key) (rows : L
 fed_all honest hasher more last rows fed hashed none no_next =
     let all_done : fed.done ≡ fed.done ++ filter (is_after last) rows = sym (append-nil fed.done) ∙ ap (λ ys. fed.done ++ ys) (sym none) in (
       subst (Holds256 more) (append-nil (text_of fed.done))
-      (subst (λ ys. Holds256 more (text_of fed.done ++ text_of ys)) (no_rows hashed.read (hashed.keys ∙ ap (map key_of) no_next)) (hashed.holds (text_of fed.done) fed.holds)),
+          (subst (λ ys. Holds256 more (text_of fed.done ++ text_of ys)) (no_rows hashed.read (hashed.keys ∙ ap (map key_of) no_next)) (hashed.holds (text_of fed.done) fed.holds)),
       λ in_order. ap (map key_of) all_done ∙ fed.keys in_order,
       λ h. all_done ∙ fed.left h,
     )

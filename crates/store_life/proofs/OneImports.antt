@@ -1,6 +1,5 @@
 -- One store and one release give one answer, unless memory lacks or the disk fails.
-use Rattle.std.proofs.Common.{◌≡◌, ℕ, ◌++◌, Bool, List, [], ◌∷◌, sym, ap, subst, ◌∙◌, Result, Ok, Err, inl, inr, Option, Some}
-use Rattle.std.specs.Prelude.{unwrap_or}
+use Rattle.std.proofs.Common.{◌≡◌, ℕ, ◌++◌, Bool, List, [], ◌∷◌, sym, ap, subst, ◌∙◌, Result, Ok, Err, inl, inr}
 use Rattle.list_lemmas.proofs.Tests.{one_value}
 use Rattle.rf2_values.specs.Row.{RowValue}
 use Rattle.history_model.specs.declared.stamped.StampedRow.{StampedRow}

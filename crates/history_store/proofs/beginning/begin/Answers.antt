@@ -3,7 +3,6 @@ use Rattle.std.specs.Int.{div_ceil}
 use Rattle.std.proofs.Common.{◌≡◌, ◌≤◌, List, inl, inr, refl, sym, ap, subst, ◌∙◌, arith}
 use Rattle.std.proofs.lemmas.Option.{slice_get-get_or}
 use Rattle.std.proofs.lemmas.Result.{err_from_is_err_and}
-use Rattle.store_image.proofs.Damaged.{segments_count as lists_count}
 use Rattle.list_lemmas.proofs.Each.{each_at_number}
 use Rattle.directory.specs.declared.entry.Entry.{Entry}
 use Rattle.directory.specs.Listings.{form_of}
