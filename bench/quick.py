@@ -14,7 +14,8 @@ many seconds it took; below it stands what failed. The parts are:
   lacks says so, and is skipped;
 - the tests of the crates that no other crate uses, built as one crate;
 - the tests of each other crate that has any;
-- each program with a file `stdin`, `stdout` or `args`: what it writes has to be its file `stdout`.
+- each program of the crates, `bench_store` too, which measures: what it writes has to be its file
+  `stdout`, or nothing where it has none.
 
 The last line is `N passed, M failed`, and `, K skipped` where there are any: of tests, scripts and
 programs. The status is 0 where nothing failed. WORD takes the parts with this text in their name.
@@ -137,11 +138,6 @@ class Crates:
     def is_used(self, name: str) -> bool:
         return any(name in uses for uses in self.uses.values())
 
-    def is_run(self, name: str) -> bool:
-        """Whether it is a program that says what it is run on, or what it has to write."""
-        files = ("stdin", "stdout", "args")
-        return self.is_program(name) and any((self.folder(name) / f).exists() for f in files)
-
 
 class Together:
     """One crate with the tests of some libraries that no crate uses, each as a module of it."""
@@ -198,7 +194,7 @@ class Tree:
         joined = [n for n in uses if tested[n] and not self.crates.is_used(n)
                   and not self.crates.is_program(n)]
         apart = [name for name in uses if tested[name] and name not in joined]
-        run = [name for name in uses if self.crates.is_run(name)]
+        run = [name for name in uses if self.crates.is_program(name)]
         count = sum(tested[name] for name in joined)
         parts = [self.part_of_program(name) for name in run if name == PROGRAM]
         if joined:

@@ -8,7 +8,7 @@ use crate::watch::start_watch;
 use as_of_index::{AsOf, ReadFault, RowPlace, RowReader};
 use fault_counts::raised;
 use history_model::StampedRow;
-use links::{about, children};
+use links::children;
 use rf2_rows::{EffectiveTime, Kind, Sctid};
 use rf2_values::{Key, Row};
 use std::alloc::{AllocError, Global};
@@ -110,8 +110,6 @@ enum Question {
     Searches(u32),
     /// The children of the root.
     Children,
-    /// The descriptions of the root.
-    About,
 }
 
 /// The name of a question in the output.
@@ -123,7 +121,6 @@ fn name_of(question: Question) -> &'static str {
         Question::Searches(10) => "10 searches for 10",
         Question::Searches(_) => "10 searches for 1,000",
         Question::Children => "children",
-        Question::About => "about",
     }
 }
 
@@ -185,14 +182,6 @@ fn count_children(alloc: Global, made: &Made, as_of: &AsOf) -> Option<u64> {
     Some(ids.ok()?.len() as u64)
 }
 
-/// How many descriptions the root has.
-fn count_about(alloc: Global, made: &Made, reader: &mut OneRow, as_of: &AsOf) -> Option<u64> {
-    let root = Sctid::of(ROOT)?;
-    let kind = Kind::Description;
-    let rows = about(alloc, &made.links, &made.index, reader, kind, root, *as_of);
-    Some(rows.ok()?.len() as u64)
-}
-
 /// Asks a question. Returns how many rows or ids are found.
 fn ask(alloc: Global, made: &Made, reader: &mut OneRow, question: Question) -> Option<u64> {
     let date = EffectiveTime::of(DATE)?;
@@ -202,7 +191,6 @@ fn ask(alloc: Global, made: &Made, reader: &mut OneRow, question: Question) -> O
         Question::Pages(size, limit) => turn_pages(made, reader, size, limit, &as_of),
         Question::Searches(limit) => search(alloc, made, reader, limit, &as_of),
         Question::Children => count_children(alloc, made, &as_of),
-        Question::About => count_about(alloc, made, reader, &as_of),
     }
 }
 
@@ -246,13 +234,12 @@ fn ask_index(
 
 /// Asks questions of indexes with 2, 8, 128 and 250 lists. There are `size` places of associations,
 /// a twentieth as many descriptions, and as many children of one concept as descriptions. The
-/// questions about terms, children and descriptions are repeated with the terms in the worst order.
+/// searches are repeated with the terms in the worst order.
 pub(crate) fn ask_each_index(rt: &HostRuntime, size: u64, is_quiet: bool) -> Option<()> {
     let questions = [
         Question::Searches(10),
         Question::Searches(1000),
         Question::Children,
-        Question::About,
         Question::Gets(size),
         Question::Pages(size, 10),
         Question::Pages(size, 1000),
@@ -265,7 +252,7 @@ pub(crate) fn ask_each_index(rt: &HostRuntime, size: u64, is_quiet: bool) -> Opt
         if !is_quiet {
             println!(rt; "{lists} lists, terms in the worst order").ok()?;
         }
-        ask_index(rt, (size, lists), Order::Falling, &questions[..4], is_quiet)?;
+        ask_index(rt, (size, lists), Order::Falling, &questions[..2], is_quiet)?;
     }
     Some(())
 }
