@@ -109,7 +109,7 @@ impl Turns {
         }
     }
 
-    /// Adds the first `count` lines of the script that tests share, and their replies.
+    /// Adds the first `count` lines of the script, and their replies.
     fn send_script(&mut self, count: &str) -> Result<(), Fault> {
         let count = number(count)?;
         let Some(turns) = SCRIPT.get(..count as usize) else {
