@@ -45,7 +45,7 @@ class Table(NamedTuple):
 PERFORMANCE, RELIABILITY = "docs/PERFORMANCE.md", "docs/RELIABILITY.md"
 EDITS = "ls crates/*/must-fail/*.edit crates/*/edits/*.edit | wc -l"
 TESTS = "grep -rhE '^ *#\\[test\\]' --include=*.rt crates/*/src | wc -l"
-CASES = "grep -hE '^case ' crates/*/data/cases/* | wc -l"
+CASES = "grep -rhE '^case ' crates/*/data/cases | wc -l"
 CRATES = "ls -d crates/*/ | wc -l"
 # The definitions that the contract of an answer rests on.
 REACH = (

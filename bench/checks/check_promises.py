@@ -92,7 +92,7 @@ class Sources:
             for part in EDIT_FOLDERS:
                 names = {crate + "/" + name for name in edits_in(os.path.join(folder, part))}
                 self.edits.setdefault(part, set()).update(names)
-            for path in glob.glob(folder + "/data/cases/*"):
+            for path in glob.glob(folder + "/data/cases/**/*.txt", recursive=True):
                 cases = re.findall("^case (.+)$", read(path), re.MULTILINE)
                 self.cases.update(crate + ": " + case for case in cases)
 

@@ -31,7 +31,7 @@ from always_refused import SWITCH, Tests, add_switch, body_of, build, is_program
 from check_edits import FOLDERS, Change, Edit, edits_of  # noqa: E402
 from unproved import Builder, kit_folder  # noqa: E402
 
-BY = "layer_cases,store_cases,line_cases,program_cases,history_cases,test_images,test_program"
+BY = "layer_cases,store_cases,program_cases,history_cases,test_images,test_program"
 # The number of an edit is one byte, and 0 is none.
 MOST = 255
 HEAD = re.compile(r"( *)(?:pub(?:\(crate\))? )?(?:const )?fn (\w+)")

@@ -1,13 +1,15 @@
-//! How cases write values: numbers, days, kinds, rows and bytes; and results of a sequence of
-//! tries. Nothing here has a clause.
+//! How cases write values: numbers, days, kinds, rows and bytes; calls on a disk; and results of a
+//! sequence of tries. Nothing here has a clause.
 #![tactic(auto)]
 
+mod disks;
 mod groups;
 mod hex;
 mod questions;
 mod texts;
 mod words;
 
+pub use disks::{call_disk, spell_done, spell_number, spell_part};
 pub use groups::Groups;
 pub use hex::{read_hex, spell_hex};
 pub use questions::{Question, read_question};

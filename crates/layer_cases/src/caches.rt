@@ -7,10 +7,9 @@
 //!   are read through it, and the first of them; `through FROM COUNT` prints COUNT bytes, or the
 //!   fault; `forget FIRST BYTES` and `forget-from BLOCK` let the cache forget blocks.
 
-use crate::disks::spell_done;
 use blocks::{BLOCK_LIMIT, BlockCache, Extent, Slot, read_part, write_part};
 use case_files::{Answer, NoAnswer};
-use case_values::{first_word, number, read_hex, spell_hex};
+use case_values::{first_word, number, read_hex, spell_done, spell_hex};
 use disk_model::{DiskFault, MAX_END, MemDisk};
 use std::alloc::Global;
 

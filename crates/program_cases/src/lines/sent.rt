@@ -1,12 +1,14 @@
 //! Carries out the lines of a case.
 
-use crate::choices::{Crashes, image_at};
-use crate::disks::CaseStore;
-use crate::saying::{says, says_in};
-use crate::turns::Turns;
-use crate::ways::Way;
+use crate::lines::choices::{Crashes, image_at};
+use crate::lines::disks::CaseStore;
+use crate::lines::saying::{says, says_in};
+use crate::lines::server::Server;
+use crate::lines::spoiled::Spoiled;
+use crate::lines::turns::Turns;
+use crate::lines::ways::Way;
 use case_files::{Block, Fault, Shown, Subject};
-use line_support::Server;
+use disk_model::MemDisk;
 use std::alloc::Global;
 use std::mem;
 
@@ -126,8 +128,9 @@ impl Lines {
         let (Some(disk), Some(part)) = (&self.store.disk, self.parts.get(place)) else {
             return Err(Fault::Line("the store is open"));
         };
-        let image = image_at(disk, crashes.choice, left)?;
-        match Server::of_bytes(self.alloc, image.as_slice()) {
+        let image = image_at(&disk.disk, crashes.choice, left)?;
+        let disk = Spoiled::sound(MemDisk::from_bytes(self.alloc, image));
+        match Server::opened(self.alloc, disk) {
             Ok(mut server) => says(self.alloc, &mut server, &part.turns, &mut self.shown),
             Err(_) => Err(Fault::Line("the store is refused")),
         }

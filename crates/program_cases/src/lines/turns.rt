@@ -1,7 +1,7 @@
 //! Lines that are sent, and the expected replies.
 
+use crate::lines::script::{SCRIPT, input_of, replies_of};
 use case_files::{Fault, number, two_words};
-use line_support::{SCRIPT, input_of, replies_of};
 use std::alloc::Global;
 use test_support::line;
 
@@ -11,6 +11,8 @@ pub(crate) struct Turns {
     alloc: Global,
     /// The lines, each with its end, if it has one.
     pub(crate) sent: Vec<u8>,
+    /// The lines that the reader would return after its end, each with its end.
+    pub(crate) later: Vec<u8>,
     /// The lines of the replies, each followed by an LF.
     pub(crate) replies: Vec<u8>,
     /// How many complete replies there are.
@@ -25,6 +27,7 @@ impl Turns {
         Turns {
             alloc,
             sent: Vec::new(alloc),
+            later: Vec::new(alloc),
             replies: Vec::new(alloc),
             count: 0,
             is_due: false,
@@ -38,6 +41,7 @@ impl Turns {
             ">-" => Some(self.send(rest, b"")),
             "<" => Some(self.reply(rest)),
             "raw" => Some(self.send_bytes(rest)),
+            "later" => Some(self.put_later(rest)),
             "fill" => Some(self.fill(rest)),
             "script" => Some(self.send_script(rest)),
             "years" => Some(self.send_years(rest)),
@@ -88,6 +92,13 @@ impl Turns {
         Ok(())
     }
 
+    /// Adds a line that the reader would return after its end.
+    fn put_later(&mut self, text: &str) -> Result<(), Fault> {
+        self.later.extend_from_slice(text.as_bytes())?;
+        self.later.extend_from_slice(b"\n")?;
+        Ok(())
+    }
+
     /// Adds a letter to send, until everything to send has this many bytes.
     fn fill(&mut self, rest: &str) -> Result<(), Fault> {
         let (length, letter) = two_words(rest);
@@ -98,7 +109,7 @@ impl Turns {
         }
     }
 
-    /// Adds the first `count` lines of the script that tests share, and their replies.
+    /// Adds the first `count` lines of the script, and their replies.
     fn send_script(&mut self, count: &str) -> Result<(), Fault> {
         let count = number(count)?;
         let Some(turns) = SCRIPT.get(..count as usize) else {

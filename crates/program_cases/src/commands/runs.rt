@@ -1,8 +1,8 @@
 //! The lines of a case.
 
-use crate::files::{write_file, write_sample};
-use crate::run::Run;
-use crate::told::check_told;
+use crate::commands::files::{write_file, write_sample};
+use crate::commands::run::Run;
+use crate::commands::told::check_told;
 use case_files::{Block, Fault, Shown, Subject};
 use std::rt::HostRuntime;
 

@@ -1,11 +1,12 @@
 //! What a server returns and writes, compared with what it should.
 
-use crate::turns::Turns;
-use crate::ways::Way;
+use crate::lines::server::Server;
+use crate::lines::streams::{Narrow, Pieces};
+use crate::lines::turns::Turns;
+use crate::lines::ways::Way;
 use case_files::{Fault, Shown};
-use line_server::ServeFault;
-use line_support::{Narrow, Pieces, Server};
 use std::alloc::{AllocError, Global};
+use std::cell::Cell;
 
 /// Lets a server answer lines, and compares its replies with the expected ones.
 pub(crate) fn says(
@@ -30,47 +31,47 @@ pub(crate) fn says_in(
     shown: &mut Shown,
 ) -> Result<(), Fault> {
     let room = way.room.min(turns.replies.len());
-    let wanted = answer_and_output(alloc, way.gives, &turns.replies[..room])?;
+    let wanted = as_text(alloc, way.gives, way.written, &turns.replies[..room])?;
     let got = said(alloc, server, turns, way)?;
     shown.compare(wanted.as_slice(), got.as_slice())
 }
 
-/// The returned value as a line, followed by what was written.
-fn answer_and_output(alloc: Global, answer: &str, output: &[u8]) -> Result<Vec<u8>, AllocError> {
+/// The returned value as a line, a line with how many bytes were written before each read, if that
+/// is asked, and what was written.
+fn as_text(
+    alloc: Global,
+    answer: &str,
+    noted: Option<&str>,
+    output: &[u8],
+) -> Result<Vec<u8>, AllocError> {
     let mut text = answer.as_bytes().to_vec(alloc)?;
     text.push(b'\n')?;
+    if let Some(noted) = noted {
+        text.extend_from_slice(noted.as_bytes())?;
+        text.push(b'\n')?;
+    }
     text.extend_from_slice(output)?;
     Ok(text)
 }
 
-/// What the server returns, and what it writes.
+/// What the server returns, how it reads, and what it writes.
 fn said(
     alloc: Global,
     server: &mut Server,
     turns: &Turns,
     way: Way<'_>,
 ) -> Result<Vec<u8>, AllocError> {
+    let written = Cell::new(0usize);
+    let mut input = Pieces::new(alloc, turns.sent.as_slice(), way.pieces, &written);
+    input.end_with(way.failure, turns.later.as_slice());
     let mut output = Narrow {
         taken: Vec::new(alloc),
         width: way.width,
         room: way.room,
+        written: &written,
     };
-    let answer = answer(server, turns, way, &mut output);
+    let answer = server.serve_within(way.reads, &mut input, &mut output);
     let answer = format!(in alloc; "{answer:?}")?;
-    answer_and_output(alloc, &answer, output.taken.as_slice())
-}
-
-/// Lets the server answer the lines.
-fn answer(
-    server: &mut Server,
-    turns: &Turns,
-    way: Way<'_>,
-    output: &mut Narrow,
-) -> Result<u64, ServeFault> {
-    let mut input = Pieces {
-        rest: turns.sent.as_slice(),
-        length: way.pieces,
-        failure: way.failure,
-    };
-    server.serve_within(way.reads, &mut input, output)
+    let noted = way.written.and(Some(input.noted()));
+    as_text(alloc, &answer, noted, output.taken.as_slice())
 }

@@ -1,6 +1,6 @@
 //! The releases that lines import, by name.
 
-use crate::refsets::refsets_of;
+use crate::lines::refsets::refsets_of;
 use history_store::Refusal;
 use import_check::{Release, Scope};
 use line_server::{Source, SourceFault};
@@ -208,7 +208,7 @@ fn example(alloc: Global, name: &str, scope: Scope) -> Result<Option<Release>, A
 
 /// A source with the example releases and the samples.
 #[derive(Clone, Copy)]
-pub struct Examples;
+pub(crate) struct Examples;
 
 impl Source for Examples {
     ghost use Rattle.std.specs.Prelude.{None};

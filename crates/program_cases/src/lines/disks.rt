@@ -1,9 +1,10 @@
 //! The store of a case, and its disk while the store is closed.
 
-use crate::choices::{choice_of, image_at};
+use crate::lines::choices::{choice_of, image_at};
+use crate::lines::server::Server;
+use crate::lines::spoiled::Spoiled;
 use case_files::{Fault, Shown, number, two_words};
 use disk_model::MemDisk;
-use line_support::Server;
 use std::alloc::Global;
 use test_support::patch;
 
@@ -12,7 +13,7 @@ use test_support::patch;
 pub(crate) struct CaseStore {
     alloc: Global,
     pub(crate) server: Option<Server>,
-    pub(crate) disk: Option<MemDisk>,
+    pub(crate) disk: Option<Spoiled>,
 }
 
 impl CaseStore {
@@ -86,11 +87,12 @@ impl CaseStore {
 /// Carries out a line of a case whose store is closed.
 fn take_of_disk(
     alloc: Global,
-    disk: &mut MemDisk,
+    spoiled: &mut Spoiled,
     word: &str,
     rest: &str,
     shown: &mut Shown,
 ) -> Result<(), Fault> {
+    let disk = &mut spoiled.disk;
     match word {
         "changes" => compare_number(alloc, shown, rest, disk.changes()),
         "length" => compare_number(alloc, shown, rest, disk.bytes().len() as u64),
@@ -98,6 +100,10 @@ fn take_of_disk(
         "zeros" => check_zeros(rest, disk.bytes()),
         "break" => {
             disk.set_break(number(rest)?, 0);
+            Ok(())
+        }
+        "spoil" => {
+            spoiled.sound_reads = number(rest)?;
             Ok(())
         }
         "patch" => change(alloc, disk, rest),

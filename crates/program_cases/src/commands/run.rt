@@ -1,11 +1,26 @@
 //! A run of the program: its input, what is expected of it, and its result.
 
-use crate::words::words_of;
+use crate::commands::words::words_of;
 use case_files::{Fault, Shown, number};
-use line_support::Pieces;
 use std::alloc::{AllocError, Global};
-use std::io::{self, ErrorKind, Write};
+use std::io::{self, ErrorKind, Read, Write};
 use std::rt::HostRuntime;
+
+/// Input that fails at its end, if a failure is given.
+#[derive(Drop)]
+struct Ending<'a> {
+    rest: &'a [u8],
+    failure: Option<ErrorKind>,
+}
+
+impl Read for Ending<'_> {
+    fn read(&mut self, buf: &mut [u8]) -> io::Result<usize> {
+        match self.failure {
+            Some(kind) if self.rest.is_empty() => Err(io::Error::from(kind)),
+            _ => self.rest.read(buf),
+        }
+    }
+}
 
 /// Output that accepts this many bytes, and whose flush succeeds or fails.
 #[derive(Drop)]
@@ -143,9 +158,8 @@ impl Run {
     /// Carries out the run, unless that is done already.
     pub(crate) fn carry_out(&mut self, rt: &HostRuntime) {
         if self.came.is_none() {
-            let mut input = Pieces {
+            let mut input = Ending {
                 rest: self.input.as_slice(),
-                length: 4_096,
                 failure: self.failure,
             };
             let mut output = Narrow {

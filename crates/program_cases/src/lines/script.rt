@@ -5,12 +5,12 @@ use test_support::lines;
 
 /// A line and the lines of its reply, in which a bar stands for a TAB, and a name in capitals for
 /// an identifier.
-pub type Turn = (&'static str, &'static [&'static str]);
+pub(crate) type Turn = (&'static str, &'static [&'static str]);
 
 /// Imports of three releases, one of them during a merge; the answers to two sessions, one of which
 /// is pinned; lines that are refused; answers about a concept, to a search and about an import; the
 /// audit questions; a check and a digest.
-pub const SCRIPT: [Turn; 40] = [
+pub(crate) const SCRIPT: [Turn; 40] = [
     ("0 STATUS", &["OK 0 0 0 -"]),
     ("0 GET C 138875005 20230131", &["END 0"]),
     ("0 IMPORT r1", &["OK 1 6 0"]),
@@ -133,7 +133,7 @@ pub const SCRIPT: [Turn; 40] = [
 ];
 
 /// The lines, each followed by an LF.
-pub fn input_of(alloc: Global, turns: &[Turn]) -> Result<Vec<u8>, AllocError> {
+pub(crate) fn input_of(alloc: Global, turns: &[Turn]) -> Result<Vec<u8>, AllocError> {
     let mut input = Vec::new(alloc);
     for (line, _) in turns {
         input.extend_from_slice(line.as_bytes())?;
@@ -143,7 +143,7 @@ pub fn input_of(alloc: Global, turns: &[Turn]) -> Result<Vec<u8>, AllocError> {
 }
 
 /// The replies to the lines.
-pub fn replies_of(alloc: Global, turns: &[Turn]) -> Result<Vec<u8>, AllocError> {
+pub(crate) fn replies_of(alloc: Global, turns: &[Turn]) -> Result<Vec<u8>, AllocError> {
     let mut replies = Vec::new(alloc);
     for (_, reply) in turns {
         replies.extend_from_slice(lines(alloc, *reply)?.as_slice())?;

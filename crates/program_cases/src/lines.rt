@@ -1,0 +1,17 @@
+//! Lines and their replies: each case has a store of its own in memory, to which lines are sent,
+//! and which is closed, opened, damaged and left by crashes.
+
+mod choices;
+mod disks;
+mod refsets;
+mod releases;
+mod saying;
+mod script;
+mod sent;
+mod server;
+mod spoiled;
+mod streams;
+mod turns;
+mod ways;
+
+pub(crate) use crate::lines::sent::Lines;
