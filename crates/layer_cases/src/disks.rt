@@ -27,7 +27,7 @@ fn spell_number(alloc: Global, number: u64) -> Answer {
 }
 
 /// Writes bytes.
-fn write(alloc: Global, disk: &mut MemDisk, at: u64, bytes: &[u8]) -> Answer {
+fn write<D: Disk>(alloc: Global, disk: &mut D, at: u64, bytes: &[u8]) -> Answer {
     let Some(end) = at.checked_add(bytes.len() as u64) else {
         return Err(NoAnswer::NoQuestion);
     };
@@ -38,14 +38,14 @@ fn write(alloc: Global, disk: &mut MemDisk, at: u64, bytes: &[u8]) -> Answer {
 }
 
 /// Writes one byte many times.
-fn fill(alloc: Global, disk: &mut MemDisk, at: u64, words: &str) -> Answer {
+fn fill<D: Disk>(alloc: Global, disk: &mut D, at: u64, words: &str) -> Answer {
     let (count, byte) = first_word(words)?;
     let bytes = vec![in alloc; number(byte)?; number(count)?]?;
     write(alloc, disk, at, &bytes)
 }
 
 /// Reads bytes.
-fn read(alloc: Global, disk: &mut MemDisk, words: &str) -> Answer {
+fn read<D: Disk>(alloc: Global, disk: &mut D, words: &str) -> Answer {
     let (at, count) = first_word(words)?;
     let mut into = vec![in alloc; 7; number(count)?]?;
     let Ok(count) = disk.read_at(number(at)?, &mut into) else {
@@ -97,8 +97,8 @@ fn prepare(disk: &mut MemDisk, word: &str, words: &str) -> Result<(), NoAnswer> 
     Ok(())
 }
 
-/// Makes a call that changes the disk, or prints bytes of it.
-fn change(alloc: Global, disk: &mut MemDisk, word: &str, words: &str) -> Answer {
+/// Makes a call on any disk.
+pub fn call<D: Disk>(alloc: Global, disk: &mut D, word: &str, words: &str) -> Answer {
     match word {
         "write" => {
             let (at, digits) = first_word(words)?;
@@ -111,10 +111,11 @@ fn change(alloc: Global, disk: &mut MemDisk, word: &str, words: &str) -> Answer 
         "read" => read(alloc, disk, words),
         "cut" => spell_done(alloc, disk.cut(number(words)?)),
         "sync" => spell_done(alloc, disk.sync()),
-        _ => {
-            prepare(disk, word, words)?;
-            Ok(String::from_str(alloc, "done")?)
-        }
+        "len" => match disk.len() {
+            Ok(length) => spell_number(alloc, length),
+            Err(DiskFault) => Ok(String::from_str(alloc, "failed")?),
+        },
+        _ => Err(NoAnswer::NoQuestion),
     }
 }
 
@@ -125,20 +126,18 @@ fn bytes(alloc: Global, disk: &MemDisk, words: &str) -> Answer {
     spell_hex(alloc, bytes.ok_or(NoAnswer::NoQuestion)?)
 }
 
-/// Makes a call on a disk, or prints what the disk reports.
+/// Makes a call on a disk in memory, or prints what it reports.
 pub fn ask_disk(alloc: Global, disk: &mut MemDisk, word: &str, words: &str) -> Answer {
     match word {
-        "len" => match disk.len() {
-            Ok(length) => spell_number(alloc, length),
-            Err(_) => Ok(String::from_str(alloc, "failed")?),
-        },
         "changes" => spell_number(alloc, disk.changes()),
         "bytes-read" => spell_number(alloc, disk.bytes_read()),
         "other-calls" => spell_number(alloc, disk.other_calls()),
         "bytes" => bytes(alloc, disk, words),
         "images" => images(alloc, disk, words),
-        "write" | "fill" | "read" | "cut" | "sync" | "break" | "reserve" | "read-break" | "fuse" =>
-            change(alloc, disk, word, words),
-        _ => Err(NoAnswer::NoQuestion),
+        "break" | "reserve" | "read-break" | "fuse" => {
+            prepare(disk, word, words)?;
+            Ok(String::from_str(alloc, "done")?)
+        }
+        _ => call(alloc, disk, word, words),
     }
 }
