@@ -7,7 +7,7 @@ An edit of must-fail/ or edits/ is refused by the prover. It may leave must-fail
 that CI runs is seen to fail with it too. So the functions that the edits change get a copy each
 with the edit, in a copy of this repository; a function calls its copy while the edit's number is in
 a byte of the built program. There each crate of `--by` (default: the programs of cases, and the
-tests of stores, images and the program) is built once by `rt try`, which proves nothing, and run
+tests of the program) is built once by `rt try`, which proves nothing, and run
 once as it is and once with each edit's number in the byte. A line for each edit tells what failed.
 An edit of what is no function of its own (a constant, a function of a trait) can't be planted so,
 which is told: put it in by hand. The last line counts the edits, and those that nothing noticed;
@@ -31,7 +31,7 @@ from always_refused import SWITCH, Tests, add_switch, body_of, build, is_program
 from check_edits import FOLDERS, Change, Edit, edits_of  # noqa: E402
 from unproved import Builder, kit_folder  # noqa: E402
 
-BY = "layer_cases,store_cases,program_cases,history_cases,test_images,test_program"
+BY = "layer_cases,store_cases,program_cases,history_cases,test_program"
 # The number of an edit is one byte, and 0 is none.
 MOST = 255
 HEAD = re.compile(r"( *)(?:pub(?:\(crate\))? )?(?:const )?fn (\w+)")

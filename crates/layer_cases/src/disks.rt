@@ -54,7 +54,7 @@ fn prepare(alloc: Global, disk: &mut MemDisk, word: &str, words: &str) -> Answer
     Ok(String::from_str(alloc, "done")?)
 }
 
-/// Makes a call on a disk, or prints what the disk reports.
+/// Makes a call on a disk in memory, or prints what it reports.
 pub fn ask_disk(alloc: Global, disk: &mut MemDisk, word: &str, words: &str) -> Answer {
     match word {
         "changes" => spell_number(alloc, disk.changes()),

@@ -1,34 +1,45 @@
 //! Dispatches each question by its first word to the function that answers it.
 
+use crate::file_disks::{ask_file_disk, spell_synced};
+use crate::folders::{ask_files, ask_names, ask_release};
 use crate::one_disk::OneDisk;
 use crate::segments::Segments;
 use crate::{lists, requests, rows, values};
 use case_files::{Answer, Answers, NoAnswer};
+use disk_model::FileDisk;
 use std::alloc::Global;
+use std::rt::HostRuntime;
 
 /// The questions about the layers below the index: those about values have no state, those about
-/// disks are asked of the disk of the case, and those about segments of the rows in parts.
+/// disks and stores are asked of the disk of the case, those about segments of the rows in parts,
+/// and those about files of the folder in which this runs.
 #[derive(Drop)]
-pub struct Examples {
+pub struct Examples<'a> {
+    rt: &'a HostRuntime,
     alloc: Global,
+    file: Option<FileDisk>,
     disk: OneDisk,
     segments: Segments,
 }
 
-impl Examples {
-    /// With an empty disk and no rows.
-    pub fn new(alloc: Global) -> Examples {
+impl<'a> Examples<'a> {
+    /// With an empty disk, no rows and no open file.
+    pub fn new(rt: &'a HostRuntime) -> Examples<'a> {
+        let alloc = rt.alloc();
         Examples {
+            rt,
             alloc,
+            file: None,
             disk: OneDisk::new(alloc),
             segments: Segments::new(alloc),
         }
     }
 }
 
-impl Answers for Examples {
+impl Answers for Examples<'_> {
     fn begin(&mut self) {
         self.disk.begin();
+        self.file = None;
     }
 
     fn give(&mut self, part: &str, word: &str, rest: &str) -> Result<(), NoAnswer> {
@@ -67,6 +78,11 @@ impl Answers for Examples {
             | "fitted"
             | "turned"
             | "summed" => self.segments.answer(word, rest),
+            "file-disk" => ask_file_disk(self.rt, &mut self.file, rest),
+            "synced" => spell_synced(self.rt, rest),
+            "files" => ask_files(self.rt, rest),
+            "release" | "told" => ask_release(self.rt, word, rest),
+            "taken" | "nearly" | "lacks" => ask_names(self.alloc, word, rest),
             _ => self.disk.answer(word, rest),
         }
     }

@@ -1,12 +1,16 @@
 //! The layers below the index by worked examples, which are cases in files: values, rows and lines;
 //! disks in memory, the slots and extents on them, and a cache of blocks; segments and their
-//! checksums.
+//! checksums; directories and stores; disks in files, and releases in folders.
 #![tactic(auto)]
 
 mod caches;
 mod checksums;
+mod directories;
 mod disks;
 mod examples;
+mod file_disks;
+mod folders;
+mod listing;
 mod lists;
 mod one_disk;
 mod records;
@@ -15,6 +19,7 @@ mod rows;
 mod segment_rows;
 mod segments;
 mod slots;
+mod stores;
 mod values;
 
 use case_files::Asked;
@@ -22,6 +27,6 @@ use examples::Examples;
 use std::process::ExitCode;
 
 fn main(rt: HostRuntime) -> ExitCode {
-    let mut asked = Asked::new(rt.alloc(), Examples::new(rt.alloc()));
+    let mut asked = Asked::new(rt.alloc(), Examples::new(&rt));
     case_files::run(&rt, "cases", &mut asked)
 }

@@ -1,26 +1,35 @@
 //! The disk of a case, which is empty at first, and the function that answers each question.
 //!
 //! `disk BYTES`, in hexadecimal, begins with another disk, and `crash CALLS CHOICE` with what a
-//! crash leaves of the present one (`slots.rt`). The current slot and the cache stay as they are.
+//! crash leaves of the present one (`slots.rt`). `keep` keeps the bytes of the disk, and `back`
+//! begins with a disk of the bytes that were kept. The current slot, the cache and the directory
+//! stay as they are.
 
 use crate::caches::{ask_cache, make_cache, spell_extent, spell_slot, write_extent};
+use crate::directories::{ask_block, spell_fit};
 use crate::disks::{ask_disk, image};
+use crate::listing::Listing;
 use crate::slots::{
     change_slots, choice_of, spell_changed, spell_crashes, spell_current, spell_other,
 };
-use blocks::{BlockCache, Current};
+use crate::stores::ask_store;
+use blocks::{BlockCache, Current, Slot};
 use case_files::{Answer, NoAnswer};
 use case_values::{first_word, number, read_hex};
 use disk_model::MemDisk;
 use std::alloc::Global;
 
-/// A disk, the slot of it that is current, and a cache of its blocks.
+/// A disk, the slot of it that is current, and a cache of its blocks; and a directory, with the
+/// current slot of the store on the disk.
 #[derive(Drop)]
 pub struct OneDisk {
     alloc: Global,
     disk: MemDisk,
     current: Option<Current>,
     cache: Option<BlockCache>,
+    kept: Vec<u8>,
+    listing: Listing,
+    slot: Option<Slot>,
 }
 
 impl OneDisk {
@@ -31,6 +40,9 @@ impl OneDisk {
             disk: MemDisk::new(alloc),
             current: None,
             cache: None,
+            kept: Vec::new(alloc),
+            listing: Listing::new(),
+            slot: None,
         }
     }
 
@@ -45,6 +57,12 @@ impl OneDisk {
         let (calls, choice) = first_word(words)?;
         let left = image(&self.disk, calls, choice_of(choice)?)?;
         self.put(left)
+    }
+
+    /// Keeps the bytes of the disk.
+    fn keep(&mut self) -> Answer {
+        self.kept = self.disk.bytes().to_vec(self.alloc)?;
+        Ok(String::from_str(self.alloc, "done")?)
     }
 
     /// Changes the slots.
@@ -79,6 +97,9 @@ impl OneDisk {
         self.disk = MemDisk::new(self.alloc);
         self.current = None;
         self.cache = None;
+        self.kept.clear();
+        self.listing = Listing::new();
+        self.slot = None;
     }
 
     /// Answers a question about the disk.
@@ -87,6 +108,11 @@ impl OneDisk {
         match word {
             "disk" => {
                 let bytes = read_hex(alloc, rest)?;
+                self.put(bytes)
+            }
+            "keep" => self.keep(),
+            "back" => {
+                let bytes = self.kept.to_vec(alloc)?;
                 self.put(bytes)
             }
             "crash" => self.crash(rest),
@@ -98,6 +124,18 @@ impl OneDisk {
             "write-part" => write_extent(alloc, &mut self.disk, rest),
             "format" | "publish" | "publish-in-steps" | "fill-other" | "close" => {
                 self.change(word, rest)
+            }
+            "block" => ask_block(alloc, &mut self.listing, rest),
+            "directory" => self.listing.answer(alloc, rest),
+            "fit" => spell_fit(alloc, rest),
+            "store" => {
+                ask_store(
+                    alloc,
+                    &mut self.disk,
+                    &mut self.slot,
+                    &mut self.listing,
+                    rest,
+                )
             }
             "cache" | "cached" | "through" | "forget" | "forget-from" => self.ask_cache(word, rest),
             _ => ask_disk(alloc, &mut self.disk, word, rest),
