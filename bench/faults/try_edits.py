@@ -10,10 +10,11 @@ another one that isn't proved is no reason, nor that a statement wasn't admitted
 file names what the edit took away. (Where a function has answers in proofs/, a change that means
 the same as before may be refused too, since they no longer fit.) No proof reads the body of another
 function, so a check has edits of many functions, of which none calls another one; an edit of what
-is no body, or whose check names no goal of its function, is tried by a whole check of the crate.
-Each check of many edits also has a statement that does nothing, planted in a function without an
-edit, which has to be proved: otherwise a refusal would say nothing, the control is lost, and the
-crate fails.
+is no body, or whose check names no goal of its function, is tried by a whole check of the crate. An
+edit of no body, as of a constant, is also refused where a goal's answer rests on a lemma of proofs/
+that isn't true any more. Each check of many edits also has a statement that does nothing, planted
+in a function without an edit, which has to be proved: otherwise a refusal would say nothing, the
+control is lost, and the crate fails.
 
 A line for each edit says why it was refused. The last line counts the edits and those that were
 not; the status is 1 where there are any. An edit that was refused gets a line in the crate's record
@@ -69,6 +70,10 @@ OF_GOAL = re.compile(r"note: \S+: it is not proved that .*?\(`([^`]+)`\)")
 OF_ANSWER = re.compile(r"(?:\./)?proofs/(\S+)/\w+\.antt:\d+:\d+: error: `([^`]+)`: (.*)")
 OF_DEPENDENTS = re.compile(
     r"(?:\./)?proofs/(\S+)/\w+\.antt:\d+:\d+: error: .* on `([^`]+)`, .* were not checked: (.*)")
+# What it says of a lemma in proofs/ that isn't true, and of what rests on a lemma.
+OF_LEMMA = re.compile(r"(?:\./)?proofs/\w+\.antt:\d+:\d+: error: `([^`]+)`: (.*)")
+OF_RESTING = re.compile(
+    r"(?:\./)?proofs/(\S+)\.antt:\d+:\d+: error: .* on `([^`]+)`, .* not checked: (.*)")
 LOST = re.compile(r"has no field|is not in scope|has no `|was not admitted|is no name")
 UNPROVED = ("not proved", "no proof")
 SEARCHED = re.compile(r"`search` did not prove ((?:`[^`]+`(?:, )?)+)")
@@ -282,6 +287,22 @@ class Report:
                 return f"{name}: {min(goals)}, by its answer"
         return None
 
+    def refuted(self, proofs: str) -> str | None:
+        """A goal of a function whose answer rests on a lemma that isn't true, and the lemma."""
+        lemmas: dict[str, str] = {}
+        for line in self.lines:
+            lemma, resting = OF_LEMMA.match(line), OF_RESTING.match(line)
+            if lemma and not LOST.search(lemma[2]):
+                lemmas[lemma[1]] = lemma[1]
+            elif resting and resting[2] in lemmas:
+                function = resting[1].rpartition("/")[0].replace("/", "::")
+                names = resting[3].split(", ")
+                goals = goals_answered(proofs, function).intersection(names)
+                if function and goals:
+                    return f"{function}: {min(goals)}, by its lemma {lemmas[resting[2]]}"
+                lemmas.update(dict.fromkeys(names, lemmas[resting[2]]))
+        return None
+
     def first_fault(self) -> str:
         """The first line that tells a fault, or the last one."""
         faults = [line for line in self.lines if re.search(r"\berror\b|not proved|no proof", line)]
@@ -388,15 +409,16 @@ class Trial:
         return proved_name(inner, self.names) if inner else None
 
     def plantable(self) -> list[tuple[str, Function]]:
-        """Functions that have no proof file, with their files, those first that call no other."""
+        """Functions with their files: those first that have no proof file, whose answers a planted
+        statement might no longer fit, and of these those that call no other."""
         found = []
         for path, functions in sorted(self.sources.items()):
             for function in functions:
                 name = proved_name(function, self.names)
-                if name and not function.is_method_of_trait() and not self.has_proof(name):
-                    calls_none = not self.calls.direct.get(name, set()) & self.names
-                    found.append((not calls_none, path, function))
-        return [(path, function) for _, path, function in sorted(found, key=lambda it: it[0])]
+                if name and not function.is_method_of_trait():
+                    calls_one = bool(self.calls.direct.get(name, set()) & self.names)
+                    found.append((self.has_proof(name), calls_one, path, function))
+        return [(path, function) for *_, path, function in sorted(found, key=lambda it: it[:2])]
 
     def has_proof(self, name: str) -> bool:
         return os.path.isdir(os.path.join(self.folder, "proofs", *name.split("::")))
@@ -429,7 +451,8 @@ class Trial:
     def control_beside(self, functions: set[str]) -> tuple[str, Function] | None:
         """A control in a function that is none of these, and calls none of them."""
         for path, function in self.controls:
-            if not self.calls.meet([str(proved_name(function, self.names))], functions):
+            name = str(proved_name(function, self.names))
+            if not functions & ({name} | self.calls.reach(name)):
                 return path, function
         return None
 
@@ -465,6 +488,8 @@ class Trial:
             return Verdict(edit, outcome, report.first_fault())
         own: list[str | None] = [*sorted(functions)] or [None]
         reason = self.reason(report, own)
+        if not reason and not functions and all(it.path.startswith("src/") for it in edit.changes):
+            reason = report.refuted(os.path.join(self.folder, "proofs"))
         if reason:
             return Verdict(edit, Outcome.REFUSED, f"{reason} (whole check)")
         return Verdict(edit, Outcome.UNEXPLAINED, report.first_fault())

@@ -269,7 +269,8 @@ SAMPLES = {
         ("C", "3000005 20200131 1 " + CONCEPT),
     ],
 }
-# The lines of the demonstration that change the store.
+# The lines of the demonstration that change the store, and a second step, of more than one row: a
+# step that is refused behind it gives back its own rows alone.
 CHANGES = """0 STATUS
 0 GET C 138875005 20230131
 0 IMPORT r1
@@ -277,6 +278,7 @@ CHANGES = """0 STATUS
 0 IMPORT r2
 0 MERGE
 0 STEP 1
+0 STEP 2
 1 IMPORT r3
 0 STEP 100
 0 PUBLISH""".split("\n")

@@ -15,9 +15,9 @@ as those of soak.py, is served again and again on a copy of it; behind them it a
 each first letter, the children and the replacements of each component that has any, what is above,
 below and about some components, some histories, what changed, members of each reference set, what
 some concepts were called, each receipt and the days that each import left, so that what a refusal
-made the program forget shows. With `script` the lines are those of the demonstration, with further
-questions, a check and a digest behind them, and its releases: all of them on a store without rows,
-and then its questions on the store that they leave.
+made the program forget shows. With `script` the lines are those of the demonstration, with
+a second step of its merge, and with further questions, a check and a digest behind them, and its
+releases: all of them on a store without rows, and then its questions on the store that they leave.
 
 What has to hold: the program refuses to start with `ERR 1 OutOfMemory` (on standard error as long
 as its words aren't read, and then as its reply, with a line that names the store), or with `ERR 2
