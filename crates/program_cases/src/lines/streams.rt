@@ -81,12 +81,12 @@ impl<'a> Pieces<'a> {
     }
 
     /// Ends or fails.
-    fn end(&mut self) -> io::Result<usize> {
+    fn end(&mut self) -> io::Result<()> {
         self.has_ended = true;
         self.rest = self.later;
         match self.failure {
             Some(kind) => Err(io::Error::from(kind)),
-            None => Ok(0),
+            None => Ok(()),
         }
     }
 }
@@ -95,9 +95,11 @@ impl Read for Pieces<'_> {
     fn read(&mut self, buf: &mut [u8]) -> io::Result<usize> {
         self.note()?;
         if self.rest.is_empty() && !self.has_ended {
-            return self.end();
+            self.end()?;
+            return Ok(0);
         }
-        let n = self.rest.len().min(self.next_length()).min(buf.len());
+        let length = self.next_length();
+        let n = self.rest.len().min(length).min(buf.len());
         buf[..n].copy_from_slice(&self.rest[..n]);
         self.rest = &self.rest[n..];
         Ok(n)
