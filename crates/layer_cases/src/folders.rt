@@ -10,8 +10,8 @@
 //!   either;
 //! - `taken NAME` prints the kind of the files with a name, or `none`, in the basic scope and in
 //!   the whole one, and `nearly NAME` whether a name is nearly one to take in each of them;
-//! - `lacks KIND NAMES` prints whether files with these names, which aren't in quotes, lack one of a
-//!   kind.
+//! - `lacks KIND NAMES` prints whether files with these names, which aren't in quotes, lack one of
+//!   a kind.
 
 use case_files::{Answer, NoAnswer, two_words, unquoted};
 use case_values::{first_word, kind_of, spell_hex, spell_text};

@@ -10,14 +10,17 @@
 //! - `directory encode` writes the directory into the block, and prints the block: 16 bytes in each
 //!   line, after the offset of the first. A line that isn't printed has only zeros.
 
-ghost use Rattle.std.specs.Prelude.{◌≡◌, IsTrue, IfOk};
-ghost use Rattle.directory.specs.Listings.{IsEntry, form_of};
+ghost use Rattle.std.specs.Prelude.{◌≡◌, ◌<◌, IsTrue, IfOk, Some, length};
+ghost use Rattle.blocks.specs.Extents.{block_count};
+ghost use Rattle.directory.specs.Fit.{fit};
+ghost use Rattle.directory.specs.Listings.{IsEntry, IsListing, form_of, most_entries};
+ghost use Rattle.directory.specs.Places.{extent_of};
 
 use crate::directories::spell_block;
 use blocks::{BLOCK_LIMIT, Extent};
 use case_files::{Answer, NoAnswer, two_words};
 use case_values::{first_word, number};
-use directory::{Directory, Entry, Layout, first_fit};
+use directory::{Directory, Entry, Full, Layout, first_fit};
 use std::alloc::{AllocError, Global};
 
 /// The content block and the directory of a case, and the directory before its last merge.
@@ -62,20 +65,36 @@ fn entry_of(layout: Layout, words: &str) -> Result<Entry, NoAnswer>
     })
 }
 
+/// Whether a directory has room for an entry more.
+fn has_room(directory: &Directory) -> bool
+    ensures room { IsTrue result
+        → length directory.now.entries < most_entries directory.now.layout }
+    ensures listing { IsListing directory.now }
+{
+    directory.entries().len() < directory.layout().most_entries()
+}
+
+/// Whether an entry is the first fit beside the listed ones and a reserved extent.
+fn is_fit(directory: &Directory, entry: Entry, reserved: Extent) -> bool
+    ensures { IsTrue result → fit (block_count (extent_of entry)) directory.now.entries
+        (Some reserved) ≡ Some entry.first }
+{
+    match first_fit(entry.extent().blocks(), directory.entries(), Some(reserved)) {
+        Ok(first) => first == entry.first,
+        Err(Full) => false,
+    }
+}
+
 /// Adds an entry, unless its place is taken. All blocks before it are reserved here, so it is free
 /// exactly if it is the first fit.
 fn add(directory: &mut Directory, words: &str) -> Result<(), NoAnswer> {
     let entry = entry_of(directory.layout(), words)?;
-    let Some(blocks) = entry.first.checked_sub(4) else {
-        return Err(NoAnswer::NoQuestion);
-    };
+    let blocks = entry.first.saturating_sub(4);
     let before = Extent {
         first: 4,
         bytes: blocks.saturating_mul(4096),
     };
-    let found = first_fit(entry.extent().blocks(), directory.entries(), Some(before));
-    let has_room = directory.entries().len() < directory.layout().most_entries();
-    if found != Ok(entry.first) || !has_room || !is_entry(entry) {
+    if !is_entry(entry) || !has_room(directory) || !is_fit(directory, entry, before) {
         return Err(NoAnswer::NoQuestion);
     }
     directory.add(entry);
