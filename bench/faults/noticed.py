@@ -7,8 +7,8 @@ An edit of must-fail/ or edits/ is refused by the prover. It may leave must-fail
 that CI runs is seen to fail with it too. So the functions that the edits change get a copy each
 with the edit, in a copy of this repository; a function calls its copy while the edit's number is in
 a byte of the built program. There each crate of `--by` (default: the programs of cases, and the
-tests of the program) is built once by `rt try`, which proves nothing, and run
-once as it is and once with each edit's number in the byte. A line for each edit tells what failed.
+tests of the program) is built once by `rt try`, which proves nothing, and run once as it is and
+once with each edit's number in the byte. A line for each edit tells what failed.
 An edit of what is no function of its own (a constant, a function of a trait) can't be planted so,
 which is told: put it in by hand. The last line counts the edits, and those that nothing noticed;
 the status is 1 where there are any. A build takes about two minutes of one processor. Standard
