@@ -63,6 +63,13 @@ impl<D, N> NamedDisk<D, N> {
         &self.disk
     }
 
+    /// The name by which it was opened.
+    pub fn name(&self) -> &N
+        ensures { result.now ≡ self.now.name }
+    {
+        &self.name
+    }
+
     /// Why a write was refused, if one was.
     pub fn missed(&self) -> Option<io::Error> {
         self.missed
