@@ -4,7 +4,7 @@ ghost use Rattle.std.specs.Prelude.{◌≡◌, ℕ, List, IfOk, IfErr};
 ghost use Rattle.disk_model.specs.Disk.{raised_by};
 ghost use Rattle.command_line.specs.Disks.{files_asked, IsRemoved};
 
-use crate::file_names::{FileName, name_disk, remove_made};
+use crate::file_names::{FileName, name_disk, name_made, remove_made};
 use crate::holders::holder_of;
 use crate::named_disk::NamedDisk;
 use disk_model::{Disk, DiskFault, FileDisk, OpenFault};
@@ -124,8 +124,7 @@ impl<'a, R: Files<File = File> + AllocGlobal> Disks for FileDisks<'a, R> {
         faults: &mut E,
     ) -> Result<NamedFile<'a, R>, DiskFault> {
         self.asked = self.asked.saturating_add(1);
-        let name = FileName::of(self.rt, path);
-        let named = name_disk(name, FileDisk::open(self.rt, path));
+        let named = name_disk(self.rt, path, FileDisk::open(self.rt, path));
         disk_or_told(self.rt, named, path, faults)
     }
 
@@ -137,8 +136,7 @@ impl<'a, R: Files<File = File> + AllocGlobal> Disks for FileDisks<'a, R> {
         self.asked = self.asked.saturating_add(1);
         // If this fails, opening the file reports why.
         let _ = make_private(self.rt, path);
-        let name = FileName::of(self.rt, path);
-        let named = name_disk(name, FileDisk::open_or_make(self.rt, path));
+        let named = name_disk(self.rt, path, FileDisk::open_or_make(self.rt, path));
         disk_or_told(self.rt, named, path, faults)
     }
 
@@ -204,9 +202,7 @@ fn open_made<'a, R: Files<File = File> + AllocGlobal, E: Write>(
     made: &File,
     faults: &mut E,
 ) -> Result<NamedFile<'a, R>, DiskFault> {
-    let name = FileName::of_made(rt, path, made);
-    let named = name_disk(name, FileDisk::open(rt, path));
-    let disk = disk_or_told(rt, named, path, faults);
+    let disk = disk_or_told(rt, name_made(rt, path, made), path, faults);
     if disk.is_err() {
         if let Err(error) = remove_made(rt, path, made) {
             tell_left(path, error, faults);

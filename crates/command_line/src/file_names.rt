@@ -48,7 +48,7 @@ fn same_or_replaced(found: io::Result<FoundFile>, file: FoundFile) -> io::Result
     }
 }
 
-/// The name of a file, and the file that it referred to at first. The file has to stay open as long
+/// The name by which a file was opened, and this file. The file has to stay open as long
 /// as this is used, since otherwise another file may get its number.
 #[derive(Drop)]
 pub struct FileName<'a, R: Files<File = File>> {
@@ -58,21 +58,12 @@ pub struct FileName<'a, R: Files<File = File>> {
 }
 
 impl<'a, R: Files<File = File> + AllocGlobal> FileName<'a, R> {
-    /// The name of an existing file, which is the one that it refers to now.
-    pub(crate) fn of(rt: &'a R, path: &str) -> io::Result<FileName<'a, R>> {
+    /// The name by which a disk was opened.
+    fn of(rt: &'a R, path: &str, disk: &FileDisk) -> io::Result<FileName<'a, R>> {
         Ok(FileName {
             rt,
             path: String::from_str(rt.alloc(), path)?,
-            file: find(rt, path)?,
-        })
-    }
-
-    /// The name under which this file was made.
-    pub(crate) fn of_made(rt: &'a R, path: &str, made: &File) -> io::Result<FileName<'a, R>> {
-        Ok(FileName {
-            rt,
-            path: String::from_str(rt.alloc(), path)?,
-            file: found_by(made.metadata()?),
+            file: found_by(disk.metadata()?),
         })
     }
 
@@ -131,14 +122,25 @@ impl<R: Files<File = File> + AllocGlobal> Name for FileName<'_, R> {
     }
 }
 
-/// The disk of a file, with the file's name, which was looked up before the file was opened. It is
-/// looked up again here, to make sure that both are the same file.
+/// The disk of a file, with the name by which it was opened, which has to lead to this file.
 pub(crate) fn name_disk<'a, R: Files<File = File> + AllocGlobal>(
-    name: io::Result<FileName<'a, R>>,
+    rt: &'a R,
+    path: &str,
     opened: Result<FileDisk, OpenFault>,
 ) -> Result<NamedDisk<FileDisk, FileName<'a, R>>, OpenFault> {
     let disk = opened?;
-    let name = name?;
+    let name = FileName::of(rt, path, &disk)?;
     let length = name.find_again()?.length;
     Ok(NamedDisk::new(disk, name, length))
+}
+
+/// The same of a file that was made under this name: the disk has to be that of this file.
+pub(crate) fn name_made<'a, R: Files<File = File> + AllocGlobal>(
+    rt: &'a R,
+    path: &str,
+    made: &File,
+) -> Result<NamedDisk<FileDisk, FileName<'a, R>>, OpenFault> {
+    let named = name_disk(rt, path, FileDisk::open(rt, path))?;
+    same_or_replaced(Ok(named.name().file), found_by(made.metadata()?))?;
+    Ok(named)
 }

@@ -4,7 +4,7 @@ ghost use Rattle.fault_counts.specs.Counting.{CountsEach};
 use crate::size_limit::{SizeLimit, size_limit};
 use crate::{Disk, DiskFault, OpenFault};
 use fault_counts::raised;
-use std::fs::{File, OpenOptions};
+use std::fs::{File, Metadata, OpenOptions};
 use std::io::{self, ErrorKind};
 use std::os::unix::fs::FileExt;
 use std::rt::Files;
@@ -70,6 +70,11 @@ impl FileDisk {
             bytes_read: 0,
             other_calls: 0,
         })
+    }
+
+    /// What the system says of the file itself, whatever has its name by now.
+    pub fn metadata(&self) -> io::Result<Metadata> {
+        self.file.metadata()
     }
 
     /// The system error of the last call that failed, if one has failed.
