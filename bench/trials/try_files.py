@@ -226,14 +226,14 @@ def foreign_files(place: Place) -> None:
         put_foreign(place)
         ran = run_with(place, library, [Moment(call, path, 1, 1, 0, "mv foreign copy")],
                        *words, *more)
+        same("what has the name of a copy", left_at(place.path("copy")), FOREIGN)
         refused("a copy whose file is replaced at a " + call, ran, reply, NOT_REMOVED)
-        same("what has its name", left_at(place.path("copy")), FOREIGN)
         place.path("copy").unlink()
     ran = run_with(place, library, [Moment("pwrite", "copy", 1, 1, 0,
                                            "mv copy away && ln -s away copy"),
                                     Moment("pwrite", "away", 1, 1, errno.EIO)], *words)
-    refused("a copy in whose place a link is put", ran, FAILED, NOT_REMOVED)
     same("whether the link is there", place.path("copy").is_symlink(), True)
+    refused("a copy in whose place a link is put", ran, FAILED, NOT_REMOVED)
 
 
 def left_at(path: Path) -> Optional[bytes]:
