@@ -45,10 +45,9 @@ FAILED = "ERR 2 DiskFault\n"
 NO_FOLDER = "ERR 45 NoFolder\n"
 # A call that is tried again after an interruption is interrupted so often.
 INTERRUPTED = 20
-# Rows of long terms: a segment of 32 MB, and what a copy of it may need more than an opening.
+# Rows of long terms, 32 MB of them in a segment, and memory for a copy, of which it needs half.
 LONG_ROWS, TERM_BYTES = 4_000, 8_000
-COPY_BYTES = 8 << 20
-KIB = 1 << 10
+COPY_MEMORY = 20 << 20
 # The length of a release file that is too long by one, and the memory for a release of one row.
 TOO_LONG = 1 << 32
 MEMORY = 1 << 30
@@ -172,22 +171,22 @@ def replaced_while_opened(place: Place) -> None:
     ran = run_with(place, library, moments, "import", "--quiet", "--store", "store",
                    RELEASES / "r1")
     refused("a store that is replaced and put back", ran, FAILED, "sctd: store: " + REPLACED)
-    same("whether both files are as before", [store.read_bytes(), other.read_bytes()] == before, True)
+    after = [store.read_bytes(), other.read_bytes()]
+    same("whether both files are as before", after == before, True)
 
 
 # ---- Copies
 
 
 def long_segments(place: Place) -> None:
-    """A copy needs little more memory than an opening, however long a segment is."""
+    """A copy keeps no whole segment in memory."""
     store = place.make_store(layout=3)
     rows = [description(number) for number in range(LONG_ROWS)]
     place.import_one(store, write_release(place.path("long"), {"D": rows}))
-    opening = peak(place, "status", "--store", store)
-    copy = peak(place, "copy", "--store", store, "--to", "copy")
-    same("whether the store is long", store.stat().st_size > LONG_ROWS * TERM_BYTES, True)
-    if copy > opening + COPY_BYTES:
-        raise Wrong("a copy takes %d bytes, and an opening %d" % (copy, opening))
+    same("whether the store is long", store.stat().st_size > COPY_MEMORY, True)
+    ran = run_with(place, None, [], "copy", "--store", store, "--to", "copy",
+                   before=lambda: resource.setrlimit(resource.RLIMIT_AS, (COPY_MEMORY,) * 2))
+    same("a copy with little memory", ran, Ran(0, "OK\n", ""))
 
 
 def description(number: int) -> str:
@@ -195,17 +194,6 @@ def description(number: int) -> str:
     term = ("%d " % number).ljust(TERM_BYTES, "x")
     return "\t".join([str(rf2.sctid(1_000 + number, "01")), DAY, "1", "900000000000207008",
                       str(concept_id(1)), "en", "900000000000013009", term, "900000000000448009"])
-
-
-def peak(place: Place, command: str, *words: str | Path) -> int:
-    """How many bytes of memory a command has at most."""
-    process = subprocess.Popen(
-        [str(place.program), command, *map(str, words)], cwd=place.folder, stdin=subprocess.DEVNULL,
-        stdout=subprocess.DEVNULL, stderr=subprocess.DEVNULL)
-    _, status, used = os.wait4(process.pid, 0)
-    process.returncode = os.waitstatus_to_exitcode(status)
-    same(command, process.returncode, 0)
-    return int(used.ru_maxrss) * KIB
 
 
 def put_foreign(place: Place) -> Path:
@@ -320,9 +308,10 @@ def changed_files(place: Place) -> None:
     library = Library(place.folder)
     place.make_store("store3", 3)
     changed = "sctd: ./release/%s: its length changed while it was read" % CONCEPTS
-    row = concept(2)
-    for what, does in (("a row is cut off", "truncate -s -%d release/%s" % (len(row) + 2, CONCEPTS)),
-                       ("a row is added", "echo '%s' >> release/%s" % (concept(3), CONCEPTS))):
+    # A row, and its CR LF.
+    shorter = "truncate -s -%d release/%s" % (len(concept(2)) + 2, CONCEPTS)
+    longer = "echo '%s' >> release/%s" % (concept(3), CONCEPTS)
+    for what, does in (("a row is cut off", shorter), ("a row is added", longer)):
         moment = Moment("read", CONCEPTS, 1, 1, 0, does)
         refused("a file to which %s" % what, meddled(place, library, moment, 3), NO_FOLDER,
                 changed)
