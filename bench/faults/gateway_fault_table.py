@@ -9,7 +9,7 @@ MEMBERS = "test_members"
 
 
 class Fault(NamedTuple):
-    """What is wrong, the file below sctd_gateway, its text, what stands there instead, and the
+    """What is wrong, the file below sctd_service/gateway, its text, what stands there instead, and the
     tests."""
 
     what: str
@@ -79,7 +79,7 @@ FAULTS = [
     ),
     Fault(
         "another hub's socket isn't told from the first",
-        "pool.py",
+        "../sockets.py",
         "found.st_ino, found.st_ctime_ns)",
         "0, 0)",
         "test_hub",
@@ -149,14 +149,14 @@ FAULTS = [
     ),
     Fault(
         "the check digit isn't checked",
-        "snomed.py",
+        "../snomed.py",
         "    return check == 0\n",
         "    return True\n",
         "test_lookup test_recorded",
     ),
     Fault(
         "a filter may have control characters",
-        "snomed.py",
+        "store.py",
         "[^\\x00-\\x1f\\x7f-\\x9f\\u2028\\u2029",
         "[^\\u2028\\u2029",
         "test_value_sets",
@@ -205,7 +205,7 @@ FAULTS = [
     ),
     Fault(
         "the case of a display never counts",
-        "snomed.py",
+        "../snomed.py",
         "    return row.term == text\n",
         "    return row.term.casefold() == text.casefold()\n",
         "test_lines",
@@ -410,14 +410,14 @@ FAULTS = [
     ),
     Fault(
         "the end of a gateway removes the socket of another one",
-        "__main__.py",
-        " and own and file_of(found.listen) == own:",
+        "../sockets.py",
+        " and identity_of(path) == own:",
         ":",
         "test_hub",
     ),
     Fault(
         "a program that takes no more connections is waited for",
-        "__main__.py",
+        "../sockets.py",
         "        earlier.setblocking(False)\n",
         "",
         "test_hub",
@@ -445,7 +445,7 @@ FAULTS = [
     ),
     Fault(
         "what can't be logged ends a request",
-        "logs.py",
+        "../logs.py",
         "    with contextlib.suppress(OSError):\n",
         "    if True:\n",
         "test_requests",
@@ -481,28 +481,28 @@ FAULTS = [
     ),
     Fault(
         "preferred terms are passed over",
-        "snomed.py",
+        "../snomed.py",
         "        for refset in language.refsets:\n            if (pre",
         "        for refset in ():\n            if (pre",
         MEMBERS,
     ),
     Fault(
         "the last language of the house counts",
-        "snomed.py",
+        "../snomed.py",
         "        for refset in language.refsets:\n            if (pre",
         "        for refset in reversed(language.refsets):\n            if (pre",
         MEMBERS,
     ),
     Fault(
         "an acceptable term is taken for the preferred one",
-        "snomed.py",
+        "../snomed.py",
         "self.description.type == SYNONYM and PREFERRED in self.acceptabilities",
         "self.description.type == SYNONYM",
         MEMBERS,
     ),
     Fault(
         "a fully specified name is taken for a preferred term",
-        "snomed.py",
+        "../snomed.py",
         "self.description.type == SYNONYM and PREFERRED in",
         "PREFERRED in",
         MEMBERS,
@@ -551,14 +551,14 @@ FAULTS = [
     ),
     Fault(
         "a text definition is a name",
-        "snomed.py",
+        "../snomed.py",
         " if row.type != TEXT_DEFINITION]",
         "]",
         MEMBERS,
     ),
     Fault(
         "each attribute value is a reason",
-        "snomed.py",
+        "../snomed.py",
         " if row.refset == INACTIVATION_INDICATOR)",
         ")",
         MEMBERS,

@@ -1,4 +1,4 @@
-"""Trials of the copies of examples/hub.py for try_hub.py: what BACKUP makes, and what goes on while
+"""Trials of the copies of the hub for try_hub.py: what BACKUP makes, and what goes on while
 it does."""
 
 from __future__ import annotations
@@ -101,7 +101,7 @@ os.execv(PROGRAM, [PROGRAM, *sys.argv[1:]])
 
 def slow_copies(place: Place, go_on: str) -> Place:
     """The same with copies that wait for the file of this name."""
-    return place.changed("hub_store.py", COPYING, WAITING % go_on + COPYING)
+    return place.changed("store.py", COPYING, WAITING % go_on + COPYING)
 
 
 def begin_copy(client: Client, path: str) -> None:

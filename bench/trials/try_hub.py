@@ -1,9 +1,9 @@
 #!/usr/bin/env python3
-"""Tries examples/hub.py, and the clients beside it, with the built program.
+"""Tries the hub, and the clients in examples/, with the built program.
 
 try_hub.py PROGRAM [FOLDER]
 
-PROGRAM is the built `sctd`; FOLDER is another folder of a hub and its clients than examples/. Tried
+PROGRAM is the built `sctd`; FOLDER is another tree with service/ and examples/. Tried
 are clients, openings, sockets and their rights, the socket for questions alone, lines in turns,
 damage, ends, the log, merges, copies, the unit, client.py and read_records.py. The status is 1 at
 the first thing that isn't as it has to be, and the last line then says what: a client that the hub
@@ -30,7 +30,7 @@ from collections.abc import Sequence
 import hub_copies
 import hub_duties
 import hub_readers
-from hub_harness import RECORDER, ROOT, Client, Hub, Place, until
+from hub_harness import HUB, RECORDER, ROOT, Client, Hub, Place, until
 from operators_harness import Skipped, Wrong, same
 
 CLIENTS = 1_100
@@ -71,7 +71,7 @@ def two_clients(place: Place, hub: Hub) -> None:
     same("a session that another had", later.ask(QUESTION), [AS_IN_2021, "END 1"])
     lines = "STATUS\n%s\nTERMS 20200131 10 Straße\n" % QUESTION
     # In a locale that isn't UTF-8, its lines and replies are the same bytes.
-    done = place.run("client.py", hub.socket, given=lines.encode(), PYTHONIOENCODING="latin-1")
+    done = place.run("examples/client.py", hub.socket, given=lines.encode(), PYTHONIOENCODING="latin-1")
     wanted = "OK 2 10 2 -\n%s\nEND 1\n%s\nEND 1\n" % (AS_IN_2021, TERM_IN_2020)
     same("client.py", (done.stdout, done.returncode), (wanted.encode(), 0))
     later.leave()
@@ -327,7 +327,7 @@ def ends(place: Place, store: str) -> None:
 
 def unread(place: Place, store: str) -> None:
     """Where replies aren't read, the hub hangs up before they fill its memory."""
-    small = place.changed("hub.py", "UNREAD_LIMIT = 256 << 20", "UNREAD_LIMIT = 1 << 10")
+    small = place.changed("__main__.py", "UNREAD_LIMIT = 256 << 20", "UNREAD_LIMIT = 1 << 10")
     with Hub(small, store) as hub:
         silent = Client(hub.socket)
         silent.connection.settimeout(0.2)
@@ -365,7 +365,7 @@ def is_told_more(client: Client, before: int) -> bool:
 def left_unread(place: Place, store: str) -> None:
     """A client that says no more and doesn't read has its session until it has read all, so that
     such clients can't take more of the hub than others."""
-    small = place.changed("hub.py", "range(1, 1024)", "range(1, %d)" % (KEPT_SESSIONS + 3))
+    small = place.changed("__main__.py", "range(1, 1024)", "range(1, %d)" % (KEPT_SESSIONS + 3))
     with Hub(small, store, "--questions", small.path("questions")) as hub:
         asking, asked = [Client(hub.questions) for _ in range(2)], [0, 0]
         for number, client in enumerate(asking):
@@ -395,7 +395,7 @@ def words(place: Place, store: str) -> None:
     for wrong in ([], ["--socket", "s", "--questions", "s"], ["--socket", "s", "--group", "root"],
                   ["--socket", "s", "--merge-above", "0"],
                   ["--questions", "s", "--group", "no such group"]):
-        done = place.run("hub.py", *rest, *wrong)
+        done = place.run(HUB, *rest, *wrong)
         same("the words %r" % wrong, (done.returncode, done.stdout), (2, b""))
 
 
@@ -438,7 +438,7 @@ def main(words_given: Sequence[str]) -> int:
         return NOT_RUN
     resource.setrlimit(resource.RLIMIT_NOFILE, (most_files, most_files))
     program = os.path.abspath(words_given[0])
-    examples = os.path.abspath((words_given[1:] or [os.path.join(ROOT, "examples")])[0])
+    tree = os.path.abspath((words_given[1:] or [ROOT])[0])
     # The hubs are ended on the way out, so that is taken at a signal too.
     signal.signal(signal.SIGTERM, lambda *_: sys.exit(1))
     signal.signal(signal.SIGALRM, late)
@@ -448,7 +448,7 @@ def main(words_given: Sequence[str]) -> int:
         # Another user may reach the sockets in it.
         os.chmod(folder, 0o711)
         try:
-            count = all_trials(Place(program, examples, folder), skipped)
+            count = all_trials(Place(program, tree, folder), skipped)
         except (Wrong, OSError, subprocess.TimeoutExpired) as wrong:
             print("WRONG: %s" % wrong)
             return 1

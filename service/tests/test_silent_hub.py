@@ -1,0 +1,105 @@
+"""Hubs that say nothing, or what isn't a reply: the client is told so in time, and nothing else
+ends."""
+
+import socket
+import tempfile
+import threading
+import time
+import unittest
+from pathlib import Path
+
+from sctd_service.gateway import limits
+
+from .house import Gateway, issue, together
+
+# What a hub says to whatever it is asked, and how long its client waits at most.
+LATE_SECONDS = 6.0
+SILENT = limits.SCTD_SECONDS + LATE_SECONDS
+AT_ONCE = 10.0
+CASES = (
+    (b"", SILENT),
+    (b"nonsense\n" * 3, AT_ONCE),
+    (b"OK\nOK x\n", AT_ONCE),
+    (b"\xff\xfe\nEND\n", AT_ONCE),
+    (b"ROW 1\nEND 1\nOK 1\n", AT_ONCE),
+    (b"OK\nERR 41 Session\n", AT_ONCE),
+    (b"OK\nERR 1 OutOfMemory\n", AT_ONCE),
+    (b"OK 1 6 1 -\nEND 0\nOK 1 x y\n", AT_ONCE),
+    (b"OK 1 6 1 -\nROW 1\nEND 1\nOK 1 6 20200131\n", AT_ONCE),
+    (b"ROW " + b"x" * (3 << 20), AT_ONCE),
+    (b"OK 1 6 1 -\n", SILENT),
+)
+
+
+class FalseHub:
+    """Says the same to whoever says something."""
+
+    def __init__(self, path: str, said: bytes) -> None:
+        self.said, self.kept = said, list[socket.socket]()
+        self.listening = socket.socket(socket.AF_UNIX)
+        self.listening.bind(path)
+        self.listening.listen()
+        threading.Thread(target=self.talk, daemon=True).start()
+
+    def talk(self) -> None:
+        while True:
+            try:
+                client = self.listening.accept()[0]
+            except OSError:
+                return  # It has ended.
+            self.kept.append(client)
+            threading.Thread(target=self.say, args=(client,), daemon=True).start()
+
+    def say(self, client: socket.socket) -> None:
+        try:
+            while client.recv(1 << 16):
+                client.sendall(self.said)
+        except OSError:
+            pass  # The gateway has left.
+
+    def stop(self) -> None:
+        for one in (self.listening, *self.kept):
+            one.close()
+
+
+class SilentHub(unittest.TestCase):
+    def test_each_is_told_in_time(self) -> None:
+        for found in together(len(CASES), self.one):
+            self.assertEqual(found, "")
+
+    def test_rows_without_end(self) -> None:
+        """A hub that says more than an answer may be made of costs that answer alone."""
+        rows = b"ROW " + b"x" * 1_000 + b"\n"
+        with tempfile.TemporaryDirectory() as folder:
+            hub = FalseHub(folder + "/hub", rows * (limits.REPLIES_BYTES // len(rows) + 1))
+            gateway = Gateway(folder + "/hub", Path(folder))
+            try:
+                answer = gateway.send("GET", "/fhir/metadata")
+                self.assertEqual((answer.status, issue(answer.json())), (422, "too-costly"))
+                self.assertEqual(gateway.send("GET", "/page.css").status, 200)
+                self.assertEqual(gateway.told(), "")
+            finally:
+                gateway.stop()
+                hub.stop()
+
+    def one(self, number: int) -> str:
+        """What is wrong, or nothing."""
+        said, most = CASES[number]
+        with tempfile.TemporaryDirectory() as folder:
+            hub = FalseHub(folder + "/hub", said)
+            gateway = Gateway(folder + "/hub", Path(folder))
+            try:
+                began = time.monotonic()
+                answer = gateway.send("GET", "/fhir/metadata")
+                took = time.monotonic() - began
+                again = gateway.send("GET", "/page.css")
+                if answer.status != 503 or "retry-after" not in answer.headers or took > most:
+                    return "%r: %d after %.1f s: %r" % (said[:20], answer.status, took, answer.body)
+                if most == SILENT and took < limits.SCTD_SECONDS - 0.5:
+                    return "%r: after %.1f s already" % (said[:20], took)
+                if again.status != 200 or "Traceback" in gateway.told():
+                    return "%r: %s" % (said[:20], gateway.told())
+                return ""
+            finally:
+                gateway.stop()
+                hub.stop()
