@@ -73,8 +73,8 @@ FAULTS = [
     Fault(
         "subtrees stay when another hub comes",
         "pool.py",
-        "self.subtrees, self.refsets, self.present = no_subtrees(), no_refsets(), None",
-        "self.refsets, self.present = no_refsets(), None",
+        "        self.subtrees, self.refsets = no_subtrees(), no_refsets()\n        for",
+        "        self.refsets = no_refsets()\n        for",
         "test_hub",
     ),
     Fault(
@@ -85,31 +85,24 @@ FAULTS = [
         "test_hub",
     ),
     Fault(
-        "it isn't asked whether there is a newer import",
+        "a newer import isn't taken note of",
         "pool.py",
-        "        self.sure = pin is not None\n",
-        "        self.sure = True\n",
-        "test_hub",
-    ),
-    Fault(
-        "a refusal isn't of the present imports",
-        "pool.py",
-        "        if not self.sure and self.connection.whole:\n",
-        "        if False:\n",
+        "            self.imports = int(found[1])\n",
+        "            self.imports = self.imports or int(found[1])\n",
         "test_hub",
     ),
     Fault(
         "a pin in the address is passed over",
         "pool.py",
-        "        self.pin = present if pin is None else pin\n",
-        "        self.pin = present\n",
+        "watch.imports if pin is None else pin)",
+        "watch.imports)",
         "test_lookup",
     ),
     Fault(
         "questions are asked of all imports",
         "pool.py",
-        "[\"AT %d %s\" % (self.pin, line) for line in lines]",
-        "[*lines]",
+        "[\"AT %d %s\" % (self.pin, line) for line in missing]",
+        "[*missing]",
         "test_value_sets test_page",
     ),
     Fault(
@@ -643,8 +636,8 @@ FAULTS = [
     Fault(
         "reference sets stay when another hub comes",
         "pool.py",
-        "self.subtrees, self.refsets, self.present = no_subtrees(), no_refsets(), None",
-        "self.subtrees, self.present = no_subtrees(), None",
+        "        self.subtrees, self.refsets = no_subtrees(), no_refsets()\n        for",
+        "        self.subtrees = no_subtrees()\n        for",
         MEMBERS,
     ),
     Fault(

@@ -60,7 +60,9 @@ def bad_copies(place: Place, store: str) -> None:
     own = place.path("own")
     shutil.copy(store, own)
     path = place.path("copy")
-    with Hub(place, own) as hub:
+    # (So this hub doesn't see that the file is replaced before it is told to copy it.)
+    late = place.changed("clients.py", "LOOK_SECONDS = 2", "LOOK_SECONDS = 3600")
+    with Hub(late, own) as hub:
         client = Client(hub.socket)
         with open(own, "r+b") as file:
             file.seek(4 * 4096)
@@ -85,8 +87,8 @@ def bad_copies(place: Place, store: str) -> None:
 # Before each part of a copy the hub waits until there is a file.
 COPYING = "                        self.go_on()\n"
 WAITING = """\
-                        while not (self.is_stopped.is_set() or os.path.exists(%r)):
-                            time.sleep(0.01)
+                        while not (self.is_stopped.wait(0.01) or os.path.exists(%r)):
+                            pass
 """
 # And this stands before the program, whose `status` waits until there is another one.
 CHECKING = """

@@ -28,6 +28,7 @@ import time
 from collections.abc import Sequence
 
 import hub_copies
+import hub_crowds
 import hub_duties
 import hub_readers
 from hub_harness import HUB, RECORDER, ROOT, Client, Hub, Place, until
@@ -37,10 +38,13 @@ CLIENTS = 1_100
 SESSIONS = 1_023
 # Clients that only ask leave so many sessions to the others.
 KEPT_SESSIONS = 23
-LINES_A_TURN = 32
+# So many lines of a client are on their way at most.
+LINES_A_CLIENT = 32
+# For a hub of which one user may have all sessions.
+MANY_A_USER = ("--connections-a-user", str(SESSIONS))
 DIGESTS = 5
 # How long all of it may take.
-ALL_SECONDS = 170
+ALL_SECONDS = 280
 NOT_RUN = 3
 CONCEPT = "ROW 1000004\t%s\t900000000000207008\t900000000000074008"
 AS_IN_2020 = CONCEPT % "20200131\t1"
@@ -131,7 +135,7 @@ def served(path: str) -> Client:
 
 def kept_sessions(place: Place, store: str) -> None:
     """Clients that only ask leave sessions to those that import."""
-    with Hub(place, store, "--questions", place.path("questions")) as hub:
+    with Hub(place, store, "--questions", place.path("questions"), *MANY_A_USER) as hub:
         asking = [served(hub.questions) for _ in range(SESSIONS - KEPT_SESSIONS)]
         one_more = Client(hub.questions)
         same("one more that asks", one_more.read(), ["ERR 41 Session"])
@@ -163,7 +167,7 @@ def turns(place: Place, store: str) -> None:
         same("the end of the hub", hub.stop("a hub that is stopped"), 0)
     with open(recording.path("parts"), encoding="ascii") as parts:
         counts = [int(part) for part in parts]
-    same("the most lines of a turn", max(counts), LINES_A_TURN)
+    same("the most lines of a turn", max(counts), LINES_A_CLIENT)
     with open(recording.path("lines"), "rb") as file:
         lines = iter(file)
         asked_together = [[next(lines) for _ in range(count)] for count in counts]
@@ -246,14 +250,18 @@ def damage(place: Place, store: str) -> None:
         same("a damaged row", client.ask("GET C 1000004 20200131"), ["ERR 8 Damaged"])
         # No reply is lost behind one, or comes to another client.
         client.send(b"RECEIPT 1\nGET C 1000004 20200131\nRECEIPT 2\nSTATUS\n")
-        for wanted in ("OK 1 6 20200131", "ERR 8 Damaged", "OK 2 4 20210131", *STATUS):
+        for wanted in ("OK 1 6 20200131", "ERR 8 Damaged", "OK 2 4 20210131", STATUS[0] + " Damaged"):
             same("lines around a damaged row", client.read(), [wanted])
         other = Client(hub.socket)
         same("another client", other.ask("RECEIPT 1"), ["OK 1 6 20200131"])
         other.leave()
         client.leave()
-        same("the end of the hub", hub.stop("a hub that is stopped"), 0)
-        same("what it told", hub.told(), "hub: the store is damaged: restore your copy\n" * 2)
+        same("the end of the hub", hub.stop("a hub of a damaged store"), 1)
+        told = hub_duties.logged(hub)
+        same("how much it told", len(told), 2)
+        found = "the store is damaged: GET C 1000004 20200131 of user %d was answered ERR 8 Damaged. "
+        same("what it told", told[0].startswith(found % os.getuid()), True)
+        same("its last line", told[1].startswith("the store is damaged, as was told at 2"), True)
 
 
 def kill_program(place: Place, store: str) -> None:
@@ -327,7 +335,7 @@ def ends(place: Place, store: str) -> None:
 
 def unread(place: Place, store: str) -> None:
     """Where replies aren't read, the hub hangs up before they fill its memory."""
-    small = place.changed("__main__.py", "UNREAD_LIMIT = 256 << 20", "UNREAD_LIMIT = 1 << 10")
+    small = place.changed("clients.py", "UNREAD_LIMIT = 256 << 20", "UNREAD_LIMIT = 1 << 10")
     with Hub(small, store) as hub:
         silent = Client(hub.socket)
         silent.connection.settimeout(0.2)
@@ -365,15 +373,15 @@ def is_told_more(client: Client, before: int) -> bool:
 def left_unread(place: Place, store: str) -> None:
     """A client that says no more and doesn't read has its session until it has read all, so that
     such clients can't take more of the hub than others."""
-    small = place.changed("__main__.py", "range(1, 1024)", "range(1, %d)" % (KEPT_SESSIONS + 3))
+    small = place.changed("clients.py", "range(1, 1024)", "range(1, %d)" % (KEPT_SESSIONS + 3))
     with Hub(small, store, "--questions", small.path("questions")) as hub:
         asking, asked = [Client(hub.questions) for _ in range(2)], [0, 0]
         for number, client in enumerate(asking):
             before = -1
             while is_told_more(client, before):
                 before = waiting(client)
-                client.send(b"PAGE C 20210131 - 1000\n" * LINES_A_TURN)
-                asked[number] += LINES_A_TURN
+                client.send(b"PAGE C 20210131 - 1000\n" * LINES_A_CLIENT)
+                asked[number] += LINES_A_CLIENT
             client.connection.shutdown(socket.SHUT_WR)
         time.sleep(0.2)
         one_more = Client(hub.questions)
@@ -410,7 +418,7 @@ def all_trials(place: Place, skipped: list[str]) -> int:
         same("the end of the hub", hub.stop("a hub that is stopped"), 0)
     tries = [openings, kept_sessions, turns, disk_fault, ends, unread, left_unread, kill_program]
     tries += [words, sockets]
-    tries += hub_duties.TRIALS + hub_copies.TRIALS + hub_readers.TRIALS + [damage]
+    tries += hub_duties.TRIALS + hub_crowds.TRIALS + hub_copies.TRIALS + hub_readers.TRIALS + [damage]
     count = len(on_one_hub)
     for each in tries:
         begun = time.monotonic()

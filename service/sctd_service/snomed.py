@@ -1,5 +1,7 @@
 """The words of SNOMED CT and of its release files: identifiers, days, rows and their columns."""
 
+from __future__ import annotations
+
 import datetime
 import re
 from collections.abc import Iterable, Sequence

@@ -4,7 +4,7 @@ import errno
 import os
 import socket
 import stat
-from typing import NamedTuple
+from typing import NamedTuple, Optional
 
 
 class Identity(NamedTuple):
@@ -15,7 +15,7 @@ class Identity(NamedTuple):
     changed: int
 
 
-def identity_of(path: str) -> Identity | None:
+def identity_of(path: str) -> Optional[Identity]:
     """That of the socket which a path names; None where there is none."""
     try:
         found = os.lstat(path)
@@ -38,7 +38,7 @@ def clear(path: str) -> None:
     os.unlink(path)
 
 
-def remove(path: str, own: Identity | None) -> None:
+def remove(path: str, own: Optional[Identity]) -> None:
     """Removes a socket's name, if it is still that of the own socket."""
     if own is not None and identity_of(path) == own:
         os.unlink(path)

@@ -14,6 +14,7 @@ REFSET = "(?P<refset>[1-9][0-9]{5,17})"
 LINES = [
     re.compile(line)
     for line in (
+        "WATCH",
         "STATUS",
         f"{AT}DATES",
         f"{AT}RECEIPT [0-9]{{1,10}}",

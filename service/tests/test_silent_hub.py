@@ -12,7 +12,7 @@ from sctd_service.gateway import limits
 
 from .house import Gateway, issue, together
 
-# What a hub says to whatever it is asked, and how long its client waits at most.
+# What a hub says to whatever it is asked but WATCH, and how long its client waits at most.
 LATE_SECONDS = 6.0
 SILENT = limits.SCTD_SECONDS + LATE_SECONDS
 AT_ONCE = 10.0
@@ -29,13 +29,24 @@ CASES = (
     (b"ROW " + b"x" * (3 << 20), AT_ONCE),
     (b"OK 1 6 1 -\n", SILENT),
 )
+# What it says to WATCH, where no number of imports comes.
+WATCH_CASES = (
+    (b"", SILENT),
+    (b"nonsense\n", AT_ONCE),
+    (b"OK\n", AT_ONCE),
+    (b"OK 1 6 1 -\n", AT_ONCE),
+    (b"END 1\n", AT_ONCE),
+    (b"\xff\xfe\n", AT_ONCE),
+    (b"ERR 41 Session\n", AT_ONCE),
+    (b"OK " + b"1" * (3 << 20), AT_ONCE),
+)
 
 
 class FalseHub:
-    """Says the same to whoever says something."""
+    """Says the same to whoever says something, and how many imports there are to who watches."""
 
-    def __init__(self, path: str, said: bytes) -> None:
-        self.said, self.kept = said, list[socket.socket]()
+    def __init__(self, path: str, said: bytes, imports: bytes = b"OK 1\n") -> None:
+        self.said, self.imports, self.kept = said, imports, list[socket.socket]()
         self.listening = socket.socket(socket.AF_UNIX)
         self.listening.bind(path)
         self.listening.listen()
@@ -52,8 +63,8 @@ class FalseHub:
 
     def say(self, client: socket.socket) -> None:
         try:
-            while client.recv(1 << 16):
-                client.sendall(self.said)
+            while data := client.recv(1 << 16):
+                client.sendall(self.imports if data == b"WATCH\n" else self.said)
         except OSError:
             pass  # The gateway has left.
 
@@ -64,8 +75,26 @@ class FalseHub:
 
 class SilentHub(unittest.TestCase):
     def test_each_is_told_in_time(self) -> None:
-        for found in together(len(CASES), self.one):
+        for found in together(len(CASES) + len(WATCH_CASES), self.one):
             self.assertEqual(found, "")
+
+    def test_health_of_a_hub_that_hangs(self) -> None:
+        """It is told as JSON in time, and that the gateway runs at once."""
+        for imports in (b"", b"OK 1\n"):
+            with tempfile.TemporaryDirectory() as folder:
+                hub = FalseHub(folder + "/hub", b"", imports)
+                gateway = Gateway(folder + "/hub", Path(folder))
+                try:
+                    began = time.monotonic()
+                    live = gateway.send("GET", "/live")
+                    self.assertEqual((live.status, live.json()), (200, {"live": True}))
+                    self.assertLess(time.monotonic() - began, limits.HEALTH_SECONDS)
+                    health = gateway.send("GET", "/health")
+                    self.assertEqual((health.status, [*health.json()]), (503, ["problem"]))
+                    self.assertLess(time.monotonic() - began, 2 * limits.HEALTH_SECONDS)
+                finally:
+                    gateway.stop()
+                    hub.stop()
 
     def test_rows_without_end(self) -> None:
         """A hub that says more than an answer may be made of costs that answer alone."""
@@ -84,9 +113,11 @@ class SilentHub(unittest.TestCase):
 
     def one(self, number: int) -> str:
         """What is wrong, or nothing."""
-        said, most = CASES[number]
+        cases = [(said, b"OK 1\n", most) for said, most in CASES]
+        cases += [(b"", imports, most) for imports, most in WATCH_CASES]
+        said, imports, most = cases[number]
         with tempfile.TemporaryDirectory() as folder:
-            hub = FalseHub(folder + "/hub", said)
+            hub = FalseHub(folder + "/hub", said, imports)
             gateway = Gateway(folder + "/hub", Path(folder))
             try:
                 began = time.monotonic()
@@ -94,11 +125,11 @@ class SilentHub(unittest.TestCase):
                 took = time.monotonic() - began
                 again = gateway.send("GET", "/page.css")
                 if answer.status != 503 or "retry-after" not in answer.headers or took > most:
-                    return "%r: %d after %.1f s: %r" % (said[:20], answer.status, took, answer.body)
+                    return "%r: %d after %.1f s: %r" % (said[:20] or imports[:20], answer.status, took, answer.body)
                 if most == SILENT and took < limits.SCTD_SECONDS - 0.5:
-                    return "%r: after %.1f s already" % (said[:20], took)
+                    return "%r: after %.1f s already" % (said[:20] or imports[:20], took)
                 if again.status != 200 or "Traceback" in gateway.told():
-                    return "%r: %s" % (said[:20], gateway.told())
+                    return "%r: %s" % (said[:20] or imports[:20], gateway.told())
                 return ""
             finally:
                 gateway.stop()

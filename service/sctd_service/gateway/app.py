@@ -18,8 +18,8 @@ from .fhir.request import Request
 from .fhir.versions import Edition
 from .hub import OUT_OF_MEMORY, HubGone, HubRefused, TooCostly
 from ..logs import tell
-from .pool import Moved, NoSuchPin, Pool
-from .problems import Problem, invalid, missing, not_found, too_costly
+from .pool import NoSuchPin, Pool
+from .problems import Json, Problem, invalid, missing, not_found, too_costly
 from .store import View
 
 Headers = tuple[tuple[str, str], ...]
@@ -40,7 +40,9 @@ SAFE: Headers = (
 )
 FILES = {"/page.css": "text/css; charset=utf-8", "/page.js": "text/javascript; charset=utf-8"}
 # The pages, and the words that each of them knows.
-PAGES = {"/": page.WORDS, "/suggest": ("text", "date"), "/health": ()}
+PAGES = {"/": page.WORDS, "/suggest": ("text", "date")}
+# What a proxy and a monitor ask: whether the gateway runs, and whether the store can be asked.
+LIVE, HEALTH = "/live", "/health"
 READS = ("GET", "HEAD")
 METHODS = (*READS, "POST")
 PATH = re.compile(r"(?:/pin/([0-9]{1,10}))?(/[^?#]*)\Z", re.ASCII | re.DOTALL)
@@ -96,8 +98,6 @@ class App:
         while True:
             try:
                 return await self.routed(request)
-            except Moved:
-                pass  # An import came in between.
             except HubGone as gone:
                 if gone.fresh:
                     raise
@@ -114,12 +114,16 @@ class App:
         if path.startswith(FHIR_BASE) or path + "/" == FHIR_BASE:
             given = pairs_of(words)
             return await self.fhir(request, pin, path.removeprefix(FHIR_BASE), given)
-        if path not in self.files and path not in PAGES:
+        if path not in self.files and path not in PAGES and path not in (LIVE, HEALTH):
             raise not_found("there is no such page")
         if request.method == "POST":
             raise Problem(405, "not-supported", "a page is asked for by GET", READS)
         if path in self.files:
             return self.files[path]
+        if path == LIVE:
+            return http.Response(200, JSON, dumped({"live": True}), SAFE)
+        if path == HEALTH:
+            return await self.health(pin)
         return await self.page(request, pin, path, pairs_of(words))
 
     @asynccontextmanager
@@ -169,19 +173,35 @@ class App:
         async with self.view(request, pin, is_walk=path == "/") as view:
             return await told_of(view, False, self.shown(view, path, words, pin is not None))
 
+    async def health(self, pin: int | None) -> http.Response:
+        """Whether the store can be asked, in time whatever hangs."""
+        try:
+            async with asyncio.timeout(limits.HEALTH_SECONDS), self.pool.opened(pin) as session:
+                view, is_damaged = View(session), await session.is_damaged()
+        except (HubGone, HubRefused, TimeoutError, NoSuchPin) as error:
+            problem = problem_of(error)
+            return health_of(problem.status, {"problem": problem.text})
+        state = {"pin": view.pin, "latest": view.latest}
+        if is_damaged:
+            return health_of(503, {**state, "problem": "the store is damaged"})
+        return health_of(200, state)
+
     async def shown(
         self, view: View, path: str, words: dict[str, str], is_pinned: bool
     ) -> http.Response:
         """One of the pages."""
-        if path == "/health":
-            body, kind = dumped({"pin": view.pin, "latest": view.latest}), JSON
-        elif path == "/suggest":
+        if path == "/suggest":
             text, date = words.get("text", "").strip(), words.get("date", "")
             body, kind = json.dumps(await page.suggestions(view, text, date)).encode(), JSON
         else:
             form = page.form_of(words)
             body, kind = await page.answer(self.edition, view, form, is_pinned), HTML
         return http.Response(200, kind, body, SAFE)
+
+
+def health_of(status: int, state: Json) -> http.Response:
+    retry = (("Retry-After", str(limits.RETRY_SECONDS)),) if status == 503 else ()
+    return http.Response(status, JSON, dumped(state), SAFE + retry)
 
 
 async def told_of(view: View, fhir: bool, answer: Awaitable[http.Response]) -> http.Response:

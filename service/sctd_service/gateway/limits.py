@@ -13,6 +13,10 @@ HEAD_SECONDS = 10.0
 BODY_SECONDS = 10.0
 TAKE_SECONDS = 20.0
 IDLE_SECONDS = 60.0
+# How long requests that have come are answered when the gateway ends, and how often it is looked
+# whether they are.
+END_SECONDS = 10.0
+LAST_LOOK_SECONDS = 0.05
 # How long what a refused client still sends is read, so that it sees the refusal.
 LINGER_SECONDS = 2.0
 CONNECTIONS = 512
@@ -21,6 +25,14 @@ BACKLOG = 1024
 
 # Of a request: how long its answer may take, waiting for `sctd` and for other requests included.
 SCTD_SECONDS = 30.0
+# An answer of so many bytes is compressed where its client takes that, and one of so many in a
+# thread of its own.
+PACKED_BYTES = 1 << 10
+PACKED_APART_BYTES = 64 << 10
+# How much of an answer is made at once, before other requests have their turn.
+SLICE_CONCEPTS = 50
+# How long /health may take, whatever hangs.
+HEALTH_SECONDS = 2.0
 # When a client that is answered 503 is told to ask again.
 RETRY_SECONDS = 5
 # Expansions and records, which may ask thousands of questions, that go on at once.

@@ -2,23 +2,30 @@
 
 What one request is told comes from one `Session`, which has a pin: each of its questions is asked
 `AT` this number of imports, so all its answers are of the same ones. A reply is remembered by its
-pin and its question, and can't go stale, since at a pin a question has one answer for good. All
-that is remembered is forgotten when another hub takes the place of the one that said it: another
-store may answer from then on.
+pin and its question, and can't go stale, since at a pin a question has one answer for good. How
+many imports there are the hub tells by itself, of each import before it is answered: so a request
+that names no pin is answered as of the last import that anybody was told of, and nothing is asked
+for that. All that is remembered is forgotten when the hub ends, since another store may answer from
+then on.
 """
 
 import asyncio
 import re
 from collections import OrderedDict
-from collections.abc import AsyncIterator, Sequence
+from collections.abc import AsyncIterator, Callable, Sequence
 from contextlib import asynccontextmanager
-from typing import Generic, NamedTuple, TypeVar
+from typing import Generic, NamedTuple, TypeVar, cast
 
 from .. import sockets
+from ..protocol import NotAReply, Replies
 from . import limits
-from .hub import Connection, HubGone, Reply
+from .hub import Connection, HubGone, Reply, refusal
 
-STATUS = re.compile(r"OK ([0-9]{1,10}) [0-9]{1,10} [0-9]{1,10} (?:[0-9]{1,10}|-)\Z", re.ASCII)
+DAMAGED = " Damaged"
+STATUS = re.compile(
+    r"OK [0-9]{1,10} [0-9]{1,10} [0-9]{1,10} (?:[0-9]{1,10}|-)(?:%s)?\Z" % DAMAGED, re.ASCII
+)
+IMPORTS = re.compile(rb"OK ([0-9]{1,10})\n\Z")
 RECEIPT = re.compile(r"OK [0-9]{1,10} [0-9]{1,10} (?:[0-9]{8}|-)\Z", re.ASCII)
 DATE = re.compile(r"DATE ([0-9]{8})\Z", re.ASCII)
 # Roughly what Python takes for an entry of the memory, for a line, and for a letter.
@@ -27,10 +34,6 @@ ENTRY_BYTES, LINE_BYTES, LETTER_BYTES = 400, 80, 2
 
 class NoSuchPin(Exception):
     """There aren't so many imports."""
-
-
-class Moved(Exception):
-    """An import came in between: the request has to be answered anew, from its beginning."""
 
 
 class Memory:
@@ -101,6 +104,52 @@ def no_refsets() -> Sets[Codes]:
     return Sets(limits.REFSETS, limits.REFSET_CONCEPTS)
 
 
+class Watch(asyncio.Protocol):
+    """A connection by which the hub tells how many imports there are. `known` ends with its first
+    word, `is_open` with the hub."""
+
+    def __init__(self, on_end: Callable[[], None]) -> None:
+        self.on_end, self.replies = on_end, Replies()
+        self.known: asyncio.Future[None] = asyncio.get_running_loop().create_future()
+        self.imports, self.is_open = 0, True
+        self.identity: sockets.Identity | None = None
+
+    def connection_made(self, transport: asyncio.BaseTransport) -> None:
+        self.transport = cast(asyncio.Transport, transport)
+        self.transport.write(b"WATCH\n")
+
+    def data_received(self, data: bytes) -> None:
+        try:
+            for reply in self.replies.feed(data):
+                self.told(reply)
+            if len(self.replies.rest) > limits.REPLY_LINE_BYTES:
+                raise NotAReply
+        except NotAReply:
+            self.end(HubGone("the hub says what isn't a number of imports", True))
+
+    def told(self, reply: bytes) -> None:
+        found = IMPORTS.match(reply)
+        if found:
+            self.imports = int(found[1])
+            if not self.known.done():
+                self.known.set_result(None)
+        elif reply.startswith(b"ERR "):
+            self.end(refusal(reply.decode("ascii", "replace").rstrip("\n")))
+        else:
+            raise NotAReply
+
+    def connection_lost(self, why: Exception | None) -> None:
+        self.end(HubGone("the hub has left", True))
+
+    def end(self, why: Exception) -> None:
+        if self.is_open:
+            self.is_open = False
+            self.transport.abort()
+            self.on_end()
+        if not self.known.done():
+            self.known.set_exception(why)
+
+
 class Pool:
     """The connections to the hub, and what it has said."""
 
@@ -108,90 +157,85 @@ class Pool:
         self.socket = socket
         self.places = asyncio.Semaphore(limits.HUB_CONNECTIONS)
         self.idle: list[Connection] = []
-        self.identity: sockets.Identity | None = None
+        self.beginning = asyncio.Lock()
+        self.watch: Watch | None = None
         self.memory, self.subtrees, self.refsets = Memory(memory), no_subtrees(), no_refsets()
-        # The number of imports, as far as it is known.
-        self.present: int | None = None
 
     def is_of_this_hub(self, connection: Connection) -> bool:
-        return connection.identity == self.identity
+        return self.watch is not None and connection.identity == self.watch.identity
 
     def forget(self) -> None:
         """What comes next may be told of another store."""
-        self.identity = None
+        self.watch = None
         self.memory.clear()
-        self.subtrees, self.refsets, self.present = no_subtrees(), no_refsets(), None
+        self.subtrees, self.refsets = no_subtrees(), no_refsets()
         for connection in self.idle:
             connection.close()
         self.idle.clear()
 
-    async def connection(self) -> Connection:
+    async def watched(self) -> Watch:
+        """The hub that tells of its imports. (One that has ended may not be seen to have.)"""
+        async with self.beginning:
+            if self.watch and self.watch.identity != sockets.identity_of(self.socket):
+                self.watch.end(HubGone("another hub has its socket", False))
+            if self.watch is None:
+                self.watch = await self.begun()
+            return self.watch
+
+    async def begun(self) -> Watch:
+        """Begins to watch. The socket identifies the hub, since each hub makes one of its own."""
+        identity, loop = sockets.identity_of(self.socket), asyncio.get_running_loop()
+        try:
+            _, watch = await loop.create_unix_connection(lambda: Watch(self.forget), self.socket)
+        except OSError as error:
+            # (Clients aren't told the socket's path.)
+            raise HubGone(error.strerror or "the hub can't be reached", True) from error
+        try:
+            await watch.known
+            if identity is None or sockets.identity_of(self.socket) != identity:
+                raise HubGone("a hub was started in between", False)
+        except BaseException:
+            watch.transport.abort()
+            raise
+        watch.identity = identity
+        return watch
+
+    async def connection(self, watch: Watch) -> Connection:
         while self.idle:
             found = self.idle.pop()
-            if found.is_open() and self.is_of_this_hub(found):
+            if found.is_open() and found.identity == watch.identity:
                 found.received = 0
                 return found
             found.close()
-            self.forget()
-        return await self.connected()
-
-    async def connected(self) -> Connection:
-        """A new connection. The socket identifies the hub, since each hub makes one of its own."""
-        before = sockets.identity_of(self.socket)
         try:
             reader, writer = await asyncio.open_unix_connection(self.socket)
         except OSError as error:
-            self.forget()
-            # (Clients aren't told the socket's path.)
             raise HubGone(error.strerror or "the hub can't be reached", True) from error
-        if before is None or sockets.identity_of(self.socket) != before:
+        if watch.identity is None or sockets.identity_of(self.socket) != watch.identity:
             writer.close()
-            raise HubGone("a hub was started in between", False)
-        if before != self.identity:
             self.forget()
-            self.identity = before
-        return Connection(reader, writer, before)
+            raise HubGone("a hub was started in between", False)
+        return Connection(reader, writer, watch.identity)
 
     @asynccontextmanager
     async def session(self, pin: int | None) -> AsyncIterator["Session"]:
         """The store as its first `pin` imports left it, or as it is now."""
-        async with self.places:
-            connection = await self.connection()
-            try:
-                session = await self.opened(connection, pin)
-                try:
-                    yield session
-                except Exception:
-                    # Also a refusal has to be of the present imports.
-                    await session.make_sure()
-                    raise
-                await session.make_sure()
-            except Moved:
-                await self.look(connection)
-                raise
-            except HubGone as gone:
-                if not gone.fresh and self.is_of_this_hub(connection):
-                    self.forget()
-                raise
-            finally:
-                self.give_back(connection)
+        async with self.places, self.opened(pin) as session:
+            yield session
 
-    async def opened(self, connection: Connection, pin: int | None) -> "Session":
-        present = self.present
-        if present is None or (pin is not None and pin > present):
-            present = await self.look(connection)
-        if pin is not None and pin > present:
+    @asynccontextmanager
+    async def opened(self, pin: int | None) -> AsyncIterator["Session"]:
+        """The same without waiting for a place."""
+        watch = await self.watched()
+        if pin is not None and pin > watch.imports:
             raise NoSuchPin
-        session = Session(self, connection, pin, present)
-        await session.begin()
-        return session
-
-    async def look(self, connection: Connection) -> int:
-        """How many imports there are."""
-        present = imports_of((await connection.ask(["STATUS"]))[0])
-        if self.is_of_this_hub(connection):
-            self.present = present
-        return present
+        connection = await self.connection(watch)
+        try:
+            session = Session(self, connection, watch.imports if pin is None else pin)
+            await session.begin()
+            yield session
+        finally:
+            self.give_back(connection)
 
     def give_back(self, connection: Connection) -> None:
         if connection.whole and self.is_of_this_hub(connection):
@@ -201,32 +245,28 @@ class Pool:
 
 
 class Session:
-    """The store as its first `pin` imports left it.
+    """The store as its first `pin` imports left it."""
 
-    Where the request named no pin it is the number of imports that was known, until the hub has
-    said together with the first answers that it still is: then the session is `sure`.
-    """
-
-    def __init__(self, pool: Pool, connection: Connection, pin: int | None, present: int) -> None:
-        self.pool, self.connection = pool, connection
-        self.pin = present if pin is None else pin
-        self.sure = pin is not None
+    def __init__(self, pool: Pool, connection: Connection, pin: int) -> None:
+        self.pool, self.connection, self.pin = pool, connection, pin
         # The days that the pin shows rows of, ascending, and the receipt of its last import.
         self.days: Sequence[str] = ()
         self.receipt = "-"
 
     async def begin(self) -> None:
-        """Learns what the pin shows. Where that is remembered nothing is asked yet."""
+        """Learns what the pin shows. Where that is remembered nothing is asked."""
         lines = ["DATES", *(["RECEIPT %d" % self.pin] if self.pin else [])]
-        known = [reply for reply in self.remembered(lines) if reply is not None]
-        dates, *receipts = known if len(known) == len(lines) else await self.ask(lines)
+        dates, *receipts = await self.ask(lines)
         self.days = days_of(dates)
         if receipts:
             self.receipt = "RECEIPT %d: %s" % (self.pin, receipt_of(receipts[0]))
 
-    async def make_sure(self) -> None:
-        if not self.sure and self.connection.whole:
-            await self.ask([])
+    async def is_damaged(self) -> bool:
+        """Whether the hub says that the store is damaged. It has to answer for that."""
+        reply = (await self.connection.ask(["STATUS"]))[0]
+        if not STATUS.match(reply[-1]):
+            raise HubGone("the hub says what isn't the store's state", True)
+        return reply[-1].endswith(DAMAGED)
 
     def remembered(self, lines: Sequence[str]) -> list[Reply | None]:
         """The reply to each line that is remembered."""
@@ -237,8 +277,8 @@ class Session:
         """The reply to each line, those that are remembered without asking."""
         known = self.remembered(lines)
         missing = [line for line, reply in zip(lines, known) if reply is None]
-        if missing or not self.sure:
-            told = await self.told(missing)
+        if missing:
+            told = await self.connection.ask(["AT %d %s" % (self.pin, line) for line in missing])
             if keep and self.pool.is_of_this_hub(self.connection):
                 for line, reply in zip(missing, told):
                     self.pool.memory.put(self.pin, line, reply)
@@ -247,32 +287,13 @@ class Session:
         return [reply for reply in known if reply is not None]
 
     def remembered_set(self, sets: Sets[Kept], day: str, code: str) -> Kept | None:
-        if not self.sure or not self.pool.is_of_this_hub(self.connection):
+        if not self.pool.is_of_this_hub(self.connection):
             return None
         return sets.get((self.pin, day, code))
 
     def remember_set(self, sets: Sets[Kept], day: str, code: str, found: Kept) -> None:
         if self.pool.is_of_this_hub(self.connection):
             sets.put((self.pin, day, code), found)
-
-    async def told(self, lines: Sequence[str]) -> list[Reply]:
-        """What the hub replies at the pin. In the same round trip it says how many imports there
-        are, where that has to be known."""
-        turn = [] if self.sure else ["STATUS"]
-        asked = ["AT %d %s" % (self.pin, line) for line in lines]
-        replies = await self.connection.ask([*turn, *asked])
-        if turn and imports_of(replies[0]) != self.pin:
-            raise Moved
-        self.sure = True
-        return replies[len(turn) :]
-
-
-def imports_of(reply: Reply) -> int:
-    """The number of imports that a reply to STATUS says."""
-    found = STATUS.match(reply[-1])
-    if not found:
-        raise HubGone("the hub says what isn't the store's state", True)
-    return int(found[1])
 
 
 def days_of(reply: Reply) -> list[str]:

@@ -2,7 +2,7 @@
 """Lets many programs ask one `sctd serve` over Unix sockets.
 
 sctd-hub --program SCTD --store FILE --releases DIR [--socket PATH] [--questions PATH [--group NAME]]
-         [--merge-above N]
+         [--merge-above N] [--connections-a-user N]
 
 The hub starts `sctd serve` and listens on the sockets, of which there has to be one. Each
 connection is a session of its own: a client sends lines without the session's number, such as
@@ -13,8 +13,10 @@ The socket of `--socket` takes every line, and is its owner's alone. On the sock
 the store can only be asked: whatever isn't a question is answered `ERR hub NotAQuestion` there. It
 is its owner's alone, too, or with `--group` that group's.
 
-Lines are answered one after the other, so an import keeps the others waiting. The lines of a client
-that have come already, at most 32, are answered together. `BACKUP PATH`, on the socket of
+The program answers one line after the other, and is sent the next ones meanwhile, at most 32 of a
+client. An import or a DIGEST goes alone and keeps the others waiting. `WATCH` is answered `OK` and
+the number of imports, and the client is told so again with each import, before that is answered.
+`BACKUP PATH`, on the socket of
 `--socket`, copies the store while questions are answered. When more than N segments stand (100 if
 not said), the hub merges in short steps between the clients' lines; where the store is full, an
 import waits for a merge.
@@ -44,138 +46,15 @@ import sys
 from typing import Any, Optional
 
 from .. import sockets
-from ..logs import tell
-from .lines import LINE_LIMIT, NOT_A_QUESTION, TOO_LONG, Line, LineReader, Sort, turns
-from .store import MOST_SEGMENTS, Ended, Program, Store
+from ..logs import log, tell
+from .clients import Client, Hub
+from .program import Ended, Program
+from .store import MOST_SEGMENTS, Store
 
-# Session 0 is the hub's own. Clients that only ask leave some of the others to those that import.
-SESSIONS = range(1, 1024)
-KEPT_SESSIONS = 23
-# How many bytes of replies may wait to be read by the clients.
-UNREAD_LIMIT = 256 << 20
-# How long clients have time to read what was answered when the hub ends.
-LAST_SECONDS = 2
 # Connections that the system keeps until they are taken.
 BACKLOG = 1024
-
-
-class Client:
-    """A connection, and its session."""
-
-    def __init__(self, session: int, may_change: bool, stream: asyncio.StreamReader,
-                 writer: asyncio.StreamWriter) -> None:
-        self.session, self.may_change, self.writer = session, may_change, writer
-        self.reader = LineReader(stream, LINE_LIMIT - len("%d " % session))
-
-
-class Hub:
-    """The clients of a store."""
-
-    def __init__(self, program: Program, store: Store) -> None:
-        self.program, self.store = program, store
-        self.free = list(reversed(SESSIONS))
-        # The tasks of the clients, and of these the ones that wait for a line.
-        self.tasks: set["asyncio.Task[None]"] = set()
-        self.idle: set["asyncio.Task[None]"] = set()
-        # The clients that haven't read their replies, and how many bytes these have, longest first.
-        self.unread: dict[asyncio.StreamWriter, int] = {}
-        self.ended: "asyncio.Future[int]" = asyncio.get_running_loop().create_future()
-
-    def end(self, status: int) -> None:
-        if not self.ended.done():
-            self.ended.set_result(status)
-
-    async def connected(self, may_change: bool, stream: asyncio.StreamReader,
-                        writer: asyncio.StreamWriter) -> None:
-        """Serves one connection to its end."""
-        if self.ended.done() or len(self.free) <= (0 if may_change else KEPT_SESSIONS):
-            writer.write(b"ERR 41 Session\n")
-            writer.close()
-            return
-        task = asyncio.current_task()
-        assert task is not None
-        self.tasks.add(task)
-        # A client has its session until all that it was answered is sent.
-        writer.transport.set_write_buffer_limits(high=0)
-        try:
-            await self.serve(Client(self.free.pop(), may_change, stream, writer))
-        except Ended as ended:
-            self.end(ended.status)
-        except asyncio.CancelledError:
-            pass  # The hub ends.
-        finally:
-            self.tasks.discard(task)
-            writer.close()
-
-    async def serve(self, client: Client) -> None:
-        """Answers a client until it leaves, and then gives its session back."""
-        try:
-            while lines := await self.next_lines(client):
-                for sort, some in turns(lines, client.may_change):
-                    await self.send(client.writer, await self.reply(client, sort, some))
-                    if self.program.is_over:
-                        raise Ended(1)
-        except ConnectionError:
-            pass
-        self.store.note_left(client.session)
-        await self.program.ask(client.session, [b"UNPIN"])
-        self.free.append(client.session)
-
-    async def next_lines(self, client: Client) -> list[Line]:
-        task = asyncio.current_task()
-        assert task is not None
-        self.idle.add(task)
-        try:
-            return await client.reader.lines()
-        finally:
-            self.idle.discard(task)
-
-    async def reply(self, client: Client, sort: Sort, lines: list[bytes]) -> bytes:
-        """The reply to lines that are answered in one turn."""
-        if sort is Sort.QUESTION:
-            return (await self.program.ask(client.session, lines)).text
-        if sort is Sort.CHANGE:
-            return (await self.store.change(client.session, lines[0])).text
-        if sort is Sort.BACKUP:
-            return await self.store.backup(lines[0])
-        return TOO_LONG if sort is Sort.LONG else NOT_A_QUESTION
-
-    async def send(self, writer: asyncio.StreamWriter, reply: bytes) -> None:
-        """Sends a reply. Where clients leave too much unread, the one that has done so for the
-        longest time is hung up on."""
-        writer.write(reply)
-        self.unread[writer] = writer.transport.get_write_buffer_size()
-        while sum(self.unread.values()) > UNREAD_LIMIT:
-            slowest = next(iter(self.unread))
-            slowest.transport.abort()
-            del self.unread[slowest]
-        try:
-            await writer.drain()
-        finally:
-            self.unread.pop(writer, None)
-
-    async def follow(self) -> None:
-        """Ends the hub when the program ends."""
-        self.end(await self.program.watched())
-
-    async def merge(self) -> None:
-        """Merges in time, as long as the hub runs."""
-        try:
-            await self.store.merge_in_time()
-        except Ended as ended:
-            self.end(ended.status)
-
-    async def stop(self) -> None:
-        """Ends the program after the lines that it answers, and then the clients' tasks."""
-        self.store.stop_copying()
-        await self.program.stop()
-        for task in self.idle:
-            task.cancel()
-        if self.tasks:
-            await asyncio.wait(self.tasks, timeout=LAST_SECONDS)
-        for task in self.tasks:
-            task.cancel()
-        await asyncio.gather(*self.tasks, return_exceptions=True)
+# How many connections a user may have on the socket for questions, if it isn't said.
+MOST_A_USER = 250
 
 
 def tell_systemd() -> None:
@@ -220,8 +99,8 @@ class Listener:
 
 async def listen(hub: Hub, listeners: list[tuple[Listener, bool]]) -> list[asyncio.Server]:
     return [
-        await asyncio.start_unix_server(
-            functools.partial(hub.connected, may_change), sock=listener.socket, backlog=BACKLOG)
+        await hub.loop.create_unix_server(
+            functools.partial(Client, hub, may_change), sock=listener.socket, backlog=BACKLOG)
         for listener, may_change in listeners]
 
 
@@ -239,20 +118,23 @@ async def serve_clients(hub: Hub, listeners: list[tuple[Listener, bool]]) -> int
     for number in (signal.SIGTERM, signal.SIGINT):
         asyncio.get_running_loop().add_signal_handler(number, hub.end, 0)
     servers = await listen(hub, listeners)
-    duties = [asyncio.create_task(hub.follow()), asyncio.create_task(hub.merge())]
+    duties = [asyncio.create_task(duty) for duty in (hub.follow(), hub.merge(), hub.look())]
     print("OK ready", flush=True)
     tell_systemd()
     first: list["asyncio.Future[Any]"] = [hub.ended, *duties]
     await asyncio.wait(first, return_when=asyncio.FIRST_COMPLETED)
     # Where a duty ended otherwise than by the hub's end, that is a fault of the hub.
     hub.end(1)
-    if hub.program.process.returncode is not None:
+    if hub.program.exited.done():
         tell("hub: the program has ended")
     for server, (listener, _) in zip(servers, listeners):
         server.close()
         listener.remove()
     await hub.stop()
     await end_duties(duties)
+    if hub.program.damaged_at:
+        log("the store is damaged, as was told at %s" % hub.program.damaged_at)
+        return max(hub.ended.result(), 1)
     return hub.ended.result()
 
 
@@ -263,7 +145,7 @@ async def serve(options: argparse.Namespace) -> int:
     program = await Program.start(
         [options.program, "serve", "--store", options.store, "--releases", options.releases])
     try:
-        await program.opened()
+        status = await program.opened()
     except Ended as ended:
         sys.stdout.buffer.write(ended.line)
         return ended.status
@@ -271,8 +153,10 @@ async def serve(options: argparse.Namespace) -> int:
         # Another hub may have begun to listen while the store was opened.
         if not all(is_clear(path) for path in paths):
             return 1
-        store = Store(program, options.store, options.program, options.merge_above)
-        return await serve_clients(Hub(program, store), listeners_of(options))
+        imports = int(status.split(b" ")[1])
+        store = Store(program, imports, options.store, options.program, options.merge_above)
+        hub = Hub(program, store, options.connections_a_user)
+        return await serve_clients(hub, listeners_of(options))
     finally:
         await program.stop()
 
@@ -301,6 +185,13 @@ def segments_of(text: str) -> int:
     return number
 
 
+def connections_of(text: str) -> int:
+    number = int(text)
+    if number < 1:
+        raise argparse.ArgumentTypeError("it isn't 1 or more")
+    return number
+
+
 def options_of(words: list[str]) -> argparse.Namespace:
     parser = argparse.ArgumentParser(description="Many clients for one store.")
     for name in ("program", "store", "releases"):
@@ -310,6 +201,8 @@ def options_of(words: list[str]) -> argparse.Namespace:
     parser.add_argument("--group", type=group_of, help="who may ask on the socket of --questions")
     parser.add_argument("--merge-above", type=segments_of, default=100, metavar="N",
                         help="how many segments may stand until the hub merges")
+    parser.add_argument("--connections-a-user", type=connections_of, default=MOST_A_USER,
+                        metavar="N", help="how many a user may have on the socket of --questions")
     options = parser.parse_args(words)
     if not options.socket and not options.questions:
         parser.error("--socket or --questions has to be given")

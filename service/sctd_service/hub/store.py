@@ -1,29 +1,25 @@
-"""The program that serves the store, and what is done with the store one after the other: lines,
-merges of the hub's own, copies."""
+"""What is done with the store one after the other: lines that may change it, merges of the hub's
+own, copies."""
 
 import asyncio
 import contextlib
 import os
 import threading
-import time
-from collections.abc import Sequence
-from dataclasses import dataclass
+from collections.abc import Callable
 from typing import Optional
 
-from ..logs import tell
-from ..protocol import DAMAGED, DISK_FAULT, Replies, last_line
+from ..logs import log
+from ..protocol import REFUSED
 from .lines import BACKUP, first_word, shown, without_cr
+from .program import HUB_SESSION, Ended, Program
 
-# The session of the hub's own lines.
-HUB_SESSION = 0
-# How many bytes of the program's replies are read at a time.
-REPLY_SIZE = 1 << 16
 # A merge of the hub's own goes in steps of so many rows.
 STEP = b"STEP 1000"
 # The most segments that a store may have.
 MOST_SEGMENTS = 250
 # The lines that are answered for a release, and for which a store that is full is merged first.
-FOR_RELEASES = (b"IMPORT", b"CHECK")
+IMPORT = b"IMPORT"
+FOR_RELEASES = (IMPORT, b"CHECK")
 # The lines whose replies are logged, and those of which only refusals are.
 LOGGED = (*FOR_RELEASES, b"PUBLISH")
 LOGGED_REFUSED = (b"MERGE", b"STEP", b"ABANDON", b"TRIM")
@@ -31,121 +27,26 @@ LOGGED_REFUSED = (b"MERGE", b"STEP", b"ABANDON", b"TRIM")
 COPY_SIZE = 1 << 20
 
 
-class Ended(Exception):
-    """The program has ended, or has to be started again."""
-
-    def __init__(self, status: int, line: bytes = b"") -> None:
-        super().__init__()
-        self.status, self.line = status, line
-
-
 class Refused(Exception):
     """Why something that the hub does by itself wasn't done."""
 
 
-@dataclass
-class Answers:
-    """The replies to some lines: all their bytes, and the last line of each."""
-
-    text: bytes
-    last_lines: list[bytes]
-
-
-def log(text: str) -> None:
-    """Writes a line of the log, with the time."""
-    tell(time.strftime("%Y-%m-%dT%H:%M:%SZ ", time.gmtime()) + text)
-
-
-class Program:
-    """`sctd serve`. It answers one line after the other."""
-
-    def __init__(self, process: asyncio.subprocess.Process) -> None:
-        assert process.stdin is not None and process.stdout is not None
-        self.process, self.input, self.output = process, process.stdin, process.stdout
-        self.turn = asyncio.Lock()
-        # Whether it is asked nothing any more.
-        self.is_over = False
-
-    @classmethod
-    async def start(cls, words: Sequence[str]) -> "Program":
-        return cls(await asyncio.create_subprocess_exec(
-            *words, stdin=asyncio.subprocess.PIPE, stdout=asyncio.subprocess.PIPE,
-            limit=REPLY_SIZE, start_new_session=True))
-
-    async def opened(self) -> None:
-        """Waits until the store is open."""
-        async with self.turn:
-            self.input.write(b"%d STATUS\n" % HUB_SESSION)
-            line = await self.output.readline()
-            if not line.startswith(b"OK "):
-                raise Ended(await self.failed(), line)
-
-    async def ask(self, session: int, lines: Sequence[bytes]) -> Answers:
-        """The replies to some lines of a session, in one turn. After `ERR 2` there is no other."""
-        async with self.turn:
-            if self.is_over:
-                raise Ended(1)
-            # What the pipe has no room for is written while the replies are read.
-            self.input.write(b"".join(b"%d %s\n" % (session, line) for line in lines))
-            replies = await self.replies(len(lines))
-            self.note(replies.last_lines)
-            return replies
-
-    def note(self, last_lines: Sequence[bytes]) -> None:
-        """Notes that the disk failed, and tells that the store is damaged."""
-        if any(last.startswith(DISK_FAULT) for last in last_lines):
-            self.is_over = True
-        if any(last.startswith(DAMAGED) for last in last_lines):
-            tell("hub: the store is damaged: restore your copy")
-
-    async def replies(self, count: int) -> Answers:
-        """The next so many replies."""
-        found: list[bytes] = []
-        replies = Replies()
-        while len(found) < count or replies.rest or replies.begun:
-            part = await self.output.read(REPLY_SIZE)
-            if not part:
-                self.is_over = True
-                raise Ended(await self.failed())
-            found += replies.feed(part)
-        if len(found) > count:
-            tell("hub: the program has said more than was asked")
-            raise Ended(1)
-        return Answers(b"".join(found), [last_line(reply) for reply in found])
-
-    async def failed(self) -> int:
-        """The status to end with where the program ended by itself; 1 where a signal ended it."""
-        return max(await self.process.wait(), 1)
-
-    async def watched(self) -> int:
-        """The status to end with once the program has ended, and what it said before was read."""
-        status = await self.failed()
-        async with self.turn:
-            return status
-
-    async def stop(self) -> None:
-        """Ends the program after the lines that it answers."""
-        self.is_over = True
-        async with self.turn:
-            self.input.close()
-            await self.process.wait()
-            # (Older versions of Python tell of a fault that nobody asked for.)
-            with contextlib.suppress(ConnectionError):
-                await self.input.wait_closed()
-
-
 class Store:
-    """What is done with the store one after the other: changes, merges of the hub's own, copies."""
+    """What is done with the store one after the other: changes, merges of the hub's own, copies.
+    `imports` is how many imports it has, and `on_import` is called before one is answered."""
 
-    def __init__(self, program: Program, path: str, command: str, merge_above: int) -> None:
+    def __init__(self, program: Program, imports: int, path: str, command: str,
+                 merge_above: int) -> None:
         self.program, self.path, self.command = program, path, command
+        self.imports = imports
+        self.on_import: Callable[[], None] = lambda: None
         self.merge_above = merge_above
         # Which file the path has named since the program opened it.
         self.identity = identity_of(os.stat(path))
         # Held by a line that may change the store, and while the store is copied.
         self.changes = asyncio.Lock()
         # Held from before an import, while there is room made for it, to its reply.
-        self.imports = asyncio.Lock()
+        self.imports_lock = asyncio.Lock()
         # Held by a merge of the hub's own. Who waits for several of these has them in the order
         # imports, merges, changes.
         self.merges = asyncio.Lock()
@@ -156,34 +57,37 @@ class Store:
         self.merging: Optional[int] = None
         self.copying: Optional[Copying] = None
 
-    async def change(self, session: int, line: bytes) -> Answers:
+    async def change(self, session: int, line: bytes, user: str = "hub") -> bytes:
         """The reply to a line that may change the store, once it is logged."""
         asking = self.imported if first_word(line) in FOR_RELEASES else self.asked
         try:
-            replies = await asking(session, line)
+            reply = await asking(session, line, user)
         except Ended:
             if session != HUB_SESSION and first_word(line) in LOGGED:
                 log("%s: no reply" % shown(without_cr(line)))
             raise
-        self.note_reply(session, line, replies.last_lines[0])
-        return replies
+        self.note_reply(session, line, reply[:-1])
+        return reply
 
-    async def imported(self, session: int, line: bytes) -> Answers:
+    async def imported(self, session: int, line: bytes, user: str) -> bytes:
         """The reply to an import, or to the check of one, for which room is made first."""
-        async with self.imports:
+        async with self.imports_lock:
             await self.make_room()
-            return await self.asked(session, line)
+            return await self.asked(session, line, user)
 
-    async def asked(self, session: int, line: bytes) -> Answers:
+    async def asked(self, session: int, line: bytes, user: str) -> bytes:
         """The reply to a line while nothing else changes or copies the store."""
         async with self.changes:
-            return await self.program.ask(session, [line])
+            return await self.program.ask(session, line, user, alone=True)
 
-    def note_reply(self, session: int, line: bytes, last: bytes) -> None:
+    def note_reply(self, session: int, line: bytes, reply: bytes) -> None:
         """Notes what a line has changed, and logs its reply."""
-        word, is_refused = first_word(line), last.startswith(b"ERR")
+        word, is_refused = first_word(line), reply.startswith(REFUSED)
         if word in LOGGED or (word in LOGGED_REFUSED and is_refused):
-            log("%s: %s" % (shown(without_cr(line)), shown(last)))
+            log("%s: %s" % (shown(without_cr(line)), shown(reply)))
+        if word == IMPORT and not is_refused:
+            self.imports = int(reply.split(b" ")[1])
+            self.on_import()
         if session != HUB_SESSION and not is_refused:
             self.note_change(session, word)
 
@@ -203,10 +107,21 @@ class Store:
 
     async def status(self) -> list[bytes]:
         """The words of the reply to STATUS."""
-        last = (await self.program.ask(HUB_SESSION, [b"STATUS"])).last_lines[0]
-        if not last.startswith(b"OK "):
-            raise Refused("STATUS was answered %s" % shown(last))
-        return last.split(b" ")
+        reply = (await self.program.ask(HUB_SESSION, b"STATUS"))[:-1]
+        if reply.startswith(REFUSED):
+            raise Refused("STATUS was answered %s" % shown(reply))
+        return reply.split(b" ")
+
+    def imports_told(self) -> bytes:
+        """What WATCH is answered, and told again with each import."""
+        return b"OK %d\n" % self.imports
+
+    def is_replaced(self) -> bool:
+        """Whether another file has the store's name, or none."""
+        try:
+            return identity_of(os.stat(self.path)) != self.identity
+        except OSError:
+            return True
 
     async def merge_in_time(self) -> None:
         """Merges between the clients' lines, whenever more segments stand than are wanted."""
@@ -242,10 +157,10 @@ class Store:
 
     async def merge_line(self, line: bytes) -> bytes:
         """The reply to a line of a merge of the hub's own."""
-        replies = await self.change(HUB_SESSION, line)
+        reply = await self.change(HUB_SESSION, line)
         if self.program.is_over:
             raise Ended(1)
-        return replies.last_lines[0]
+        return reply[:-1]
 
     async def backup(self, line: bytes) -> bytes:
         """The reply to BACKUP."""
