@@ -126,7 +126,8 @@ def watching(place: Place, _: str) -> None:
 
 
 def users(place: Place, store: str) -> None:
-    """A user has so many connections on the socket for questions and no more, which is told once."""
+    """A user has so many connections on the socket for questions and no more, which is told
+    once."""
     words = ("--questions", place.path("questions"), "--connections-a-user", "3")
     with Hub(place, store, *words) as hub:
         clients = [Client(hub.questions) for _ in range(3)]

@@ -526,7 +526,8 @@ def types(place: Place, store: str) -> None:
     examples = place.script("examples")
     files = sorted(name for name in os.listdir(examples) if name.endswith(".py"))
     done = subprocess.run(["mypy", "--strict", "--cache-dir=/dev/null", *files], cwd=examples,
-                          env=os.environ | {"MYPYPATH": place.script("service")}, stdout=subprocess.PIPE, stderr=subprocess.STDOUT, timeout=SECONDS * 2,
+                          env=os.environ | {"MYPYPATH": place.script("service")},
+                          stdout=subprocess.PIPE, stderr=subprocess.STDOUT, timeout=SECONDS * 2,
                           check=False)
     same("mypy", (done.returncode, done.stdout.decode()),
          (0, "Success: no issues found in %d source files\n" % len(files)))

@@ -42,7 +42,7 @@ RUNS = [
         "test_recorded",
     ),
     ("test_hub", "test_large_answers"),
-    ("test_releases",),
+    ("test_releases", "test_delivery"),
     ("test_members",),
 ]
 

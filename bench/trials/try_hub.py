@@ -75,7 +75,8 @@ def two_clients(place: Place, hub: Hub) -> None:
     same("a session that another had", later.ask(QUESTION), [AS_IN_2021, "END 1"])
     lines = "STATUS\n%s\nTERMS 20200131 10 Straße\n" % QUESTION
     # In a locale that isn't UTF-8, its lines and replies are the same bytes.
-    done = place.run("examples/client.py", hub.socket, given=lines.encode(), PYTHONIOENCODING="latin-1")
+    done = place.run("examples/client.py", hub.socket, given=lines.encode(),
+                     PYTHONIOENCODING="latin-1")
     wanted = "OK 2 10 2 -\n%s\nEND 1\n%s\nEND 1\n" % (AS_IN_2021, TERM_IN_2020)
     same("client.py", (done.stdout, done.returncode), (wanted.encode(), 0))
     later.leave()
@@ -250,7 +251,8 @@ def damage(place: Place, store: str) -> None:
         same("a damaged row", client.ask("GET C 1000004 20200131"), ["ERR 8 Damaged"])
         # No reply is lost behind one, or comes to another client.
         client.send(b"RECEIPT 1\nGET C 1000004 20200131\nRECEIPT 2\nSTATUS\n")
-        for wanted in ("OK 1 6 20200131", "ERR 8 Damaged", "OK 2 4 20210131", STATUS[0] + " Damaged"):
+        for wanted in ("OK 1 6 20200131", "ERR 8 Damaged", "OK 2 4 20210131",
+                       STATUS[0] + " Damaged"):
             same("lines around a damaged row", client.read(), [wanted])
         other = Client(hub.socket)
         same("another client", other.ask("RECEIPT 1"), ["OK 1 6 20200131"])
@@ -259,8 +261,8 @@ def damage(place: Place, store: str) -> None:
         same("the end of the hub", hub.stop("a hub of a damaged store"), 1)
         told = hub_duties.logged(hub)
         same("how much it told", len(told), 2)
-        found = "the store is damaged: GET C 1000004 20200131 of user %d was answered ERR 8 Damaged. "
-        same("what it told", told[0].startswith(found % os.getuid()), True)
+        found = "the store is damaged: GET C 1000004 20200131 of user %d was" % os.getuid()
+        same("what it told", told[0].startswith(found + " answered ERR 8 Damaged. "), True)
         same("its last line", told[1].startswith("the store is damaged, as was told at 2"), True)
 
 
@@ -418,7 +420,8 @@ def all_trials(place: Place, skipped: list[str]) -> int:
         same("the end of the hub", hub.stop("a hub that is stopped"), 0)
     tries = [openings, kept_sessions, turns, disk_fault, ends, unread, left_unread, kill_program]
     tries += [words, sockets]
-    tries += hub_duties.TRIALS + hub_crowds.TRIALS + hub_copies.TRIALS + hub_readers.TRIALS + [damage]
+    tries += hub_duties.TRIALS + hub_crowds.TRIALS + hub_copies.TRIALS
+    tries += hub_readers.TRIALS + [damage]
     count = len(on_one_hub)
     for each in tries:
         begun = time.monotonic()

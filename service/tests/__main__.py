@@ -25,6 +25,7 @@ MODULES = (
     "test_silent_hub",
     "test_releases",
     "test_large_answers",
+    "test_delivery",
     "test_members",
     "test_heads",
     "test_lines",

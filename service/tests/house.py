@@ -3,13 +3,15 @@
 import http.client
 import json
 import os
+import signal
 import socket
 import subprocess
 import sys
 import tempfile
 import threading
 import time
-from collections.abc import Callable, Iterable, Sequence
+from collections.abc import Callable, Iterable, Iterator, Sequence
+from contextlib import contextmanager
 from pathlib import Path
 from typing import Any
 from urllib.parse import urlencode
@@ -186,6 +188,18 @@ class House:
             self.hub.wait(SECONDS)
             self.hub.stdout.close()
             self.hub = None
+
+    @contextmanager
+    def stopped_program(self) -> Iterator[None]:
+        """The program answers nothing meanwhile."""
+        assert self.hub
+        with open("/proc/%d/task/%d/children" % (self.hub.pid, self.hub.pid)) as ids:
+            program = int(ids.read().split()[0])
+        os.kill(program, signal.SIGSTOP)
+        try:
+            yield
+        finally:
+            os.kill(program, signal.SIGCONT)
 
     def end(self) -> None:
         self.gateway.stop()

@@ -7,7 +7,8 @@ from sctd_service.gateway import limits
 
 TOKEN = re.compile(r"[!#$%&'*+.^_`|~0-9A-Za-z-]+\Z")
 CONTROL = re.compile(r"[\x00-\x08\x0a-\x1f\x7f]")
-TARGET = re.compile(r"/[\x21-\x7e]*\Z")
+# A path, perhaps behind a scheme and a host.
+TARGET = re.compile(r"(?:[Hh][Tt][Tt][Pp][Ss]?://[^/?#\x00-\x20\x7f]+)?(/[!-~]*)\Z")
 SINGLE = ("host", "content-length", "transfer-encoding", "content-type", "expect")
 WITH_BODY = ("POST", "PUT", "PATCH")
 CHUNKS = -1
@@ -32,7 +33,8 @@ def strictly_read(data: bytes) -> Head | None:
     words = lines[0].split(" ")
     if any(map(CONTROL.search, lines)) or len(words) != 3 or not TOKEN.match(words[0]):
         return None
-    if words[2] not in ("HTTP/1.0", "HTTP/1.1") or not TARGET.match(words[1]):
+    target = TARGET.match(words[1])
+    if words[2] not in ("HTTP/1.0", "HTTP/1.1") or not target:
         return None
     headers = headers_of(lines[1:])
     if headers is None or ("host" not in headers and words[2] == "HTTP/1.1"):
@@ -41,7 +43,7 @@ def strictly_read(data: bytes) -> Head | None:
     if length is None:
         return None
     closes = "close" in ",".join(headers.get("connection", [])).lower().replace(" ", "").split(",")
-    return Head(words[0], words[1], words[2] == "HTTP/1.1" and not closes, headers, length)
+    return Head(words[0], target[1], words[2] == "HTTP/1.1" and not closes, headers, length)
 
 
 def headers_of(lines: list[str]) -> dict[str, list[str]] | None:

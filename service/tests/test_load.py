@@ -3,10 +3,11 @@
 import socket
 import time
 import unittest
+from contextlib import suppress
 
 from sctd_service.gateway import limits
 
-from .house import POST, SCT, Json, Shared, close_all, issue, told, together, until, version
+from .house import SCT, Answer, Json, Shared, close_all, issue, told, together, until, version
 
 CLIENTS = 200
 # More than the gateway takes.
@@ -17,6 +18,8 @@ BESIDE_SECONDS = 1.5
 
 
 class Load(unittest.TestCase):
+    asked = 0
+
     def setUp(self) -> None:
         self.house = Shared.get()
         self.gateway, self.codes = self.house.gateway, self.house.codes
@@ -60,26 +63,36 @@ class Load(unittest.TestCase):
 
     def test_places_that_are_all_in_use(self) -> None:
         """Where each place has a request that goes on, one more is told to come again."""
-        many = [self.busy() for _ in range(limits.CONNECTIONS)]
-        answers = []
+        many, answers = list[socket.socket](), list[Answer]()
 
         def is_refused() -> bool:
-            answers.append(self.gateway.send("GET", "/fhir/metadata"))
+            while len(many) < limits.CONNECTIONS:
+                many.append(self.busy())
+            answers.append(self.gateway.send("GET", "/page.css"))
             if answers[-1].status != 503:
                 # One of them wasn't at work yet, and has made room.
                 many.append(self.busy())
             return answers[-1].status == 503
 
-        self.assertTrue(until(is_refused, limits.BODY_SECONDS - 2))
+        with self.house.stopped_program():
+            self.assertTrue(until(is_refused, limits.SCTD_SECONDS - 2))
         self.assertEqual(issue(answers[-1].json()), "throttled")
         self.assertIn("retry-after", answers[-1].headers)
+        for one in many:
+            with suppress(ConnectionError):  # It has made room.
+                one.recv(1)
         close_all(many)
 
     def busy(self) -> socket.socket:
-        """A client whose request goes on."""
+        """A client whose request goes on as long as the program is stopped."""
         client = self.gateway.connect()
-        client.sendall(POST + b"Content-Length: 100\r\n\r\n{")
+        client.sendall(b"GET %s HTTP/1.1\r\nHost: x\r\n\r\n" % self.unknown())
         return client
+
+    def unknown(self) -> bytes:
+        """The address of what no request before it has asked."""
+        self.asked += 1
+        return b"/suggest?text=never%d" % self.asked
 
     def test_client_that_reads_nothing(self) -> None:
         target = "/?q=%s" % self.codes["evil"]

@@ -84,7 +84,10 @@ ENDS = (
     (b"GET /health HTTP/1.0\r\nTransfer-Encoding: chunked\r\n\r\n0\r\n\r\n", 400),
     (GET + b"A: " + b"b" * 20_000 + b"\r\n\r\n", 431),
     (GET + b"A: b\r\n" * 4_000 + b"\r\n", 431),
-    (b"GET http://x/health HTTP/1.1\r\nHost: x\r\n\r\n", 400),
+    (b"GET ftp://x/health HTTP/1.1\r\nHost: x\r\n\r\n", 400),
+    (b"GET http:///health HTTP/1.1\r\nHost: x\r\n\r\n", 400),
+    (b"GET http://x HTTP/1.1\r\nHost: x\r\n\r\n", 400),
+    (b"GET //x@y:z HTTP/1.0 HTTP/1.1\r\nHost: x\r\n\r\n", 400),
     (b"GET * HTTP/1.1\r\nHost: x\r\n\r\n", 400),
     (b"GET /a\tb HTTP/1.1\r\nHost: x\r\n\r\n", 400),
     (b"GET /\xc3\xa4 HTTP/1.1\r\nHost: x\r\n\r\n", 400),
@@ -208,8 +211,20 @@ class Requests(unittest.TestCase):
             "/pin/%C2%B2/",
             "/page.css/../../app.py",
             "/fhir%0a",
+            "/pin%2f1/health",
+            "/pin/1%2Fhealth",
+            "/%70in/1/health",
+            "/fhir%2Fmetadata",
         ):
             self.assertEqual(self.gateway.send("GET", target).status, 404, target)
+
+    def test_addresses_with_a_host(self) -> None:
+        """What stands before the path is passed over, as HTTP has it."""
+        for address in (b"http://x/pin/1/health", b"HTTPS://user@x:80/pin/1/health"):
+            end = b" HTTP/1.1\r\nHost: x\r\nConnection: close\r\n\r\n"
+            got = self.gateway.raw(b"GET " + address + end)
+            self.assertTrue(got.startswith(b"HTTP/1.1 200 "), got[:40])
+            self.assertIn(b'"pin":1,', got)
 
     def test_methods(self) -> None:
         for method in ("PUT", "DELETE", "PATCH", "OPTIONS", "TRACE", "BREW"):
@@ -415,7 +430,8 @@ class Requests(unittest.TestCase):
             self.assertIn("default-src 'none'", headers["content-security-policy"])
             self.assertNotIn("unsafe", headers["content-security-policy"])
             self.assertEqual(headers["x-content-type-options"], "nosniff")
-            self.assertEqual(headers["cache-control"], "private, no-store")
+            lasting = "no-cache" if target == "/fhir/metadata" else "no-store"
+            self.assertEqual(headers["cache-control"], "private, " + lasting)
 
     def test_each_answer_has_its_date(self) -> None:
         for request, status in (

@@ -116,6 +116,7 @@ class SilentHub(unittest.TestCase):
         cases = [(said, b"OK 1\n", most) for said, most in CASES]
         cases += [(b"", imports, most) for imports, most in WATCH_CASES]
         said, imports, most = cases[number]
+        first = (said or imports)[:20]
         with tempfile.TemporaryDirectory() as folder:
             hub = FalseHub(folder + "/hub", said, imports)
             gateway = Gateway(folder + "/hub", Path(folder))
@@ -125,11 +126,11 @@ class SilentHub(unittest.TestCase):
                 took = time.monotonic() - began
                 again = gateway.send("GET", "/page.css")
                 if answer.status != 503 or "retry-after" not in answer.headers or took > most:
-                    return "%r: %d after %.1f s: %r" % (said[:20] or imports[:20], answer.status, took, answer.body)
+                    return "%r: %d after %.1f s: %r" % (first, answer.status, took, answer.body)
                 if most == SILENT and took < limits.SCTD_SECONDS - 0.5:
-                    return "%r: after %.1f s already" % (said[:20] or imports[:20], took)
+                    return "%r: after %.1f s already" % (first, took)
                 if again.status != 200 or "Traceback" in gateway.told():
-                    return "%r: %s" % (said[:20] or imports[:20], gateway.told())
+                    return "%r: %s" % (first, gateway.told())
                 return ""
             finally:
                 gateway.stop()

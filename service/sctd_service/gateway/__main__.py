@@ -24,6 +24,7 @@ from .pool import Pool
 
 # A URI that names a code system: a scheme, and no space or control character.
 SYSTEM = re.compile(r"[A-Za-z][A-Za-z0-9+.-]*:[\x21-\x7e]+\Z", re.ASCII)
+ORIGIN = re.compile(r"https?://[A-Za-z0-9.\[\]:-]+\Z", re.ASCII)
 
 
 def options() -> argparse.Namespace:
@@ -53,6 +54,14 @@ def options() -> argparse.Namespace:
         help="the code system to which the simple map of this reference set leads",
     )
     words.add_argument(
+        "--cors",
+        type=origin_of,
+        action="append",
+        default=[],
+        metavar="ORIGIN",
+        help="a site whose pages may read answers, such as https://forms.example.org, or *",
+    )
+    words.add_argument(
         "--log", action="store_true", help="a line of each request to standard error"
     )
     found = words.parse_args()
@@ -76,6 +85,12 @@ def refsets_of(text: str) -> tuple[str, ...]:
     return found
 
 
+def origin_of(text: str) -> str:
+    if text != "*" and not ORIGIN.match(text):
+        raise argparse.ArgumentTypeError("it is a scheme, ://, a host and perhaps a port, or *")
+    return text
+
+
 def map_of(text: str) -> tuple[str, str]:
     refset, _, system = text.partition("=")
     if not is_concept_id(refset) or not SYSTEM.match(system):
@@ -95,7 +110,7 @@ async def listening(server: http.Server, place: str) -> asyncio.Server:
 
 async def serve(found: argparse.Namespace) -> int:
     edition = Edition(found.edition, found.languages, dict(found.map))
-    app = App(Pool(found.socket), edition)
+    app = App(Pool(found.socket), edition, found.cors)
     server = http.Server(app.answer, refused_request, log=found.log)
     try:
         listens = await listening(server, found.listen)

@@ -5,19 +5,20 @@ import asyncio
 import json
 import re
 import traceback
-from collections.abc import AsyncIterator, Awaitable
+from collections.abc import AsyncIterator, Awaitable, Sequence
 from contextlib import asynccontextmanager
 from pathlib import Path
 from urllib.parse import parse_qsl, unquote
 
-from . import http, limits, page
+from .. import VERSION
+from ..logs import tell
+from . import delivery, http, limits, page
 from .fhir import OPERATIONS, Operation
 from .fhir.inputs import Given, Query, posted
-from .fhir.outputs import dumped
+from .fhir.outputs import dumped, written
 from .fhir.request import Request
 from .fhir.versions import Edition
 from .hub import OUT_OF_MEMORY, HubGone, HubRefused, TooCostly
-from ..logs import tell
 from .pool import NoSuchPin, Pool
 from .problems import Json, Problem, invalid, missing, not_found, too_costly
 from .store import View
@@ -46,6 +47,8 @@ LIVE, HEALTH = "/live", "/health"
 READS = ("GET", "HEAD")
 METHODS = (*READS, "POST")
 PATH = re.compile(r"(?:/pin/([0-9]{1,10}))?(/[^?#]*)\Z", re.ASCII | re.DOTALL)
+# A slash that isn't one to every program.
+ENCODED_SLASH = re.compile("%2f", re.I)
 FHIR_PATH = re.compile(r"(/pin/[0-9]+)?/fhir(/|\?|\Z)", re.ASCII)
 FHIR_BASE = "/fhir/"
 # How answers may be asked for, all of which are FHIR's JSON.
@@ -77,8 +80,8 @@ class App:
     """The answers to requests. `walks` are the places of those that may ask thousands of
     questions."""
 
-    def __init__(self, pool: Pool, edition: Edition) -> None:
-        self.pool, self.edition = pool, edition
+    def __init__(self, pool: Pool, edition: Edition, origins: Sequence[str] = ()) -> None:
+        self.pool, self.edition, self.origins = pool, edition, origins
         self.walks = asyncio.Semaphore(limits.WALKS)
         self.files = {
             path: http.Response(200, kind, file_of(path), SAFE) for path, kind in FILES.items()
@@ -88,11 +91,12 @@ class App:
         """An answer whatever happens, within the time that there is for one."""
         try:
             async with asyncio.timeout(limits.SCTD_SECONDS):
-                return await self.of_one_pin(request)
+                response = await self.of_one_pin(request)
         except http.Left:
             raise
         except Exception as error:
-            return refusal(problem_of(error), is_fhir(request.target))
+            response = refusal(problem_of(error), is_fhir(request.target))
+        return await delivery.packed(request, delivery.shared(request, response, self.origins))
 
     async def of_one_pin(self, request: http.Request) -> http.Response:
         while True:
@@ -105,12 +109,15 @@ class App:
 
     async def routed(self, request: http.Request) -> http.Response:
         target, _, words = request.target.partition("?")
+        if request.method == "OPTIONS" and self.origins:
+            return http.Response(204, "", b"", (("Allow", ", ".join(METHODS)),))
         if request.method not in METHODS:
             raise Problem(405, "not-supported", "only GET, HEAD and POST are answered", METHODS)
-        found = PATH.match(unquote(target, errors="replace"))
-        if found is None:
+        # (What is behind a pin begins where every program between says that it begins.)
+        found = PATH.match(target)
+        if found is None or ENCODED_SLASH.search(target):
             raise not_found("there is no such path")
-        pin, path = int(found[1]) if found[1] else None, found[2]
+        pin, path = int(found[1]) if found[1] else None, unquote(found[2], errors="replace")
         if path.startswith(FHIR_BASE) or path + "/" == FHIR_BASE:
             given = pairs_of(words)
             return await self.fhir(request, pin, path.removeprefix(FHIR_BASE), given)
@@ -158,11 +165,24 @@ class App:
             asked += posted(request.body)
         query = Query(asked, operation.parameters)
         async with self.view(request, pin, operation.is_walk) as view:
-            return await told_of(view, True, self.operated(operation, view, query))
+            tag = None if request.method == "POST" else self.tag_of(request, view)
+            if tag and delivery.is_known(request, tag):
+                return http.Response(304, "", b"", delivery.kept(SAFE, tag, pin is not None))
+            response = await told_of(view, True, self.operated(operation, view, query))
+        if not tag or response.status != 200:
+            return response
+        kept = delivery.kept(response.headers, tag, pin is not None)
+        return response._replace(headers=kept)
+
+    def tag_of(self, request: http.Request, view: View) -> str:
+        """What names an answer: all that it follows from."""
+        return delivery.tag_of(
+            (VERSION, str(self.edition), view.receipt, str(view.pin), request.target)
+        )
 
     async def operated(self, operation: Operation, view: View, query: Query) -> http.Response:
         resource = await operation.answer(Request(self.edition, view, query))
-        return http.Response(200, FHIR, dumped(resource), SAFE)
+        return http.Response(200, FHIR, await written(resource), SAFE)
 
     async def page(
         self, request: http.Request, pin: int | None, path: str, given: list[Given]

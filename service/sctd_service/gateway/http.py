@@ -2,8 +2,8 @@
 
 A head that two programs could read differently is refused, also where h11 reads it: a bare line
 end, a folded header, two lengths, a length beside chunks. Every wait has its limit, so that a slow
-client costs its own connection and nothing else. Where all places are taken, the connection that
-has waited longest for its next request makes room.
+client costs its own connection and nothing else. Where all places are taken, the connection whose
+next request has been awaited longest makes room, also where a part of that has come.
 """
 
 import asyncio
@@ -24,8 +24,10 @@ END_OF_HEAD = b"\r\n\r\n"
 METHODS_WITH_BODY = ("POST", "PUT", "PATCH")
 VERSIONS = (b"1.0", b"1.1")
 BODY = (limits.BODY_BYTES, limits.BODY_CHUNKS)
+WITHOUT_BODY = (204, 304)
 CONTINUE = b"HTTP/1.1 100 Continue\r\n\r\n"
-TARGET = re.compile(rb"/[\x21-\x7e]*\Z")
+# A path, behind a scheme and an authority where a client sends them too.
+TARGET = re.compile(rb"(?:https?://[^/?#\x00-\x20\x7f-\xff]+)?(/[\x21-\x7e]*)\Z", re.I)
 # What a head is made of: lines of printable ASCII and tabs, each of which ends with CR LF. A line
 # that begins with a space goes on with the header before it, which not every program knows.
 HEAD = re.compile(rb"(?:[\x21-\x7e][\t\x20-\x7e]*\r\n)+\r\n\Z")
@@ -90,7 +92,7 @@ def check_request(request: h11.Request) -> None:
     if request.http_version not in VERSIONS:
         raise Bad(505, "HTTP/1.1 is spoken here")
     if not TARGET.match(request.target):
-        raise Bad(400, "the target isn't a path")
+        raise Bad(400, "the target isn't a path, nor an address with one")
     headers = dict(request.headers)
     if b"content-encoding" in headers:
         raise Bad(415, "a compressed body isn't read")
@@ -185,16 +187,18 @@ class Client:
             raise Bad(error.error_status_hint, str(error)) from None
         except TimeoutError:
             raise Bad(408, "the body came too slowly") from None
-        method, target = event.method.decode(), event.target.decode()
+        found = TARGET.match(event.target)
+        assert found
+        method, target = event.method.decode(), found[1].decode()
         return Request(method, target, headers, body, self.reader.at_eof)
 
     async def send(self, response: Response, stays: bool, with_body: bool) -> None:
         lines = [
             "HTTP/1.1 %d %s" % (response.status, HTTPStatus(response.status).phrase),
             "Date: " + formatdate(usegmt=True),
-            "Content-Type: " + response.kind,
-            "Content-Length: %d" % len(response.body),
         ]
+        if response.status not in WITHOUT_BODY:
+            lines += ["Content-Type: " + response.kind, "Content-Length: %d" % len(response.body)]
         lines += ["%s: %s" % header for header in response.headers]
         lines += [] if stays else ["Connection: close"]
         head = "\r\n".join(lines).encode("ascii") + END_OF_HEAD
@@ -219,13 +223,13 @@ class Client:
 
 
 class Server:
-    """Answers clients. `waiting` are those between two requests, the longest first."""
+    """Answers clients. `waiting` are those whose next request isn't whole, the longest first."""
 
     def __init__(self, answer: Answer, refusal: Refusal, log: bool = False) -> None:
         self.answer, self.refusal, self.log = answer, refusal, log
         self.waiting: dict[Client, None] = {}
         self.open: dict[Client, asyncio.Task[None] | None] = {}
-        self.untaken = 0
+        self.untaken, self.is_ending = 0, False
 
     async def connected(self, reader: asyncio.StreamReader, writer: asyncio.StreamWriter) -> None:
         """Serves one connection to its end."""
@@ -259,12 +263,16 @@ class Server:
         try:
             head = await client.head()
             with_body = not head.startswith(b"HEAD ")
+            # One that sends its body has waited since its head.
             self.waiting.pop(client, None)
+            self.waiting[client] = None
             request = await client.request(head)
-            stays = client.stays
+            self.waiting.pop(client, None)
             response = await self.answer(request)
+            stays = client.stays and not self.is_ending
         except Bad as bad:
             response, stays = self.refusal(bad.status, bad.text), False
+        self.waiting.pop(client, None)
         await self.send(client, response, stays, with_body)
         if self.log:
             log(request, response, time.monotonic() - began)
@@ -284,7 +292,16 @@ class Server:
             self.untaken -= size
 
     async def stop(self) -> None:
-        """Ends all connections."""
+        """Ends all connections, those from which a request has come once it is answered."""
+        self.is_ending = True
+        # (What has come by now is read first.)
+        await asyncio.sleep(limits.LAST_LOOK_SECONDS)
+        for client, task in list(self.open.items()):
+            if client in self.waiting and task:
+                task.cancel()
+        end = time.monotonic() + limits.END_SECONDS
+        while self.open and time.monotonic() < end:
+            await asyncio.sleep(limits.LAST_LOOK_SECONDS)
         tasks = [task for task in self.open.values() if task]
         for task in tasks:
             task.cancel()

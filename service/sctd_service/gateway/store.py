@@ -1,6 +1,7 @@
 """What can be asked of the store. Each question is made here. Only the lines about pins, days and
 receipts are made elsewhere, in pool.py."""
 
+import asyncio
 import itertools
 import re
 from collections.abc import Iterable, Sequence
@@ -142,9 +143,14 @@ class View:
     async def concepts(
         self, codes: Sequence[str], day: str, keep: bool = True
     ) -> list[Concept | None]:
-        replies = await self.ask(["GET C %s %s" % (code, day) for code in codes], keep)
-        found = [rows(Concept, reply) for reply in replies]
-        return [one[0] if one else None for one in found]
+        concepts: list[Concept | None] = []
+        for start in range(0, len(codes), limits.HUB_BATCH):
+            some = codes[start : start + limits.HUB_BATCH]
+            replies = await self.ask(["GET C %s %s" % (code, day) for code in some], keep)
+            concepts += [next(iter(rows(Concept, reply)), None) for reply in replies]
+            # Other requests have their turn, also where nothing had to be asked.
+            await asyncio.sleep(0)
+        return concepts
 
     async def has(self, code: str, day: str) -> bool:
         return is_concept_id(code) and (await self.concepts([code], day))[0] is not None

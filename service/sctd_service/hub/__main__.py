@@ -1,8 +1,8 @@
 #!/usr/bin/env python3
 """Lets many programs ask one `sctd serve` over Unix sockets.
 
-sctd-hub --program SCTD --store FILE --releases DIR [--socket PATH] [--questions PATH [--group NAME]]
-         [--merge-above N] [--connections-a-user N]
+sctd-hub --program SCTD --store FILE --releases DIR [--socket PATH]
+         [--questions PATH [--group NAME]] [--merge-above N] [--connections-a-user N]
 
 The hub starts `sctd serve` and listens on the sockets, of which there has to be one. Each
 connection is a session of its own: a client sends lines without the session's number, such as
@@ -16,17 +16,21 @@ is its owner's alone, too, or with `--group` that group's.
 The program answers one line after the other, and is sent the next ones meanwhile, at most 32 of a
 client. An import or a DIGEST goes alone and keeps the others waiting. `WATCH` is answered `OK` and
 the number of imports, and the client is told so again with each import, before that is answered.
-`BACKUP PATH`, on the socket of
-`--socket`, copies the store while questions are answered. When more than N segments stand (100 if
-not said), the hub merges in short steps between the clients' lines; where the store is full, an
-import waits for a merge.
+`BACKUP PATH`, on the socket of `--socket`, copies the store while questions are answered. When more
+than N segments stand (100 if not said), the hub merges in short steps between the clients' lines;
+where the store is full, an import waits for a merge.
 
 Once the store is open, the hub prints `OK ready` (and tells systemd, where that started it). An
 opening that is refused ends the hub with the `ERR` line and the program's status. The hub ends with
 status 1 when the program ends, or after the program answered `ERR 2 DiskFault`: what started the
-hub should then start it again. SIGTERM and SIGINT end it with status 0, after the line that is
-being answered. Standard error has a line for each import, published merge and backup; where a
-client is answered `ERR 8 Damaged`, it says that the store is damaged.
+hub should then start it again; so it does when another file takes the place of FILE. SIGTERM and
+SIGINT end it with status 0, after the lines that are on their way. Standard error has a line for
+each import, published merge and backup, and for each line that took over a second. Once somebody is
+answered `ERR 8 Damaged`, it says that the store is damaged, STATUS ends with `Damaged`, and the
+hub's status at its end isn't 0.
+
+On the socket of `--questions` a user has at most so many connections as `--connections-a-user`
+says (250 if it isn't said), and one that says nothing for ten minutes is closed.
 
 PATH may name the socket that an earlier hub left behind, which is replaced. Anything else that
 stands there, such as a file or the socket of a program that runs, stays, and the hub ends with

@@ -1,5 +1,6 @@
 """ValueSet/$expand: the codes of a value set on a day, page by page."""
 
+import asyncio
 import datetime
 import uuid
 from collections.abc import Sequence
@@ -137,7 +138,19 @@ async def members_of_refset(
 async def entries_of(
     request: Request, found: Sequence[Member], moment: Moment, wanted: Wanted
 ) -> list[Json]:
-    """The concepts of a page, as an expansion has them."""
+    """The concepts of a page, as an expansion has them. Other requests have their turn between its
+    slices."""
+    entries: list[Json] = []
+    for start in range(0, len(found), limits.SLICE_CONCEPTS):
+        some = found[start : start + limits.SLICE_CONCEPTS]
+        entries += await slice_of_entries(request, some, moment, wanted)
+        await asyncio.sleep(0)
+    return entries
+
+
+async def slice_of_entries(
+    request: Request, found: Sequence[Member], moment: Moment, wanted: Wanted
+) -> list[Json]:
     codes, view = [member.code for member in found], request.view
     displays = await view.names(codes, moment.day, wanted.language)
     entries = [entry(member, displays[member.code]) for member in found]

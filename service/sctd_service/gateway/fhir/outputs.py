@@ -1,11 +1,13 @@
 """The pieces of FHIR's JSON that answers are made of."""
 
+import asyncio
 import json
 import re
 import secrets
 from collections.abc import Iterable, Mapping
 from typing import Any
 
+from .. import limits
 from ..problems import Json
 from ...snomed import (
     ACCEPTABLE,
@@ -37,10 +39,30 @@ ENCODER = json.JSONEncoder(ensure_ascii=False, separators=(",", ":"))
 
 
 def dumped(resource: Json) -> bytes:
-    text = ENCODER.encode(resource)
-    if WITH_ITS_DIGITS in text:
-        text = QUOTED_DIGITS.sub(r"\1", text)
-    return text.encode()
+    return text_of(resource).encode()
+
+
+def text_of(value: Any) -> str:
+    text = ENCODER.encode(value)
+    return QUOTED_DIGITS.sub(r"\1", text) if WITH_ITS_DIGITS in text else text
+
+
+async def written(resource: Json) -> bytes:
+    """The same. Other requests have their turn between the parts of its long lists."""
+    return (await text_in_parts(resource)).encode()
+
+
+async def text_in_parts(value: Any) -> str:
+    if isinstance(value, dict):
+        pairs = ["%s:%s" % (text_of(key), await text_in_parts(value[key])) for key in value]
+        return "{%s}" % ",".join(pairs)
+    if not isinstance(value, list) or len(value) <= limits.SLICE_CONCEPTS:
+        return text_of(value)
+    parts = []
+    for start in range(0, len(value), limits.SLICE_CONCEPTS):
+        parts.append(text_of(value[start : start + limits.SLICE_CONCEPTS])[1:-1])
+        await asyncio.sleep(0)
+    return "[%s]" % ",".join(parts)
 
 
 def parameter(name: str, **value: Any) -> Json:
