@@ -19,8 +19,10 @@ for word in sys.argv[1:]:
     for path in [*Path(word).glob("Terminology/*.txt"), *Path(word).glob(refsets)]:
         kind = next((kind for name, kind in kinds if re.match(name, path.name)), None)
         if kind and ("Full" in path.name or "Delta" in path.name):
-            for line in path.read_bytes().removesuffix(b"\n").split(b"\n")[1:]:
-                identifier, tab, columns = line.removesuffix(b"\r").partition(b"\t")
+            # (A line ends with LF or CR LF. Any other CR is a part of a column.)
+            lines = path.read_bytes().replace(b"\r\n", b"\n").removesuffix(b"\n").split(b"\n")
+            for line in lines[1:]:
+                identifier, tab, columns = line.partition(b"\t")
                 identifier = identifier.lower()  # A UUID may be spelled in capitals.
                 rows.add((ORDER.index(kind), len(identifier), identifier, tab + columns))
 digest = hashlib.sha256()

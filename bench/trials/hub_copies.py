@@ -84,11 +84,13 @@ def bad_copies(place: Place, store: str) -> None:
         client.leave()
 
 
+# What a file of somebody else has.
+FOREIGN = b"somebody else's"
 # Before each part of a copy the hub waits until there is a file.
-COPYING = "                        self.go_on()\n"
+COPYING = "                self.go_on()\n"
 WAITING = """\
-                        while not (self.is_stopped.wait(0.01) or os.path.exists(%r)):
-                            pass
+                while not (self.is_stopped.wait(0.01) or os.path.exists(%r)):
+                    pass
 """
 # And this stands before the program, whose `status` waits until there is another one.
 CHECKING = """
@@ -195,6 +197,45 @@ def stopped_copies(place: Place, store: str) -> None:
     same("what is left of it", os.path.exists(path), False)
 
 
+def foreign_files(place: Place, store: str) -> None:
+    """A file that was moved to the path of a copy, while that is made or checked, isn't removed
+    where the copy fails."""
+    go_on, path = place.path("go on"), place.path("copy")
+    slow = slow_copies(place, go_on).wrapped(CHECKING)
+    told = "hub: %s: not removed: the file was replaced or removed" % path
+    with Hub(slow, store) as hub:
+        owner = Client(hub.socket)
+        begin_copy(owner, path)
+        move_over(path)
+        same("the end of the hub", hub.stop("a hub that copies"), 0)
+        same("a copy that isn't made", owner.read(), ["ERR hub Backup the hub ends"])
+        same("whether it is there", has_foreign(path), True)
+        same("what is told of it", told in hub.told(), True)
+    os.remove(path)
+    with open(go_on, "wb"), Hub(slow, store) as hub:
+        owner = Client(hub.socket)
+        begin_copy(owner, path)
+        until("the copy is checked", lambda: os.path.exists(slow.path("checking")))
+        move_over(path)
+        with open(slow.path("check on"), "wb"):
+            reply = owner.read()[0]
+        if not reply.startswith("ERR hub Backup the copy is answered ERR 7 NotAStore"):
+            raise Wrong("a copy that was replaced: %r" % reply)
+        same("whether it is there", has_foreign(path), True)
+        same("what is told of it", told in hub.told(), True)
+
+
+def has_foreign(path: str) -> bool:
+    return os.path.exists(path) and content(path) == FOREIGN
+
+
+def move_over(path: str) -> None:
+    """Moves a file of somebody else to a path."""
+    with open(path + " of another", "wb") as file:
+        file.write(FOREIGN)
+    os.replace(path + " of another", path)
+
+
 def busy_copies(place: Place, store: str) -> None:
     """Copies that are made while 50 clients ask and one imports: each has what the store had before
     or after an import, and answers the same."""
@@ -228,4 +269,4 @@ def asked_of(program: str, path: str) -> list[str]:
     return done.stdout.decode().splitlines()
 
 
-TRIALS = [copies, bad_copies, slow_copy, stopped_copies, busy_copies]
+TRIALS = [copies, bad_copies, slow_copy, stopped_copies, foreign_files, busy_copies]

@@ -63,6 +63,13 @@ OF_MEMBERS = ["MEMBERS %d %s - 1000" % (rf2.US_ENGLISH, LATE), "PAGE M %s - 1000
 ASKED_NAMES = 20
 ALL = "--all"
 NO_ROWS = hashlib.sha256(b"").hexdigest()
+# A file of a reference set whose last column may have any text, and how its lines end.
+MAP_FILE = "Refset/Map/der2_sRefset_SimpleMapDelta_INT_20250131.txt"
+MAP_COLUMNS = ("id\teffectiveTime\tactive\tmoduleId\trefsetId\treferencedComponentId\tmapTarget"
+               "\r\n")
+MAP_ROW = ("0b6a0c2e-5d0f-4c53-9f6e-8d9d2a7b1c%02x\t20250131\t1\t900000000000207008\t"
+           "900000000000497000\t%d\tA00%s")
+LINE_ENDS = ("\n", "\r\n", "\r\r\n", "\r")
 
 
 # ---- A release that is tried before it counts
@@ -464,6 +471,20 @@ def digests_of_members(place: Place) -> None:
     each_digest(place, other, [NO_ROWS, digest_of(ALL, delta), wanted[2]])
 
 
+def digest_of_line_ends(place: Place) -> None:
+    """The same of lines that end with LF, with CR LF, with CR CR LF, and at the end of a file with
+    CR alone: a CR before no LF is the end of a member's last column."""
+    release = place.path("ends")
+    write_release(release, {"C": [concept(1)]})
+    path = release / MAP_FILE
+    path.parent.mkdir(parents=True)
+    rows = [MAP_ROW % (number, concept_id(1), end) for number, end in enumerate(LINE_ENDS)]
+    path.write_bytes((MAP_COLUMNS + "".join(rows)).encode())
+    store = place.make_store(layout=3)
+    same("their import", place.import_one(store, release), "OK 1 %d 0" % (1 + len(LINE_ENDS)))
+    each_digest(place, store, [NO_ROWS, digest_of(ALL, release)])
+
+
 # ---- A package in stores of each version
 
 
@@ -572,7 +593,8 @@ def damage(place: Place) -> None:
 
 TRIALS: list[Callable[[Place], None]] = [
     checks, contradictions, warnings, wrong_release, whole_copies, refused_copies, full_disk,
-    killed_copies, digests, digests_of_members, packages_below, the_rest, digest_refused, damage]
+    killed_copies, digests, digests_of_members, digest_of_line_ends, packages_below, the_rest,
+    digest_refused, damage]
 
 
 def said_of(trial: Callable[[Place], None], place: Place) -> str:

@@ -22,6 +22,7 @@ SCRIPTS: list[tuple[str, ...]] = [
     ("checks/check_guide.py",),
     ("trials/try_mistakes.py",),
     ("trials/check_syncs.py",),
+    ("trials/try_files.py",),
     ("trials/try_cache.py",),
     ("trials/try_hub.py",),
     ("trials/try_operators.py",),

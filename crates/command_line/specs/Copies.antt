@@ -1,5 +1,5 @@
 -- Copying a store.
-use Rattle.std.specs.Prelude.{◌≡◌, ◌⊎◌, ◌↔◌, ℕ, [], Option, Some, None, Result, Ok, Err}
+use Rattle.std.specs.Prelude.{◌≡◌, ◌⊎◌, ◌↔◌, ℕ, [], Option, Some, Result, Ok, Err}
 use Rattle.std.specs.Prelude.{IfOk, IfErr, OnOk, length}
 use Rattle.disk_model.specs.Disk.{IsImage, LeavesOnly}
 use Rattle.fault_counts.specs.Counting.{Counts}
@@ -15,6 +15,7 @@ use Rattle.history_store.specs.declared.refusal.Refusal.TheVariants as store
 use Rattle.line_server.specs.declared.refusal.LineRefusal.{LineRefusal}
 use Rattle.line_server.specs.declared.refusal.LineRefusal.TheVariants.{PinRange, Store}
 use Rattle.line_server.specs.ReplyValue.{Answer, Done as AllDone}
+use Rattle.command_line.specs.Disks.{IsRemoved}
 use Rattle.command_line.specs.Endings.{Report, Tells}
 
 -- the refusal for a store that couldn't be copied
@@ -66,21 +67,16 @@ pub record IsCopied {D : Type 0} (view : D → DiskView) (imports : Option ℕ)
   pub target_failures : Counts CountsTarget result (view target).failures
       (view target_left).failures
 
--- the file that was made for a copy was removed; or that can't be done, and it is unchanged
-abbrev pub IsRemoved : {D : Type 0} → (removes retains : Type 0) → D → Option D → Type 0
-IsRemoved removes retains made left =
-    (removes × (left ≡ None)) ⊎ (retains × (left ≡ Some made))
-
 -- a copy is kept, and what was made for one that failed is removed
-abbrev pub IsKept : {D : Type 0} → (removes retains : Type 0) → Result DirectoryValue CopyFault → D
-    → Option D → Type 0
+abbrev pub IsKept : {D : Type 0} → (removes retains : D → Type 0) → Result DirectoryValue CopyFault
+    → D → Option D → Type 0
 IsKept removes retains (Ok copy) made left = left ≡ Some made
 IsKept removes retains (Err e) made left = IsRemoved removes retains made left
 
 -- A copy was made of the store on one disk onto another one, or the result says why not. The
 -- result was written, and each disk was left in its state after that, except one that was made
 -- for a copy that failed.
-pub record IsCopyMade {D : Type 0} (view : D → DiskView) (removes retains : Type 0)
+pub record IsCopyMade {D : Type 0} (view : D → DiskView) (removes retains : D → Type 0)
     (imports : Option ℕ) (source target : D) (left made : Option D) (report : Report)
     : Type 0 where
   pub result : Result DirectoryValue CopyFault

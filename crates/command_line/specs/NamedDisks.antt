@@ -1,5 +1,5 @@
 -- Writes to a disk that was opened by a name.
-use Rattle.std.specs.Prelude.{◌≡◌, ◌⊎◌, ℕ, Result, IsErr}
+use Rattle.std.specs.Prelude.{◌≡◌, ◌⊎◌, ℕ, ◌+◌, List, [], ◌∷◌, length, max, Result, IsErr}
 use Rattle.disk_model.specs.Disk.{raised_by}
 use Rattle.disk_model.specs.View.{DiskView}
 use Rattle.command_line.specs.declared.named_disk.NamedDisk.{NamedDisk}
@@ -23,3 +23,9 @@ WritesNamed leads misses view result old new =
     (leads old.name old.length
     × ((view new.disk).other_calls ≡ raised_by (view old.disk).other_calls 1))
     ⊎ (misses old.name old.length × IsErr result × (new.disk ≡ old.disk))
+
+-- the length that a disk has after a write from offset `at` on, if it had this length: that of no
+-- bytes changes nothing
+abbrev pub length_after : ℕ → ℕ → List ℕ → ℕ
+length_after old at [] = old
+length_after old at (byte ∷ bytes) = max old (at + length (byte ∷ bytes))

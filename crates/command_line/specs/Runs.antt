@@ -30,13 +30,14 @@ use Rattle.command_line.specs.Tasks.{IsMade, IsImport, IsStatus, IsServing, IsSe
 use Rattle.command_line.specs.Tasks.{IsUpgrade}
 use Rattle.command_line.specs.Checking.{IsCheck}
 use Rattle.command_line.specs.Digests.{IsDigest}
-use Rattle.command_line.specs.Copies.{IsCopyMade, IsRemoved}
+use Rattle.command_line.specs.Copies.{IsCopyMade}
+use Rattle.command_line.specs.Disks.{IsRemoved}
 
 -- The system that the words refer to, as clauses see it: which disk exists under a name or is
 -- made there, and when none can be opened; which one is made under a name that isn't in use, and
--- when none can be; whether the name survives a crash; whether a new file is removed; whether there
--- is a folder in which releases can be looked for; and the releases of each folder, if the folders
--- are honest.
+-- when none can be; whether the name survives a crash; whether the file of a disk that was made is
+-- removed; whether there is a folder in which releases can be looked for; and the releases of each
+-- folder, if the folders are honest.
 pub record SystemView (D : Type 0) : Type 1 where
   pub stands : List ℕ → D → Type 0
   pub withholds : List ℕ → Type 0
@@ -46,8 +47,8 @@ pub record SystemView (D : Type 0) : Type 1 where
   pub occupies : List ℕ → Type 0
   pub keeps : List ℕ → Type 0
   pub loses : List ℕ → Type 0
-  pub removes : List ℕ → Type 0
-  pub retains : List ℕ → Type 0
+  pub removes : D → Type 0
+  pub retains : D → Type 0
   pub finds : List ℕ → Type 0
   pub lacks : List ℕ → Type 0
   pub is_honest : Type 0
@@ -92,11 +93,10 @@ IsCopiedAt {D} system name to imports left made report =
     × (left ≡ Some source) × (made ≡ None))
     ⊎ ((source : D) × (target : D) × system.stands name source × system.creates to target
     × system.loses to × IsMissing report × (left ≡ Some source)
-    × IsRemoved (system.removes to) (system.retains to) target made)
+    × IsRemoved system.removes system.retains target made)
     ⊎ ((source : D) × (target : D) × system.stands name source × system.creates to target
     × system.keeps to
-    × IsCopyMade system.disk (system.removes to) (system.retains to) imports source target left
-    made report)
+    × IsCopyMade system.disk system.removes system.retains imports source target left made report)
 
 -- The lines were served from the disk of a name, with the releases of a folder that exists. If
 -- there is no such folder, that was written, nothing was read, and the disk is unchanged. If the

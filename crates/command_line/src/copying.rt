@@ -1,7 +1,7 @@
 //! Copies a store to a new disk.
 
 ghost use Rattle.std.specs.Prelude.{◌≡◌, Err};
-ghost use Rattle.command_line.specs.Copies.{IsCopyMade, IsKept, IsRemoved, copy_refusal, copy_told};
+ghost use Rattle.command_line.specs.Copies.{IsCopyMade, IsKept, copy_refusal, copy_told};
 ghost use Rattle.command_line.specs.Endings.{IsTold, report};
 ghost use Rattle.command_line.specs.Runs.{AsksForPair, IsCopiedAt};
 
@@ -70,43 +70,25 @@ fn context_of<'a, V: Disks>(
     }
 }
 
-/// Removes the file that was made for a copy. Returns its disk if that fails.
-fn discard<F: Folders, D: Drop, E: Write>(
-    folders: &F,
-    to: &str,
-    made: D,
-    faults: &mut E,
-) -> Option<D>
-    ensures { IsRemoved (F.removes folders.now to.now) (F.retains folders.now to.now) made result }
-{
-    match folders.remove(to, faults) {
-        Ok(()) => None,
-        Err(_) => Some(made),
-    }
-}
-
 /// Returns the disk of a copy; none if the copy failed and its file was removed.
-fn keep<F: Folders, D: Drop, E: Write>(
-    folders: &F,
-    to: &str,
+fn keep<V: Disks, E: Write>(
+    disks: &V,
     copied: &Result<Directory, CopyFault>,
-    made: D,
+    made: V::Disk,
     faults: &mut E,
-) -> Option<D>
-    ensures { IsKept (F.removes folders.now to.now) (F.retains folders.now to.now) copied.now made
-        result }
+) -> Option<V::Disk>
+    ensures { IsKept V.removes V.retains copied.now made result }
 {
     match copied {
         Ok(_) => Some(made),
-        Err(_) => discard(folders, to, made, faults),
+        Err(_) => disks.discard(made, faults),
     }
 }
 
 /// Copies the first imports of the store of a disk, or all, to a new disk with the name `to`,
 /// and writes the result.
-fn copy_onto<V: Disks, F: Folders, O: Write, E: Write>(
+fn copy_onto<V: Disks, O: Write, E: Write>(
     disks: &V,
-    folders: &F,
     alloc: Global,
     path: &str,
     to: &str,
@@ -116,20 +98,16 @@ fn copy_onto<V: Disks, F: Folders, O: Write, E: Write>(
     output: &mut O,
     faults: &mut E,
 ) -> Performed<V::Disk>
-    ensures { IsCopyMade V.Disk.view
-        (F.removes folders.now to.now) (F.retains folders.now to.now) imports source target
-        result.1 result.2 (report result.0 (O.contents output.old) (O.contents output.new)) }
+    ensures { IsCopyMade V.Disk.view V.removes V.retains imports source target result.1 result.2
+        (report result.0 (O.contents output.old) (O.contents output.new)) }
 {
     let (mut source, mut target) = (source, target);
     let copied = copy(alloc, &mut source, &mut target, imports);
     let ended = tell_copy(alloc, &copied, output);
     let context = context_of(disks, path, to, &source, &target, &copied);
     tell_why(ended, &context, faults);
-    (
-        ended,
-        Some(source),
-        keep(folders, to, &copied, target, faults),
-    )
+    let made = keep(disks, &copied, target, faults);
+    (ended, Some(source), made)
 }
 
 /// Copies the first imports of the store with this name, or all, to a new disk with another name.
@@ -153,8 +131,8 @@ pub(crate) fn copy_at<V: Disks, F: Folders, O: Write, E: Write>(
       occupies = V.occupies disks.old;
       keeps = F.keeps folders.now;
       loses = F.loses folders.now;
-      removes = F.removes folders.now;
-      retains = F.retains folders.now;
+      removes = V.removes;
+      retains = V.retains;
       finds = F.finds folders.now;
       lacks = F.lacks folders.now;
       is_honest = F.is_honest folders.now;
@@ -173,9 +151,9 @@ pub(crate) fn copy_at<V: Disks, F: Folders, O: Write, E: Write>(
     };
     if folders.settle(alloc, to, faults).is_err() {
         let ended = refuse(alloc, output, Refusal::DiskFault);
-        return (ended, Some(source), discard(folders, to, target, faults));
+        return (ended, Some(source), disks.discard(target, faults));
     }
     copy_onto(
-        disks, folders, alloc, path, to, imports, source, target, output, faults,
+        disks, alloc, path, to, imports, source, target, output, faults,
     )
 }

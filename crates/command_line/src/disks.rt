@@ -2,9 +2,9 @@
 
 ghost use Rattle.std.specs.Prelude.{◌≡◌, ℕ, List, IfOk, IfErr};
 ghost use Rattle.disk_model.specs.Disk.{raised_by};
-ghost use Rattle.command_line.specs.Disks.{files_asked};
+ghost use Rattle.command_line.specs.Disks.{files_asked, IsRemoved};
 
-use crate::file_names::{FileName, name_disk};
+use crate::file_names::{FileName, name_disk, name_made, remove_made};
 use crate::holders::holder_of;
 use crate::named_disk::NamedDisk;
 use disk_model::{Disk, DiskFault, FileDisk, OpenFault};
@@ -32,6 +32,10 @@ pub trait Disks {
     ghost creates: { Self → List ℕ → Self.Disk → Type 0 };
     /// There is something under the name already, or nothing can be made there.
     ghost occupies: { Self → List ℕ → Type 0 };
+    /// The file of this disk, which was made, no longer exists.
+    ghost removes: { Self.Disk → Type 0 };
+    /// The file of this disk can't be removed, or its name refers to another one by now.
+    ghost retains: { Self.Disk → Type 0 };
 
     /// Opens the disk with this name. On failure, the reason goes to `faults`.
     fn open<E: Write>(&mut self, path: &str, faults: &mut E) -> Result<Self::Disk, DiskFault>
@@ -60,6 +64,12 @@ pub trait Disks {
         ensures had { IfOk result (creates self.old path.now) }
         ensures occupied { IfErr result (λ _. occupies self.old path.now) }
         ensures asked { asked self.new ≡ raised_by (asked self.old) 1 };
+
+    /// Removes the file of a disk that was made, which is given up for that. If its name no longer
+    /// refers to it, or it can't be removed, nothing is removed: the disk is returned, and the
+    /// reason goes to `faults`.
+    fn discard<E: Write>(&self, made: Self::Disk, faults: &mut E) -> Option<Self::Disk>
+        ensures { IsRemoved removes retains made result };
 
     /// The system error of the last call on the disk that failed, if one has failed.
     fn last_error(&self, disk: &Self::Disk) -> Option<io::Error>;
@@ -104,14 +114,17 @@ impl<'a, R: Files<File = File> + AllocGlobal> Disks for FileDisks<'a, R> {
 
     ghost occupies = { λ _ _. Unit {0} };
 
+    ghost removes = { λ _. Unit {0} };
+
+    ghost retains = { λ _. Unit {0} };
+
     fn open<E: Write>(
         &mut self,
         path: &str,
         faults: &mut E,
     ) -> Result<NamedFile<'a, R>, DiskFault> {
         self.asked = self.asked.saturating_add(1);
-        let name = FileName::of(self.rt, path);
-        let named = name_disk(name, FileDisk::open(self.rt, path));
+        let named = name_disk(self.rt, path, FileDisk::open(self.rt, path));
         disk_or_told(self.rt, named, path, faults)
     }
 
@@ -123,8 +136,7 @@ impl<'a, R: Files<File = File> + AllocGlobal> Disks for FileDisks<'a, R> {
         self.asked = self.asked.saturating_add(1);
         // If this fails, opening the file reports why.
         let _ = make_private(self.rt, path);
-        let name = FileName::of(self.rt, path);
-        let named = name_disk(name, FileDisk::open_or_make(self.rt, path));
+        let named = name_disk(self.rt, path, FileDisk::open_or_make(self.rt, path));
         disk_or_told(self.rt, named, path, faults)
     }
 
@@ -134,14 +146,24 @@ impl<'a, R: Files<File = File> + AllocGlobal> Disks for FileDisks<'a, R> {
         faults: &mut E,
     ) -> Result<NamedFile<'a, R>, DiskFault> {
         self.asked = self.asked.saturating_add(1);
-        let named = match make_new(self.rt, path) {
-            Ok(()) => {
-                let name = FileName::of(self.rt, path);
-                name_disk(name, FileDisk::open(self.rt, path))
+        match make_new(self.rt, path) {
+            Ok(made) => open_made(self.rt, path, &made, faults),
+            Err(error) => disk_or_told(self.rt, Err(OpenFault::System(error)), path, faults),
+        }
+    }
+
+    fn discard<E: Write>(
+        &self,
+        made: NamedFile<'a, R>,
+        faults: &mut E,
+    ) -> Option<NamedFile<'a, R>> {
+        match made.name().remove() {
+            Ok(()) => None,
+            Err(error) => {
+                tell_left(made.name().path(), error, faults);
+                Some(made)
             }
-            Err(error) => Err(OpenFault::System(error)),
-        };
-        disk_or_told(self.rt, named, path, faults)
+        }
     }
 
     fn last_error(&self, disk: &NamedFile<'a, R>) -> Option<io::Error> {
@@ -163,14 +185,36 @@ impl<'a, R: Files<File = File> + AllocGlobal> Disks for FileDisks<'a, R> {
 const OWNER_ALONE: u32 = 0o600;
 
 /// Makes an empty file with these permissions, if the name isn't in use, not even for a link.
-fn make_new<R: Files<File = File>>(rt: &R, path: &str) -> io::Result<()> {
+fn make_new<R: Files<File = File>>(rt: &R, path: &str) -> io::Result<File> {
     OpenOptions::new()
         .read(true)
         .write(true)
         .create_new(true)
         .mode(OWNER_ALONE)
-        .open(rt, path)?;
-    Ok(())
+        .open(rt, path)
+}
+
+/// The disk of a file that was made under a name. If it can't be opened, writes the reason, and
+/// removes the file.
+fn open_made<'a, R: Files<File = File> + AllocGlobal, E: Write>(
+    rt: &'a R,
+    path: &str,
+    made: &File,
+    faults: &mut E,
+) -> Result<NamedFile<'a, R>, DiskFault> {
+    let disk = disk_or_told(rt, name_made(rt, path, made), path, faults);
+    if disk.is_err() {
+        if let Err(error) = remove_made(rt, path, made) {
+            tell_left(path, error, faults);
+        }
+    }
+    disk
+}
+
+/// Writes why a file that was made isn't removed.
+fn tell_left<E: Write>(path: &str, error: io::Error, faults: &mut E) {
+    let name = Shown(path.as_bytes());
+    let _ = writeln!(faults, "sctd: {name}: not removed: {error}");
 }
 
 /// Makes an empty file with these permissions if there is none. An existing file keeps its own.

@@ -4,7 +4,7 @@ ghost use Rattle.std.specs.Prelude.{ℕ};
 
 use crate::named_disk::{Name, NamedDisk};
 use disk_model::{FileDisk, OpenFault};
-use std::fs::{self, File, Files};
+use std::fs::{self, File, Files, Metadata};
 use std::io::{self, ErrorKind};
 use std::os::unix::fs::MetadataExt;
 
@@ -25,17 +25,30 @@ impl FoundFile {
     }
 }
 
-/// The file that a name refers to now.
-fn find<R: Files<File = File>>(rt: &R, path: &str) -> io::Result<FoundFile> {
-    let metadata = fs::metadata(rt, path)?;
-    Ok(FoundFile {
+/// The file that has this metadata.
+fn found_by(metadata: Metadata) -> FoundFile {
+    FoundFile {
         device: metadata.dev(),
         number: metadata.ino(),
         length: metadata.len(),
-    })
+    }
 }
 
-/// The name of a file, and the file that it referred to at first. The file has to stay open as long
+/// The file that a name refers to now.
+fn find<R: Files<File = File>>(rt: &R, path: &str) -> io::Result<FoundFile> {
+    Ok(found_by(fs::metadata(rt, path)?))
+}
+
+/// What was found, if it is still the same file.
+fn same_or_replaced(found: io::Result<FoundFile>, file: FoundFile) -> io::Result<FoundFile> {
+    match found {
+        Ok(found) if found.is_same(file) => Ok(found),
+        Err(error) if error.kind() != ErrorKind::NotFound => Err(error),
+        _ => Err(was_replaced()),
+    }
+}
+
+/// The name by which a file was opened, and this file. The file has to stay open as long
 /// as this is used, since otherwise another file may get its number.
 #[derive(Drop)]
 pub struct FileName<'a, R: Files<File = File>> {
@@ -45,23 +58,49 @@ pub struct FileName<'a, R: Files<File = File>> {
 }
 
 impl<'a, R: Files<File = File> + AllocGlobal> FileName<'a, R> {
-    /// The name of an existing file.
-    pub(crate) fn of(rt: &'a R, path: &str) -> io::Result<FileName<'a, R>> {
+    /// The name by which a disk was opened.
+    fn of(rt: &'a R, path: &str, disk: &FileDisk) -> io::Result<FileName<'a, R>> {
         Ok(FileName {
             rt,
             path: String::from_str(rt.alloc(), path)?,
-            file: find(rt, path)?,
+            file: found_by(disk.metadata()?),
         })
+    }
+
+    /// The name itself.
+    pub(crate) fn path(&self) -> &str {
+        self.path.as_str()
     }
 
     /// The file that the name refers to now, if it is still the same one.
     fn find_again(&self) -> io::Result<FoundFile> {
-        match find(self.rt, self.path.as_str()) {
-            Ok(found) if found.is_same(self.file) => Ok(found),
-            Err(error) if error.kind() != ErrorKind::NotFound => Err(error),
-            _ => Err(was_replaced()),
-        }
+        same_or_replaced(find(self.rt, self.path.as_str()), self.file)
     }
+
+    /// Removes the file, if the name is still that of the file.
+    pub(crate) fn remove(&self) -> io::Result<()> {
+        remove_same(self.rt, self.path.as_str(), self.file)
+    }
+}
+
+/// Removes a file that was made under a name, if the name is still that of the file.
+pub(crate) fn remove_made<R: Files<File = File>>(
+    rt: &R,
+    path: &str,
+    made: &File,
+) -> io::Result<()> {
+    remove_same(rt, path, found_by(made.metadata()?))
+}
+
+/// Removes what has a name, if it is this file, and not a link to it. What is put there between the
+/// look and the removal is removed, since the system has no call that does both.
+fn remove_same<R: Files<File = File>>(rt: &R, path: &str, file: FoundFile) -> io::Result<()> {
+    let found = match fs::symlink_metadata(rt, path) {
+        Ok(metadata) => Ok(found_by(metadata)),
+        Err(error) => Err(error),
+    };
+    same_or_replaced(found, file)?;
+    fs::remove_file(rt, path)
 }
 
 /// The error for a name that refers to another file, or to none.
@@ -83,14 +122,25 @@ impl<R: Files<File = File> + AllocGlobal> Name for FileName<'_, R> {
     }
 }
 
-/// The disk of a file, with the file's name, which was looked up before the file was opened. It is
-/// looked up again here, to make sure that both are the same file.
+/// The disk of a file, with the name by which it was opened, which has to lead to this file.
 pub(crate) fn name_disk<'a, R: Files<File = File> + AllocGlobal>(
-    name: io::Result<FileName<'a, R>>,
+    rt: &'a R,
+    path: &str,
     opened: Result<FileDisk, OpenFault>,
 ) -> Result<NamedDisk<FileDisk, FileName<'a, R>>, OpenFault> {
     let disk = opened?;
-    let name = name?;
+    let name = FileName::of(rt, path, &disk)?;
     let length = name.find_again()?.length;
     Ok(NamedDisk::new(disk, name, length))
+}
+
+/// The same of a file that was made under this name: the disk has to be that of this file.
+pub(crate) fn name_made<'a, R: Files<File = File> + AllocGlobal>(
+    rt: &'a R,
+    path: &str,
+    made: &File,
+) -> Result<NamedDisk<FileDisk, FileName<'a, R>>, OpenFault> {
+    let named = name_disk(rt, path, FileDisk::open(rt, path))?;
+    same_or_replaced(Ok(named.name().file), found_by(made.metadata()?))?;
+    Ok(named)
 }

@@ -22,10 +22,6 @@ pub trait Folders {
     ghost keeps: { Self → List ℕ → Type 0 };
     /// The folder can't be synced, and so a crash may lose the name.
     ghost loses: { Self → List ℕ → Type 0 };
-    /// The file that was made under the name no longer exists.
-    ghost removes: { Self → List ℕ → Type 0 };
-    /// The file that was made under the name can't be removed.
-    ghost retains: { Self → List ℕ → Type 0 };
     /// The folders have the releases that `releases` names, and these don't change.
     ghost is_honest: { Self → Type 0 };
     /// The releases in the folders below a folder.
@@ -40,11 +36,6 @@ pub trait Folders {
     fn settle<E: Write>(&self, alloc: Global, path: &str, faults: &mut E) -> Result<(), DiskFault>
         ensures kept { IfOk result (λ _. keeps self.now path.now) }
         ensures lost { IfErr result (λ _. loses self.now path.now) };
-
-    /// Removes the file that was made under a name. On failure, the reason goes to `faults`.
-    fn remove<E: Write>(&self, path: &str, faults: &mut E) -> Result<(), DiskFault>
-        ensures removed { IfOk result (λ _. removes self.now path.now) }
-        ensures retained { IfErr result (λ _. retains self.now path.now) };
 
     /// Whether there is a folder in which releases can be looked for. If there is none, the reason
     /// goes to `faults`.
@@ -75,10 +66,6 @@ impl<R: Files<File = File> + AllocGlobal + Clone + Drop> Folders for R {
 
     ghost loses = { λ _ _. Unit {0} };
 
-    ghost removes = { λ _ _. Unit {0} };
-
-    ghost retains = { λ _ _. Unit {0} };
-
     ghost is_honest = { λ _. ⊥ };
 
     ghost releases = { λ _ _ _ _. None };
@@ -96,17 +83,6 @@ impl<R: Files<File = File> + AllocGlobal + Clone + Drop> Folders for R {
                     faults,
                     "sctd: the folder of {path} can't be synced: {error}"
                 );
-                Err(DiskFault)
-            }
-        }
-    }
-
-    fn remove<E: Write>(&self, path: &str, faults: &mut E) -> Result<(), DiskFault> {
-        match fs::remove_file(self, path) {
-            Ok(()) => Ok(()),
-            Err(error) => {
-                let name = Shown(path.as_bytes());
-                let _ = writeln!(faults, "sctd: {name} can't be removed: {error}");
                 Err(DiskFault)
             }
         }

@@ -1,8 +1,9 @@
 //! A disk that was opened by a name, and is no longer written once the name refers to something
 //! else.
 
-ghost use Rattle.std.specs.Prelude.{◌≡◌, ◌↔◌, ◌+◌, ◌≤◌, ℕ, length, IfOk, IfErr, OnOk, OnErr};
-ghost use Rattle.disk_model.specs.Disk.{Fails, followed_by, after_write};
+ghost use Rattle.std.specs.Prelude.{◌≡◌, ◌↔◌, ◌+◌, ◌≤◌, ℕ, length, min, IfOk, IfErr, OnOk, OnErr};
+ghost use Rattle.std.specs.Prelude.{MatchResult};
+ghost use Rattle.disk_model.specs.Disk.{Fails, followed_by, after_write, after_cut};
 ghost use Rattle.disk_model.specs.View.{Calls, Stays, RisesBy};
 ghost use Rattle.fault_counts.specs.Counting.{CountsEach};
 
@@ -45,6 +46,7 @@ impl<D, N> NamedDisk<D, N> {
     pub fn new(disk: D, name: N, length: u64) -> NamedDisk<D, N>
         ensures disk { result.disk ≡ disk }
         ensures name { result.name ≡ name }
+        ensures length { result.length ≡ length }
     {
         NamedDisk {
             disk,
@@ -61,6 +63,13 @@ impl<D, N> NamedDisk<D, N> {
         ensures { result.now ≡ self.now.disk }
     {
         &self.disk
+    }
+
+    /// The name by which it was opened.
+    pub fn name(&self) -> &N
+        ensures { result.now ≡ self.now.name }
+    {
+        &self.name
     }
 
     /// Why a write was refused, if one was.
@@ -81,7 +90,7 @@ fn counted<T: Drop>(answer: Result<T, DiskFault>, failures: &mut u64) -> Result<
 }
 
 impl<D: Disk, N: Name> Disk for NamedDisk<D, N> {
-    ghost use Rattle.command_line.specs.NamedDisks.{WritesNamed, named_view};
+    ghost use Rattle.command_line.specs.NamedDisks.{WritesNamed, named_view, length_after};
 
     ghost view = { named_view D.view };
 
@@ -110,6 +119,9 @@ impl<D: Disk, N: Name> Disk for NamedDisk<D, N> {
             (named_view D.view self.old) (named_view D.view self.new) }
         // Nothing is written if the name refers to something else.
         ensures named { WritesNamed N.leads N.misses D.view result self.old self.new }
+        ensures length { MatchResult result
+            (λ _. self.new.length ≡ length_after self.old.length at bytes.now)
+            (λ _. self.new.length ≡ self.old.length) }
     {
         self.other_calls = self.other_calls.saturating_add(1);
         if let Err(error) = self.name.look(self.length) {
@@ -124,7 +136,19 @@ impl<D: Disk, N: Name> Disk for NamedDisk<D, N> {
         Ok(())
     }
 
-    fn cut(&mut self, len: u64) -> Result<(), DiskFault> {
+    fn cut(&mut self, len: u64) -> Result<(), DiskFault>
+        ensures made { (D.view self.old.disk).is_honest
+            → OnOk result ((D.view self.new.disk).moments
+            ≡ followed_by (D.view self.old.disk).moments
+            (after_cut (D.view self.old.disk).moments.state len)) }
+        ensures failed { (D.view self.old.disk).is_honest
+            → OnErr result (Fails (D.view self.old.disk).moments
+            (after_cut (D.view self.old.disk).moments.state len)
+            (D.view self.new.disk).moments) }
+        ensures meters { Calls (CountsEach result) Stays (RisesBy 1)
+            (named_view D.view self.old) (named_view D.view self.new) }
+        ensures length { self.new.length ≡ min self.old.length len }
+    {
         self.other_calls = self.other_calls.saturating_add(1);
         self.length = self.length.min(len);
         counted(self.disk.cut(len), &mut self.failures)

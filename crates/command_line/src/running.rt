@@ -62,8 +62,8 @@ pub fn run<V: Disks, F: Folders, I: Read, O: Write, E: Write>(
       occupies = V.occupies disks.old;
       keeps = F.keeps folders.now;
       loses = F.loses folders.now;
-      removes = F.removes folders.now;
-      retains = F.retains folders.now;
+      removes = V.removes;
+      retains = V.retains;
       finds = F.finds folders.now;
       lacks = F.lacks folders.now;
       is_honest = F.is_honest folders.now;
@@ -106,8 +106,8 @@ fn perform<V: Disks, F: Folders, I: Read, O: Write, E: Write>(
       occupies = V.occupies disks.old;
       keeps = F.keeps folders.now;
       loses = F.loses folders.now;
-      removes = F.removes folders.now;
-      retains = F.retains folders.now;
+      removes = V.removes;
+      retains = V.retains;
       finds = F.finds folders.now;
       lacks = F.lacks folders.now;
       is_honest = F.is_honest folders.now;
@@ -183,8 +183,8 @@ fn init_at<V: Disks, F: Folders, O: Write, E: Write>(
       occupies = V.occupies disks.old;
       keeps = F.keeps folders.now;
       loses = F.loses folders.now;
-      removes = F.removes folders.now;
-      retains = F.retains folders.now;
+      removes = V.removes;
+      retains = V.retains;
       finds = F.finds folders.now;
       lacks = F.lacks folders.now;
       is_honest = F.is_honest folders.now;
@@ -310,8 +310,8 @@ fn serve_at<V: Disks, F: Folders, I: Read, O: Write, E: Write>(
       occupies = V.occupies disks.old;
       keeps = F.keeps folders.now;
       loses = F.loses folders.now;
-      removes = F.removes folders.now;
-      retains = F.retains folders.now;
+      removes = V.removes;
+      retains = V.retains;
       finds = F.finds folders.now;
       lacks = F.lacks folders.now;
       is_honest = F.is_honest folders.now;

@@ -1,14 +1,15 @@
 ghost use Rattle.std.specs.Prelude.{◌≡◌, ◌≤◌, Some, length, IfOk, IsErr, MatchResult};
 ghost use Rattle.fault_counts.specs.Counting.{CountsEach};
 
+use crate::size_limit::{SizeLimit, size_limit};
 use crate::{Disk, DiskFault, OpenFault};
 use fault_counts::raised;
-use std::fs::{File, OpenOptions};
+use std::fs::{File, Metadata, OpenOptions};
 use std::io::{self, ErrorKind};
 use std::os::unix::fs::FileExt;
 use std::rt::Files;
 
-/// How often an interrupted read is retried before it counts as a failure.
+/// How often an interrupted read or write is retried before it counts as a failure.
 const MAX_INTERRUPTIONS: u32 = 1_000;
 
 /// A file of the system. It is locked as long as the disk exists: no other `FileDisk` can use the
@@ -18,6 +19,8 @@ const MAX_INTERRUPTIONS: u32 = 1_000;
 #[derive(Drop)]
 pub struct FileDisk {
     file: File,
+    /// How long the system lets this process make a file.
+    limit: SizeLimit,
     failures: u64,
     last: Option<io::Error>,
     bytes_read: u64,
@@ -33,7 +36,7 @@ impl FileDisk {
         ensures unused { IfOk result (λ disk. IsUnused (file_view disk)) }
     {
         let file = OpenOptions::new().read(true).write(true).open(rt, path);
-        FileDisk::of(file)
+        FileDisk::of(file, size_limit(rt))
     }
 
     /// Opens a file for reading and writing, or makes an empty one if there is none.
@@ -45,12 +48,12 @@ impl FileDisk {
             .write(true)
             .create(true)
             .open(rt, path);
-        FileDisk::of(file)
+        FileDisk::of(file, size_limit(rt))
     }
 
     /// Locks the file, and waits until the storage disk has what earlier processes wrote, before
     /// anything is read. Refuses anything but a regular file.
-    fn of(opened: io::Result<File>) -> Result<FileDisk, OpenFault>
+    fn of(opened: io::Result<File>, limit: SizeLimit) -> Result<FileDisk, OpenFault>
         ensures unused { IfOk result (λ disk. IsUnused (file_view disk)) }
     {
         let file = opened?;
@@ -61,11 +64,17 @@ impl FileDisk {
         file.sync_all()?;
         Ok(FileDisk {
             file,
+            limit,
             failures: 0,
             last: None,
             bytes_read: 0,
             other_calls: 0,
         })
+    }
+
+    /// What the system says of the file itself, whatever has its name by now.
+    pub fn metadata(&self) -> io::Result<Metadata> {
+        self.file.metadata()
     }
 
     /// The system error of the last call that failed, if one has failed.
@@ -105,6 +114,36 @@ fn read_all(file: &File, at: u64, into: &mut [u8]) -> io::Result<usize>
         done += count;
     }
     Ok(done)
+}
+
+/// Makes one write, which is retried if it is interrupted.
+fn write_some(file: &File, at: u64, bytes: &[u8]) -> io::Result<usize>
+    ensures { IfOk result (λ n. n ≤ length bytes.now) }
+{
+    for _ in 0..MAX_INTERRUPTIONS {
+        match file.write_at(bytes, at) {
+            Err(error) if error.kind() == ErrorKind::Interrupted => {}
+            answer => return answer,
+        }
+    }
+    file.write_at(bytes, at)
+}
+
+/// Writes all bytes, if the file may become so long.
+fn write_all(file: &File, limit: SizeLimit, at: u64, bytes: &[u8]) -> io::Result<()> {
+    limit.check(at.saturating_add(bytes.len() as u64))?;
+    let mut done = 0;
+    for _ in 0..u64::MAX {
+        if done == bytes.len() {
+            break;
+        }
+        let count = write_some(file, at.wrapping_add(done as u64), &bytes[done..])?;
+        if count == 0 {
+            return Err(io::Error::from(ErrorKind::WriteZero));
+        }
+        done += count;
+    }
+    Ok(())
 }
 
 /// Counts a failure, and keeps its system error.
@@ -152,7 +191,7 @@ impl Disk for FileDisk {
     fn write_at(&mut self, at: u64, bytes: &[u8]) -> Result<(), DiskFault> {
         self.other_calls = self.other_calls.saturating_add(1);
         answer(
-            self.file.write_all_at(bytes, at),
+            write_all(&self.file, self.limit, at, bytes),
             &mut self.failures,
             &mut self.last,
         )

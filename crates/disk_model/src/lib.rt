@@ -10,6 +10,7 @@ mod disk;
 mod file;
 mod memory;
 mod opening;
+mod size_limit;
 
 pub use choice::Choice;
 pub use disk::{Disk, DiskFault, MAX_END};

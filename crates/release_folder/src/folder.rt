@@ -10,8 +10,8 @@ ghost use Rattle.release_folder.specs.declared.fault.FolderFault.TheVariants.{No
 
 use crate::fault::FolderFault;
 use crate::guards::{
-    INNER, LARGEST, REFSET, TERMINOLOGY, check_file, check_folder, check_parts, is_folder,
-    nothing_in, unlisted,
+    FoundParts, INNER, LARGEST, REFSET, TERMINOLOGY, check_file, check_folder, find_parts,
+    is_folder, nothing_in, unlisted,
 };
 use crate::names::{kind_to_take, shown_name};
 use crate::obstacle::{FolderReadFault, Obstacle};
@@ -21,7 +21,7 @@ use crate::watcher::{Unwatched, Watcher};
 use import_check::{Release, ReleaseFile, Scope};
 use std::alloc::{AllocError, Global};
 use std::fs::{self, File, Files};
-use std::io::{self, ErrorKind, Read};
+use std::io::{self, Read};
 
 /// Reads the release in the folder `name` below `dir`: the files of the folder `Terminology`, and
 /// then those of `Refset/Content`, each folder in the byte order of the files' names. Only files
@@ -51,7 +51,8 @@ pub fn read_folder<R: Files<File = File> + AllocGlobal + Clone + Drop>(
 }
 
 /// Reads the release like `read_folder`, but returns in detail why it can't be read. Opens nothing
-/// that isn't a folder or a regular file. First reports to the watcher the files that aren't read,
+/// that isn't a folder or a regular file. A folder that was there at first has to be there when it
+/// is read, and a file as long as when it was opened. First reports to the watcher the files that aren't read,
 /// in any folder of the release, and then each file before it is read.
 pub fn read_release<R: Files<File = File> + AllocGlobal + Clone + Drop, W: Watcher>(
     rt: &R,
@@ -67,10 +68,10 @@ pub fn read_release<R: Files<File = File> + AllocGlobal + Clone + Drop, W: Watch
 {
     let root = format!(in alloc; "{dir}/{name}")?;
     check_folder(rt, alloc, &root)?;
-    check_parts(rt, alloc, &root)?;
-    let folders = refset_folders(rt, alloc, &root, scope)?;
+    let found = find_parts(rt, alloc, &root)?;
+    let folders = refset_folders(rt, alloc, &root, found, scope)?;
     tell_passed_over(rt, alloc, &root, scope, watcher)?;
-    let terminology = files_of(rt, alloc, &root, TERMINOLOGY, scope, watcher)?;
+    let terminology = terminology_of(rt, alloc, &root, found, scope, watcher)?;
     let refset = parts_of(rt, alloc, &root, folders, scope, watcher)?;
     match release_of(terminology, refset) {
         Ok(release) => Ok(release),
@@ -130,13 +131,15 @@ fn refset_folders<R: Files<File = File> + AllocGlobal + Clone + Drop>(
     rt: &R,
     alloc: Global,
     root: &str,
+    found: FoundParts,
     scope: Scope,
 ) -> Result<Vec<String>, FolderReadFault>
     ensures { IfOk result (λ folders. AreFolders scope (length folders.items)) }
 {
     match scope {
-        Scope::Basic => Ok(vec![in alloc; String::from_str(alloc, INNER)?]?),
-        Scope::Whole => all_refset_folders(rt, alloc, root),
+        Scope::Basic if found.content => Ok(vec![in alloc; String::from_str(alloc, INNER)?]?),
+        Scope::Whole if found.refset => all_refset_folders(rt, alloc, root),
+        _ => Ok(Vec::new(alloc)),
     }
 }
 
@@ -156,6 +159,23 @@ fn all_refset_folders<R: Files<File = File> + AllocGlobal + Clone + Drop>(
         }
     }
     Ok(folders)
+}
+
+/// Reads the release files of the folder of the terminology, if it was found.
+fn terminology_of<R: Files<File = File> + AllocGlobal + Clone + Drop, W: Watcher>(
+    rt: &R,
+    alloc: Global,
+    root: &str,
+    found: FoundParts,
+    scope: Scope,
+    watcher: &mut W,
+) -> Result<Vec<ReleaseFile>, FolderReadFault>
+    ensures { IfOk result (λ files. All (IsTakenFile scope) files.items) }
+{
+    if !found.terminology {
+        return Ok(Vec::new(alloc));
+    }
+    files_of(rt, alloc, root, TERMINOLOGY, scope, watcher)
 }
 
 /// Reads the release files of some folders below `Refset`.
@@ -212,7 +232,7 @@ fn sort_by_folder(folders: &mut Vec<Part>)
     folders.sort_unstable_by(|a, b| a.folder.cmp(&b.folder));
 }
 
-/// Adds the release files of one folder. A folder that doesn't exist has none.
+/// Adds the release files of one folder.
 fn add_files<R: Files<File = File> + AllocGlobal + Clone + Drop, W: Watcher>(
     rt: &R,
     alloc: Global,
@@ -235,7 +255,7 @@ fn add_files<R: Files<File = File> + AllocGlobal + Clone + Drop, W: Watcher>(
     Ok(())
 }
 
-/// The names in a folder, in byte order. A folder that doesn't exist has none.
+/// The names in a folder, in byte order.
 fn names_in<R: Files<File = File> + AllocGlobal + Clone + Drop>(
     rt: &R,
     alloc: Global,
@@ -244,7 +264,6 @@ fn names_in<R: Files<File = File> + AllocGlobal + Clone + Drop>(
     let mut names = Vec::new(alloc);
     let entries = match fs::read_dir(rt, folder) {
         Ok(entries) => entries,
-        Err(error) if error.kind() == ErrorKind::NotFound => return Ok(names),
         Err(error) => return Err(FolderReadFault::said(alloc, folder, error)),
     };
     for entry in entries {
@@ -258,7 +277,7 @@ fn names_in<R: Files<File = File> + AllocGlobal + Clone + Drop>(
     Ok(names)
 }
 
-/// Reads all bytes of a file that isn't too large.
+/// Reads all bytes of a file that isn't too large. There have to be as many as when it was opened.
 fn whole_file<R: Files<File = File>>(
     rt: &R,
     alloc: Global,
@@ -268,22 +287,26 @@ fn whole_file<R: Files<File = File>>(
 {
     check_file(rt, alloc, path)?;
     let mut bytes = Vec::new(alloc);
-    if let Err(error) = read_up_to(rt, path, LARGEST + 1, &mut bytes) {
-        return Err(FolderReadFault::said(alloc, path, error));
-    }
-    if bytes.len() as u64 > LARGEST {
+    let said = match read_opened(rt, path, &mut bytes) {
+        Ok(said) => said,
+        Err(error) => return Err(FolderReadFault::said(alloc, path, error)),
+    };
+    if said > LARGEST {
         return Err(FolderReadFault::met(alloc, path, Obstacle::TooLarge));
+    }
+    if bytes.len() as u64 != said {
+        return Err(FolderReadFault::met(alloc, path, Obstacle::Changed));
     }
     Ok(bytes)
 }
 
-/// Reads up to `most` bytes of a file.
-fn read_up_to<R: Files<File = File>>(
-    rt: &R,
-    path: &str,
-    most: u64,
-    bytes: &mut Vec<u8>,
-) -> io::Result<()> {
-    fs::open(rt, path)?.take(most).read_to_end(bytes)?;
-    Ok(())
+/// Reads the bytes of a file, and one more if there is one by then, and returns how many it had when
+/// it was opened. Reads nothing of a file that is too large.
+fn read_opened<R: Files<File = File>>(rt: &R, path: &str, bytes: &mut Vec<u8>) -> io::Result<u64> {
+    let file = fs::open(rt, path)?;
+    let said = file.metadata()?.len();
+    if said <= LARGEST {
+        file.take(said + 1).read_to_end(bytes)?;
+    }
+    Ok(said)
 }

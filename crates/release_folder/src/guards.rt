@@ -57,17 +57,36 @@ pub(crate) fn check_folder<R: Files<File = File>>(
     }
 }
 
-/// Refuses a release if one of its parts is a link to nothing. A part may be missing.
-pub(crate) fn check_parts<R: Files<File = File>>(
+/// Which folders of a release were there before any of its files was read.
+#[derive(Clone, Copy)]
+pub(crate) struct FoundParts {
+    pub terminology: bool,
+    pub refset: bool,
+    pub content: bool,
+}
+
+/// Looks which folders of a release are there. A link to nothing is refused.
+pub(crate) fn find_parts<R: Files<File = File>>(
     rt: &R,
     alloc: Global,
     root: &str,
-) -> Result<(), FolderReadFault> {
-    for part in [TERMINOLOGY, REFSET, CONTENT] {
-        let path = format!(in alloc; "{root}/{part}")?;
-        let _ = look(rt, alloc, path.as_str())?;
-    }
-    Ok(())
+) -> Result<FoundParts, FolderReadFault> {
+    Ok(FoundParts {
+        terminology: has_part(rt, alloc, root, TERMINOLOGY)?,
+        refset: has_part(rt, alloc, root, REFSET)?,
+        content: has_part(rt, alloc, root, CONTENT)?,
+    })
+}
+
+/// Whether there is something under the name of a release's folder.
+fn has_part<R: Files<File = File>>(
+    rt: &R,
+    alloc: Global,
+    root: &str,
+    part: &str,
+) -> Result<bool, FolderReadFault> {
+    let path = format!(in alloc; "{root}/{part}")?;
+    Ok(look(rt, alloc, path.as_str())?.is_some())
 }
 
 /// Whether there is a folder at a path. A link to nothing is refused.

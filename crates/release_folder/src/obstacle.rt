@@ -26,6 +26,9 @@ pub enum Obstacle {
     NotAFile,
     #[error("over 4,294,967,295 bytes")]
     TooLarge,
+    /// It has fewer bytes than it had when it was opened, or more.
+    #[error("its length changed while it was read")]
+    Changed,
     #[error("the name of a file in it isn't UTF-8")]
     NotUtf8,
     /// The folder has neither the folder of the terminology nor that of the reference sets.

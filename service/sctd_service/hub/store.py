@@ -8,7 +8,7 @@ import threading
 from collections.abc import Callable
 from typing import Optional
 
-from ..logs import log
+from ..logs import log, tell
 from ..protocol import REFUSED
 from .lines import BACKUP, first_word, shown, without_cr
 from .program import HUB_SESSION, Ended, Program
@@ -179,26 +179,27 @@ class Store:
             wanted = (await self.status())[:4]
             self.copying = Copying(self.path, self.identity, path)
             try:
-                await asyncio.to_thread(self.copying.copy)
+                made = await asyncio.to_thread(self.copying.copy)
             finally:
                 self.copying = None
-        found, why = await self.checked(path)
-        if found.split(b" ")[:4] != wanted:
-            remove(path)
-            raise Refused("the copy is answered %s, %s" % (shown(found), shown(why)))
+        with contextlib.closing(made):
+            found, why = await self.checked(made)
+            if found.split(b" ")[:4] != wanted:
+                made.remove()
+                raise Refused("the copy is answered %s, %s" % (shown(found), shown(why)))
         return b" ".join(wanted)
 
-    async def checked(self, path: str) -> tuple[bytes, bytes]:
+    async def checked(self, made: "NewFile") -> tuple[bytes, bytes]:
         """What `sctd status` answers of a copy, and what it says beside that."""
         checking = await asyncio.create_subprocess_exec(
-            self.command, "status", "--store", path, stdin=asyncio.subprocess.DEVNULL,
+            self.command, "status", "--store", made.path, stdin=asyncio.subprocess.DEVNULL,
             stdout=asyncio.subprocess.PIPE, stderr=asyncio.subprocess.PIPE)
         try:
             said, why = await checking.communicate()
         except asyncio.CancelledError:
             checking.kill()
             await checking.wait()
-            remove(path)
+            made.remove()
             raise
         return said.rstrip(b"\n"), why.rstrip(b"\n")
 
@@ -228,6 +229,37 @@ def identity_of(found: os.stat_result) -> Identity:
     return found.st_dev, found.st_ino
 
 
+class NewFile:
+    """A file that is made under a path where there is none. Until it is closed, no other file can
+    have its identity."""
+
+    def __init__(self, path: str) -> None:
+        self.path = path
+        self.file = open(os.open(path, os.O_WRONLY | os.O_CREAT | os.O_EXCL, 0o600), "wb")
+        self.identity = identity_of(os.fstat(self.file.fileno()))
+
+    def sync(self) -> None:
+        """Makes sure that the file and its name are on the disk, and nowhere else."""
+        self.file.flush()
+        os.fsync(self.file.fileno())
+        # What is checked then is what the disk has.
+        os.posix_fadvise(self.file.fileno(), 0, 0, os.POSIX_FADV_DONTNEED)
+        sync_folder(os.path.dirname(self.path))
+
+    def remove(self) -> None:
+        """Removes it, if the path still leads to it, and otherwise tells that it isn't removed."""
+        with contextlib.suppress(FileNotFoundError):
+            if identity_of(os.lstat(self.path)) == self.identity:
+                os.unlink(self.path)
+                return
+        tell("hub: %s: not removed: the file was replaced or removed" % self.path)
+
+    def close(self) -> None:
+        # What is left to write after a fault of the disk can't be written.
+        with contextlib.suppress(OSError):
+            self.file.close()
+
+
 class Copying:
     """A copy of the store's file that is being made. It is made in a thread of its own."""
 
@@ -235,42 +267,34 @@ class Copying:
         self.source, self.identity, self.path = source, identity, path
         self.is_stopped = threading.Event()
 
-    def copy(self) -> None:
-        """Makes a new file, and syncs it and its folder. Where that fails no file is left."""
+    def copy(self) -> NewFile:
+        """Makes a new file, and syncs it and its folder. If that fails, the file is removed."""
         try:
-            self.write(os.open(self.path, os.O_WRONLY | os.O_CREAT | os.O_EXCL, 0o600))
+            made = NewFile(self.path)
+            try:
+                self.fill(made)
+            except BaseException:
+                made.remove()
+                made.close()
+                raise
         except OSError as why:
             raise Refused(why.strerror or str(why)) from None
+        return made
 
-    def write(self, number: int) -> None:
-        """Fills the new file that has this number."""
-        try:
-            with open(number, "wb") as target:
-                with open(self.source, "rb") as source:
-                    if identity_of(os.fstat(source.fileno())) != self.identity:
-                        raise Refused("the store's file was replaced")
-                    while part := source.read(COPY_SIZE):
-                        self.go_on()
-                        target.write(part)
-                target.flush()
-                os.fsync(target.fileno())
-                # What is checked then is what the disk has.
-                os.posix_fadvise(target.fileno(), 0, 0, os.POSIX_FADV_DONTNEED)
-            sync_folder(os.path.dirname(self.path))
-            self.go_on()
-        except BaseException:
-            remove(self.path)
-            raise
+    def fill(self, made: NewFile) -> None:
+        """Copies the store's file into the new one."""
+        with open(self.source, "rb") as source:
+            if identity_of(os.fstat(source.fileno())) != self.identity:
+                raise Refused("the store's file was replaced")
+            while part := source.read(COPY_SIZE):
+                self.go_on()
+                made.file.write(part)
+        made.sync()
+        self.go_on()
 
     def go_on(self) -> None:
         if self.is_stopped.is_set():
             raise Refused("the hub ends")
-
-
-def remove(path: str) -> None:
-    """Removes a copy that is none."""
-    with contextlib.suppress(FileNotFoundError):
-        os.unlink(path)
 
 
 def sync_folder(path: str) -> None:
