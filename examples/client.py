@@ -7,67 +7,38 @@ The lines have no session number:
 `echo 'GET C 138875005 20250101' | python3 client.py /run/sctd/questions.sock`. They are sent as
 they are, whatever the locale: the store's texts are UTF-8. The status is 1 where a line was
 answered `ERR`, where the hub can't be reached or ends before each line is answered, and where the
-replies can't be printed; else it is 0. Standard library alone.
+replies can't be printed; else it is 0. It takes the folder `service/` beside its own.
 """
 
 import os
 import signal
-import socket
 import sys
-from typing import BinaryIO
+from pathlib import Path
 
-LAST_LINES = (b"OK", b"ERR", b"END")
-
-
-class Failed(Exception):
-    """Why the lines weren't all answered and printed."""
+sys.path.append(str(Path(__file__).resolve().parent.parent / "service"))
+from sctd_service.protocol import REFUSED, HubClient, HubFailed, last_line  # noqa: E402
 
 
-def first_word(line: bytes) -> bytes:
-    return line.rstrip(b"\n").split(b" ")[0]
-
-
-def ask(connection: socket.socket, replies: BinaryIO, line: bytes) -> list[bytes]:
-    """The lines of the reply to one line."""
-    reply: list[bytes] = []
+def show(reply: bytes) -> None:
     try:
-        try:
-            connection.sendall(line.removesuffix(b"\n") + b"\n")
-        except BrokenPipeError:
-            pass  # What the hub said before it hung up is read.
-        while not reply or first_word(reply[-1]) not in LAST_LINES:
-            reply.append(replies.readline())
-            if not reply[-1].endswith(b"\n"):
-                raise Failed("the hub has ended")
-    except ConnectionError:
-        raise Failed("the hub has ended") from None
-    return reply
-
-
-def show(reply: list[bytes]) -> None:
-    try:
-        sys.stdout.buffer.write(b"".join(reply))
+        sys.stdout.buffer.write(reply)
         sys.stdout.buffer.flush()
     except OSError as why:
         # Python writes the rest once more when it ends.
         os.dup2(os.open(os.devnull, os.O_WRONLY), sys.stdout.fileno())
-        raise Failed("standard output: %s" % why.strerror) from None
+        raise HubFailed("standard output: %s" % why.strerror) from None
 
 
 def answer_all(path: str) -> int:
     """Prints the replies to all lines, and answers the status to end with."""
     status = 0
-    with socket.socket(socket.AF_UNIX) as connection:
-        try:
-            connection.connect(path)
-        except OSError as why:
-            raise Failed("%s: %s" % (path, why.strerror or why)) from None
-        with connection.makefile("rb") as replies:
-            for line in sys.stdin.buffer:
-                reply = ask(connection, replies, line)
-                show(reply)
-                if first_word(reply[-1]) == b"ERR":
-                    status = 1
+    hub = HubClient(path)
+    for line in sys.stdin.buffer:
+        hub.send([line.removesuffix(b"\n")])
+        reply = hub.reply()
+        show(reply)
+        if last_line(reply).startswith(REFUSED):
+            status = 1
     return status
 
 
@@ -79,7 +50,7 @@ def main(words: list[str]) -> int:
     signal.signal(signal.SIGINT, signal.SIG_DFL)
     try:
         return answer_all(words[0])
-    except (Failed, OSError) as why:
+    except (HubFailed, OSError) as why:
         print("client: %s" % why, file=sys.stderr)
         return 1
 

@@ -18,7 +18,7 @@ pin, receipt              the imports that are shown, and the receipt of the las
 that a report can be repeated. A record that can't be read is a line with its reason, and the next
 one is read as ever. Standard error tells how far it is. The status is 1 where the hub can't be
 reached or ends, and where a question is refused for another reason than its record; it is 2 where
-the words or the first line aren't understood. Standard library alone.
+the words or the first line aren't understood. It takes the folder `service/` beside its own.
 """
 
 import argparse
@@ -30,12 +30,16 @@ import io
 import itertools
 import re
 import signal
-import socket
 import sys
 import time
-from collections.abc import Iterable, Iterator, Sequence
+from collections.abc import Iterator, Sequence
 from dataclasses import dataclass, field
+from pathlib import Path
 from typing import BinaryIO, NamedTuple, Optional
+
+sys.path.append(str(Path(__file__).resolve().parent.parent / "service"))
+from sctd_service import snomed  # noqa: E402
+from sctd_service.protocol import HubClient, HubFailed  # noqa: E402
 
 NEW_COLUMNS = ["active_then", "name_then", "active_now", "name_now", "replaced_by",
                "may_be_replaced_by", "problem", "pin", "receipt"]
@@ -53,17 +57,12 @@ MOST_STEPS = 20
 PROGRESS_SECONDS = 5
 # The date that no version is later than.
 NOW = "99991231"
-FULLY_SPECIFIED = "900000000000003001"
-# Association reference sets: SAME AS, REPLACED BY; and POSSIBLY EQUIVALENT TO, ALTERNATIVE,
-# POSSIBLY REPLACED BY, PARTIALLY EQUIVALENT TO.
-REPLACING = {"900000000000527005", "900000000000526001"}
-MAYBE_REPLACING = {"900000000000523009", "900000000000530003", "1186921001", "1186924009"}
+# Association reference sets.
+REPLACING = {snomed.SAME_AS, snomed.REPLACED_BY}
+MAYBE_REPLACING = {snomed.POSSIBLY_EQUIVALENT_TO, snomed.ALTERNATIVE, snomed.POSSIBLY_REPLACED_BY,
+                   snomed.PARTIALLY_EQUIVALENT_TO}
 CODE = re.compile(r"[0-9]{6,18}")
 DATE = re.compile(r"([0-9]{4})(-?)([0-9]{2})\2([0-9]{2})")
-
-
-class Failed(Exception):
-    """Why the records weren't all read."""
 
 
 class Unreadable(Exception):
@@ -74,21 +73,16 @@ class Hub:
     """A connection to the hub, whose session is pinned."""
 
     def __init__(self, path: str, pin: Optional[int]) -> None:
-        self.connection = socket.socket(socket.AF_UNIX)
-        try:
-            self.connection.connect(path)
-        except OSError as why:
-            raise Failed("%s: %s" % (path, why.strerror or why)) from None
-        self.replies = self.connection.makefile("rb")
+        self.client = HubClient(path)
         self.pin = self.one("PIN" if pin is None else "PIN %d" % pin).split(" ")[1]
         self.receipt = self.one("RECEIPT " + self.pin) if self.pin != "0" else ""
 
     def one(self, line: str) -> str:
         """The reply of one line, which has to be OK."""
-        self.send([line])
-        reply = self.line()
+        self.client.send([line.encode()])
+        reply = self.reply()[-1]
         if not reply.startswith("OK "):
-            raise Failed("%s was answered %s" % (line, reply))
+            raise HubFailed("%s was answered %s" % (line, reply))
         return reply
 
     def ask(self, lines: Sequence[str]) -> list[Optional[list[list[str]]]]:
@@ -96,36 +90,21 @@ class Hub:
         found = []
         for start in range(0, len(lines), MOST_SENT):
             some = lines[start : start + MOST_SENT]
-            self.send(some)
+            self.client.send(line.encode() for line in some)
             found += [self.rows(line) for line in some]
         return found
 
-    def send(self, lines: Iterable[str]) -> None:
-        try:
-            self.connection.sendall("".join(line + "\n" for line in lines).encode())
-        except ConnectionError:
-            raise Failed("the hub has ended") from None
-
-    def line(self) -> str:
-        try:
-            line = self.replies.readline()
-        except ConnectionError:
-            line = b""
-        if not line.endswith(b"\n"):
-            raise Failed("the hub has ended")
-        return line[:-1].decode("utf-8", "surrogateescape")
+    def reply(self) -> list[str]:
+        """The lines of the next reply."""
+        return self.client.reply().decode("utf-8", "surrogateescape").split("\n")[:-1]
 
     def rows(self, asked: str) -> Optional[list[list[str]]]:
-        rows = []
-        line = self.line()
-        while line.startswith("ROW "):
-            rows.append(line[4:].split("\t"))
-            line = self.line()
-        if line.startswith("ERR 43 "):
+        *rows, last = self.reply()
+        if last.startswith("ERR 43 "):
             return None
-        if not line.startswith("END "):
-            raise Failed("%s was answered %s" % (asked, line))
-        return rows
+        if not last.startswith("END "):
+            raise HubFailed("%s was answered %s" % (asked, last))
+        return [row.removeprefix("ROW ").split("\t") for row in rows]
 
 
 class State(NamedTuple):
@@ -139,7 +118,7 @@ def state_of(versions: Optional[list[list[str]]], terms: Optional[list[list[str]
     """The state that the replies to GET C and ABOUT D say."""
     if not versions:
         return State("", "")
-    names = [row for row in terms or [] if row[6] == FULLY_SPECIFIED]
+    names = [row for row in terms or [] if row[6] == snomed.FULLY_SPECIFIED_NAME]
     names.sort(key=lambda row: row[5] != "en")
     return State(versions[0][2], names[0][7] if names else "")
 
@@ -423,7 +402,7 @@ def main() -> int:
     except (Unreadable, csv.Error) as why:
         print("read_records: %s" % why, file=sys.stderr)
         status = 2
-    except (Failed, OSError) as why:
+    except (HubFailed, OSError) as why:
         print("read_records: %s" % why, file=sys.stderr)
         status = 1
     # What couldn't be written before is given up.

@@ -9,7 +9,7 @@ MEMBERS = "test_members"
 
 
 class Fault(NamedTuple):
-    """What is wrong, the file below sctd_gateway, its text, what stands there instead, and the
+    """What is wrong, the file below sctd_service/gateway, its text, what stands there instead, and the
     tests."""
 
     what: str
@@ -73,43 +73,36 @@ FAULTS = [
     Fault(
         "subtrees stay when another hub comes",
         "pool.py",
-        "self.subtrees, self.refsets, self.present = no_subtrees(), no_refsets(), None",
-        "self.refsets, self.present = no_refsets(), None",
+        "        self.subtrees, self.refsets = no_subtrees(), no_refsets()\n        for",
+        "        self.refsets = no_refsets()\n        for",
         "test_hub",
     ),
     Fault(
         "another hub's socket isn't told from the first",
-        "pool.py",
+        "../sockets.py",
         "found.st_ino, found.st_ctime_ns)",
         "0, 0)",
         "test_hub",
     ),
     Fault(
-        "it isn't asked whether there is a newer import",
+        "a newer import isn't taken note of",
         "pool.py",
-        "        self.sure = pin is not None\n",
-        "        self.sure = True\n",
-        "test_hub",
-    ),
-    Fault(
-        "a refusal isn't of the present imports",
-        "pool.py",
-        "        if not self.sure and self.connection.whole:\n",
-        "        if False:\n",
+        "            self.imports = int(found[1])\n",
+        "            self.imports = self.imports or int(found[1])\n",
         "test_hub",
     ),
     Fault(
         "a pin in the address is passed over",
         "pool.py",
-        "        self.pin = present if pin is None else pin\n",
-        "        self.pin = present\n",
+        "watch.imports if pin is None else pin)",
+        "watch.imports)",
         "test_lookup",
     ),
     Fault(
         "questions are asked of all imports",
         "pool.py",
-        "[\"AT %d %s\" % (self.pin, line) for line in lines]",
-        "[*lines]",
+        "[\"AT %d %s\" % (self.pin, line) for line in missing]",
+        "[*missing]",
         "test_value_sets test_page",
     ),
     Fault(
@@ -149,14 +142,14 @@ FAULTS = [
     ),
     Fault(
         "the check digit isn't checked",
-        "snomed.py",
+        "../snomed.py",
         "    return check == 0\n",
         "    return True\n",
         "test_lookup test_recorded",
     ),
     Fault(
         "a filter may have control characters",
-        "snomed.py",
+        "store.py",
         "[^\\x00-\\x1f\\x7f-\\x9f\\u2028\\u2029",
         "[^\\u2028\\u2029",
         "test_value_sets",
@@ -205,7 +198,7 @@ FAULTS = [
     ),
     Fault(
         "the case of a display never counts",
-        "snomed.py",
+        "../snomed.py",
         "    return row.term == text\n",
         "    return row.term.casefold() == text.casefold()\n",
         "test_lines",
@@ -410,14 +403,14 @@ FAULTS = [
     ),
     Fault(
         "the end of a gateway removes the socket of another one",
-        "__main__.py",
-        " and own and file_of(found.listen) == own:",
+        "../sockets.py",
+        " and identity_of(path) == own:",
         ":",
         "test_hub",
     ),
     Fault(
         "a program that takes no more connections is waited for",
-        "__main__.py",
+        "../sockets.py",
         "        earlier.setblocking(False)\n",
         "",
         "test_hub",
@@ -445,7 +438,7 @@ FAULTS = [
     ),
     Fault(
         "what can't be logged ends a request",
-        "logs.py",
+        "../logs.py",
         "    with contextlib.suppress(OSError):\n",
         "    if True:\n",
         "test_requests",
@@ -481,28 +474,28 @@ FAULTS = [
     ),
     Fault(
         "preferred terms are passed over",
-        "snomed.py",
+        "../snomed.py",
         "        for refset in language.refsets:\n            if (pre",
         "        for refset in ():\n            if (pre",
         MEMBERS,
     ),
     Fault(
         "the last language of the house counts",
-        "snomed.py",
+        "../snomed.py",
         "        for refset in language.refsets:\n            if (pre",
         "        for refset in reversed(language.refsets):\n            if (pre",
         MEMBERS,
     ),
     Fault(
         "an acceptable term is taken for the preferred one",
-        "snomed.py",
+        "../snomed.py",
         "self.description.type == SYNONYM and PREFERRED in self.acceptabilities",
         "self.description.type == SYNONYM",
         MEMBERS,
     ),
     Fault(
         "a fully specified name is taken for a preferred term",
-        "snomed.py",
+        "../snomed.py",
         "self.description.type == SYNONYM and PREFERRED in",
         "PREFERRED in",
         MEMBERS,
@@ -551,14 +544,14 @@ FAULTS = [
     ),
     Fault(
         "a text definition is a name",
-        "snomed.py",
+        "../snomed.py",
         " if row.type != TEXT_DEFINITION]",
         "]",
         MEMBERS,
     ),
     Fault(
         "each attribute value is a reason",
-        "snomed.py",
+        "../snomed.py",
         " if row.refset == INACTIVATION_INDICATOR)",
         ")",
         MEMBERS,
@@ -643,8 +636,8 @@ FAULTS = [
     Fault(
         "reference sets stay when another hub comes",
         "pool.py",
-        "self.subtrees, self.refsets, self.present = no_subtrees(), no_refsets(), None",
-        "self.subtrees, self.present = no_subtrees(), None",
+        "        self.subtrees, self.refsets = no_subtrees(), no_refsets()\n        for",
+        "        self.subtrees = no_subtrees()\n        for",
         MEMBERS,
     ),
     Fault(

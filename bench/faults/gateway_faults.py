@@ -33,9 +33,9 @@ def failed(root: str, python: str, program: str, tests: str) -> list[str]:
     for test in tests.split():
         words, folder = [sys.executable, os.path.join("bench", "trials", PAGE), program], root
         if test != PAGE:
-            hub = os.path.join(root, "examples", "hub.py")
+            hub = os.path.join(root, "service", "sctd-hub")
             words = [python, "-m", "tests", program, hub, test]
-            folder = os.path.join(root, "gateway")
+            folder = os.path.join(root, "service")
         try:
             done = subprocess.run(
                 words,
@@ -59,13 +59,13 @@ def failed(root: str, python: str, program: str, tests: str) -> list[str]:
 def tried(number: int, fault: Fault, python: str, program: str) -> bool:
     """Whether a test fails with the fault."""
     with tempfile.TemporaryDirectory() as root:
-        for name in ("gateway", "bench", "examples", "docs"):
+        for name in ("service", "bench", "docs"):
             shutil.copytree(
                 os.path.join(ROOT, name),
                 os.path.join(root, name),
                 ignore=shutil.ignore_patterns("__pycache__"),
             )
-        path = os.path.join(root, "gateway", "sctd_gateway", fault.file)
+        path = os.path.join(root, "service", "sctd_service", "gateway", fault.file)
         with open(path, encoding="utf-8") as file:
             text = file.read()
         if text.count(fault.old) != 1:

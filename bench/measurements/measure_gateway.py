@@ -8,7 +8,7 @@ Then $lookup is asked by 1 and by 16 clients, of random codes on random days, an
 one day, whose replies are remembered; and the hub alone is asked the questions of a $lookup by 8
 clients, one by one and four in one write. Each takes some seconds (5 if not said). It prints a
 table: how many a second, the median, and the microseconds of the processor a request in gateway,
-hub and program. --hub takes another hub than examples/hub.py. Clients are two processes, which need
+hub and program. --hub takes another hub than service/sctd-hub. Clients are two processes, which need
 a processor of their own.
 
 With --package the release is a whole package in a store of layout 3, and the gateway has a
@@ -41,7 +41,7 @@ from measure_harness import made_release, seconds_used
 
 BENCH = os.path.dirname(os.path.dirname(os.path.abspath(__file__)))
 sys.path.append(os.path.join(BENCH, "trials"))
-from try_gateway import GATEWAY, ROOT, python_with_h11  # noqa: E402
+from try_gateway import ROOT, SERVICE, python_with_h11  # noqa: E402
 
 PROCESSES = 2
 FEW_CODES = 200
@@ -283,7 +283,7 @@ def begin_hub(
 def begin_gateway(options: argparse.Namespace, python: str, hub: str, path: str) -> Process:
     words = ["--socket", hub, "--edition", EDITION, "--listen", path]
     languages = ["--languages", US_ENGLISH] if options.package else []
-    return begun([python, "-m", "sctd_gateway", *words, *languages], cwd=GATEWAY)
+    return begun([python, "-m", "sctd_service.gateway", *words, *languages], cwd=SERVICE)
 
 
 def tried(options: argparse.Namespace, folder: str, python: str) -> None:
@@ -322,7 +322,7 @@ def main() -> int:
     words.add_argument("--rows", type=int, default=DEFAULT_ROWS)
     words.add_argument("--seconds", type=int, default=DEFAULT_SECONDS)
     words.add_argument(
-        "--hub", type=os.path.abspath, default=os.path.join(ROOT, "examples", "hub.py")
+        "--hub", type=os.path.abspath, default=os.path.join(SERVICE, "sctd-hub")
     )
     words.add_argument("--raw-only", action="store_true")
     words.add_argument("--package", action="store_true")

@@ -1,4 +1,4 @@
-"""Trials of the copies of examples/hub.py for try_hub.py: what BACKUP makes, and what goes on while
+"""Trials of the copies of the hub for try_hub.py: what BACKUP makes, and what goes on while
 it does."""
 
 from __future__ import annotations
@@ -60,7 +60,9 @@ def bad_copies(place: Place, store: str) -> None:
     own = place.path("own")
     shutil.copy(store, own)
     path = place.path("copy")
-    with Hub(place, own) as hub:
+    # (So this hub doesn't see that the file is replaced before it is told to copy it.)
+    late = place.changed("clients.py", "LOOK_SECONDS = 2", "LOOK_SECONDS = 3600")
+    with Hub(late, own) as hub:
         client = Client(hub.socket)
         with open(own, "r+b") as file:
             file.seek(4 * 4096)
@@ -87,8 +89,8 @@ FOREIGN = b"somebody else's"
 # Before each part of a copy the hub waits until there is a file.
 COPYING = "                self.go_on()\n"
 WAITING = """\
-                while not (self.is_stopped.is_set() or os.path.exists(%r)):
-                    time.sleep(0.01)
+                while not (self.is_stopped.wait(0.01) or os.path.exists(%r)):
+                    pass
 """
 # And this stands before the program, whose `status` waits until there is another one.
 CHECKING = """
@@ -103,7 +105,7 @@ os.execv(PROGRAM, [PROGRAM, *sys.argv[1:]])
 
 def slow_copies(place: Place, go_on: str) -> Place:
     """The same with copies that wait for the file of this name."""
-    return place.changed("hub_store.py", COPYING, WAITING % go_on + COPYING)
+    return place.changed("store.py", COPYING, WAITING % go_on + COPYING)
 
 
 def begin_copy(client: Client, path: str) -> None:

@@ -1,4 +1,4 @@
-"""Trials of examples/hub.py for try_hub.py: its socket for questions, the rights of its sockets,
+"""Trials of the hub for try_hub.py: its socket for questions, the rights of its sockets,
 its log, its merges, and the units."""
 
 from __future__ import annotations
@@ -348,7 +348,7 @@ def full_store(place: Place, store: str) -> None:
     copy, go_on = place.path("copy"), place.path("go on")
     lines = write_nights(releases, ALMOST_FULL + 20)
     import_alone(place, own, releases, lines[:ALMOST_FULL])
-    slow = slow_copies(place.changed("hub_store.py", 'b"STEP 1000"', 'b"STEP 1"'), go_on)
+    slow = slow_copies(place.changed("store.py", 'b"STEP 1000"', 'b"STEP 1"'), go_on)
     with Hub(slow, own, "--merge-above", str(ALMOST_FULL), releases=releases) as hub:
         owner, *importing = [Client(hub.socket) for _ in range(3)]
         begin_copy(owner, copy)
@@ -428,8 +428,8 @@ def steps(place: Place, store: str) -> None:
     same("imports between two steps", sum(b"1 IMPORT between" in some for some in between), 1)
 
 
-UNIT = "sctd.service"
-GATEWAY_UNIT = os.path.join(ROOT, "gateway", "sctd-gateway.service")
+UNIT = "service/sctd.service"
+GATEWAY_UNIT = os.path.join(ROOT, "service", "sctd-gateway.service")
 DROPPING = "ExecStartPre=/usr/bin/dd if=/dev/null of=/var/lib/sctd/terms.store oflag=nocache \\"
 # Lines of both units, and of that of the hub.
 LINES = ["NoNewPrivileges=yes", "CapabilityBoundingSet=", "ProtectSystem=strict", "UMask=0077",
@@ -520,11 +520,13 @@ def system_calls(place: Place, store: str) -> None:
 
 
 def types(place: Place, store: str) -> None:
-    """The types of the hub and its clients are right."""
+    """The types of the examples are right. (Those of the package try_gateway.py looks at.)"""
     if shutil.which("mypy") is None:
         raise Skipped("there is no mypy")
-    files = sorted(name for name in os.listdir(place.examples) if name.endswith(".py"))
-    done = subprocess.run(["mypy", "--strict", "--cache-dir=/dev/null", *files], cwd=place.examples,
+    examples = place.script("examples")
+    files = sorted(name for name in os.listdir(examples) if name.endswith(".py"))
+    done = subprocess.run(["mypy", "--strict", "--cache-dir=/dev/null", *files], cwd=examples,
+                          env=os.environ | {"MYPYPATH": place.script("service")},
                           stdout=subprocess.PIPE, stderr=subprocess.STDOUT, timeout=SECONDS * 2,
                           check=False)
     same("mypy", (done.returncode, done.stdout.decode()),

@@ -1,4 +1,4 @@
-"""What the trials of examples/hub.py share: a hub on a store, a client, small releases."""
+"""What the trials of the hub share: a hub on a store, a client, small releases."""
 
 from __future__ import annotations
 
@@ -18,6 +18,7 @@ from typing import Optional
 from operators_harness import Wrong, same
 
 ROOT = os.path.dirname(os.path.dirname(os.path.dirname(os.path.abspath(__file__))))
+HUB = "service/sctd-hub"
 RELEASES = os.path.join(ROOT, "docs", "releases")
 # What is around the scripts: Python keeps their output until they flush it, as it mostly does.
 AROUND = {name: value for name, value in os.environ.items() if name != "PYTHONUNBUFFERED"}
@@ -40,10 +41,11 @@ sys.exit(real.wait())
 
 
 class Place:
-    """What is tried: the program, and the folder of the hub; and a folder to do it in."""
+    """What is tried: the program, and a tree with the folders `service` and `examples`; and a
+    folder to do it in."""
 
-    def __init__(self, program: str, examples: str, folder: str) -> None:
-        self.program, self.examples, self.folder = program, examples, folder
+    def __init__(self, program: str, tree: str, folder: str) -> None:
+        self.program, self.tree, self.folder = program, tree, folder
 
     def path(self, *names: str) -> str:
         return os.path.join(self.folder, *names)
@@ -51,14 +53,15 @@ class Place:
     def below(self, name: str) -> Place:
         """The same in a new folder of its own."""
         os.mkdir(self.path(name), 0o755)
-        return Place(self.program, self.examples, self.path(name))
+        return Place(self.program, self.tree, self.path(name))
 
     def changed(self, file: str, old: str, new: str) -> Place:
         """The same with a file of the hub in which one text is another one."""
         place = self.below("changed")
-        place.examples = place.path("examples")
-        shutil.copytree(self.examples, place.examples)
-        path = os.path.join(place.examples, file)
+        place.tree = place.path("tree")
+        for folder in ("service", "examples"):
+            shutil.copytree(os.path.join(self.tree, folder), os.path.join(place.tree, folder))
+        path = os.path.join(place.tree, "service", "sctd_service", "hub", file)
         with open(path, encoding="utf-8") as text:
             before = text.read()
         same("how often %s has %r" % (file, old), before.count(old), 1)
@@ -77,7 +80,7 @@ class Place:
         return place
 
     def script(self, name: str) -> str:
-        return os.path.join(self.examples, name)
+        return os.path.join(self.tree, name)
 
     def make_store(self, name: str = "store", layout: int = 2) -> str:
         path = self.path(name)
@@ -107,7 +110,7 @@ class Hub:
         self.socket = path or place.path("hub")
         self.questions = place.path("questions")
         self.faults = place.path("faults")
-        command = [*before, sys.executable, place.script("hub.py"), "--program", place.program,
+        command = [*before, sys.executable, place.script(HUB), "--program", place.program,
                    "--store", store, "--releases", releases, *words]
         if has_own:
             command += ["--socket", self.socket]

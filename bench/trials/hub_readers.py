@@ -19,6 +19,7 @@ ADDED = ["active_then", "name_then", "active_now", "name_now", "replaced_by",
          "may_be_replaced_by", "problem", "pin", "receipt"]
 POSSIBLY_EQUIVALENT = "900000000000523009"
 MOVED_FROM = "900000000000525002"
+READER = "examples/read_records.py"
 # The most memory that a long run may take beside that of a short one.
 MOST_MEMORY = 8 << 20
 
@@ -30,7 +31,7 @@ class Script:
     def __init__(self, place: Place, name: str, *words: str) -> None:
         self.name = name
         self.process = subprocess.Popen(
-            [sys.executable, place.script(name), *words], stdin=subprocess.PIPE,
+            [sys.executable, place.script("examples/" + name), *words], stdin=subprocess.PIPE,
             stdout=subprocess.PIPE, stderr=subprocess.PIPE, env=AROUND)
         assert self.process.stdin and self.process.stdout and self.process.stderr
         self.input, self.output = self.process.stdin, self.process.stdout
@@ -62,7 +63,7 @@ def clients_ends(place: Place, store: str) -> None:
                 (b"STATUS", b"OK 2 10 2 -\n", 0), (b"", b"", 0),
                 (b"STEP 1\nSTATUS\n", b"ERR 11 NoMerge\nOK 2 10 2 -\n", 1),
                 (b"STATUS\nx\n", b"OK 2 10 2 -\nERR 42 Command\n", 1)):
-            done = place.run("client.py", hub.socket, given=given)
+            done = place.run("examples/client.py", hub.socket, given=given)
             same("client.py, given %r" % given, (done.stdout, done.returncode, done.stderr),
                  (printed, status, b""))
         unread = Script(place, "client.py", hub.socket)
@@ -72,7 +73,7 @@ def clients_ends(place: Place, store: str) -> None:
              (1, "client: standard output: Broken pipe\n"))
         with open("/dev/full", "wb") as full:
             done = subprocess.run(
-                [sys.executable, place.script("client.py"), hub.socket], input=b"STATUS\n",
+                [sys.executable, place.script("examples/client.py"), hub.socket], input=b"STATUS\n",
                 stdout=full, stderr=subprocess.PIPE, timeout=SECONDS, check=False, env=AROUND)
         same("client.py on a full disk", (done.returncode, done.stderr),
              (1, b"client: standard output: No space left on device\n"))
@@ -84,7 +85,7 @@ def clients_ends(place: Place, store: str) -> None:
         same("client.py whose hub ended", left.ended(), (1, "client: the hub has ended\n"))
     for path, why in ((place.path("none"), "No such file or directory"),
                       (store, "Connection refused"), ("x" * 200, "AF_UNIX path too long")):
-        done = place.run("client.py", path, given=b"STATUS\n")
+        done = place.run("examples/client.py", path, given=b"STATUS\n")
         same("client.py without a hub", (done.returncode, done.stdout, done.stderr.decode()),
              (1, b"", "client: %s: %s\n" % (path, why)))
 
@@ -161,7 +162,7 @@ def ids(numbers: str) -> str:
 
 def read(place: Place, hub: Hub, given: bytes, *words: str) -> list[list[str]]:
     """The rows that read_records.py prints."""
-    done = place.run("read_records.py", "--socket", hub.questions, *words, given=given)
+    done = place.run(READER, "--socket", hub.questions, *words, given=given)
     if done.returncode or b"Traceback" in done.stderr:
         raise Wrong("read_records.py: status %d, %r" % (done.returncode, done.stderr[-300:]))
     text = done.stdout.decode("utf-8", "surrogateescape")
@@ -309,7 +310,7 @@ def odd_files(place: Place, store: str) -> None:
             for separator in b",;\t":
                 file = b"n,code,date\r\n\r\n1,%d,20120630" % concept_id(1)
                 file = start + file.replace(b",", bytes([separator]))
-                done = place.run("read_records.py", "--socket", hub.questions, given=file)
+                done = place.run(READER, "--socket", hub.questions, given=file)
                 text = done.stdout.decode()
                 rows = list(csv.reader(text.splitlines(), delimiter=chr(separator)))
                 same("a spreadsheet's file", rows[0], [mark + "n", "code", "date", *ADDED])
@@ -329,7 +330,7 @@ def bad_runs(place: Place, store: str) -> None:
                 (b"x" * 70_000, [], 2, "a line of more than 65536 bytes"),
                 (b"code,date\n", ["--pin", "1"], 1, "PIN 1 was answered ERR 44 PinRange"),
                 (b"code,date\n", ["--pin", "-1"], 1, "PIN -1 was answered ERR 43 Arguments")):
-            done = place.run("read_records.py", "--socket", hub.questions, *words, given=given)
+            done = place.run(READER, "--socket", hub.questions, *words, given=given)
             same("read_records.py, given %r" % given[:30], (done.returncode, done.stderr.decode()),
                  (status, "read_records: %s\n" % why))
         for count in (1, 100_000):
@@ -347,7 +348,7 @@ def bad_runs(place: Place, store: str) -> None:
         left.input.write(b"%d,20120630\n" % concept_id(1) * 100)
         left.input.close()
         same("a run whose hub ends", left.ended(), (1, "read_records: the hub has ended\n"))
-    done = place.run("read_records.py", "--socket", place.path("none"), given=b"code,date\n")
+    done = place.run(READER, "--socket", place.path("none"), given=b"code,date\n")
     same("read_records.py without a hub", (done.returncode, done.stderr.decode()),
          (1, "read_records: %s: No such file or directory\n" % place.path("none")))
 
@@ -362,7 +363,7 @@ def long_runs(place: Place, store: str) -> None:
                 for number in range(count):
                     file.write(b"%s,%d,none\n" % (b"n" * 500, number))
             process = subprocess.Popen(
-                [sys.executable, place.script("read_records.py"), "--socket", hub.questions],
+                [sys.executable, place.script(READER), "--socket", hub.questions],
                 stdin=open(place.path("long"), "rb"), stdout=subprocess.DEVNULL,
                 stderr=subprocess.DEVNULL)
             _, status, used = os.wait4(process.pid, 0)

@@ -6,7 +6,7 @@ try_failed_sync.py [--unit FILE] PROGRAM
 PROGRAM is the built program sctd. Linux forgets the pages of a file whose write failed: a later
 read gets from memory what the medium doesn't have. This script makes a file system on a loop
 device, lets the last sync of an import fail, starts the program again as the unit does (that is
-examples/sctd.service, or FILE), stops the next import between two of its syncs, and looks at what
+service/sctd.service, or FILE), stops the next import between two of its syncs, and looks at what
 the medium has. It fails if the import that was confirmed before isn't told both times: the unit has
 to drop what memory keeps of the file.
 
@@ -27,7 +27,7 @@ from collections.abc import Sequence
 
 ROOT = os.path.dirname(os.path.dirname(os.path.dirname(os.path.abspath(__file__))))
 RELEASES = os.path.join(ROOT, "docs", "releases")
-UNIT = os.path.join(ROOT, "examples", "sctd.service")
+UNIT = os.path.join(ROOT, "service", "sctd.service")
 BLOCK = 4096
 # An import's syncs: two of the opening, then one of the segment, of the gate that is closed, of the
 # content, and of the gate that is opened.

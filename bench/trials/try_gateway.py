@@ -1,9 +1,9 @@
 #!/usr/bin/env python3
-"""Tries the gateway with the built program and the hub: its own tests, in gateway/tests.
+"""Tries the gateway with the built program and the hub: its own tests, in service/tests.
 
 try_gateway.py PROGRAM [HUB]
 
-PROGRAM is the built `sctd`; HUB is another hub than examples/hub.py. The tests that mostly wait for
+PROGRAM is the built `sctd`; HUB is another hub than service/sctd-hub. The tests that mostly wait for
 a limit of time run beside the others. They need h11, which is looked for in this Python and then in
 the system's; where neither has it, that is said and the status is 3, so that it counts as skipped.
 Where mypy is installed it checks the types too, and where there is a Chromium try_page.py looks at
@@ -22,7 +22,7 @@ from collections.abc import Sequence
 from typing import Optional
 
 ROOT = os.path.dirname(os.path.dirname(os.path.dirname(os.path.abspath(__file__))))
-GATEWAY = os.path.join(ROOT, "gateway")
+SERVICE = os.path.join(ROOT, "service")
 SYSTEM_PYTHON = "/usr/bin/python3"
 SECONDS = 170
 NOT_RUN = 3
@@ -42,7 +42,7 @@ RUNS = [
         "test_recorded",
     ),
     ("test_hub", "test_large_answers"),
-    ("test_releases",),
+    ("test_releases", "test_delivery"),
     ("test_members",),
 ]
 
@@ -64,7 +64,7 @@ def python_with_h11() -> Optional[str]:
 def begun(python: str, program: str, hub: str, modules: Sequence[str]) -> subprocess.Popen[bytes]:
     return subprocess.Popen(
         [python, "-m", "tests", program, hub, *modules],
-        cwd=GATEWAY,
+        cwd=SERVICE,
         stdin=subprocess.DEVNULL,
         stdout=subprocess.PIPE,
         stderr=subprocess.STDOUT,
@@ -94,8 +94,8 @@ def types() -> tuple[int, int, int]:
         print("mypy isn't installed: the types weren't checked")
         return 0, 0, 1
     done = subprocess.run(
-        ["mypy", "--strict", "-p", "sctd_gateway", "-p", "tests"],
-        cwd=GATEWAY,
+        ["mypy", "--strict", "-p", "sctd_service", "-p", "tests"],
+        cwd=SERVICE,
         text=True,
         capture_output=True,
         check=False,
@@ -132,7 +132,7 @@ def main(words: Sequence[str]) -> int:
         print("h11 is missing: the gateway wasn't tried\n0 passed, 0 failed, 1 skipped")
         return NOT_RUN
     program = os.path.abspath(words[0])
-    hub = os.path.abspath(words[1]) if len(words) == 2 else os.path.join(ROOT, "examples", "hub.py")
+    hub = os.path.abspath(words[1]) if len(words) == 2 else os.path.join(SERVICE, "sctd-hub")
     runs = [(begun(python, program, hub, modules), modules) for modules in RUNS]
     counts = [types(), page(program), *((*ended(run, modules), 0) for run, modules in runs)]
     passed, failed, skipped = map(sum, zip(*counts))

@@ -1,9 +1,9 @@
 #!/usr/bin/env python3
-"""Tries examples/hub.py, and the clients beside it, with the built program.
+"""Tries the hub, and the clients in examples/, with the built program.
 
 try_hub.py PROGRAM [FOLDER]
 
-PROGRAM is the built `sctd`; FOLDER is another folder of a hub and its clients than examples/. Tried
+PROGRAM is the built `sctd`; FOLDER is another tree with service/ and examples/. Tried
 are clients, openings, sockets and their rights, the socket for questions alone, lines in turns,
 damage, ends, the log, merges, copies, the unit, client.py and read_records.py. The status is 1 at
 the first thing that isn't as it has to be, and the last line then says what: a client that the hub
@@ -28,19 +28,23 @@ import time
 from collections.abc import Sequence
 
 import hub_copies
+import hub_crowds
 import hub_duties
 import hub_readers
-from hub_harness import RECORDER, ROOT, Client, Hub, Place, until
+from hub_harness import HUB, RECORDER, ROOT, Client, Hub, Place, until
 from operators_harness import Skipped, Wrong, same
 
 CLIENTS = 1_100
 SESSIONS = 1_023
 # Clients that only ask leave so many sessions to the others.
 KEPT_SESSIONS = 23
-LINES_A_TURN = 32
+# So many lines of a client are on their way at most.
+LINES_A_CLIENT = 32
+# For a hub of which one user may have all sessions.
+MANY_A_USER = ("--connections-a-user", str(SESSIONS))
 DIGESTS = 5
 # How long all of it may take.
-ALL_SECONDS = 170
+ALL_SECONDS = 280
 NOT_RUN = 3
 CONCEPT = "ROW 1000004\t%s\t900000000000207008\t900000000000074008"
 AS_IN_2020 = CONCEPT % "20200131\t1"
@@ -71,7 +75,8 @@ def two_clients(place: Place, hub: Hub) -> None:
     same("a session that another had", later.ask(QUESTION), [AS_IN_2021, "END 1"])
     lines = "STATUS\n%s\nTERMS 20200131 10 Straße\n" % QUESTION
     # In a locale that isn't UTF-8, its lines and replies are the same bytes.
-    done = place.run("client.py", hub.socket, given=lines.encode(), PYTHONIOENCODING="latin-1")
+    done = place.run("examples/client.py", hub.socket, given=lines.encode(),
+                     PYTHONIOENCODING="latin-1")
     wanted = "OK 2 10 2 -\n%s\nEND 1\n%s\nEND 1\n" % (AS_IN_2021, TERM_IN_2020)
     same("client.py", (done.stdout, done.returncode), (wanted.encode(), 0))
     later.leave()
@@ -131,7 +136,7 @@ def served(path: str) -> Client:
 
 def kept_sessions(place: Place, store: str) -> None:
     """Clients that only ask leave sessions to those that import."""
-    with Hub(place, store, "--questions", place.path("questions")) as hub:
+    with Hub(place, store, "--questions", place.path("questions"), *MANY_A_USER) as hub:
         asking = [served(hub.questions) for _ in range(SESSIONS - KEPT_SESSIONS)]
         one_more = Client(hub.questions)
         same("one more that asks", one_more.read(), ["ERR 41 Session"])
@@ -163,7 +168,7 @@ def turns(place: Place, store: str) -> None:
         same("the end of the hub", hub.stop("a hub that is stopped"), 0)
     with open(recording.path("parts"), encoding="ascii") as parts:
         counts = [int(part) for part in parts]
-    same("the most lines of a turn", max(counts), LINES_A_TURN)
+    same("the most lines of a turn", max(counts), LINES_A_CLIENT)
     with open(recording.path("lines"), "rb") as file:
         lines = iter(file)
         asked_together = [[next(lines) for _ in range(count)] for count in counts]
@@ -246,14 +251,19 @@ def damage(place: Place, store: str) -> None:
         same("a damaged row", client.ask("GET C 1000004 20200131"), ["ERR 8 Damaged"])
         # No reply is lost behind one, or comes to another client.
         client.send(b"RECEIPT 1\nGET C 1000004 20200131\nRECEIPT 2\nSTATUS\n")
-        for wanted in ("OK 1 6 20200131", "ERR 8 Damaged", "OK 2 4 20210131", *STATUS):
+        for wanted in ("OK 1 6 20200131", "ERR 8 Damaged", "OK 2 4 20210131",
+                       STATUS[0] + " Damaged"):
             same("lines around a damaged row", client.read(), [wanted])
         other = Client(hub.socket)
         same("another client", other.ask("RECEIPT 1"), ["OK 1 6 20200131"])
         other.leave()
         client.leave()
-        same("the end of the hub", hub.stop("a hub that is stopped"), 0)
-        same("what it told", hub.told(), "hub: the store is damaged: restore your copy\n" * 2)
+        same("the end of the hub", hub.stop("a hub of a damaged store"), 1)
+        told = hub_duties.logged(hub)
+        same("how much it told", len(told), 2)
+        found = "the store is damaged: GET C 1000004 20200131 of user %d was" % os.getuid()
+        same("what it told", told[0].startswith(found + " answered ERR 8 Damaged. "), True)
+        same("its last line", told[1].startswith("the store is damaged, as was told at 2"), True)
 
 
 def kill_program(place: Place, store: str) -> None:
@@ -327,7 +337,7 @@ def ends(place: Place, store: str) -> None:
 
 def unread(place: Place, store: str) -> None:
     """Where replies aren't read, the hub hangs up before they fill its memory."""
-    small = place.changed("hub.py", "UNREAD_LIMIT = 256 << 20", "UNREAD_LIMIT = 1 << 10")
+    small = place.changed("clients.py", "UNREAD_LIMIT = 256 << 20", "UNREAD_LIMIT = 1 << 10")
     with Hub(small, store) as hub:
         silent = Client(hub.socket)
         silent.connection.settimeout(0.2)
@@ -365,15 +375,15 @@ def is_told_more(client: Client, before: int) -> bool:
 def left_unread(place: Place, store: str) -> None:
     """A client that says no more and doesn't read has its session until it has read all, so that
     such clients can't take more of the hub than others."""
-    small = place.changed("hub.py", "range(1, 1024)", "range(1, %d)" % (KEPT_SESSIONS + 3))
+    small = place.changed("clients.py", "range(1, 1024)", "range(1, %d)" % (KEPT_SESSIONS + 3))
     with Hub(small, store, "--questions", small.path("questions")) as hub:
         asking, asked = [Client(hub.questions) for _ in range(2)], [0, 0]
         for number, client in enumerate(asking):
             before = -1
             while is_told_more(client, before):
                 before = waiting(client)
-                client.send(b"PAGE C 20210131 - 1000\n" * LINES_A_TURN)
-                asked[number] += LINES_A_TURN
+                client.send(b"PAGE C 20210131 - 1000\n" * LINES_A_CLIENT)
+                asked[number] += LINES_A_CLIENT
             client.connection.shutdown(socket.SHUT_WR)
         time.sleep(0.2)
         one_more = Client(hub.questions)
@@ -395,7 +405,7 @@ def words(place: Place, store: str) -> None:
     for wrong in ([], ["--socket", "s", "--questions", "s"], ["--socket", "s", "--group", "root"],
                   ["--socket", "s", "--merge-above", "0"],
                   ["--questions", "s", "--group", "no such group"]):
-        done = place.run("hub.py", *rest, *wrong)
+        done = place.run(HUB, *rest, *wrong)
         same("the words %r" % wrong, (done.returncode, done.stdout), (2, b""))
 
 
@@ -410,7 +420,8 @@ def all_trials(place: Place, skipped: list[str]) -> int:
         same("the end of the hub", hub.stop("a hub that is stopped"), 0)
     tries = [openings, kept_sessions, turns, disk_fault, ends, unread, left_unread, kill_program]
     tries += [words, sockets]
-    tries += hub_duties.TRIALS + hub_copies.TRIALS + hub_readers.TRIALS + [damage]
+    tries += hub_duties.TRIALS + hub_crowds.TRIALS + hub_copies.TRIALS
+    tries += hub_readers.TRIALS + [damage]
     count = len(on_one_hub)
     for each in tries:
         begun = time.monotonic()
@@ -438,7 +449,7 @@ def main(words_given: Sequence[str]) -> int:
         return NOT_RUN
     resource.setrlimit(resource.RLIMIT_NOFILE, (most_files, most_files))
     program = os.path.abspath(words_given[0])
-    examples = os.path.abspath((words_given[1:] or [os.path.join(ROOT, "examples")])[0])
+    tree = os.path.abspath((words_given[1:] or [ROOT])[0])
     # The hubs are ended on the way out, so that is taken at a signal too.
     signal.signal(signal.SIGTERM, lambda *_: sys.exit(1))
     signal.signal(signal.SIGALRM, late)
@@ -448,7 +459,7 @@ def main(words_given: Sequence[str]) -> int:
         # Another user may reach the sockets in it.
         os.chmod(folder, 0o711)
         try:
-            count = all_trials(Place(program, examples, folder), skipped)
+            count = all_trials(Place(program, tree, folder), skipped)
         except (Wrong, OSError, subprocess.TimeoutExpired) as wrong:
             print("WRONG: %s" % wrong)
             return 1

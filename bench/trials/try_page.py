@@ -27,7 +27,7 @@ from typing import Any, Optional
 from urllib.parse import urlencode
 
 import chromium
-from try_gateway import GATEWAY, ROOT, python_with_h11
+from try_gateway import ROOT, SERVICE, python_with_h11
 
 NOT_RUN = 3
 DESK, PHONE = 1000, 360
@@ -238,7 +238,7 @@ def tried(path: str, program: str, picture: Optional[str]) -> None:
     from tests.house import House
     from tests.test_members import WORDS
 
-    os.environ.update(SCTD_PROGRAM=program, SCTD_HUB=os.path.join(ROOT, "examples", "hub.py"))
+    os.environ.update(SCTD_PROGRAM=program, SCTD_HUB=os.path.join(ROOT, "service", "sctd-hub"))
     browser = chromium.Browser(path)
     try:
         in_house(House, (), lambda codes, base: looked_at(Page(browser, base), codes))
@@ -280,7 +280,7 @@ def main(words: Sequence[str]) -> int:
         return NOT_RUN
     if python != sys.executable:
         os.execv(python, [python, os.path.abspath(__file__), *words])
-    sys.path.insert(0, GATEWAY)
+    sys.path.insert(0, SERVICE)
     try:
         tried(path, os.path.abspath(words[0]), words[1] if len(words) == 2 else None)
     except (Wrong, chromium.Failed) as wrong:

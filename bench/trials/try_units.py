@@ -5,7 +5,7 @@ try_units.py PROGRAM
 
 PROGRAM is the built `sctd`. systemd-nspawn boots a container on this machine's own files; what is
 changed there stays in memory and is dropped, and the network is the container's. `sctd`, examples/
-and gateway/ are put into /opt/sctd, and the commands at the top of both units are run there as they
+and service/ are put into /opt/sctd, and the commands at the top of both units are run there as they
 stand, but for that which installs h11: the last of each starts the unit. An import, a copy and
 answers of the gateway have to come, each user may connect to what the units say and to nothing
 else, no process may write beside its own folders, and what is killed has to be started again. Last
@@ -29,7 +29,7 @@ from pathlib import Path
 from typing import NamedTuple
 
 TOP = Path(__file__).resolve().parents[2]
-UNITS = ("examples/sctd.service", "gateway/sctd-gateway.service")
+UNITS = ("service/sctd.service", "service/sctd-gateway.service")
 PYTHON = "/usr/bin/python3"
 NOT_RUN = 3
 # How long the container may run, and how long a step may take to come out as it has to.
@@ -162,7 +162,7 @@ def lacks(program: str) -> str:
 def install(root: Path, program: str) -> None:
     """Puts into the container what is looked at, and what looks."""
     place, kept_out = root / "opt" / "sctd", shutil.ignore_patterns("__pycache__", ".*")
-    for name in ("examples", "gateway", "docs/releases"):
+    for name in ("examples", "service", "docs/releases"):
         shutil.copytree(TOP / name, place / name, ignore=kept_out)
     shutil.copy(program, place / "sctd")
     (root / SCRIPT).parent.mkdir(parents=True)

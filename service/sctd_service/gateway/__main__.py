@@ -1,0 +1,138 @@
+"""The gateway: `sctd`'s answers as FHIR R4 over HTTP, and a page for people. It only reads.
+
+    sctd-gateway --socket /run/sctd/questions.sock --edition 900000000000207008
+
+It asks through a socket of the hub and listens on 127.0.0.1:8080, or where `--listen`
+says. It prints `OK ready` once it does. `--languages` has the SCTIDs of the language reference sets
+whose preferred terms are shown, such as 900000000000509007,900000000000508004, the most wanted
+first; without it fully specified names are. TLS, users and the log of who asked what are those of
+the house's own proxy in front of it.
+"""
+
+import argparse
+import asyncio
+import re
+import signal
+import sys
+
+from .. import sockets
+from ..snomed import distinct, is_concept_id
+from . import http, limits
+from .app import App, refused_request
+from .fhir.versions import Edition
+from .pool import Pool
+
+# A URI that names a code system: a scheme, and no space or control character.
+SYSTEM = re.compile(r"[A-Za-z][A-Za-z0-9+.-]*:[\x21-\x7e]+\Z", re.ASCII)
+ORIGIN = re.compile(r"https?://[A-Za-z0-9.\[\]:-]+\Z", re.ASCII)
+
+
+def options() -> argparse.Namespace:
+    words = argparse.ArgumentParser(
+        prog="sctd-gateway", description="sctd as FHIR R4 over HTTP, and a page for people."
+    )
+    words.add_argument("--socket", required=True, help="the hub's socket")
+    words.add_argument(
+        "--edition", required=True, help="the module of the edition that the store holds"
+    )
+    words.add_argument(
+        "--listen", default="127.0.0.1:8080", help="HOST:PORT, or the path of a socket"
+    )
+    words.add_argument(
+        "--languages",
+        type=refsets_of,
+        default=(),
+        metavar="SCTID,..",
+        help="the language reference sets whose preferred terms are shown, the most wanted first",
+    )
+    words.add_argument(
+        "--map",
+        type=map_of,
+        action="append",
+        default=[],
+        metavar="SCTID=URI",
+        help="the code system to which the simple map of this reference set leads",
+    )
+    words.add_argument(
+        "--cors",
+        type=origin_of,
+        action="append",
+        default=[],
+        metavar="ORIGIN",
+        help="a site whose pages may read answers, such as https://forms.example.org, or *",
+    )
+    words.add_argument(
+        "--log", action="store_true", help="a line of each request to standard error"
+    )
+    found = words.parse_args()
+    if not is_concept_id(found.edition):
+        words.error("the edition is the SCTID of a module, such as 900000000000207008")
+    if len(dict(found.map)) < len(found.map):
+        words.error("--map names a reference set twice")
+    # (Without a host it would listen on every address of the machine.)
+    host, _, port = found.listen.rpartition(":")
+    if "/" not in found.listen and not (host and port.isdecimal() and int(port) < 1 << 16):
+        words.error("--listen is HOST:PORT, or the path of a socket with a slash in it")
+    return found
+
+
+def refsets_of(text: str) -> tuple[str, ...]:
+    found = tuple(distinct(text.split(",")))
+    if not all(map(is_concept_id, found)):
+        raise argparse.ArgumentTypeError("they are SCTIDs of reference sets, separated by commas")
+    if len(found) > limits.LANGUAGES:
+        raise argparse.ArgumentTypeError("there may be %d at most" % limits.LANGUAGES)
+    return found
+
+
+def origin_of(text: str) -> str:
+    if text != "*" and not ORIGIN.match(text):
+        raise argparse.ArgumentTypeError("it is a scheme, ://, a host and perhaps a port, or *")
+    return text
+
+
+def map_of(text: str) -> tuple[str, str]:
+    refset, _, system = text.partition("=")
+    if not is_concept_id(refset) or not SYSTEM.match(system):
+        raise argparse.ArgumentTypeError("it is the SCTID of a reference set, =, and a URI")
+    return refset, system
+
+
+async def listening(server: http.Server, place: str) -> asyncio.Server:
+    if "/" in place:
+        sockets.clear(place)
+        return await asyncio.start_unix_server(server.connected, place, backlog=limits.BACKLOG)
+    host, _, port = place.rpartition(":")
+    return await asyncio.start_server(
+        server.connected, host.strip("[]"), int(port), backlog=limits.BACKLOG
+    )
+
+
+async def serve(found: argparse.Namespace) -> int:
+    edition = Edition(found.edition, found.languages, dict(found.map))
+    app = App(Pool(found.socket), edition, found.cors)
+    server = http.Server(app.answer, refused_request, log=found.log)
+    try:
+        listens = await listening(server, found.listen)
+    except OSError as error:
+        print("sctd-gateway: %s: %s" % (found.listen, error), file=sys.stderr)
+        return 1
+    own = sockets.identity_of(found.listen) if "/" in found.listen else None
+    end = asyncio.Event()
+    for number in (signal.SIGTERM, signal.SIGINT):
+        asyncio.get_running_loop().add_signal_handler(number, end.set)
+    print("OK ready", flush=True)
+    await end.wait()
+    listens.close()
+    await server.stop()
+    # (From 3.13 on Python has removed it already, and another gateway may have made its own.)
+    sockets.remove(found.listen, own)
+    return 0
+
+
+def main() -> int:
+    return asyncio.run(serve(options()))
+
+
+if __name__ == "__main__":
+    sys.exit(main())

@@ -1,0 +1,311 @@
+"""Which answer belongs to a request: FHIR below `/fhir`, the page at `/`, and both again below
+`/pin/N`, as the first N imports left the store."""
+
+import asyncio
+import json
+import re
+import traceback
+from collections.abc import AsyncIterator, Awaitable, Sequence
+from contextlib import asynccontextmanager
+from pathlib import Path
+from urllib.parse import parse_qsl, unquote
+
+from .. import VERSION
+from ..logs import tell
+from . import delivery, http, limits, page
+from .fhir import OPERATIONS, Operation
+from .fhir.inputs import Given, Query, posted
+from .fhir.outputs import dumped, written
+from .fhir.request import Request
+from .fhir.versions import Edition
+from .hub import OUT_OF_MEMORY, HubGone, HubRefused, TooCostly
+from .pool import NoSuchPin, Pool
+from .problems import Json, Problem, invalid, missing, not_found, too_costly
+from .store import View
+
+Headers = tuple[tuple[str, str], ...]
+JSON, FHIR, HTML = (
+    "%s; charset=utf-8" % kind
+    for kind in ("application/json", "application/fhir+json", "text/html")
+)
+POLICY = (
+    "default-src 'none'; script-src 'self'; style-src 'self'; connect-src 'self'; "
+    "img-src data:; form-action 'self'; base-uri 'none'; frame-ancestors 'none'"
+)
+SAFE: Headers = (
+    ("Cache-Control", "private, no-store"),
+    ("Content-Security-Policy", POLICY),
+    ("Cross-Origin-Resource-Policy", "same-origin"),
+    ("Referrer-Policy", "no-referrer"),
+    ("X-Content-Type-Options", "nosniff"),
+)
+FILES = {"/page.css": "text/css; charset=utf-8", "/page.js": "text/javascript; charset=utf-8"}
+# The pages, and the words that each of them knows.
+PAGES = {"/": page.WORDS, "/suggest": ("text", "date")}
+# What a proxy and a monitor ask: whether the gateway runs, and whether the store can be asked.
+LIVE, HEALTH = "/live", "/health"
+READS = ("GET", "HEAD")
+METHODS = (*READS, "POST")
+PATH = re.compile(r"(?:/pin/([0-9]{1,10}))?(/[^?#]*)\Z", re.ASCII | re.DOTALL)
+# A slash that isn't one to every program.
+ENCODED_SLASH = re.compile("%2f", re.I)
+FHIR_PATH = re.compile(r"(/pin/[0-9]+)?/fhir(/|\?|\Z)", re.ASCII)
+FHIR_BASE = "/fhir/"
+# How answers may be asked for, all of which are FHIR's JSON.
+ACCEPTED = {
+    "*/*",
+    "application/*",
+    "json",
+    "text/json",
+    "application/json",
+    "application/fhir+json",
+}
+# What a client says that it doesn't take.
+UNWANTED = re.compile(r";[ \t]*q=0(\.0*)?[ \t]*(;|\Z)", re.I)
+BODIES = ("application/json", "application/fhir+json")
+# What FHIR calls a request that isn't one.
+ISSUES = {
+    408: "timeout",
+    413: "too-long",
+    415: "not-supported",
+    431: "too-long",
+    501: "not-supported",
+    503: "throttled",
+}
+# Parameters of each request that say how its answer is written.
+FORMAT, PRETTY = "_format", "_pretty"
+
+
+class App:
+    """The answers to requests. `walks` are the places of those that may ask thousands of
+    questions."""
+
+    def __init__(self, pool: Pool, edition: Edition, origins: Sequence[str] = ()) -> None:
+        self.pool, self.edition, self.origins = pool, edition, origins
+        self.walks = asyncio.Semaphore(limits.WALKS)
+        self.files = {
+            path: http.Response(200, kind, file_of(path), SAFE) for path, kind in FILES.items()
+        }
+
+    async def answer(self, request: http.Request) -> http.Response:
+        """An answer whatever happens, within the time that there is for one."""
+        try:
+            async with asyncio.timeout(limits.SCTD_SECONDS):
+                response = await self.of_one_pin(request)
+        except http.Left:
+            raise
+        except Exception as error:
+            response = refusal(problem_of(error), is_fhir(request.target))
+        return await delivery.packed(request, delivery.shared(request, response, self.origins))
+
+    async def of_one_pin(self, request: http.Request) -> http.Response:
+        while True:
+            try:
+                return await self.routed(request)
+            except HubGone as gone:
+                if gone.fresh:
+                    raise
+                # The connection was of a hub that has ended; there may be another one by now.
+
+    async def routed(self, request: http.Request) -> http.Response:
+        target, _, words = request.target.partition("?")
+        if request.method == "OPTIONS" and self.origins:
+            return http.Response(204, "", b"", (("Allow", ", ".join(METHODS)),))
+        if request.method not in METHODS:
+            raise Problem(405, "not-supported", "only GET, HEAD and POST are answered", METHODS)
+        # (What is behind a pin begins where every program between says that it begins.)
+        found = PATH.match(target)
+        if found is None or ENCODED_SLASH.search(target):
+            raise not_found("there is no such path")
+        pin, path = int(found[1]) if found[1] else None, unquote(found[2], errors="replace")
+        if path.startswith(FHIR_BASE) or path + "/" == FHIR_BASE:
+            given = pairs_of(words)
+            return await self.fhir(request, pin, path.removeprefix(FHIR_BASE), given)
+        if path not in self.files and path not in PAGES and path not in (LIVE, HEALTH):
+            raise not_found("there is no such page")
+        if request.method == "POST":
+            raise Problem(405, "not-supported", "a page is asked for by GET", READS)
+        if path in self.files:
+            return self.files[path]
+        if path == LIVE:
+            return http.Response(200, JSON, dumped({"live": True}), SAFE)
+        if path == HEALTH:
+            return await self.health(pin)
+        return await self.page(request, pin, path, pairs_of(words))
+
+    @asynccontextmanager
+    async def view(
+        self, request: http.Request, pin: int | None, is_walk: bool
+    ) -> AsyncIterator[View]:
+        """The store as a request sees it. No place is given to a walk whose client has left while
+        it waited for one."""
+        if is_walk:
+            waits = self.walks.locked()
+            async with self.walks:
+                if waits and request.has_left():
+                    raise http.Left
+                async with self.pool.session(pin) as session:
+                    yield View(session)
+        else:
+            async with self.pool.session(pin) as session:
+                yield View(session)
+
+    async def fhir(
+        self, request: http.Request, pin: int | None, path: str, given: list[Given]
+    ) -> http.Response:
+        operation = OPERATIONS.get(path)
+        if operation is None:
+            raise Problem(404, "not-supported", "%.80r isn't answered here; see metadata" % path)
+        if request.method == "POST" and operation.is_read:
+            raise Problem(405, "not-supported", "this is asked for by GET", READS)
+        check_format(request, given)
+        asked = [(name, value) for name, value in given if name not in (FORMAT, PRETTY)]
+        if request.method == "POST":
+            check_body(request)
+            asked += posted(request.body)
+        query = Query(asked, operation.parameters)
+        async with self.view(request, pin, operation.is_walk) as view:
+            tag = None if request.method == "POST" else self.tag_of(request, view)
+            if tag and delivery.is_known(request, tag):
+                return http.Response(304, "", b"", delivery.kept(SAFE, tag, pin is not None))
+            response = await told_of(view, True, self.operated(operation, view, query))
+        if not tag or response.status != 200:
+            return response
+        kept = delivery.kept(response.headers, tag, pin is not None)
+        return response._replace(headers=kept)
+
+    def tag_of(self, request: http.Request, view: View) -> str:
+        """What names an answer: all that it follows from."""
+        return delivery.tag_of(
+            (VERSION, str(self.edition), view.receipt, str(view.pin), request.target)
+        )
+
+    async def operated(self, operation: Operation, view: View, query: Query) -> http.Response:
+        resource = await operation.answer(Request(self.edition, view, query))
+        return http.Response(200, FHIR, await written(resource), SAFE)
+
+    async def page(
+        self, request: http.Request, pin: int | None, path: str, given: list[Given]
+    ) -> http.Response:
+        words = dict(given)
+        if len(words) < len(given) or not words.keys() <= set(PAGES[path]):
+            raise invalid("a word of the address isn't known, or stands twice")
+        async with self.view(request, pin, is_walk=path == "/") as view:
+            return await told_of(view, False, self.shown(view, path, words, pin is not None))
+
+    async def health(self, pin: int | None) -> http.Response:
+        """Whether the store can be asked, in time whatever hangs."""
+        try:
+            async with asyncio.timeout(limits.HEALTH_SECONDS), self.pool.opened(pin) as session:
+                view, is_damaged = View(session), await session.is_damaged()
+        except (HubGone, HubRefused, TimeoutError, NoSuchPin) as error:
+            problem = problem_of(error)
+            return health_of(problem.status, {"problem": problem.text})
+        state = {"pin": view.pin, "latest": view.latest}
+        if is_damaged:
+            return health_of(503, {**state, "problem": "the store is damaged"})
+        return health_of(200, state)
+
+    async def shown(
+        self, view: View, path: str, words: dict[str, str], is_pinned: bool
+    ) -> http.Response:
+        """One of the pages."""
+        if path == "/suggest":
+            text, date = words.get("text", "").strip(), words.get("date", "")
+            body, kind = json.dumps(await page.suggestions(view, text, date)).encode(), JSON
+        else:
+            form = page.form_of(words)
+            body, kind = await page.answer(self.edition, view, form, is_pinned), HTML
+        return http.Response(200, kind, body, SAFE)
+
+
+def health_of(status: int, state: Json) -> http.Response:
+    retry = (("Retry-After", str(limits.RETRY_SECONDS)),) if status == 503 else ()
+    return http.Response(status, JSON, dumped(state), SAFE + retry)
+
+
+async def told_of(view: View, fhir: bool, answer: Awaitable[http.Response]) -> http.Response:
+    """An answer, or its refusal, with the pin that it is of."""
+    try:
+        response = await answer
+        if len(response.body) > limits.ANSWER_BYTES:
+            raise TooCostly(
+                "the answer would have more than %d bytes: ask for fewer concepts"
+                % limits.ANSWER_BYTES
+            )
+    except Problem as problem:
+        response = refusal(problem, fhir)
+    except TooCostly as error:
+        response = refusal(too_costly(str(error)), fhir)
+    pin = (("X-Sctd-Pin", str(view.pin)), ("X-Sctd-Receipt", view.receipt))
+    return response._replace(headers=response.headers + pin)
+
+
+def is_fhir(target: str) -> bool:
+    return bool(FHIR_PATH.match(target))
+
+
+def pairs_of(words: str) -> list[Given]:
+    """The parameters of an address."""
+    try:
+        return list(parse_qsl(words, True, errors="strict", max_num_fields=limits.PARAMETERS))
+    except ValueError:
+        raise invalid("the query isn't UTF-8, or has too many parts") from None
+
+
+def check_format(request: http.Request, given: list[Given]) -> None:
+    """Refuses a request that takes no JSON. A `+` in an address is a space, also of `fhir+json`."""
+    formats = [value.replace(" ", "+") for name, value in given if name == FORMAT]
+    if len(formats) > 1:
+        raise invalid("%s is given more than once" % FORMAT)
+    accepted = formats[0] if formats else request.headers.get("accept") or "*/*"
+    wanted = [kind for kind in accepted.split(",") if not UNWANTED.search(kind)]
+    if not ACCEPTED.intersection(kind.partition(";")[0].strip().lower() for kind in wanted):
+        raise Problem(406, "not-supported", "answers are JSON only")
+
+
+def check_body(request: http.Request) -> None:
+    kind = request.headers.get("content-type", "").partition(";")[0].strip().lower()
+    if kind not in BODIES:
+        raise Problem(415, "not-supported", "a body must be application/fhir+json")
+    if not request.body:
+        raise missing("the body is missing")
+
+
+def file_of(path: str) -> bytes:
+    return (Path(__file__).parent / path.removeprefix("/")).read_bytes()
+
+
+def problem_of(error: Exception) -> Problem:
+    """What a client is told of an error. A fault of the gateway or of `sctd` goes to standard
+    error."""
+    if isinstance(error, Problem):
+        return error
+    if isinstance(error, NoSuchPin):
+        return not_found("there aren't so many imports")
+    if isinstance(error, TooCostly):
+        return too_costly(str(error))
+    if isinstance(error, (HubGone, TimeoutError)):
+        why = str(error) or "it is busy, perhaps with an import"
+        return Problem(503, "transient", "the terminology can't be asked at the moment: %s" % why)
+    if isinstance(error, HubRefused):
+        tell("sctd-gateway: the hub said %s" % error)
+        return Problem(503 if error.number == OUT_OF_MEMORY else 500, "exception", str(error))
+    tell("".join(traceback.format_exception(error)).rstrip("\n"))
+    return Problem(500, "exception", "the gateway has a fault; its log says which")
+
+
+def refusal(problem: Problem, fhir: bool) -> http.Response:
+    headers = SAFE
+    if problem.status == 503:
+        headers += (("Retry-After", str(limits.RETRY_SECONDS)),)
+    if problem.methods:
+        headers += (("Allow", ", ".join(problem.methods)),)
+    if fhir:
+        return http.Response(problem.status, FHIR, dumped(problem.outcome()), headers)
+    return http.Response(problem.status, HTML, page.refused(problem.text), headers)
+
+
+def refused_request(status: int, text: str) -> http.Response:
+    """The answer to what isn't a request. Who sent it is a program, whatever it wanted."""
+    return refusal(Problem(status, ISSUES.get(status, "invalid"), text), True)

@@ -1,0 +1,201 @@
+"""ValueSet/$expand: the codes of a value set on a day, page by page."""
+
+import asyncio
+import datetime
+import uuid
+from collections.abc import Sequence
+from dataclasses import astuple, dataclass
+
+from .. import limits, refsets
+from ..pool import Member
+from ..problems import Json, invalid, too_costly
+from ..store import SEARCHED
+from ...snomed import Language
+from .inputs import SCT, Query, not_here
+from .outputs import designations, parameter
+from .request import Request
+from .valuesets import Sort, ValueSet, inside, must_be_kept, refsets_there, value_set_of
+from .versions import Moment
+
+PARAMETERS = frozenset(
+    "url date filter offset count activeOnly includeDesignations displayLanguage system-version "
+    "excludeNested".split()
+)
+
+
+@dataclass(frozen=True)
+class Wanted:
+    """Which members of a value set are asked for, and how they are shown."""
+
+    filter: str | None
+    active_only: bool
+    offset: int
+    count: int | None
+    language: Language
+    with_designations: bool
+
+    @property
+    def most(self) -> int:
+        """How many are looked for: one more than a page where all are asked for, to see that there
+        are too many."""
+        return limits.PAGE_CONCEPTS + 1 if self.count is None else self.count
+
+
+async def expand(request: Request) -> Json:
+    value_set = value_set_of(request.query.needed("url"))
+    moment = request.moment(value_set.version, *system_versions(request.query))
+    wanted = wanted_of(request)
+    request.query.flag("excludeNested")  # Expansions are flat.
+    found, total = await members(request, value_set, moment, wanted)
+    if wanted.count is None and len(found) > limits.PAGE_CONCEPTS:
+        raise too_costly(
+            "there are more than %d concepts: ask with count and offset" % limits.PAGE_CONCEPTS
+        )
+    entries = await entries_of(request, found, moment, wanted)
+    return {
+        "resourceType": "ValueSet",
+        "url": value_set.url,
+        "status": "active",
+        "expansion": expansion(request, value_set, moment, wanted, entries, total),
+    }
+
+
+def system_versions(query: Query) -> list[str]:
+    """The versions that `system-version` asks for, as `http://snomed.info/sct|VERSION`."""
+    found = []
+    for text in query.all("system-version"):
+        system, bar, version = text.partition("|")
+        if not bar or not version:
+            raise invalid("system-version must be SYSTEM|VERSION")
+        if system != SCT:
+            raise not_here(system)
+        found.append(version)
+    return found
+
+
+def wanted_of(request: Request) -> Wanted:
+    query = request.query
+    text, count = query.text("filter"), query.number("count")
+    if text is not None:
+        text = text.strip()
+        if not SEARCHED.match(text):
+            raise invalid(
+                "filter must be 1 to %d characters, none of them a control character"
+                % limits.FILTER_CHARACTERS
+            )
+    if count is not None and count > limits.PAGE_CONCEPTS:
+        raise too_costly("count may be %d at most" % limits.PAGE_CONCEPTS)
+    return Wanted(
+        text,
+        query.flag("activeOnly"),
+        query.number("offset") or 0,
+        count,
+        request.language(),
+        query.flag("includeDesignations"),
+    )
+
+
+async def members(
+    request: Request, value_set: ValueSet, moment: Moment, wanted: Wanted
+) -> tuple[Sequence[Member], int | None]:
+    """A page of the members, and how many there are where that is known."""
+    view = request.view
+    if value_set.sort is Sort.WITHIN:
+        await request.must_have(value_set.code, moment)
+    if wanted.filter is not None:
+        codes = await view.with_a_term(wanted.filter, moment.day)
+        among = await inside(request, value_set, codes, moment)
+        found = await view.members([code for code in codes if code in among], moment.day)
+    elif value_set.sort is Sort.WITHIN:
+        found = [*await view.subtree(value_set.code, moment.day)]
+    elif value_set.sort is Sort.ARE_REFSETS:
+        found = await view.members(await refsets_there(request, moment), moment.day)
+    elif value_set.sort is Sort.IN_REFSET:
+        return await members_of_refset(request, value_set.code, moment, wanted)
+    else:
+        end = wanted.offset + wanted.most
+        found = await view.first_concepts(moment.day, end, wanted.active_only)
+        return found[wanted.offset : end], None
+    if wanted.active_only:
+        found = [member for member in found if member.is_active]
+    return found[wanted.offset : wanted.offset + wanted.most], len(found)
+
+
+async def members_of_refset(
+    request: Request, refset: str, moment: Moment, wanted: Wanted
+) -> tuple[Sequence[Member], int]:
+    """A page of a reference set, of whose other concepts nothing has to be known. A code that the
+    store has no concept of is told as the reference set has it."""
+    choose = refsets.active_codes_of if wanted.active_only else refsets.codes_of
+    codes = await choose(request.view, refset, moment.day)
+    if not codes:
+        await must_be_kept(request, refset, moment)
+    page = codes[wanted.offset : wanted.offset + wanted.most]
+    there = {one.code: one for one in await request.view.members(page, moment.day)}
+    return [there.get(code, Member(code, True)) for code in page], len(codes)
+
+
+async def entries_of(
+    request: Request, found: Sequence[Member], moment: Moment, wanted: Wanted
+) -> list[Json]:
+    """The concepts of a page, as an expansion has them. Other requests have their turn between its
+    slices."""
+    entries: list[Json] = []
+    for start in range(0, len(found), limits.SLICE_CONCEPTS):
+        some = found[start : start + limits.SLICE_CONCEPTS]
+        entries += await slice_of_entries(request, some, moment, wanted)
+        await asyncio.sleep(0)
+    return entries
+
+
+async def slice_of_entries(
+    request: Request, found: Sequence[Member], moment: Moment, wanted: Wanted
+) -> list[Json]:
+    codes, view = [member.code for member in found], request.view
+    displays = await view.names(codes, moment.day, wanted.language)
+    entries = [entry(member, displays[member.code]) for member in found]
+    if wanted.with_designations:
+        described = await view.descriptions(codes, moment.day)
+        told = [await view.called(codes, moment.day, one) for one in wanted.language.refsets]
+        for place, terms in enumerate(described):
+            called = {refset: one[place] for refset, one in zip(wanted.language.refsets, told)}
+            if terms:
+                entries[place]["designation"] = designations(terms, called)
+    return entries
+
+
+def entry(member: Member, display: str) -> Json:
+    found: Json = {"system": SCT, "code": member.code, "display": display}
+    if not member.is_active:
+        found["inactive"] = True
+    return found
+
+
+def expansion(
+    request: Request,
+    value_set: ValueSet,
+    moment: Moment,
+    wanted: Wanted,
+    entries: list[Json],
+    total: int | None,
+) -> Json:
+    view = request.view
+    named = " ".join(map(str, (value_set.url, view.pin, moment.day, *astuple(wanted))))
+    shown = [
+        parameter("version", valueUri="%s|%s" % (SCT, moment.version)),
+        parameter("sctd-pin", valueInteger=view.pin),
+    ]
+    if wanted.filter is not None:
+        shown.append(parameter("filter", valueString=wanted.filter))
+    now = datetime.datetime.now(datetime.timezone.utc)
+    found: Json = {
+        "identifier": "urn:uuid:%s" % uuid.uuid5(uuid.NAMESPACE_URL, named),
+        "timestamp": now.isoformat(timespec="seconds"),
+        "offset": wanted.offset,
+        "parameter": shown,
+    }
+    if total is not None:
+        found["total"] = total
+    if entries:  # FHIR has no empty lists.
+        found["contains"] = entries
+    return found

@@ -1,0 +1,85 @@
+"""CodeSystem/$validate-code and ValueSet/$validate-code: whether a code, and its display, were
+right on the day of a record."""
+
+from ..problems import Json
+from ...snomed import is_concept_id, is_display
+from .inputs import SCT, CodeNames, Coding
+from .outputs import parameter, parameters
+from .request import Request
+from .valuesets import Sort, ValueSet, inside, value_set_of
+from .versions import Moment
+
+OF_A_CODE = "code version display coding codeableConcept date displayLanguage"
+CODE_PARAMETERS = frozenset(("url " + OF_A_CODE).split())
+MEMBER_PARAMETERS = frozenset(
+    ("url system systemVersion " + OF_A_CODE).replace(" version", "").split()
+)
+
+# What a code isn't that is outside a value set.
+OUTSIDE = {
+    Sort.WITHIN: "%s and isn't below it",
+    Sort.IN_REFSET: "in the reference set %s",
+    Sort.ARE_REFSETS: "a reference set with members%s",
+}
+
+
+async def validate_code(request: Request) -> Json:
+    request.query.code_system("url")
+    return await validated(request, CodeNames(system="url"), None)
+
+
+async def validate_member(request: Request) -> Json:
+    value_set = value_set_of(request.query.needed("url"))
+    return await validated(request, CodeNames(version="systemVersion"), value_set)
+
+
+async def validated(request: Request, names: CodeNames, value_set: ValueSet | None) -> Json:
+    """The answer for the first code that is valid, or else for the last of SNOMED CT."""
+    query = request.query
+    versions = [query.text(names.version), value_set.version if value_set else None]
+    answer = parameters(
+        [
+            parameter("result", valueBoolean=False),
+            parameter("message", valueString="no code is one of %s" % SCT),
+        ]
+    )
+    for coding in query.codings(names):
+        # The version of another code system's coding is none of SNOMED CT.
+        is_own = coding.system == SCT
+        moment = request.moment(coding.version if is_own else None, *versions)
+        if not is_own:
+            continue
+        wrong, parts = await checked(request, coding, moment, value_set)
+        if wrong:
+            parts.append(parameter("message", valueString=wrong))
+        answer = parameters([parameter("result", valueBoolean=not wrong), *parts])
+        if not wrong:
+            break
+    return answer
+
+
+async def checked(
+    request: Request, coding: Coding, moment: Moment, value_set: ValueSet | None
+) -> tuple[str, list[Json]]:
+    """What is wrong with a code, or nothing, and what there is to say of it."""
+    parts = [
+        parameter("code", valueCode=coding.code),
+        parameter("system", valueUri=SCT),
+        parameter("version", valueString=moment.version),
+    ]
+    codes = [coding.code] if is_concept_id(coding.code) else []
+    among = await inside(request, value_set, codes, moment) if value_set else set(codes)
+    language = request.language()
+    facts = await request.view.facts(coding.code, moment.day, language)
+    if facts is None:
+        return "the code %.60r isn't in %s" % (coding.code, moment.version), parts
+    terms = [row for row in facts.descriptions if language.code in ("", row.language)]
+    parts += [
+        parameter("display", valueString=facts.display(language)),
+        parameter("inactive", valueBoolean=not facts.concept.is_active),
+    ]
+    if value_set and coding.code not in among:
+        return "the code isn't %s on that day" % (OUTSIDE[value_set.sort] % value_set.code), parts
+    if coding.display and not is_display(coding.display, terms):
+        return "%.100r isn't a term of the code on that day" % coding.display, parts
+    return "", parts

@@ -1,0 +1,95 @@
+"""Which day an answer is of.
+
+A version of SNOMED CT is `http://snomed.info/sct/EDITION/version/YYYYMMDD`. The day of an answer is
+that of the version, a release's or not, or the parameter `date`; with neither it is the latest day
+of the store. Nothing is guessed: another edition, a day after the latest of the store under the
+name of a version, and two days that differ are refused.
+"""
+
+import re
+from collections.abc import Iterable, Mapping
+from types import MappingProxyType
+from typing import NamedTuple
+
+from ..problems import conflict, invalid, not_found
+from ...snomed import is_day
+from ..store import View
+from .inputs import SCT
+
+VERSION = re.compile(r"http://snomed\.info/sct(?:/([0-9]+)(?:/version/([0-9]+))?)?\Z", re.ASCII)
+# A date of FHIR that has a day, with or without a time. The last second of a minute may be a 61st.
+DATE = re.compile(
+    r"([0-9]{4})-([0-9]{2})-([0-9]{2})"
+    r"(T([01][0-9]|2[0-3]):[0-5][0-9](:([0-5][0-9]|60)(\.[0-9]+)?)?"
+    r"(Z|[+-]((0[0-9]|1[0-3]):[0-5][0-9]|14:00))?)?\Z",
+    re.ASCII,
+)
+
+
+class Moment(NamedTuple):
+    """The day of an answer, and its version."""
+
+    day: str
+    version: str
+
+
+class Edition(NamedTuple):
+    """The edition that the store holds, by its module, and what else rows don't say: the language
+    reference sets that its house prefers, in their order, and the code systems of its maps."""
+
+    module: str
+    languages: tuple[str, ...] = ()
+    maps: Mapping[str, str] = MappingProxyType({})
+
+    def version(self, day: str) -> str:
+        return "%s/%s/version/%s" % (SCT, self.module, day)
+
+    def day_of(self, version: str, latest: str) -> str | None:
+        """The day that a version names; None where it names none."""
+        found = VERSION.match(version)
+        if not found:
+            raise invalid(
+                "the version %.100r isn't of the form %s" % (version, self.version("YYYYMMDD"))
+            )
+        module, day = found.groups()
+        if module is not None and module != self.module:
+            raise not_found(
+                "the edition %.20s isn't in this store, which has %s" % (module, self.module)
+            )
+        if day is None:
+            return None
+        if not is_day(day):
+            raise invalid("%.20s isn't a day of the calendar" % day)
+        if day > latest:
+            raise not_found(
+                "version %s isn't in this store, whose latest is %s"
+                % (day, latest or "none, since it is empty")
+            )
+        return str(day)
+
+    def moment(self, view: View, versions: Iterable[str | None], date: str | None = None) -> Moment:
+        """The moment that the versions and the date of a record name together."""
+        found = (self.day_of(version, view.latest) for version in versions if version)
+        days = {day for day in found if day}
+        if date is not None:
+            recorded = day_of_record(date)
+            if days - {recorded}:
+                raise conflict("the date %s isn't that of the version" % date)
+            # Of later days the store knows nothing yet, and the version of the answer says so.
+            days = {min(recorded, view.latest)}
+        if len(days) > 1:
+            raise conflict("the versions are of different days")
+        day = days.pop() if days else view.latest
+        if not day:
+            raise not_found("the store holds no release")
+        return Moment(day, self.version(day))
+
+
+def day_of_record(date: str) -> str:
+    found = DATE.match(date)
+    day = "".join(found.groups()[:3]) if found else ""
+    if not is_day(day):
+        raise invalid(
+            "date must be a day of the calendar as YYYY-MM-DD, since an answer is of one day"
+        )
+    return day

@@ -1,0 +1,86 @@
+"""Every limit of the gateway. Sizes are in bytes and times in seconds where nothing else is
+said."""
+
+# Of HTTP.
+HEAD_BYTES = 16 << 10
+BODY_BYTES = 64 << 10
+# Each chunk of a body costs more than its bytes.
+BODY_CHUNKS = 1_000
+ANSWER_BYTES = 4 << 20
+# Of all answers together that clients haven't taken yet.
+UNTAKEN_BYTES = 64 << 20
+HEAD_SECONDS = 10.0
+BODY_SECONDS = 10.0
+TAKE_SECONDS = 20.0
+IDLE_SECONDS = 60.0
+# How long requests that have come are answered when the gateway ends, and how often it is looked
+# whether they are.
+END_SECONDS = 10.0
+LAST_LOOK_SECONDS = 0.05
+# How long what a refused client still sends is read, so that it sees the refusal.
+LINGER_SECONDS = 2.0
+CONNECTIONS = 512
+# Connections that the system keeps until they are taken.
+BACKLOG = 1024
+
+# Of a request: how long its answer may take, waiting for `sctd` and for other requests included.
+SCTD_SECONDS = 30.0
+# An answer of so many bytes is compressed where its client takes that, and one of so many in a
+# thread of its own.
+PACKED_BYTES = 1 << 10
+PACKED_APART_BYTES = 64 << 10
+# How much of an answer is made at once, before other requests have their turn.
+SLICE_CONCEPTS = 50
+# How long /health may take, whatever hangs.
+HEALTH_SECONDS = 2.0
+# When a client that is answered 503 is told to ask again.
+RETRY_SECONDS = 5
+# Expansions and records, which may ask thousands of questions, that go on at once.
+WALKS = 3
+PARAMETERS = 60
+# Of a concept, each of which is asked about by itself.
+CODINGS = 60
+
+# Of the hub.
+HUB_CONNECTIONS = 8
+# Questions that are sent before the first of their replies is read.
+HUB_BATCH = 256
+HUB_LINE_BYTES = 4000
+REPLY_LINE_BYTES = 1 << 20
+# What one request may be told.
+REPLIES_BYTES = 32 << 20
+
+# Of what is remembered.
+MEMORY_BYTES = 64 << 20
+# The longest reply that is remembered.
+REMEMBERED_BYTES = 1 << 20
+SUBTREES = 64
+SUBTREE_CONCEPTS = 200_000
+REFSETS = 64
+REFSET_CONCEPTS = 200_000
+# Language reference sets of the house, each of which is a question more for a concept.
+LANGUAGES = 8
+
+# Of questions.
+PAGE_CONCEPTS = 1_000
+WALK_CONCEPTS = 20_000
+FILTER_TERMS = 2_000
+FILTER_CHARACTERS = 200
+# Members of a reference set that are read for one expansion, and reference sets that are looked at
+# to see which have members.
+REFSET_MEMBERS = 200_000
+REFSET_CHOICE = 4_000
+# Of more concepts it is asked which lie below another one, and of fewer what lies above them.
+ASKED_UPWARDS = 40
+# `sctd` answers at most so many rows of one SEARCH or PAGE.
+QUESTION_ROWS = 1_000
+
+# Of the page.
+RESULT_TERMS = 100
+# Reference sets that a record tells of, and members of each.
+TOLD_REFSETS = 100
+TOLD_MEMBERS = 20
+SUGGESTED_TERMS = 20
+# Terms among which the shortest are suggested.
+SUGGESTION_TERMS = 200
+REPLACEMENT_STEPS = 30

@@ -1,0 +1,82 @@
+"""The only place that makes markup. Each text that it is given is escaped."""
+
+import re
+import unicodedata
+from html import escape
+from urllib.parse import urlencode
+
+from ..snomed import with_hyphens
+
+MONTHS = (
+    "January",
+    "February",
+    "March",
+    "April",
+    "May",
+    "June",
+    "July",
+    "August",
+    "September",
+    "October",
+    "November",
+    "December",
+)
+NOT_PLAIN = re.compile("[^\x20-\x7e]")
+# Controls, formats such as those that turn a text around, line ends, halves of characters, and
+# characters that nobody has assigned.
+UNSEEN = ("Cc", "Cf", "Zl", "Zp", "Cs", "Co", "Cn")
+
+
+class Html(str):
+    """Markup. Any other text is escaped."""
+
+
+def joined(*parts: str) -> Html:
+    return Html(
+        "".join(part if isinstance(part, Html) else escape(visible(part)) for part in parts)
+    )
+
+
+def tag(name: str, *inner: str, **attributes: str) -> Html:
+    """An element. `class_` and `for_` are the attributes `class` and `for`."""
+    words = "".join(
+        ' %s="%s"' % (key.strip("_").replace("_", "-"), escape(value))
+        for key, value in attributes.items()
+    )
+    return Html("<%s%s>%s</%s>" % (name, words, joined(*inner), name))
+
+
+def visible(text: str) -> str:
+    """The text with each character that can't be seen told by its number."""
+    return NOT_PLAIN.sub(shown, text)
+
+
+def shown(found: re.Match[str]) -> str:
+    is_unseen = unicodedata.category(found[0]) in UNSEEN
+    return "\u2039U+%04X\u203a" % ord(found[0]) if is_unseen else found[0]
+
+
+def term(text: str, language: str = "") -> Html:
+    """A text of the store, which may be written from right to left."""
+    return tag("bdi", text, lang=language) if language else tag("bdi", text)
+
+
+def aside(*inner: str) -> Html:
+    return tag("span", *inner, class_="aside")
+
+
+def verdict(*inner: str) -> Html:
+    return tag("p", *inner, class_="verdict")
+
+
+def spoken(day: str) -> str:
+    return "%d %s %s" % (int(day[6:]), MONTHS[int(day[4:6]) - 1], day[:4])
+
+
+def time(day: str) -> Html:
+    return tag("time", spoken(day), datetime=with_hyphens(day))
+
+
+def address(**words: str) -> str:
+    """The address of the page with these words."""
+    return "?" + urlencode({name: word for name, word in words.items() if word})

@@ -1,0 +1,143 @@
+"""The history of a concept on the page: what its releases changed, by day."""
+
+from collections.abc import Iterable, Mapping
+from typing import NamedTuple
+
+from .markup import Html, joined, tag, term, time
+from ..snomed import (
+    DEFINED,
+    FULLY_SPECIFIED_NAME,
+    IS_A,
+    TEXT_DEFINITION,
+    Association,
+    Concept,
+    Description,
+    RefsetMember,
+    Relationship,
+    is_concept_id,
+)
+from .store import AnyRow, Versions, View
+
+ARROW = " \u2192 "
+BESIDE = " \u00b7 "
+METADATA_TAG = " (foundation metadata concept)"
+WHAT = {FULLY_SPECIFIED_NAME: "Name", TEXT_DEFINITION: "Text definition"}
+
+
+class Names:
+    """What codes are called: reference sets by the names of their associations, others by the
+    store."""
+
+    def __init__(self, names: Mapping[str, str], refsets: Mapping[str, str]) -> None:
+        self.names, self.refsets = names, refsets
+
+    def of(self, code: str) -> str:
+        """A concrete value is told as it is, without the sign that it is a number."""
+        return code.removeprefix("#") if code.startswith("#") else self.names.get(code, code)
+
+    def of_attribute(self, code: str) -> str:
+        return "Parent" if code == IS_A else self.of(code).removesuffix(" (attribute)")
+
+    def of_refset(self, code: str) -> str:
+        return self.refsets.get(code) or self.of_metadata(code)
+
+    def of_metadata(self, code: str) -> str:
+        return self.of(code).removesuffix(METADATA_TAG)
+
+    def of_further(self, further: Iterable[str]) -> str:
+        """What a member says beside what it refers to."""
+        return BESIDE.join(map(self.of_metadata, further))
+
+
+async def history(
+    view: View,
+    timeline: Iterable[Versions],
+    marks: Mapping[str, str],
+    refsets: Mapping[str, str],
+) -> Html:
+    """The changes by day, oldest first, with the days that are marked among them."""
+    names = Names(await view.names(other_codes(timeline), view.latest), refsets)
+    events: dict[str, list[Html]] = {day: [tag("em", said)] for day, said in marks.items()}
+    for versions in timeline:
+        before: AnyRow | None = None
+        for row in versions:
+            events.setdefault(row.time, []).extend(changes(before, row, names))
+            before = row
+    # A row that changed nothing that is told, such as its module, makes no entry.
+    entries = [
+        tag("li", time(day), tag("ul", *(tag("li", said) for said in events[day])))
+        for day in sorted(events)
+        if events[day]
+    ]
+    return tag("ol", *entries, class_="timeline")
+
+
+def other_codes(timeline: Iterable[Versions]) -> Iterable[str]:
+    """The concepts that the rows about the concept name."""
+    for versions in timeline:
+        for row in versions:
+            if isinstance(row, Relationship):
+                yield from (row.type, row.target)
+            elif isinstance(row, Association):
+                yield row.target
+            elif isinstance(row, RefsetMember):
+                yield from codes_of_member(row)
+
+
+def codes_of_member(row: RefsetMember) -> list[str]:
+    """The reference set, and the concepts that its own columns name."""
+    return [row.refset, *filter(is_concept_id, row.further)]
+
+
+class Said(NamedTuple):
+    """What a row says of the concept: in which respect, a code or a term, and what to call it."""
+
+    what: str
+    said: str
+    shown: str
+
+
+def said_by(row: AnyRow | None, names: Names) -> Said | None:
+    """What a row about the concept says, if it is active."""
+    if row is None or isinstance(row, Concept) or row.active != "1":
+        return None
+    if isinstance(row, Description):
+        return Said(WHAT.get(row.type, "Synonym"), row.term, row.term)
+    if isinstance(row, RefsetMember):
+        refset = names.of_refset(row.refset)
+        if not row.further:
+            return Said("Reference set", row.refset, refset)
+        return Said(refset, "\t".join(row.further), names.of_further(row.further))
+    if isinstance(row, Association):
+        what = names.of_refset(row.refset)
+    else:
+        what = names.of_attribute(row.type)
+    return Said(what, row.target, names.of(row.target))
+
+
+def changes(before: AnyRow | None, row: AnyRow, names: Names) -> list[Html]:
+    """What a row changed against the one before it, in words."""
+    if isinstance(row, Concept):
+        return concept_changes(before, row)
+    old, new = said_by(before, names), said_by(row, names)
+    if old == new:
+        return []
+    if old and new and old.what == new.what:
+        # Two concepts that are called alike are told by their codes.
+        pair = (old.said, new.said) if old.shown == new.shown else (old.shown, new.shown)
+        return [joined(new.what, " changed: ", term(pair[0]), ARROW, term(pair[1]))]
+    found = [joined(old.what, " withdrawn: ", term(old.shown))] if old else []
+    if new:
+        added = ": " if isinstance(row, Association) else " added: "
+        found.append(joined(new.what, added, term(new.shown)))
+    return found
+
+
+def concept_changes(before: AnyRow | None, row: Concept) -> list[Html]:
+    found = []
+    if before is None or before.active != row.active:
+        found.append(tag("b", "Concept ", "active" if row.is_active else "inactive"))
+    if isinstance(before, Concept) and before.definition_status != row.definition_status:
+        is_defined = row.definition_status == DEFINED
+        found.append(joined("Now fully defined" if is_defined else "Now primitive"))
+    return found

@@ -1,0 +1,309 @@
+"""Sessions with the hub, and a bounded memory of its replies.
+
+What one request is told comes from one `Session`, which has a pin: each of its questions is asked
+`AT` this number of imports, so all its answers are of the same ones. A reply is remembered by its
+pin and its question, and can't go stale, since at a pin a question has one answer for good. How
+many imports there are the hub tells by itself, of each import before it is answered: so a request
+that names no pin is answered as of the last import that anybody was told of, and nothing is asked
+for that. All that is remembered is forgotten when the hub ends, since another store may answer from
+then on.
+"""
+
+import asyncio
+import re
+from collections import OrderedDict
+from collections.abc import AsyncIterator, Callable, Sequence
+from contextlib import asynccontextmanager
+from typing import Generic, NamedTuple, TypeVar, cast
+
+from .. import sockets
+from ..protocol import NotAReply, Replies
+from . import limits
+from .hub import Connection, HubGone, Reply, refusal
+
+DAMAGED = " Damaged"
+STATUS = re.compile(
+    r"OK [0-9]{1,10} [0-9]{1,10} [0-9]{1,10} (?:[0-9]{1,10}|-)(?:%s)?\Z" % DAMAGED, re.ASCII
+)
+IMPORTS = re.compile(rb"OK ([0-9]{1,10})\n\Z")
+RECEIPT = re.compile(r"OK [0-9]{1,10} [0-9]{1,10} (?:[0-9]{8}|-)\Z", re.ASCII)
+DATE = re.compile(r"DATE ([0-9]{8})\Z", re.ASCII)
+# Roughly what Python takes for an entry of the memory, for a line, and for a letter.
+ENTRY_BYTES, LINE_BYTES, LETTER_BYTES = 400, 80, 2
+
+
+class NoSuchPin(Exception):
+    """There aren't so many imports."""
+
+
+class Memory:
+    """The replies that were used last, up to a number of bytes."""
+
+    def __init__(self, room: int) -> None:
+        self.room, self.used = room, 0
+        self.kept: OrderedDict[tuple[int, str], tuple[Reply, int]] = OrderedDict()
+
+    def get(self, pin: int, line: str) -> Reply | None:
+        found = self.kept.get((pin, line))
+        if found is None:
+            return None
+        self.kept.move_to_end((pin, line))
+        return found[0]
+
+    def put(self, pin: int, line: str, reply: Reply) -> None:
+        size = ENTRY_BYTES + sum(LINE_BYTES + LETTER_BYTES * len(part) for part in reply)
+        if size > min(self.room, limits.REMEMBERED_BYTES) or (pin, line) in self.kept:
+            return
+        self.kept[pin, line] = (reply, size)
+        self.used += size
+        while self.used > self.room:
+            self.used -= self.kept.popitem(last=False)[1][1]
+
+    def clear(self) -> None:
+        self.kept.clear()
+        self.used = 0
+
+
+class Member(NamedTuple):
+    """A concept of a value set."""
+
+    code: str
+    is_active: bool
+
+
+Members = tuple[Member, ...]
+Codes = tuple[str, ...]
+# The pin of a value set, its day, and its top or its reference set.
+SetKey = tuple[int, str, str]
+Kept = TypeVar("Kept", Members, Codes)
+
+
+class Sets(Generic[Kept]):
+    """The value sets that were used last: so many, with so many concepts together."""
+
+    def __init__(self, sets: int, concepts: int) -> None:
+        self.sets, self.concepts = sets, concepts
+        self.kept: OrderedDict[SetKey, Kept] = OrderedDict()
+
+    def get(self, key: SetKey) -> Kept | None:
+        if key in self.kept:
+            self.kept.move_to_end(key)
+        return self.kept.get(key)
+
+    def put(self, key: SetKey, found: Kept) -> None:
+        self.kept[key] = found
+        while len(self.kept) > self.sets or sum(map(len, self.kept.values())) > self.concepts:
+            self.kept.popitem(last=False)
+
+
+def no_subtrees() -> Sets[Members]:
+    return Sets(limits.SUBTREES, limits.SUBTREE_CONCEPTS)
+
+
+def no_refsets() -> Sets[Codes]:
+    return Sets(limits.REFSETS, limits.REFSET_CONCEPTS)
+
+
+class Watch(asyncio.Protocol):
+    """A connection by which the hub tells how many imports there are. `known` ends with its first
+    word, `is_open` with the hub."""
+
+    def __init__(self, on_end: Callable[[], None]) -> None:
+        self.on_end, self.replies = on_end, Replies()
+        self.known: asyncio.Future[None] = asyncio.get_running_loop().create_future()
+        self.imports, self.is_open = 0, True
+        self.identity: sockets.Identity | None = None
+
+    def connection_made(self, transport: asyncio.BaseTransport) -> None:
+        self.transport = cast(asyncio.Transport, transport)
+        self.transport.write(b"WATCH\n")
+
+    def data_received(self, data: bytes) -> None:
+        try:
+            for reply in self.replies.feed(data):
+                self.told(reply)
+            if len(self.replies.rest) > limits.REPLY_LINE_BYTES:
+                raise NotAReply
+        except NotAReply:
+            self.end(HubGone("the hub says what isn't a number of imports", True))
+
+    def told(self, reply: bytes) -> None:
+        found = IMPORTS.match(reply)
+        if found:
+            self.imports = int(found[1])
+            if not self.known.done():
+                self.known.set_result(None)
+        elif reply.startswith(b"ERR "):
+            self.end(refusal(reply.decode("ascii", "replace").rstrip("\n")))
+        else:
+            raise NotAReply
+
+    def connection_lost(self, why: Exception | None) -> None:
+        self.end(HubGone("the hub has left", True))
+
+    def end(self, why: Exception) -> None:
+        if self.is_open:
+            self.is_open = False
+            self.transport.abort()
+            self.on_end()
+        if not self.known.done():
+            self.known.set_exception(why)
+
+
+class Pool:
+    """The connections to the hub, and what it has said."""
+
+    def __init__(self, socket: str, memory: int = limits.MEMORY_BYTES) -> None:
+        self.socket = socket
+        self.places = asyncio.Semaphore(limits.HUB_CONNECTIONS)
+        self.idle: list[Connection] = []
+        self.beginning = asyncio.Lock()
+        self.watch: Watch | None = None
+        self.memory, self.subtrees, self.refsets = Memory(memory), no_subtrees(), no_refsets()
+
+    def is_of_this_hub(self, connection: Connection) -> bool:
+        return self.watch is not None and connection.identity == self.watch.identity
+
+    def forget(self) -> None:
+        """What comes next may be told of another store."""
+        self.watch = None
+        self.memory.clear()
+        self.subtrees, self.refsets = no_subtrees(), no_refsets()
+        for connection in self.idle:
+            connection.close()
+        self.idle.clear()
+
+    async def watched(self) -> Watch:
+        """The hub that tells of its imports. (One that has ended may not be seen to have.)"""
+        async with self.beginning:
+            if self.watch and self.watch.identity != sockets.identity_of(self.socket):
+                self.watch.end(HubGone("another hub has its socket", False))
+            if self.watch is None:
+                self.watch = await self.begun()
+            return self.watch
+
+    async def begun(self) -> Watch:
+        """Begins to watch. The socket identifies the hub, since each hub makes one of its own."""
+        identity, loop = sockets.identity_of(self.socket), asyncio.get_running_loop()
+        try:
+            _, watch = await loop.create_unix_connection(lambda: Watch(self.forget), self.socket)
+        except OSError as error:
+            # (Clients aren't told the socket's path.)
+            raise HubGone(error.strerror or "the hub can't be reached", True) from error
+        try:
+            await watch.known
+            if identity is None or sockets.identity_of(self.socket) != identity:
+                raise HubGone("a hub was started in between", False)
+        except BaseException:
+            watch.transport.abort()
+            raise
+        watch.identity = identity
+        return watch
+
+    async def connection(self, watch: Watch) -> Connection:
+        while self.idle:
+            found = self.idle.pop()
+            if found.is_open() and found.identity == watch.identity:
+                found.received = 0
+                return found
+            found.close()
+        try:
+            reader, writer = await asyncio.open_unix_connection(self.socket)
+        except OSError as error:
+            raise HubGone(error.strerror or "the hub can't be reached", True) from error
+        if watch.identity is None or sockets.identity_of(self.socket) != watch.identity:
+            writer.close()
+            self.forget()
+            raise HubGone("a hub was started in between", False)
+        return Connection(reader, writer, watch.identity)
+
+    @asynccontextmanager
+    async def session(self, pin: int | None) -> AsyncIterator["Session"]:
+        """The store as its first `pin` imports left it, or as it is now."""
+        async with self.places, self.opened(pin) as session:
+            yield session
+
+    @asynccontextmanager
+    async def opened(self, pin: int | None) -> AsyncIterator["Session"]:
+        """The same without waiting for a place."""
+        watch = await self.watched()
+        if pin is not None and pin > watch.imports:
+            raise NoSuchPin
+        connection = await self.connection(watch)
+        try:
+            session = Session(self, connection, watch.imports if pin is None else pin)
+            await session.begin()
+            yield session
+        finally:
+            self.give_back(connection)
+
+    def give_back(self, connection: Connection) -> None:
+        if connection.whole and self.is_of_this_hub(connection):
+            self.idle.append(connection)
+        else:
+            connection.close()
+
+
+class Session:
+    """The store as its first `pin` imports left it."""
+
+    def __init__(self, pool: Pool, connection: Connection, pin: int) -> None:
+        self.pool, self.connection, self.pin = pool, connection, pin
+        # The days that the pin shows rows of, ascending, and the receipt of its last import.
+        self.days: Sequence[str] = ()
+        self.receipt = "-"
+
+    async def begin(self) -> None:
+        """Learns what the pin shows. Where that is remembered nothing is asked."""
+        lines = ["DATES", *(["RECEIPT %d" % self.pin] if self.pin else [])]
+        dates, *receipts = await self.ask(lines)
+        self.days = days_of(dates)
+        if receipts:
+            self.receipt = "RECEIPT %d: %s" % (self.pin, receipt_of(receipts[0]))
+
+    async def is_damaged(self) -> bool:
+        """Whether the hub says that the store is damaged. It has to answer for that."""
+        reply = (await self.connection.ask(["STATUS"]))[0]
+        if not STATUS.match(reply[-1]):
+            raise HubGone("the hub says what isn't the store's state", True)
+        return reply[-1].endswith(DAMAGED)
+
+    def remembered(self, lines: Sequence[str]) -> list[Reply | None]:
+        """The reply to each line that is remembered."""
+        remembers = self.pool.is_of_this_hub(self.connection)
+        return [self.pool.memory.get(self.pin, line) if remembers else None for line in lines]
+
+    async def ask(self, lines: Sequence[str], keep: bool = True) -> list[Reply]:
+        """The reply to each line, those that are remembered without asking."""
+        known = self.remembered(lines)
+        missing = [line for line, reply in zip(lines, known) if reply is None]
+        if missing:
+            told = await self.connection.ask(["AT %d %s" % (self.pin, line) for line in missing])
+            if keep and self.pool.is_of_this_hub(self.connection):
+                for line, reply in zip(missing, told):
+                    self.pool.memory.put(self.pin, line, reply)
+            new = iter(told)
+            known = [next(new) if reply is None else reply for reply in known]
+        return [reply for reply in known if reply is not None]
+
+    def remembered_set(self, sets: Sets[Kept], day: str, code: str) -> Kept | None:
+        if not self.pool.is_of_this_hub(self.connection):
+            return None
+        return sets.get((self.pin, day, code))
+
+    def remember_set(self, sets: Sets[Kept], day: str, code: str, found: Kept) -> None:
+        if self.pool.is_of_this_hub(self.connection):
+            sets.put((self.pin, day, code), found)
+
+
+def days_of(reply: Reply) -> list[str]:
+    found = [DATE.match(line) for line in reply[:-1]]
+    if not all(found) or not reply[-1].startswith("END "):
+        raise HubGone("the hub says what isn't a day", True)
+    return [day[1] for day in found if day]
+
+
+def receipt_of(reply: Reply) -> str:
+    if not RECEIPT.match(reply[-1]):
+        raise HubGone("the hub says what isn't a receipt", True)
+    return reply[-1]

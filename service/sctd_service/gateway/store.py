@@ -1,0 +1,344 @@
+"""What can be asked of the store. Each question is made here. Only the lines about pins, days and
+receipts are made elsewhere, in pool.py."""
+
+import asyncio
+import itertools
+import re
+from collections.abc import Iterable, Sequence
+from typing import TypeVar
+
+from . import limits
+from .hub import HubGone, Reply, TooCostly
+from .pool import Member, Members, Session
+from ..snomed import (
+    Association,
+    Called,
+    Concept,
+    Description,
+    Facts,
+    Language,
+    RefsetMember,
+    Relationship,
+    distinct,
+    display_of,
+    is_concept_id,
+    names_of,
+    preferred_term,
+)
+
+Row = TypeVar("Row", Concept, Description, Relationship, Association)
+# A row of any kind, and all versions of one component, oldest first.
+AnyRow = Concept | Description | Relationship | Association | RefsetMember
+# The kinds of rows that are about a concept.
+ABOUT = "DRVAM"
+Versions = Sequence[AnyRow]
+FIRST = "-"
+# What may be looked for: no control character, line end or half of a character.
+SEARCHED = re.compile(
+    "[^\x00-\x1f\x7f-\x9f\u2028\u2029\ud800-\udfff]{1,%d}\\Z" % limits.FILTER_CHARACTERS
+)
+# The identifier of a member, where that of any other row but an association has digits alone.
+MEMBER_ID = re.compile(r"[0-9a-f]{8}(-[0-9a-f]{4}){3}-[0-9a-f]{12}\Z", re.ASCII)
+# The columns that each member has.
+MEMBER_COLUMNS = 6
+# Of the languages of no house.
+ANY = Language()
+
+
+def rows(kind: type[Row], reply: Reply) -> list[Row]:
+    """The rows of a reply."""
+    try:
+        return [kind(*columns) for columns in columns_of(reply)]
+    except TypeError:
+        raise not_of_its_kind() from None
+
+
+def columns_of(reply: Reply) -> list[list[str]]:
+    return [line.removeprefix("ROW ").split("\t") for line in reply[:-1]]
+
+
+def not_of_its_kind() -> HubGone:
+    return HubGone("the hub says what isn't a row of its kind", True)
+
+
+def member_of(columns: list[str]) -> RefsetMember:
+    try:
+        name, time, active, module, refset, component = columns[:MEMBER_COLUMNS]
+    except ValueError:
+        raise not_of_its_kind() from None
+    further = tuple(columns[MEMBER_COLUMNS:])
+    return RefsetMember(name, time, active, module, refset, component, further)
+
+
+def members_of(reply: Reply) -> list[RefsetMember]:
+    """The members of a reply."""
+    return [member_of(columns) for columns in columns_of(reply)]
+
+
+def called_of(reply: Reply) -> list[Called]:
+    """The descriptions of a reply to CALLED, each with what its members behind it say last."""
+    found: list[Called] = []
+    try:
+        for columns in columns_of(reply):
+            if not MEMBER_ID.match(columns[0]):
+                found.append(Called(Description(*columns), ()))
+            else:
+                description, said = found.pop()
+                found.append(Called(description, said + member_of(columns).further[-1:]))
+    except (TypeError, IndexError):
+        raise not_of_its_kind() from None
+    return found
+
+
+class View:
+    """The store as one request sees it: as the first `pin` imports left it."""
+
+    def __init__(self, session: Session) -> None:
+        self.session = session
+
+    @property
+    def pin(self) -> int:
+        return self.session.pin
+
+    @property
+    def days(self) -> Sequence[str]:
+        """The days that there are rows of, ascending."""
+        return self.session.days
+
+    @property
+    def latest(self) -> str:
+        """The latest day of a row, or nothing where there is no row."""
+        return self.days[-1] if self.days else ""
+
+    @property
+    def receipt(self) -> str:
+        """That of the last import that is seen, as a report cites it."""
+        return self.session.receipt
+
+    async def ask(self, lines: Sequence[str], keep: bool = True) -> list[Reply]:
+        return await self.session.ask(lines, keep)
+
+    async def facts(
+        self, code: str, day: str, language: Language = ANY, with_members: bool = False
+    ) -> Facts | None:
+        """All that is said of a concept; None where it isn't there on that day."""
+        if not is_concept_id(code):
+            return None
+        questions = ["GET C", "ABOUT D", "ABOUT R", "ABOUT V", *["ABOUT M"] * with_members]
+        lines = ["%s %s %s" % (question, code, day) for question in questions]
+        told = await self.ask(lines + [called(code, day, one) for one in language.refsets])
+        concept, descriptions, relationships, values, *others = told
+        found = rows(Concept, concept)
+        if not found:
+            return None
+        return Facts(
+            found[0],
+            rows(Description, descriptions),
+            rows(Relationship, relationships),
+            rows(Relationship, values),
+            dict(zip(language.refsets, map(called_of, others[with_members:]))),
+            members_of(others[0]) if with_members else [],
+        )
+
+    async def concepts(
+        self, codes: Sequence[str], day: str, keep: bool = True
+    ) -> list[Concept | None]:
+        concepts: list[Concept | None] = []
+        for start in range(0, len(codes), limits.HUB_BATCH):
+            some = codes[start : start + limits.HUB_BATCH]
+            replies = await self.ask(["GET C %s %s" % (code, day) for code in some], keep)
+            concepts += [next(iter(rows(Concept, reply)), None) for reply in replies]
+            # Other requests have their turn, also where nothing had to be asked.
+            await asyncio.sleep(0)
+        return concepts
+
+    async def has(self, code: str, day: str) -> bool:
+        return is_concept_id(code) and (await self.concepts([code], day))[0] is not None
+
+    async def descriptions(self, codes: Sequence[str], day: str) -> list[list[Description]]:
+        replies = await self.ask(["ABOUT D %s %s" % (code, day) for code in codes])
+        return [rows(Description, reply) for reply in replies]
+
+    async def called(self, codes: Sequence[str], day: str, refset: str) -> list[list[Called]]:
+        """By what each of the concepts is called in a language."""
+        replies = await self.ask([called(code, day, refset) for code in codes])
+        return [called_of(reply) for reply in replies]
+
+    async def names(
+        self, codes: Iterable[str], day: str, language: Language = ANY
+    ) -> dict[str, str]:
+        """What each of the codes is called. One that is no concept's is called by itself."""
+        codes = distinct(codes)
+        left = [code for code in codes if is_concept_id(code)]
+        found: dict[str, str] = dict(zip(codes, codes))
+        for refset in language.refsets:
+            told = zip(left, await self.called(left, day, refset))
+            preferred = {code: term for code, one in told if (term := preferred_term(one))}
+            found |= preferred
+            left = [code for code in left if code not in preferred]
+        described = zip(left, await self.descriptions(left, day))
+        return found | {code: display_of(code, terms, language.code) for code, terms in described}
+
+    async def associations(self, codes: Sequence[str], day: str) -> list[list[Association]]:
+        """What took the place of each of the concepts."""
+        replies = await self.ask(["REPLACED %s %s" % (code, day) for code in codes])
+        return [rows(Association, reply) for reply in replies]
+
+    async def members_about(self, codes: Sequence[str], day: str) -> list[list[RefsetMember]]:
+        """The active members of all reference sets that refer to each of the components."""
+        replies = await self.ask(["ABOUT M %s %s" % (code, day) for code in codes])
+        return [members_of(reply) for reply in replies]
+
+    async def values(
+        self, refset: str, day: str, after: str, keep: bool = True
+    ) -> list[RefsetMember]:
+        """Active members of a reference set by what they refer to, from the first behind `after`
+        on: with the last of so many all that refer to the same."""
+        line = "VALUES %s %s %s %d" % (refset, day, after, limits.QUESTION_ROWS)
+        return members_of((await self.ask([line], keep))[0])
+
+    async def have_values(self, refsets: Sequence[str], day: str) -> list[str]:
+        """Those of the reference sets that have an active member."""
+        told = await self.ask(["VALUES %s %s %s 1" % (one, day, FIRST) for one in refsets])
+        return [refset for refset, reply in zip(refsets, told) if members_of(reply)]
+
+    async def was_kept(self, refset: str) -> bool:
+        """Whether the store has any member of a reference set, of whichever day."""
+        line = "MEMBERS %s %s %s 1" % (refset, self.latest, FIRST)
+        return bool(members_of((await self.ask([line]))[0]))
+
+    async def has_members(self) -> bool:
+        """Whether the store has a member of any reference set."""
+        line = "PAGE M %s %s 1" % (self.latest, FIRST)
+        return bool(members_of((await self.ask([line]))[0]))
+
+    async def children(self, code: str, day: str) -> list[str]:
+        return ids((await self.ask(["CHILDREN %s %s" % (code, day)]))[0])
+
+    async def ancestors(self, codes: Sequence[str], day: str) -> list[list[str]]:
+        replies = await self.ask(["ANCESTORS %s %s" % (code, day) for code in codes])
+        return [ids(reply) for reply in replies]
+
+    async def descendants(self, code: str, day: str) -> list[str]:
+        return ids((await self.ask(["DESCENDANTS %s %s" % (code, day)], keep=False))[0])
+
+    async def versions(self, code: str) -> list[Concept]:
+        """All versions of the concept's own row, oldest first."""
+        return rows(Concept, (await self.ask(["HISTORY C %s" % code]))[0])
+
+    async def search(self, day: str, after: str, limit: int, text: str) -> list[Description]:
+        """The descriptions whose term begins with the text."""
+        if not SEARCHED.match(text):
+            raise ValueError("a text that can't be looked for")
+        reply = (await self.ask(["SEARCH %s %s %d %s" % (day, after, limit, text)]))[0]
+        return rows(Description, reply)
+
+    async def with_a_term(self, text: str, day: str) -> list[str]:
+        """The concepts with a term that begins so, the shortest terms first."""
+        shortest: dict[str, int] = {}
+        after, count = FIRST, 0
+        while True:
+            page = await self.search(day, after, limits.QUESTION_ROWS, text)
+            for row in names_of(page):
+                shortest[row.concept] = min(shortest.get(row.concept, len(row.term)), len(row.term))
+            count += len(page)
+            if count > limits.FILTER_TERMS:
+                raise TooCostly(
+                    "more than %d terms begin with %.60r: give more letters"
+                    % (limits.FILTER_TERMS, text)
+                )
+            if len(page) < limits.QUESTION_ROWS:
+                return sorted(shortest, key=lambda code: (shortest[code], int(code)))
+            after = page[-1].id
+
+    async def members(self, codes: Sequence[str], day: str, keep: bool = True) -> list[Member]:
+        """Those of the codes that are there on that day."""
+        found = await self.concepts(codes, day, keep)
+        return [Member(row.id, row.is_active) for row in found if row]
+
+    async def first_concepts(self, day: str, count: int, active_only: bool) -> list[Member]:
+        """The first so many concepts by id."""
+        if count > limits.WALK_CONCEPTS:
+            raise TooCostly("of all concepts the first %d can be listed" % limits.WALK_CONCEPTS)
+        found: list[Member] = []
+        after = FIRST
+        while len(found) < count:
+            line = "PAGE C %s %s %d" % (day, after, limits.QUESTION_ROWS)
+            page = rows(Concept, (await self.ask([line]))[0])
+            found += [
+                Member(row.id, row.is_active) for row in page if row.is_active or not active_only
+            ]
+            if len(page) < limits.QUESTION_ROWS:
+                break
+            after = page[-1].id
+        return found[:count]
+
+    async def is_within(self, code: str, top: str, day: str) -> bool:
+        """Whether the concept is the top, or the top is an ancestor of it on that day."""
+        return code in await self.those_within([code], top, day)
+
+    async def those_within(self, codes: Sequence[str], top: str, day: str) -> set[str]:
+        """Those of the concepts that are the top, or that the top is an ancestor of."""
+        known = self.session.remembered_set(self.session.pool.subtrees, day, top)
+        if known is not None:
+            return {member.code for member in known}.intersection(codes)
+        others = [code for code in distinct(codes) if code != top]
+        if len(others) > limits.ASKED_UPWARDS:
+            inside = set(await self.descendants(top, day))
+        else:
+            above = zip(others, await self.ancestors(others, day))
+            inside = {code for code, ancestors in above if top in ancestors}
+        return (inside | {top}).intersection(codes)
+
+    async def subtree(self, top: str, day: str) -> Members:
+        """The concept and all below it, by id."""
+        known = self.session.remembered_set(self.session.pool.subtrees, day, top)
+        if known is not None:
+            return known
+        codes = {top, *await self.descendants(top, day)}
+        if len(codes) > limits.WALK_CONCEPTS:
+            raise TooCostly(
+                "there are more than %d concepts below %s: ask with a filter"
+                % (limits.WALK_CONCEPTS, top)
+            )
+        found = tuple(await self.members(sorted(codes, key=int), day, keep=False))
+        self.session.remember_set(self.session.pool.subtrees, day, top, found)
+        return found
+
+    async def timeline(self, code: str) -> list[Versions]:
+        """What was ever said of the concept and about it: all versions of each component, those
+        that were said first before others of their kind."""
+        told = await self.ask(["TIMELINE %s %s" % (kind, code) for kind in ABOUT], keep=False)
+        about = [
+            versions
+            for kind, reply in zip(ABOUT, told)
+            for versions in sorted(by_component(rows_about(kind, reply)), key=first_said)
+        ]
+        return [await self.versions(code), *about]
+
+
+def called(code: str, day: str, refset: str) -> str:
+    return "CALLED %s %s %s" % (code, day, refset)
+
+
+def ids(reply: Reply) -> list[str]:
+    return [line.removeprefix("ID ") for line in reply[:-1]]
+
+
+def rows_about(kind: str, reply: Reply) -> Sequence[AnyRow]:
+    if kind == "D":
+        return rows(Description, reply)
+    if kind == "A":
+        return rows(Association, reply)
+    if kind == "M":
+        return members_of(reply)
+    return rows(Relationship, reply)
+
+
+def by_component(found: Sequence[AnyRow]) -> list[Versions]:
+    """The rows of each component, which stand together."""
+    return [list(versions) for _, versions in itertools.groupby(found, key=lambda row: row.id)]
+
+
+def first_said(versions: Versions) -> str:
+    return min(row.time for row in versions if row.active == "1")

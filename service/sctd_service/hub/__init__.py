@@ -1,0 +1,1 @@
+"""The hub: many clients of one `sctd serve`, over Unix sockets."""

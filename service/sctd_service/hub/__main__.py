@@ -1,0 +1,234 @@
+#!/usr/bin/env python3
+"""Lets many programs ask one `sctd serve` over Unix sockets.
+
+sctd-hub --program SCTD --store FILE --releases DIR [--socket PATH]
+         [--questions PATH [--group NAME]] [--merge-above N] [--connections-a-user N]
+
+The hub starts `sctd serve` and listens on the sockets, of which there has to be one. Each
+connection is a session of its own: a client sends lines without the session's number, such as
+`GET C 138875005 20250101`, and reads the replies as `docs/GUIDE.md` describes them. When a client
+leaves, its pin is undone; a last line without an end isn't carried out.
+
+The socket of `--socket` takes every line, and is its owner's alone. On the socket of `--questions`
+the store can only be asked: whatever isn't a question is answered `ERR hub NotAQuestion` there. It
+is its owner's alone, too, or with `--group` that group's.
+
+The program answers one line after the other, and is sent the next ones meanwhile, at most 32 of a
+client. An import or a DIGEST goes alone and keeps the others waiting. `WATCH` is answered `OK` and
+the number of imports, and the client is told so again with each import, before that is answered.
+`BACKUP PATH`, on the socket of `--socket`, copies the store while questions are answered. When more
+than N segments stand (100 if not said), the hub merges in short steps between the clients' lines;
+where the store is full, an import waits for a merge.
+
+Once the store is open, the hub prints `OK ready` (and tells systemd, where that started it). An
+opening that is refused ends the hub with the `ERR` line and the program's status. The hub ends with
+status 1 when the program ends, or after the program answered `ERR 2 DiskFault`: what started the
+hub should then start it again; so it does when another file takes the place of FILE. SIGTERM and
+SIGINT end it with status 0, after the lines that are on their way. Standard error has a line for
+each import, published merge and backup, and for each line that took over a second. Once somebody is
+answered `ERR 8 Damaged`, it says that the store is damaged, STATUS ends with `Damaged`, and the
+hub's status at its end isn't 0.
+
+On the socket of `--questions` a user has at most so many connections as `--connections-a-user`
+says (250 if it isn't said), and one that says nothing for ten minutes is closed.
+
+PATH may name the socket that an earlier hub left behind, which is replaced. Anything else that
+stands there, such as a file or the socket of a program that runs, stays, and the hub ends with
+status 1. Standard library alone.
+"""
+
+import argparse
+import asyncio
+import contextlib
+import functools
+import grp
+import os
+import resource
+import signal
+import socket
+import sys
+from typing import Any, Optional
+
+from .. import sockets
+from ..logs import log, tell
+from .clients import Client, Hub
+from .program import Ended, Program
+from .store import MOST_SEGMENTS, Store
+
+# Connections that the system keeps until they are taken.
+BACKLOG = 1024
+# How many connections a user may have on the socket for questions, if it isn't said.
+MOST_A_USER = 250
+
+
+def tell_systemd() -> None:
+    """That the hub is ready, where systemd wants to know."""
+    name = os.environ.get("NOTIFY_SOCKET")
+    if name:
+        with socket.socket(socket.AF_UNIX, socket.SOCK_DGRAM) as telling:
+            telling.connect("\0" + name[1:] if name.startswith("@") else name)
+            telling.send(b"READY=1")
+
+
+def is_clear(path: str) -> bool:
+    """Whether the socket can be made. One that an earlier hub left is removed, nothing else is."""
+    try:
+        sockets.clear(path)
+    except OSError as why:
+        print("hub: %s: %s" % (path, why), file=sys.stderr)
+        return False
+    return True
+
+
+class Listener:
+    """A socket of the hub's, with its rights: its owner's alone, or also a group's."""
+
+    def __init__(self, path: str, group: Optional[int]) -> None:
+        self.path = path
+        self.socket = socket.socket(socket.AF_UNIX)
+        before = os.umask(0o177)
+        try:
+            self.socket.bind(path)
+        finally:
+            os.umask(before)
+        if group is not None:
+            os.chown(path, -1, group)
+            os.chmod(path, 0o660)
+        self.identity = sockets.identity_of(path)
+
+    def remove(self) -> None:
+        """Removes the socket's name, if it is still that of this socket."""
+        sockets.remove(self.path, self.identity)
+
+
+async def listen(hub: Hub, listeners: list[tuple[Listener, bool]]) -> list[asyncio.Server]:
+    return [
+        await hub.loop.create_unix_server(
+            functools.partial(Client, hub, may_change), sock=listener.socket, backlog=BACKLOG)
+        for listener, may_change in listeners]
+
+
+async def end_duties(duties: list["asyncio.Task[None]"]) -> None:
+    """Ends what the hub does beside its clients, and tells what failed of it."""
+    for duty in duties:
+        duty.cancel()
+    for fault in await asyncio.gather(*duties, return_exceptions=True):
+        if isinstance(fault, Exception):
+            tell("hub: %r" % fault)
+
+
+async def serve_clients(hub: Hub, listeners: list[tuple[Listener, bool]]) -> int:
+    """Serves all clients, and answers the status to end with."""
+    for number in (signal.SIGTERM, signal.SIGINT):
+        asyncio.get_running_loop().add_signal_handler(number, hub.end, 0)
+    servers = await listen(hub, listeners)
+    duties = [asyncio.create_task(duty) for duty in (hub.follow(), hub.merge(), hub.look())]
+    print("OK ready", flush=True)
+    tell_systemd()
+    first: list["asyncio.Future[Any]"] = [hub.ended, *duties]
+    await asyncio.wait(first, return_when=asyncio.FIRST_COMPLETED)
+    # Where a duty ended otherwise than by the hub's end, that is a fault of the hub.
+    hub.end(1)
+    if hub.program.exited.done():
+        tell("hub: the program has ended")
+    for server, (listener, _) in zip(servers, listeners):
+        server.close()
+        listener.remove()
+    await hub.stop()
+    await end_duties(duties)
+    if hub.program.damaged_at:
+        log("the store is damaged, as was told at %s" % hub.program.damaged_at)
+        return max(hub.ended.result(), 1)
+    return hub.ended.result()
+
+
+async def serve(options: argparse.Namespace) -> int:
+    paths = [path for path in (options.socket, options.questions) if path]
+    if not all(is_clear(path) for path in paths):
+        return 1
+    program = await Program.start(
+        [options.program, "serve", "--store", options.store, "--releases", options.releases])
+    try:
+        status = await program.opened()
+    except Ended as ended:
+        sys.stdout.buffer.write(ended.line)
+        return ended.status
+    try:
+        # Another hub may have begun to listen while the store was opened.
+        if not all(is_clear(path) for path in paths):
+            return 1
+        imports = int(status.split(b" ")[1])
+        store = Store(program, imports, options.store, options.program, options.merge_above)
+        hub = Hub(program, store, options.connections_a_user)
+        return await serve_clients(hub, listeners_of(options))
+    finally:
+        await program.stop()
+
+
+def listeners_of(options: argparse.Namespace) -> list[tuple[Listener, bool]]:
+    """The sockets, and whether the store may be changed on each."""
+    found = []
+    if options.socket:
+        found.append((Listener(options.socket, None), True))
+    if options.questions:
+        found.append((Listener(options.questions, options.group), False))
+    return found
+
+
+def group_of(name: str) -> int:
+    try:
+        return grp.getgrnam(name).gr_gid
+    except KeyError:
+        raise argparse.ArgumentTypeError("there is no group %s" % name) from None
+
+
+def segments_of(text: str) -> int:
+    number = int(text)
+    if not 1 <= number <= MOST_SEGMENTS:
+        raise argparse.ArgumentTypeError("it isn't 1 to %d" % MOST_SEGMENTS)
+    return number
+
+
+def connections_of(text: str) -> int:
+    number = int(text)
+    if number < 1:
+        raise argparse.ArgumentTypeError("it isn't 1 or more")
+    return number
+
+
+def options_of(words: list[str]) -> argparse.Namespace:
+    parser = argparse.ArgumentParser(description="Many clients for one store.")
+    for name in ("program", "store", "releases"):
+        parser.add_argument("--" + name, required=True)
+    parser.add_argument("--socket", help="takes every line; its owner's alone")
+    parser.add_argument("--questions", help="only answers questions")
+    parser.add_argument("--group", type=group_of, help="who may ask on the socket of --questions")
+    parser.add_argument("--merge-above", type=segments_of, default=100, metavar="N",
+                        help="how many segments may stand until the hub merges")
+    parser.add_argument("--connections-a-user", type=connections_of, default=MOST_A_USER,
+                        metavar="N", help="how many a user may have on the socket of --questions")
+    options = parser.parse_args(words)
+    if not options.socket and not options.questions:
+        parser.error("--socket or --questions has to be given")
+    if options.socket == options.questions:
+        parser.error("--socket and --questions are the same path")
+    if options.group is not None and not options.questions:
+        parser.error("--group belongs to --questions")
+    return options
+
+
+def main() -> int:
+    options = options_of(sys.argv[1:])
+    # Each client takes a file's number. Where no more can be had, fewer are served at a time.
+    with contextlib.suppress(OSError, ValueError):
+        most_files = resource.getrlimit(resource.RLIMIT_NOFILE)[1]
+        resource.setrlimit(resource.RLIMIT_NOFILE, (most_files, most_files))
+    try:
+        return asyncio.run(serve(options))
+    except OSError as why:
+        print("hub: %s" % why, file=sys.stderr)
+        return 1
+
+
+if __name__ == "__main__":
+    sys.exit(main())

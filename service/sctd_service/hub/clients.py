@@ -1,0 +1,328 @@
+"""The hub's clients: connections, each of which is a session of the program."""
+
+import asyncio
+import socket
+import struct
+from collections import Counter
+from collections.abc import Coroutine, Sequence
+from typing import Optional, cast
+
+from ..logs import log, tell
+from ..protocol import REFUSED
+from .lines import LINE_LIMIT, NOT_A_QUESTION, TOO_LONG, Lines, Sort, without_cr
+from .program import Ended, Program
+from .store import Store
+
+# Session 0 is the hub's own. Clients that only ask leave some of the others to those that import.
+SESSIONS = range(1, 1024)
+KEPT_SESSIONS = 23
+NO_SESSION = b"ERR 41 Session\n"
+# So many lines of one client are on their way at most. Once half of them are answered, more go.
+LINES_A_CLIENT = 32
+# So many lines of a client are kept until they are sent. Then it is read no further.
+KEPT_LINES = 256
+# How many bytes of replies may wait to be read by the clients.
+UNREAD_LIMIT = 256 << 20
+# How long clients have time to read what was answered when the hub ends.
+LAST_SECONDS, WAIT_SECONDS = 2, 0.01
+# A client of the socket for questions that says nothing for so long is hung up on, or for so long
+# where few sessions are left.
+IDLE_SECONDS, IDLE_SECONDS_IF_FULL = 600, 10
+FEW_SESSIONS = 100
+# How often that is looked at, and whether the store's file is still there.
+LOOK_SECONDS = 2
+PEER = struct.Struct("3i")
+
+
+class Client(asyncio.Protocol):
+    """A connection, and its session."""
+
+    transport: asyncio.Transport
+    goes_alone = False
+
+    def __init__(self, hub: "Hub", may_change: bool) -> None:
+        self.hub, self.may_change = hub, may_change
+        self.session, self.user, self.lines = 0, "nobody", Lines(LINE_LIMIT, may_change)
+        # How many lines are on their way, and what they were answered that isn't sent yet.
+        self.flying, self.replies = 0, list[bytes]()
+        # Whether it waits for a turn, has a line that the hub carries out, has replies to read.
+        self.waits, self.is_busy, self.has_unread = False, False, False
+        self.is_at_end, self.is_gone, self.watches = False, False, False
+        self.heard = hub.loop.time()
+
+    def connection_made(self, transport: asyncio.BaseTransport) -> None:
+        self.transport = cast(asyncio.Transport, transport)
+        peer = transport.get_extra_info("socket")
+        found = peer.getsockopt(socket.SOL_SOCKET, socket.SO_PEERCRED, PEER.size)
+        self.user = "user %d" % PEER.unpack(found)[1]
+        # A client has its session until all that it was answered is sent.
+        self.transport.set_write_buffer_limits(high=0)
+        self.session = self.hub.joined(self)
+        if not self.session:
+            self.transport.write(NO_SESSION)
+            self.transport.close()
+        self.lines.limit = LINE_LIMIT - len("%d " % self.session)
+
+    def data_received(self, data: bytes) -> None:
+        if self.session:
+            self.heard = self.hub.loop.time()
+            self.lines.feed(data)
+            self.go_on()
+
+    def eof_received(self) -> bool:
+        """The lines that have come are answered all the same."""
+        self.is_at_end = True
+        if self.session:
+            self.go_on()
+        return bool(self.session)
+
+    def go_on(self) -> None:
+        """Does what can be done now: answers lines, or waits for a turn to send questions."""
+        for _ in range(LINES_A_CLIENT):
+            if not self.lines or self.waits or self.is_busy or self.has_unread or self.is_gone:
+                break
+            sort, line = self.lines[0]
+            if sort is Sort.QUESTION:
+                if self.flying <= LINES_A_CLIENT // 2:
+                    self.waits = True
+                    self.hub.program.wait(self)
+                break
+            if self.flying:
+                break
+            self.lines.popleft()
+            self.carry_out(sort, line)
+        else:
+            # Others have their turn between the lines of one client.
+            self.hub.loop.call_soon(self.go_on)
+        self.read_on()
+
+    def read_on(self) -> None:
+        """Reads no more lines than are kept, and ends where there will be none."""
+        if self.is_gone:
+            return
+        if len(self.lines) > KEPT_LINES:
+            self.transport.pause_reading()
+        elif not self.is_at_end:
+            self.transport.resume_reading()
+        elif not (self.lines or self.flying or self.waits or self.is_busy):
+            self.transport.close()
+
+    def turn(self, room: int) -> Sequence[bytes]:
+        self.waits = False
+        lines, found = self.lines, list[bytes]()
+        most = min(room, LINES_A_CLIENT - self.flying)
+        while lines and lines[0][0] is Sort.QUESTION and len(found) < most:
+            found.append(b"%d %s\n" % (self.session, lines.popleft()[1]))
+        self.flying += len(found)
+        return found
+
+    def answered(self, line: bytes, reply: bytes) -> None:
+        self.flying -= 1
+        if self.hub.program.damaged_at:
+            reply = with_damage(line, reply)
+        self.replies.append(reply)
+
+    def flush(self) -> None:
+        self.send(b"".join(self.replies))
+        self.replies.clear()
+        self.go_on()
+
+    def send(self, reply: bytes) -> None:
+        if not self.is_gone:
+            self.transport.write(reply)
+            if self.has_unread:
+                self.hub.end_slowest()
+
+    def pause_writing(self) -> None:
+        self.has_unread = True
+        self.hub.unread[self] = None
+        self.hub.end_slowest()
+
+    def resume_writing(self) -> None:
+        self.has_unread = False
+        self.hub.unread.pop(self, None)
+        self.heard = self.hub.loop.time()
+        if not self.is_gone:
+            self.go_on()
+
+    def connection_lost(self, why: Optional[Exception]) -> None:
+        self.is_gone = True
+        self.lines.clear()
+        self.hub.unread.pop(self, None)
+        if self.session and not self.is_busy:
+            self.hub.begin(self.hub.left(self))
+
+    def carry_out(self, sort: Sort, line: bytes) -> None:
+        """Answers a line that isn't sent among others."""
+        if sort is Sort.REFUSED:
+            self.send(NOT_A_QUESTION)
+        elif sort is Sort.LONG:
+            self.send(TOO_LONG)
+        elif sort is Sort.WATCH:
+            self.watches = True
+            self.hub.watchers[self] = None
+            self.send(self.hub.store.imports_told())
+        else:
+            self.is_busy = True
+            self.hub.begin(self.carried_out(sort, line))
+
+    async def carried_out(self, sort: Sort, line: bytes) -> None:
+        reply = await self.hub.reply(self, sort, line)
+        self.is_busy = False
+        self.send(reply)
+        if self.is_gone:
+            await self.hub.left(self)
+        else:
+            self.go_on()
+
+    def end(self) -> None:
+        """Ends it once the line is answered that the hub carries out."""
+        self.lines.clear()
+        self.is_at_end, self.flying, self.waits = True, 0, False
+        self.read_on()
+
+    def is_idle(self, seconds: float) -> bool:
+        """Whether it has said nothing for so long, and waits for nothing."""
+        works = self.flying or self.lines or self.is_busy or self.watches or self.has_unread
+        return not works and self.hub.loop.time() - self.heard > seconds
+
+
+def with_damage(line: bytes, reply: bytes) -> bytes:
+    """A reply of a damaged store: that to STATUS says so."""
+    is_status = without_cr(line[:-1]).endswith(b" STATUS") and not reply.startswith(REFUSED)
+    return reply[:-1] + b" Damaged\n" if is_status else reply
+
+
+class Hub:
+    """The clients of a store."""
+
+    def __init__(self, program: Program, store: Store, most_a_user: int) -> None:
+        self.program, self.store, self.most_a_user = program, store, most_a_user
+        self.loop = asyncio.get_running_loop()
+        self.free = list(reversed(SESSIONS))
+        self.clients: dict[Client, None] = {}
+        # How many connections each user has on the socket for questions, and who has too many.
+        self.users: Counter[str] = Counter()
+        self.told_users: set[str] = set()
+        # The clients that haven't read their replies, longest first; those told of imports.
+        self.unread: dict[Client, None] = {}
+        self.watchers: dict[Client, None] = {}
+        self.tasks: set["asyncio.Task[None]"] = set()
+        self.ended: "asyncio.Future[int]" = self.loop.create_future()
+        store.on_import = self.tell_watchers
+
+    def end(self, status: int) -> None:
+        if not self.ended.done():
+            self.ended.set_result(status)
+
+    def joined(self, client: Client) -> int:
+        """The session of a new client; 0 where it can have none."""
+        kept = 0 if client.may_change else KEPT_SESSIONS
+        if self.ended.done() or len(self.free) <= kept or self.has_too_many(client):
+            return 0
+        self.clients[client] = None
+        if not client.may_change:
+            self.users[client.user] += 1
+        return self.free.pop()
+
+    def has_too_many(self, client: Client) -> bool:
+        """Whether the user of one that asks has all connections that a user may have."""
+        if client.may_change or self.users[client.user] < self.most_a_user:
+            return False
+        if client.user not in self.told_users:
+            self.told_users.add(client.user)
+            log("%s has %d connections, and gets no other one" % (client.user, self.most_a_user))
+        return True
+
+    async def left(self, client: Client) -> None:
+        """Gives the session of a client back."""
+        self.watchers.pop(client, None)
+        self.clients.pop(client, None)
+        self.store.note_left(client.session)
+        await self.program.ask(client.session, b"UNPIN")
+        self.free.append(client.session)
+        if not client.may_change:
+            self.users[client.user] -= 1
+            self.told_users.discard(client.user)
+
+    def begin(self, work: Coroutine[None, None, None]) -> None:
+        """Begins what is awaited."""
+        task = self.loop.create_task(self.done(work))
+        self.tasks.add(task)
+        task.add_done_callback(self.tasks.discard)
+
+    async def done(self, work: Coroutine[None, None, None]) -> None:
+        try:
+            await work
+        except Ended as ended:
+            self.end(ended.status)
+        except asyncio.CancelledError:
+            pass  # The hub ends.
+        except Exception as fault:
+            tell("hub: %r" % fault)
+            self.end(1)
+
+    async def reply(self, client: Client, sort: Sort, line: bytes) -> bytes:
+        """The reply to a line that isn't sent among others."""
+        if sort is Sort.BACKUP:
+            return await self.store.backup(line)
+        if sort is Sort.CHANGE:
+            return await self.store.change(client.session, line, client.user)
+        return await self.program.ask(client.session, line, client.user, alone=True)
+
+    def tell_watchers(self) -> None:
+        """Tells of an import, before it is answered."""
+        for watcher in list(self.watchers):
+            watcher.send(self.store.imports_told())
+
+    def end_slowest(self) -> None:
+        """Where clients leave too much unread, the one that has done so for the longest time is
+        hung up on."""
+        while self.unread and self.count_unread() > UNREAD_LIMIT:
+            slowest = next(iter(self.unread))
+            del self.unread[slowest]
+            slowest.transport.abort()
+
+    def count_unread(self) -> int:
+        return sum(one.transport.get_write_buffer_size() for one in self.unread)
+
+    async def follow(self) -> None:
+        """Ends the hub when the program ends."""
+        self.end(await self.program.ended)
+
+    async def look(self) -> None:
+        """Hangs up on clients that have said nothing for long, and ends the hub where another file
+        has taken the place of the store's."""
+        while True:
+            await asyncio.sleep(LOOK_SECONDS)
+            if self.store.is_replaced():
+                log("the store's file was replaced: the hub ends")
+                return self.end(1)
+            is_full = len(self.free) <= KEPT_SESSIONS + FEW_SESSIONS
+            seconds = IDLE_SECONDS_IF_FULL if is_full else IDLE_SECONDS
+            for client in list(self.clients):
+                if not client.may_change and client.is_idle(seconds):
+                    client.transport.close()
+
+    async def merge(self) -> None:
+        """Merges in time, as long as the hub runs."""
+        try:
+            await self.store.merge_in_time()
+        except Ended as ended:
+            self.end(ended.status)
+
+    async def stop(self) -> None:
+        """Ends the program after the lines that it answers, and then the clients."""
+        self.store.stop_copying()
+        await self.program.stop()
+        for client in list(self.clients):
+            client.end()
+        end = self.loop.time() + LAST_SECONDS
+        while self.loop.time() < end and not all(one.is_gone for one in self.clients):
+            await asyncio.sleep(WAIT_SECONDS)
+        for client in list(self.clients):
+            client.transport.abort()
+        tasks = list(self.tasks)
+        for task in tasks:
+            task.cancel()
+        await asyncio.gather(*tasks, return_exceptions=True)

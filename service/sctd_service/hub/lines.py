@@ -1,0 +1,89 @@
+"""The lines of the hub's clients: how they are cut out of what comes, what is done with each, and
+what of them goes into the log."""
+
+import enum
+from collections import deque
+
+from ..protocol import QUESTIONS
+
+# The program's limit, for a line with the number of its session.
+LINE_LIMIT = 4096
+# A question that reads each row of the store.
+DIGEST = b"DIGEST"
+# Lines that the hub carries out itself.
+BACKUP, WATCH = b"BACKUP", b"WATCH"
+# What the hub itself answers. The program's refusals have a number where these have a word.
+TOO_LONG = b"ERR 40 Long\n"
+NOT_A_QUESTION = b"ERR hub NotAQuestion\n"
+
+
+
+class Sort(enum.Enum):
+    """What the hub does with a line."""
+
+    QUESTION = enum.auto()
+    # A question that takes so long that no other line goes to the program beside it.
+    SLOW = enum.auto()
+    # Whatever isn't known to be a question, on a socket on which the store may be changed.
+    CHANGE = enum.auto()
+    BACKUP = enum.auto()
+    WATCH = enum.auto()
+    REFUSED = enum.auto()
+    LONG = enum.auto()
+
+
+def without_cr(line: bytes) -> bytes:
+    """The line as the program reads it, which takes one CR for a part of the line's end."""
+    return line[:-1] if line.endswith(b"\r") else line
+
+
+def first_word(line: bytes) -> bytes:
+    return without_cr(line).partition(b" ")[0]
+
+
+# A line without its LF, and what is done with it. Of one that is too long nothing is kept.
+Line = tuple[Sort, bytes]
+
+
+def sort_of(line: bytes, may_change: bool) -> Sort:
+    """What is done with a line of a client that may change the store, or may ask alone."""
+    word = first_word(line)
+    if word in QUESTIONS:
+        return Sort.SLOW if without_cr(line).endswith(DIGEST) else Sort.QUESTION
+    if word == WATCH:
+        return Sort.WATCH
+    if not may_change:
+        return Sort.REFUSED
+    return Sort.BACKUP if word == BACKUP else Sort.CHANGE
+
+
+class Lines(deque[Line]):
+    """The lines of a client that have come and aren't taken yet. A last line without an end is
+    none."""
+
+    def __init__(self, limit: int, may_change: bool) -> None:
+        super().__init__()
+        self.limit, self.may_change = limit, may_change
+        # The beginning of the line that is coming in, and whether some of it was dropped.
+        self.rest, self.is_long = b"", False
+
+    def feed(self, data: bytes) -> None:
+        *whole, self.rest = (self.rest + data).split(b"\n")
+        self.extend(map(self.checked, whole))
+        # (One byte more may be a CR.)
+        if len(self.rest) > self.limit + 1:
+            self.rest, self.is_long = b"", True
+
+    def checked(self, line: bytes) -> Line:
+        was_long, self.is_long = self.is_long, False
+        if was_long or len(without_cr(line)) > self.limit:
+            return Sort.LONG, b""
+        return sort_of(line, self.may_change), line
+
+
+def shown(text: bytes) -> str:
+    """Text from outside as it stands in the log: what isn't printable, and the backslash, is
+    escaped, so that no text can look like another line or steer a terminal."""
+    decoded = text.replace(b"\\", b"\\\\").decode("utf-8", "backslashreplace")
+    return "".join(
+        sign if sign.isprintable() else sign.encode("unicode_escape").decode() for sign in decoded)

@@ -1,0 +1,306 @@
+"""What is done with the store one after the other: lines that may change it, merges of the hub's
+own, copies."""
+
+import asyncio
+import contextlib
+import os
+import threading
+from collections.abc import Callable
+from typing import Optional
+
+from ..logs import log, tell
+from ..protocol import REFUSED
+from .lines import BACKUP, first_word, shown, without_cr
+from .program import HUB_SESSION, Ended, Program
+
+# A merge of the hub's own goes in steps of so many rows.
+STEP = b"STEP 1000"
+# The most segments that a store may have.
+MOST_SEGMENTS = 250
+# The lines that are answered for a release, and for which a store that is full is merged first.
+IMPORT = b"IMPORT"
+FOR_RELEASES = (IMPORT, b"CHECK")
+# The lines whose replies are logged, and those of which only refusals are.
+LOGGED = (*FOR_RELEASES, b"PUBLISH")
+LOGGED_REFUSED = (b"MERGE", b"STEP", b"ABANDON", b"TRIM")
+# How many bytes of a copy are written at a time.
+COPY_SIZE = 1 << 20
+
+
+class Refused(Exception):
+    """Why something that the hub does by itself wasn't done."""
+
+
+class Store:
+    """What is done with the store one after the other: changes, merges of the hub's own, copies.
+    `imports` is how many imports it has, and `on_import` is called before one is answered."""
+
+    def __init__(self, program: Program, imports: int, path: str, command: str,
+                 merge_above: int) -> None:
+        self.program, self.path, self.command = program, path, command
+        self.imports = imports
+        self.on_import: Callable[[], None] = lambda: None
+        self.merge_above = merge_above
+        # Which file the path has named since the program opened it.
+        self.identity = identity_of(os.stat(path))
+        # Held by a line that may change the store, and while the store is copied.
+        self.changes = asyncio.Lock()
+        # Held from before an import, while there is room made for it, to its reply.
+        self.imports_lock = asyncio.Lock()
+        # Held by a merge of the hub's own. Who waits for several of these has them in the order
+        # imports, merges, changes.
+        self.merges = asyncio.Lock()
+        # There may be more segments than wanted. (It is not set at the start: a merge that finds
+        # no space ends the hub, and the next one would do so again before it answered anything.)
+        self.may_merge = asyncio.Event()
+        # The client's session that has begun a merge.
+        self.merging: Optional[int] = None
+        self.copying: Optional[Copying] = None
+
+    async def change(self, session: int, line: bytes, user: str = "hub") -> bytes:
+        """The reply to a line that may change the store, once it is logged."""
+        asking = self.imported if first_word(line) in FOR_RELEASES else self.asked
+        try:
+            reply = await asking(session, line, user)
+        except Ended:
+            if session != HUB_SESSION and first_word(line) in LOGGED:
+                log("%s: no reply" % shown(without_cr(line)))
+            raise
+        self.note_reply(session, line, reply[:-1])
+        return reply
+
+    async def imported(self, session: int, line: bytes, user: str) -> bytes:
+        """The reply to an import, or to the check of one, for which room is made first."""
+        async with self.imports_lock:
+            await self.make_room()
+            return await self.asked(session, line, user)
+
+    async def asked(self, session: int, line: bytes, user: str) -> bytes:
+        """The reply to a line while nothing else changes or copies the store."""
+        async with self.changes:
+            return await self.program.ask(session, line, user, alone=True)
+
+    def note_reply(self, session: int, line: bytes, reply: bytes) -> None:
+        """Notes what a line has changed, and logs its reply."""
+        word, is_refused = first_word(line), reply.startswith(REFUSED)
+        if word in LOGGED or (word in LOGGED_REFUSED and is_refused):
+            log("%s: %s" % (shown(without_cr(line)), shown(reply)))
+        if word == IMPORT and not is_refused:
+            self.imports = int(reply.split(b" ")[1])
+            self.on_import()
+        if session != HUB_SESSION and not is_refused:
+            self.note_change(session, word)
+
+    def note_change(self, session: int, word: bytes) -> None:
+        """Notes what a client has changed."""
+        if word == b"MERGE":
+            self.merging = session
+        elif word in (b"PUBLISH", b"ABANDON"):
+            self.merging = None
+        self.may_merge.set()
+
+    def note_left(self, session: int) -> None:
+        """Notes that a client has left. A merge that it has begun is the hub's then."""
+        if self.merging == session:
+            self.merging = None
+            self.may_merge.set()
+
+    async def status(self) -> list[bytes]:
+        """The words of the reply to STATUS."""
+        reply = (await self.program.ask(HUB_SESSION, b"STATUS"))[:-1]
+        if reply.startswith(REFUSED):
+            raise Refused("STATUS was answered %s" % shown(reply))
+        return reply.split(b" ")
+
+    def imports_told(self) -> bytes:
+        """What WATCH is answered, and told again with each import."""
+        return b"OK %d\n" % self.imports
+
+    def is_replaced(self) -> bool:
+        """Whether another file has the store's name, or none."""
+        try:
+            return identity_of(os.stat(self.path)) != self.identity
+        except OSError:
+            return True
+
+    async def merge_in_time(self) -> None:
+        """Merges between the clients' lines, whenever more segments stand than are wanted."""
+        while True:
+            await self.may_merge.wait()
+            self.may_merge.clear()
+            try:
+                while await self.merges_two(self.merge_above):
+                    pass
+            except Refused as refused:
+                log("MERGE: %s" % refused)
+
+    async def make_room(self) -> None:
+        """Merges where a store is full, as imports can come faster than segments are merged."""
+        if self.merge_above == MOST_SEGMENTS:
+            return
+        with contextlib.suppress(Refused):
+            # (An import doesn't wait for a merge without need.)
+            if int((await self.status())[3]) >= MOST_SEGMENTS:
+                await self.merges_two(MOST_SEGMENTS - 1)
+
+    async def merges_two(self, above: int) -> bool:
+        """Whether more segments stood than so many, and two of them are merged. The merge of a
+        client is left to that."""
+        async with self.merges:
+            _, _, _, segments, left = await self.status()
+            if int(segments) <= above or self.merging is not None:
+                return False
+            last = await self.merge_line(b"MERGE") if left == b"-" else b"OK " + left
+            while last.startswith(b"OK "):
+                last = await self.merge_line(b"PUBLISH" if last == b"OK 0" else STEP)
+            return last == b"OK"
+
+    async def merge_line(self, line: bytes) -> bytes:
+        """The reply to a line of a merge of the hub's own."""
+        reply = await self.change(HUB_SESSION, line)
+        if self.program.is_over:
+            raise Ended(1)
+        return reply[:-1]
+
+    async def backup(self, line: bytes) -> bytes:
+        """The reply to BACKUP."""
+        name = without_cr(line).partition(b" ")[2]
+        try:
+            reply = await self.copied(name)
+        except Refused as failed:
+            reply = b"ERR hub Backup " + str(failed).encode("utf-8", "backslashreplace")
+        log("%s: %s" % (shown(BACKUP + b" " + name), shown(reply)))
+        return reply + b"\n"
+
+    async def copied(self, name: bytes) -> bytes:
+        """Copies the store, and checks the copy: it opens, and shows what the store shows."""
+        path = path_of(name)
+        async with self.changes:
+            wanted = (await self.status())[:4]
+            self.copying = Copying(self.path, self.identity, path)
+            try:
+                made = await asyncio.to_thread(self.copying.copy)
+            finally:
+                self.copying = None
+        with contextlib.closing(made):
+            found, why = await self.checked(made)
+            if found.split(b" ")[:4] != wanted:
+                made.remove()
+                raise Refused("the copy is answered %s, %s" % (shown(found), shown(why)))
+        return b" ".join(wanted)
+
+    async def checked(self, made: "NewFile") -> tuple[bytes, bytes]:
+        """What `sctd status` answers of a copy, and what it says beside that."""
+        checking = await asyncio.create_subprocess_exec(
+            self.command, "status", "--store", made.path, stdin=asyncio.subprocess.DEVNULL,
+            stdout=asyncio.subprocess.PIPE, stderr=asyncio.subprocess.PIPE)
+        try:
+            said, why = await checking.communicate()
+        except asyncio.CancelledError:
+            checking.kill()
+            await checking.wait()
+            made.remove()
+            raise
+        return said.rstrip(b"\n"), why.rstrip(b"\n")
+
+    def stop_copying(self) -> None:
+        if self.copying is not None:
+            self.copying.is_stopped.set()
+
+
+def path_of(name: bytes) -> str:
+    """The path that BACKUP names."""
+    try:
+        path = name.decode()
+    except UnicodeDecodeError:
+        raise Refused("the name isn't UTF-8") from None
+    if not path.isprintable():
+        raise Refused("the name isn't printable")
+    if not os.path.isabs(path):
+        raise Refused("the path doesn't begin with /")
+    return path
+
+
+# A file system, and the number of a file in it.
+Identity = tuple[int, int]
+
+
+def identity_of(found: os.stat_result) -> Identity:
+    return found.st_dev, found.st_ino
+
+
+class NewFile:
+    """A file that is made under a path where there is none. Until it is closed, no other file can
+    have its identity."""
+
+    def __init__(self, path: str) -> None:
+        self.path = path
+        self.file = open(os.open(path, os.O_WRONLY | os.O_CREAT | os.O_EXCL, 0o600), "wb")
+        self.identity = identity_of(os.fstat(self.file.fileno()))
+
+    def sync(self) -> None:
+        """Makes sure that the file and its name are on the disk, and nowhere else."""
+        self.file.flush()
+        os.fsync(self.file.fileno())
+        # What is checked then is what the disk has.
+        os.posix_fadvise(self.file.fileno(), 0, 0, os.POSIX_FADV_DONTNEED)
+        sync_folder(os.path.dirname(self.path))
+
+    def remove(self) -> None:
+        """Removes it, if the path still leads to it, and otherwise tells that it isn't removed."""
+        with contextlib.suppress(FileNotFoundError):
+            if identity_of(os.lstat(self.path)) == self.identity:
+                os.unlink(self.path)
+                return
+        tell("hub: %s: not removed: the file was replaced or removed" % self.path)
+
+    def close(self) -> None:
+        # What is left to write after a fault of the disk can't be written.
+        with contextlib.suppress(OSError):
+            self.file.close()
+
+
+class Copying:
+    """A copy of the store's file that is being made. It is made in a thread of its own."""
+
+    def __init__(self, source: str, identity: Identity, path: str) -> None:
+        self.source, self.identity, self.path = source, identity, path
+        self.is_stopped = threading.Event()
+
+    def copy(self) -> NewFile:
+        """Makes a new file, and syncs it and its folder. If that fails, the file is removed."""
+        try:
+            made = NewFile(self.path)
+            try:
+                self.fill(made)
+            except BaseException:
+                made.remove()
+                made.close()
+                raise
+        except OSError as why:
+            raise Refused(why.strerror or str(why)) from None
+        return made
+
+    def fill(self, made: NewFile) -> None:
+        """Copies the store's file into the new one."""
+        with open(self.source, "rb") as source:
+            if identity_of(os.fstat(source.fileno())) != self.identity:
+                raise Refused("the store's file was replaced")
+            while part := source.read(COPY_SIZE):
+                self.go_on()
+                made.file.write(part)
+        made.sync()
+        self.go_on()
+
+    def go_on(self) -> None:
+        if self.is_stopped.is_set():
+            raise Refused("the hub ends")
+
+
+def sync_folder(path: str) -> None:
+    """Makes sure that the names in a folder are on the disk."""
+    number = os.open(path, os.O_RDONLY | os.O_DIRECTORY)
+    try:
+        os.fsync(number)
+    finally:
+        os.close(number)

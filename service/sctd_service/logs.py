@@ -1,0 +1,19 @@
+"""What goes to standard error while clients are answered."""
+
+import contextlib
+import sys
+import time
+
+
+def tell(text: str) -> None:
+    """Writes lines to standard error. Where that can't be, as on a full disk, clients are answered
+    nevertheless."""
+    with contextlib.suppress(OSError):
+        print(text, file=sys.stderr, flush=True)
+
+
+def log(text: str) -> str:
+    """Writes a line of the log, with the time (UTC), which it returns."""
+    now = time.strftime("%Y-%m-%dT%H:%M:%SZ", time.gmtime())
+    tell("%s %s" % (now, text))
+    return now

@@ -1,0 +1,72 @@
+"""Lines that the gateway would never make: none of them is sent, and what a hub says is read
+strictly."""
+
+import unittest
+
+from sctd_service.gateway import hub
+from sctd_service.gateway.hub import HubRefused, encoded, refusal
+from sctd_service.protocol import NotAReply, Replies
+from sctd_service.snomed import CASE_INSENSITIVE, INITIAL_CASE_INSENSITIVE, Description, is_display
+
+CASE_SENSITIVE = "900000000000017005"
+
+
+class Lines(unittest.TestCase):
+    def test_what_cannot_be_sent(self) -> None:
+        self.assertEqual(
+            encoded(["PIN", "SEARCH 20200101 - 5 a b"]), b"PIN\nSEARCH 20200101 - 5 a b\n"
+        )
+        for line in (
+            "",
+            "a\nb",
+            "a\rb",
+            "a\n",
+            "\0",
+            "a\x85b",
+            "a\u2028b",
+            "x" * 5_000,
+            "\u4e2d" * 2_000,
+        ):
+            with self.assertRaises(ValueError):
+                encoded(["PIN", line])
+
+    def test_what_is_no_line_of_a_reply(self) -> None:
+        for line in (b"", b"row 1", b"ROWS 1", b"OKAY", b"ERRO 1", b"HTTP/1.1 200 OK"):
+            with self.assertRaises(NotAReply):
+                list(Replies().feed(b"ROW a\n" + line + b"\n"))
+
+    def test_replies_that_come_in_parts(self) -> None:
+        """However they are cut, they are the same."""
+        wanted = ["ROW a\tStra\u00dfe\nROW \u2028OK\nEND 2\n", "OK\n"]
+        wanted += ["ERR 43 Arguments\n", "END 0\n"]
+        data = "".join(wanted).encode()
+        for size in range(1, len(data) + 1):
+            replies = Replies()
+            parts = [data[start : start + size] for start in range(0, len(data), size)]
+            found = [reply.decode() for part in parts for reply in replies.feed(part)]
+            self.assertEqual((found, replies.rest), (wanted, b""), size)
+
+    def test_refusals(self) -> None:
+        for line, number in (
+            ("ERR 43 Arguments", 43),
+            ("ERR hub NotAQuestion", None),
+            ("ERR ", None),
+        ):
+            found = refusal(line)
+            assert isinstance(found, HubRefused)
+            self.assertEqual(found.number, number)
+        self.assertIsInstance(refusal("ERR 41 Session"), hub.HubGone)
+
+
+class Displays(unittest.TestCase):
+    def test_case_counts_as_the_description_says(self) -> None:
+        for case, text, valid in (
+            (CASE_SENSITIVE, "pH of Urine", True),
+            (CASE_SENSITIVE, "PH of Urine", False),
+            (INITIAL_CASE_INSENSITIVE, "PH of Urine", True),
+            (INITIAL_CASE_INSENSITIVE, "pH of urine", False),
+            (CASE_INSENSITIVE, "PH OF URINE", True),
+            (CASE_INSENSITIVE, "pH of urin", False),
+        ):
+            row = Description("1", "20200101", "1", "2", "3", "en", "4", "pH of Urine", case)
+            self.assertEqual(is_display(text, [row]), valid, (case, text))

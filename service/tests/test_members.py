@@ -1,0 +1,723 @@
+"""Whole packages: preferred terms, why concepts were retired, reference sets, simple maps."""
+
+import asyncio
+import os
+import re
+import unittest
+from collections.abc import Sequence
+from types import SimpleNamespace
+from typing import Any, cast
+from urllib.parse import urlencode
+
+from make_release import sctid
+from sctd_service.gateway import languages, limits, refsets
+from sctd_service.gateway.hub import HubGone, TooCostly
+from sctd_service.gateway.page_history import Names
+from sctd_service.gateway.page_members import memberships, refset_entries
+from sctd_service.gateway.pool import Member, Session
+from sctd_service.gateway.problems import Problem
+from sctd_service.snomed import RefsetMember
+from sctd_service.gateway.store import View, called_of, members_of
+
+from . import demo_members as demo
+from .demo_releases import SAME_AS
+from .house import SCT, House, Json, Shared, issue, parts_of, properties, told, version
+
+LOOKUP, EXPAND = "CodeSystem/$lookup", "ValueSet/$expand"
+TRANSLATE = "ConceptMap/$translate"
+# What the house prefers: British English, and where that says nothing that of the United States.
+LANGUAGES = demo.GB + "," + demo.US
+CTV3_SYSTEM = "http://read.info/ctv3"
+HOUSE_SYSTEM = "urn:oid:1.2.3"
+MAPS = ((demo.CTV3, CTV3_SYSTEM), (demo.HOUSE_MAP, HOUSE_SYSTEM))
+WORDS = ("--languages", LANGUAGES, *(word for one in MAPS for word in ("--map", "%s=%s" % one)))
+US_TAG, GB_TAG = "en-x-sctlang-90000000-00005090-07", "en-x-sctlang-90000000-00005080-04"
+CONTEXT = "http://snomed.info/fhir/StructureDefinition/designation-use-context"
+# The reference set, how it has a description, and as what.
+Context = tuple[str, str, str]
+FSN, SYNONYM = "900000000000003001", "900000000000013009"
+
+
+class Whole(unittest.TestCase):
+    """A store of layout 3 with whole packages."""
+
+    def setUp(self) -> None:
+        self.house = Shared.get_whole(WORDS)
+        self.codes = self.house.codes
+
+    def lookup(self, name: str, **words: Any) -> Json:
+        code = self.codes[name]
+        status, said = self.house.gateway.fhir(LOOKUP, system=SCT, code=code, **words)
+        self.assertEqual(status, 200, said)
+        return said
+
+    def display(self, name: str, **words: Any) -> str:
+        found: str = told(self.lookup(name, **words), "display")[0]
+        return found
+
+    def refset(self, name: str, **words: Any) -> tuple[int, Json]:
+        url = "%s?fhir_vs=refset/%s" % (SCT, self.codes[name])
+        return self.house.gateway.fhir(EXPAND, url=url, **words)
+
+    def expanded(self, name: str, **words: Any) -> Json:
+        status, said = self.refset(name, **words)
+        self.assertEqual(status, 200, said)
+        found: Json = said["expansion"]
+        return found
+
+    def named(self, *names: str) -> list[str]:
+        return sorted((self.codes[name] for name in names), key=int)
+
+    def in_set(self, **words: Any) -> list[str]:
+        return [one["code"] for one in self.expanded("set", **words).get("contains", [])]
+
+
+class Displays(Whole):
+    def test_languages_of_the_house(self) -> None:
+        self.assertEqual(self.display("anaemia"), "Anaemia")
+        # The first language has no term for it, the second has one.
+        self.assertEqual(self.display("wrist", date="2018-01-01"), "Wrist fracture")
+        # Neither has one: the fully specified name.
+        name = "Paracetamol 500 mg oral tablet (clinical drug)"
+        self.assertEqual(self.display("drug"), name)
+
+    def test_language_asked_for(self) -> None:
+        for tag, display in (
+            ("en-US", "Anemia"),
+            ("EN-us", "Anemia"),
+            ("en-GB", "Anaemia"),
+            (US_TAG, "Anemia"),
+            (GB_TAG, "Anaemia"),
+            ("en", "Anaemia"),  # The house's English.
+            ("en-ZA", "Anaemia"),
+            ("de", "An\u00e4mie"),
+            ("de-DE", "An\u00e4mie"),
+            ("fr", "Anemia (disorder)"),
+            ("en-AU", "Anemia (disorder)"),  # Its reference set isn't there.
+        ):
+            self.assertEqual(self.display("anaemia", displayLanguage=tag), display, tag)
+
+    def test_only_the_language_asked_for(self) -> None:
+        for tag in ("en-GB", "fr"):
+            display = self.display("wrist", date="2018-01-01", displayLanguage=tag)
+            self.assertEqual(display, "Fracture of wrist (disorder)", tag)
+
+    def test_preferred_on_the_day(self) -> None:
+        for date, display in (
+            ("2017-07-30", "Broken wrist"),
+            ("2017-07-31", "Wrist fracture"),
+            ("2018-07-10", "Wrist fracture"),  # Another one is acceptable for some days.
+        ):
+            self.assertEqual(self.display("wrist", date=date), display, date)
+
+    def test_wrong_tags(self) -> None:
+        for tag in (
+            "en-x-sctlang-",
+            "en-x-sctlang-12",
+            "en-x-sctlang-90000000-00005090-08",
+            "en-x-sctlang-9000000000005090-07",
+            "en-x-sctlang-90000000-0000509a-07",
+            "en-x-sctlang-90000000-00005090-07\n",
+            "x-sctlang-90000000-00005090-07",
+            "900000000000509007",
+            "en, de",
+            "",
+        ):
+            status, said = self.house.gateway.fhir(
+                LOOKUP, system=SCT, code=self.codes["wrist"], displayLanguage=tag
+            )
+            self.assertEqual((status, issue(said)), (400, "invalid"), tag)
+
+    def test_where_else_a_concept_is_shown(self) -> None:
+        url = "%s?fhir_vs=isa/%s" % (SCT, self.codes["anaemia"])
+        fhir, code = self.house.gateway.fhir, self.codes["anaemia"]
+        cases: list[tuple[dict[str, str], str]] = [({}, "Anaemia")]
+        for words, display in [*cases, ({"displayLanguage": "en-US"}, "Anemia")]:
+            said = fhir(EXPAND, url=url, **words)[1]["expansion"]["contains"]
+            self.assertEqual([one["display"] for one in said], [display])
+            said = fhir("CodeSystem/$validate-code", url=SCT, code=code, **words)[1]
+            self.assertEqual(told(said, "display"), [display])
+
+    def test_a_definition_is_no_name(self) -> None:
+        words = {"url": SCT, "code": self.codes["wrist"], "display": demo.DEFINITION}
+        said = self.house.gateway.fhir("CodeSystem/$validate-code", **words)[1]
+        self.assertEqual(told(said, "result"), [False])
+        found = self.house.gateway.fhir(EXPAND, url=SCT + "?fhir_vs", filter="a break of bones")
+        self.assertEqual(found[1]["expansion"]["total"], 0)
+        self.assertEqual(self.house.gateway.send("GET", "/suggest?text=a+break").json(), [])
+        self.assertIn("No term begins", self.house.gateway.send("GET", "/?q=A+break").text)
+
+
+class Tags(unittest.TestCase):
+    def test_what_a_tag_means(self) -> None:
+        for tag, house, code, refsets_of in (
+            ("en", (), "en", (demo.US, demo.GB)),
+            ("en", (demo.GB,), "en", (demo.GB,)),
+            ("en", (demo.GERMAN,), "en", (demo.US, demo.GB)),
+            ("de", (demo.GB, demo.GERMAN), "de", (demo.GERMAN,)),
+            ("de", ("2041000195100", demo.GERMAN), "de", ("2041000195100", demo.GERMAN)),
+            ("de-CH", (demo.GERMAN,), "de", ("2041000195100",)),
+            ("de-CH-1996", (), "de", ("2041000195100",)),
+            ("en-nhs-clinical", (), "en", ("999001261000000100",)),
+            ("it", (demo.US,), "it", ()),
+            ("es-419", (), "es", ("450828004",)),
+            ("es-MX", (), "es", ("448879004",)),
+        ):
+            found = languages.language_of(tag, house)
+            self.assertEqual((found.code, found.refsets), (code, refsets_of), tag)
+
+    def test_a_tag_of_each_reference_set(self) -> None:
+        known = {*languages.DIALECTS.values(), *sum(languages.LANGUAGES.values(), ())}
+        other = str(sctid(4711, "00"))
+        for refset in (*known, other):
+            tag = languages.tag_of(refset)
+            self.assertEqual(languages.language_of(tag, ()).refsets, (refset,), tag)
+        self.assertEqual(languages.tag_of(demo.GB), "en-GB")
+        self.assertEqual(languages.tag_of(demo.GERMAN), "de-x-sctlang-72213000-4")
+        with self.assertRaises(Problem):
+            languages.language_of("de_CH", ())
+
+
+class Designations(Whole):
+    def contexts(self, said: Json) -> dict[str, list[Context]]:
+        """Of each term the reference sets that have it, how, and as what."""
+        found: dict[str, list[Context]] = {}
+        for one in said["parameter"]:
+            if one["name"] == "designation":
+                term = next(part for part in one["part"] if part["name"] == "value")
+                found[term["valueString"]] = [context(more) for more in one.get("extension", [])]
+        return found
+
+    def test_which_are_preferred_and_acceptable_where(self) -> None:
+        gb, us = demo.GB, demo.US
+        preferred, acceptable = demo.PREFERRED, demo.ACCEPTABLE
+        wanted: dict[str, list[Context]] = {
+            "Anemia (disorder)": [(gb, preferred, FSN), (us, preferred, FSN)],
+            "Anemia": [(gb, acceptable, SYNONYM), (us, preferred, SYNONYM)],
+            "Anaemia": [(gb, preferred, SYNONYM)],
+            "An\u00e4mie": [],
+        }
+        self.assertEqual(self.contexts(self.lookup("anaemia", date="2018-01-01")), wanted)
+        wanted["Anemia"].pop(0)
+        self.assertEqual(self.contexts(self.lookup("anaemia", date="2019-01-31")), wanted)
+
+    def test_of_the_language_asked_for(self) -> None:
+        found = self.contexts(self.lookup("anaemia", displayLanguage="de"))
+        self.assertEqual(found["An\u00e4mie"], [(demo.GERMAN, demo.PREFERRED, SYNONYM)])
+        self.assertEqual(found["Anemia (disorder)"], [])
+
+    def test_uses(self) -> None:
+        found = {
+            one["value"]: one["use"] for one in parts_of(self.lookup("wrist"), "designation")
+        }
+        self.assertEqual(
+            found[demo.DEFINITION],
+            {"system": SCT, "code": demo.TEXT_DEFINITION, "display": "Definition"},
+        )
+        self.assertEqual(found["Wrist fracture"]["display"], "Synonym")
+
+    def test_of_an_expansion(self) -> None:
+        url = "%s?fhir_vs=isa/%s" % (SCT, self.codes["anaemia"])
+        said = self.house.gateway.fhir(EXPAND, url=url, includeDesignations="true")[1]
+        designations = said["expansion"]["contains"][0]["designation"]
+        found = {one["value"]: one for one in designations}
+        self.assertEqual(
+            [context(one) for one in found["Anaemia"]["extension"]],
+            [(demo.GB, demo.PREFERRED, SYNONYM)],
+        )
+        self.assertEqual(found["Anaemia"]["use"]["code"], SYNONYM)
+        self.assertNotIn("extension", found["An\u00e4mie"])
+
+
+def context(extension: Json) -> Context:
+    assert extension["url"] == CONTEXT, extension
+    parts = {one["url"]: one["valueCoding"] for one in extension["extension"]}
+    assert all(one["system"] == SCT for one in parts.values()) and len(parts) == 3, parts
+    return parts["context"]["code"], parts["role"]["code"], parts["type"]["code"]
+
+
+class Reasons(Whole):
+    def test_why_a_concept_was_retired(self) -> None:
+        for name, date, reasons in (
+            ("wrist", "2021-01-30", []),
+            ("wrist", "2021-01-31", [demo.AMBIGUOUS]),
+            ("wrist", "2022-07-30", [demo.AMBIGUOUS]),
+            ("wrist", "2022-07-31", [demo.DUPLICATE]),
+            ("radius", "2022-07-31", [demo.DUPLICATE, demo.AMBIGUOUS]),
+            ("lost", "2022-07-31", []),
+            ("carpal", "2022-07-31", [demo.PENDING_MOVE, demo.AMBIGUOUS]),
+        ):
+            found = properties(self.lookup(name, date=date)).get("inactivationIndicator", [])
+            self.assertEqual(found, reasons, (name, date))
+
+    def test_where_it_is_asked_for(self) -> None:
+        found = properties(self.lookup("wrist", property=["inactivationIndicator"]))
+        self.assertEqual(found, {"inactivationIndicator": [demo.DUPLICATE]})
+        found = properties(self.lookup("wrist", property=["inactive"]))
+        self.assertEqual(found, {"inactive": [True]})
+
+
+class Refsets(Whole):
+    def test_concepts_on_a_day(self) -> None:
+        for day, names in (
+            ("20170730", ("wrist",)),
+            ("20170731", ("wrist", "limb")),
+            ("20200131", ("limb",)),
+            ("20210130", ("limb", "radius")),
+            ("20210131", ("wrist", "limb", "radius")),
+            ("20220731", ("wrist", "limb", "radius", "absent")),
+        ):
+            system = {"system_version": SCT + "|" + version(day)}
+            said = self.expanded("set", **system)
+            found = [one["code"] for one in said["contains"]]
+            self.assertEqual((found, said["total"]), (self.named(*names), len(names)), day)
+
+    def test_version_of_the_url(self) -> None:
+        url = "%s?fhir_vs=refset/%s" % (version("20200131"), self.codes["set"])
+        said = self.house.gateway.fhir(EXPAND, url=url)[1]["expansion"]
+        self.assertEqual([one["code"] for one in said["contains"]], self.named("limb"))
+
+    def test_entries(self) -> None:
+        said = self.expanded("set")["contains"]
+        found = {one["code"]: (one["display"], one.get("inactive", False)) for one in said}
+        self.assertEqual(
+            found,
+            {
+                self.codes["wrist"]: ("Wrist fracture", True),
+                self.codes["limb"]: ("Fracture of bone of upper limb (disorder)", False),
+                self.codes["radius"]: ("Fracture of distal end of radius (disorder)", True),
+                self.codes["absent"]: (self.codes["absent"], False),
+            },
+        )
+
+    def test_pages(self) -> None:
+        whole = self.in_set()
+        pages = [self.in_set(offset=at, count=1) for at in range(5)]
+        self.assertEqual(pages, [[one] for one in whole] + [[]])
+        said = self.expanded("set", count=0)
+        self.assertEqual((said.get("contains"), said["total"]), (None, 4))
+
+    def test_active_only(self) -> None:
+        said = self.expanded("set", activeOnly="true")
+        found = [one["code"] for one in said["contains"]]
+        self.assertEqual((found, said["total"]), (self.named("limb"), 1))
+
+    def test_filter(self) -> None:
+        self.assertEqual(self.in_set(filter="fracture of wrist"), self.named("wrist"))
+        self.assertEqual(self.in_set(filter="fracture of carpal"), [])
+        # Before it was remembered, of a day that nobody asked of.
+        words = {"system_version": SCT + "|" + version("20200202"), "filter": "fracture of"}
+        self.assertEqual(self.in_set(**words), self.named("limb"))
+
+    def test_that_all_have_left(self) -> None:
+        self.assertEqual(self.expanded("left")["total"], 0)
+        before = {"system_version": SCT + "|" + version("20180101")}
+        self.assertEqual(self.expanded("left", **before)["total"], 1)
+        # Before the first member there was none.
+        url = "%s?fhir_vs=refset/%s" % (version("20150131"), demo.INDICATORS)
+        said = self.house.gateway.fhir(EXPAND, url=url)[1]
+        self.assertEqual(said["expansion"]["total"], 0)
+
+    def test_that_are_not_kept(self) -> None:
+        for code, status, why in (
+            (self.codes["never"], 422, "not-supported"),
+            (self.codes["wrist"], 422, "not-supported"),
+            (SAME_AS, 404, "not-found"),
+            (str(sctid(4711, "00")), 404, "not-found"),
+            ("1105008", 400, "invalid"),
+            ("", 400, "invalid"),
+        ):
+            url = "%s?fhir_vs=refset/%s" % (SCT, code)
+            for path, words in (
+                (EXPAND, {"url": url}),
+                (EXPAND, {"url": url, "filter": "fracture"}),
+                (
+                    "ValueSet/$validate-code",
+                    {"url": url, "system": SCT, "code": self.codes["wrist"]},
+                ),
+            ):
+                got, said = self.house.gateway.fhir(path, **words)
+                self.assertEqual((got, issue(said)), (status, why), (path, code))
+
+    def test_validate_code(self) -> None:
+        url = "%s?fhir_vs=refset/%s" % (SCT, self.codes["set"])
+        for name, day, valid in (
+            ("wrist", "20200130", True),
+            ("wrist", "20200131", False),
+            ("wrist", "20210131", True),
+            ("carpal", "20210131", False),
+            ("absent", "20220731", False),
+        ):
+            said = self.house.gateway.fhir(
+                "ValueSet/$validate-code",
+                url=url,
+                system=SCT,
+                code=self.codes[name],
+                systemVersion=version(day),
+            )[1]
+            self.assertEqual(told(said, "result"), [valid], (name, day))
+            if name == "carpal":
+                self.assertIn("in the reference set", told(said, "message")[0])
+
+    def test_which_there_are(self) -> None:
+        for day, names in (
+            ("20220731", ("us", "gb", "indicators", "ctv3", "odd", "set")),
+            ("20180101", ("us", "gb", "ctv3", "odd", "set", "left")),
+        ):
+            url = version(day) + "?fhir_vs=refset"
+            said = self.house.gateway.fhir(EXPAND, url=url)[1]["expansion"]
+            found = [one["code"] for one in said["contains"]]
+            self.assertEqual((found, said["total"]), (self.named(*names), len(names)), day)
+        for name, valid in (("set", True), ("never", False), ("wrist", False)):
+            said = self.house.gateway.fhir(
+                "ValueSet/$validate-code",
+                url=SCT + "?fhir_vs=refset",
+                system=SCT,
+                code=self.codes[name],
+            )[1]
+            self.assertEqual(told(said, "result"), [valid], name)
+        said = self.house.gateway.fhir(EXPAND, url=SCT + "?fhir_vs=refset", filter="wrists of")[1]
+        self.assertEqual(said["expansion"]["contains"][0]["code"], self.codes["set"])
+
+
+class Maps(Whole):
+    def ask(self, name: str, refset: str = demo.CTV3, **words: Any) -> tuple[int, Json]:
+        url = "%s?fhir_cm=%s" % (SCT, refset)
+        code = self.codes[name]
+        return self.house.gateway.fhir(TRANSLATE, url=url, system=SCT, code=code, **words)
+
+    def test_targets_on_a_day(self) -> None:
+        for name, date, targets in (
+            ("wrist", "2022-07-31", ["S23.."]),
+            ("limb", "2019-01-30", ["X1"]),
+            ("limb", "2019-01-31", ["X1", "X2"]),
+            ("limb", "2020-01-31", ["X3", "X2"]),
+        ):
+            status, said = self.ask(name, date=date)
+            self.assertEqual((status, told(said, "result")), (200, [True]), name)
+            found = parts_of(said, "match")
+            concepts = [{"system": CTV3_SYSTEM, "code": target} for target in targets]
+            self.assertEqual([one["concept"] for one in found], concepts, (name, date))
+            self.assertEqual({one["equivalence"] for one in found}, {"relatedto"})
+            self.assertEqual({one["source"] for one in found}, {SCT + "?fhir_cm=" + demo.CTV3})
+
+    def test_without_a_target(self) -> None:
+        for name in ("drug", "radius"):
+            status, said = self.ask(name)
+            self.assertEqual((status, told(said, "result")), (200, [False]), name)
+            self.assertEqual(parts_of(said, "match"), [])
+            self.assertIn("no target", told(said, "message")[0])
+
+    def test_system_of_the_targets(self) -> None:
+        self.assertEqual(self.ask("wrist", targetsystem=CTV3_SYSTEM)[0], 200)
+        for system in (SCT, "http://hl7.org/fhir/sid/icd-10"):
+            self.assertEqual(self.ask("wrist", targetsystem=system)[0], 404, system)
+
+    def test_map_of_the_house(self) -> None:
+        """It says that this is one, where the store has no concept of it."""
+        said = self.ask("limb", demo.HOUSE_MAP)[1]
+        found = [one["concept"] for one in parts_of(said, "match")]
+        self.assertEqual(found, [{"system": HOUSE_SYSTEM, "code": "H1"}])
+        self.assertEqual(self.ask("limb", str(sctid(4711, "00")))[0], 404)
+
+    def test_what_is_no_simple_map(self) -> None:
+        for refset, status in (
+            (self.codes["set"], 404),
+            (demo.INDICATORS, 404),
+            (self.codes["odd"], 422),
+            (demo.SIMPLE_MAP, 422),
+            ("1105008", 404),
+        ):
+            self.assertEqual(self.ask("limb", refset)[0], status, refset)
+        self.assertEqual(self.ask("limb", reverse="true")[0], 422)
+
+    def test_names_of_what_took_the_place(self) -> None:
+        said = self.ask("wrist", "900000000000526001")[1]
+        found = parts_of(said, "match")[0]["concept"]
+        self.assertEqual(found["code"], self.codes["radius"])
+        self.assertEqual(found["display"], "Fracture of distal end of radius (disorder)")
+
+
+class Capabilities(Whole):
+    def test_what_is_new(self) -> None:
+        said = self.house.gateway.fhir("metadata", mode="terminology")[1]
+        for one in said["codeSystem"][0]["version"]:
+            self.assertEqual(one["language"], ["en-GB", "en-US"])
+            self.assertIn("inactivationIndicator", one["property"])
+        said = self.house.gateway.fhir("metadata")[1]
+        found = {one["type"]: one["operation"][0] for one in said["rest"][0]["resource"]}
+        self.assertIn("fhir_vs=refset/CODE", found["ValueSet"]["documentation"])
+        self.assertIn("a simple map", found["ConceptMap"]["documentation"])
+        self.assertNotIn("documentation", found["CodeSystem"])
+
+
+class Page(Whole):
+    def page(self, name: str, **words: str) -> str:
+        target = "/?" + urlencode({"q": self.codes[name], **words})
+        answer = self.house.gateway.send("GET", target)
+        self.assertEqual(answer.status, 200)
+        return answer.text
+
+    def row(self, text: str, title: str) -> list[list[str]]:
+        """The entries of a row of the table on both days, without their markup."""
+        found = re.search(r'<th scope="row">%s</th>(.*?)</tr>' % title, text)
+        if found is None:
+            return []
+        cells = re.findall(r"<td>(.*?)</td>", found[1])
+        return [
+            [re.sub(r"<[^>]*>", "", one) for one in re.findall(r"<li>(.*?)</li>", cell)]
+            for cell in cells
+        ]
+
+    def test_preferred_terms(self) -> None:
+        text = self.page("anaemia", date="2018-01-01")
+        gb, us = "Anaemia " + demo.GB_NAME, "Anemia " + demo.US_NAME
+        self.assertEqual(self.row(text, "Preferred term"), [[gb, us], [gb, us]])
+        self.assertIn("in short \u201c<bdi>Anaemia</bdi>\u201d", text)
+        text = self.page("wrist", date="2016-01-01")
+        us = " " + demo.US_NAME
+        self.assertEqual(
+            self.row(text, "Preferred term"),
+            [["Broken wrist%s only then" % us], ["Wrist fracture%s not then" % us]],
+        )
+        self.assertEqual(self.row(self.page("drug"), "Preferred term"), [])
+
+    def test_definition(self) -> None:
+        text = self.page("wrist")
+        shown = demo.DEFINITION
+        self.assertEqual(self.row(text, "Text definition"), [[shown], [shown]])
+        self.assertNotIn(shown, self.row(text, "Synonyms")[0])
+        self.assertIn("Text definition added: <bdi>%s</bdi>" % shown, text)
+
+    def test_why_retired(self) -> None:
+        text = self.page("wrist", date="2021-06-01")
+        for reason in ("Ambiguous", "Duplicate"):
+            self.assertIn(
+                "(since <time datetime=\"2021-01-31\">31 January 2021</time>: "
+                "<bdi>%s component</bdi>)" % reason,
+                text,
+            )
+        self.assertEqual(
+            self.row(text, "Why retired"),
+            [
+                ["Ambiguous component %s only then" % demo.AMBIGUOUS],
+                ["Duplicate component %s not then" % demo.DUPLICATE],
+            ],
+        )
+        changed = " changed: <bdi>%s component</bdi> \u2192 <bdi>%s component</bdi>"
+        self.assertIn(demo.INDICATORS_NAME + changed % ("Ambiguous", "Duplicate"), text)
+        for active in ("limb", "carpal"):
+            self.assertEqual(self.row(self.page(active), "Why retired"), [], active)
+        self.assertIn(demo.INDICATORS_NAME, self.page("carpal"))
+        two = ": <bdi>Duplicate component</bdi>, <bdi>Ambiguous component</bdi>)"
+        self.assertIn(two, self.page("radius"))
+
+    def test_reference_sets(self) -> None:
+        name = "Wrists of the house %s " % self.codes["set"]
+        text = self.page("wrist", date="2018-01-01")
+        then, now = self.row(text, "Reference sets")
+        ctv3 = "CTV3 simple map reference set %s since 31 January 2015: S23.." % demo.CTV3
+        indicators = "%s %s since 31 January 2021: Duplicate component" % (
+            demo.INDICATORS_NAME,
+            demo.INDICATORS,
+        )
+        self.assertEqual(then, [name + "since 31 January 2015 only then", ctv3])
+        self.assertEqual(
+            sorted(now),
+            sorted([name + "since 31 January 2021 not then", indicators + " not then", ctv3]),
+        )
+        # On the days between it wasn't in the set; the history has each of them.
+        between = self.row(self.page("wrist", date="2020-01-31"), "Reference sets")[0]
+        self.assertEqual(between, [ctv3])
+        for part in ("added", "withdrawn"):
+            self.assertIn("Reference set %s: <bdi>Wrists of the house</bdi>" % part, text)
+        limb = self.row(self.page("limb"), "Reference sets")[0]
+        self.assertIn(name + "since 31 July 2017 since 31 July 2017", limb)
+        odd = "Odd map &lt;b&gt;bold&lt;/b&gt; %s since 31 January 2015" % self.codes["odd"]
+        self.assertIn(odd + ": Y1 \u00b7 ask &lt;i&gt;them&lt;/i&gt;", limb)
+
+
+class AsBefore(unittest.TestCase):
+    """Stores that keep no members, asked with all that is new."""
+
+    def compared(self, house: House) -> None:
+        fhir, codes = house.gateway.fhir, house.codes
+        for tag in ((), ("en-GB",), (US_TAG,)):
+            said = fhir(LOOKUP, system=SCT, code=codes["wrist"], displayLanguage=[*tag])[1]
+            name = "Fracture of wrist joint region (disorder)"
+            self.assertEqual(told(said, "display"), [name])
+            self.assertNotIn("inactivationIndicator", properties(said))
+            self.assertFalse(any("extension" in one for one in said["parameter"]))
+        said = fhir(LOOKUP, system=SCT, code=codes["wrist"], displayLanguage="de")[1]
+        self.assertEqual(told(said, "display"), ["Handgelenksfraktur"])
+        asked: tuple[tuple[str, dict[str, str]], ...] = (
+            (EXPAND, {}),
+            (EXPAND, {"filter": "fracture"}),
+            ("ValueSet/$validate-code", {"system": SCT, "code": codes["limb"]}),
+        )
+        for what in ("refset", "refset/" + codes["wrist"]):
+            for path, words in asked:
+                status, said = fhir(path, url=SCT + "?fhir_vs=" + what, **words)
+                self.assertEqual((status, issue(said)), (422, "not-supported"), (path, what))
+        url = "%s?fhir_cm=%s" % (SCT, demo.CTV3)
+        words = {"url": url, "system": SCT, "code": codes["wrist"]}
+        self.assertIn(fhir(TRANSLATE, **words)[0], (404, 422))
+        text = house.gateway.send("GET", "/?q=" + codes["wrist"]).text
+        for title in ("Preferred term", "Text definition", "Why retired", "Reference sets"):
+            self.assertNotIn(">%s<" % title, text)
+        self.assertNotIn("in short", text)
+
+    def test_layouts_and_packages_without_members(self) -> None:
+        for layout, is_whole in ((2, True), (2, False), (3, False)):
+            house = House(layout=layout, is_whole=is_whole, words=WORDS)
+            try:
+                self.compared(house)
+            finally:
+                house.end()
+
+
+class AnotherStore(unittest.TestCase):
+    def test_reference_sets_of_another_store(self) -> None:
+        """Its first import is another one: nothing that is remembered of a set holds."""
+        house = House(layout=3, is_whole=True, words=WORDS)
+        self.addCleanup(house.end)
+        url = "%s?fhir_vs=refset/%s" % (version("20210131"), house.codes["set"])
+        for releases, names in (
+            (("d1", "d2"), ("wrist", "limb", "radius")),
+            (("d1", "d3"), ("wrist", "limb")),
+        ):
+            house.stop_hub()
+            os.unlink(house.store)
+            house.make_store(*releases)
+            house.start_hub()
+            said = house.gateway.fhir(EXPAND, "/pin/2/fhir/", url=url)[1]["expansion"]
+            found = {one["code"] for one in said["contains"]}
+            self.assertEqual(found, {house.codes[name] for name in names}, releases)
+
+
+class Rows(unittest.TestCase):
+    """What a hub says is read strictly."""
+
+    DESCRIPTION = "ROW 5012010\t20150131\t1\t2\t3\ten\t%s\tTerm\t4" % SYNONYM
+    MEMBER = "ROW 00000000-0000-0000-0000-0000000f4241\t20150131\t1\t2\t3\t5012010"
+
+    def test_members(self) -> None:
+        for further in ((), ("",), ("", "x"), (demo.PREFERRED,)):
+            line = "\t".join((self.MEMBER, *further))
+            self.assertEqual(members_of((line, "END 1"))[0].further, further)
+        with self.assertRaises(HubGone):
+            members_of(("ROW a\t20150131\t1\t2\t3", "END 1"))
+
+    def test_called(self) -> None:
+        one = self.MEMBER + "\t" + demo.ACCEPTABLE
+        other = self.MEMBER + "\t" + demo.PREFERRED
+        found = called_of((self.DESCRIPTION, one, other, self.DESCRIPTION, one, "END 5"))
+        self.assertEqual(
+            [said for _, said in found],
+            [(demo.ACCEPTABLE, demo.PREFERRED), (demo.ACCEPTABLE,)],
+        )
+        self.assertEqual([bool(one.is_preferred_term) for one in found], [True, False])
+        for lines in ((one, "END 1"), ("ROW 5012010\t20150131", "END 1")):
+            with self.assertRaises(HubGone):
+                called_of(lines)
+
+
+class NothingRemembered:
+    """A session in which no set is remembered."""
+
+    pool = SimpleNamespace(refsets=None)
+
+    def remembered_set(self, *_: Any) -> None:
+        pass
+
+    def remember_set(self, *_: Any) -> None:
+        pass
+
+
+class ManyMembers(View):
+    """A store with a reference set of so many members, each of another concept, or with so many
+    reference sets, each of which has members."""
+
+    def __init__(self, count: int) -> None:
+        self.session = cast(Session, NothingRemembered())
+        self.count, self.asked = count, list[str]()
+
+    async def values(
+        self, refset: str, day: str, after: str, keep: bool = True
+    ) -> list[RefsetMember]:
+        self.asked.append(after)
+        first = 0 if after == "-" else int(after) // 1000
+        last = min(first + limits.QUESTION_ROWS, self.count)
+        return [member("%d000" % number) for number in range(first + 1, last + 1)]
+
+    async def members(self, codes: Sequence[str], day: str, keep: bool = True) -> list[Member]:
+        return [Member(code, code.endswith("2000")) for code in codes]
+
+    async def descendants(self, code: str, day: str) -> list[str]:
+        return [str(number) for number in range(self.count)]
+
+    async def have_values(self, found: Sequence[str], day: str) -> list[str]:
+        return [*found]
+
+
+def member(component: str, time: str = "20150131", active: str = "1") -> RefsetMember:
+    return RefsetMember("m", time, active, "1", "2", component, ())
+
+
+class LargeSets(unittest.TestCase):
+    def test_all_pages(self) -> None:
+        for count, pages in ((0, 1), (999, 1), (1000, 2), (2500, 3), (limits.REFSET_MEMBERS, 201)):
+            view = ManyMembers(count)
+            found = asyncio.run(refsets.components_of(view, "2", "20200101"))
+            self.assertEqual((len(found), len(set(found))), (count, count))
+            self.assertEqual(len(view.asked), pages)
+        with self.assertRaises(TooCostly):
+            view = ManyMembers(limits.REFSET_MEMBERS + 1)
+            asyncio.run(refsets.components_of(view, "2", "20200101"))
+
+    def test_of_which_it_is_asked_whether_they_are_active(self) -> None:
+        view = ManyMembers(limits.WALK_CONCEPTS)
+        found = asyncio.run(refsets.active_codes_of(view, "2", "20200101"))
+        self.assertEqual(len(found), limits.WALK_CONCEPTS // 10)
+        with self.assertRaises(TooCostly):
+            view = ManyMembers(limits.WALK_CONCEPTS + 1)
+            asyncio.run(refsets.active_codes_of(view, "2", "20200101"))
+
+    def test_among_how_many_there_are(self) -> None:
+        view = ManyMembers(limits.REFSET_CHOICE)
+        found = asyncio.run(refsets.with_members(view, "20200101"))
+        self.assertEqual(len(found), limits.REFSET_CHOICE)
+        with self.assertRaises(TooCostly):
+            view = ManyMembers(limits.REFSET_CHOICE + 1)
+            asyncio.run(refsets.with_members(view, "20200101"))
+
+
+class Memberships(unittest.TestCase):
+    def test_since_when(self) -> None:
+        days = ("20150131", "20160131", "20170131", "20180131")
+        for actives, day, since in (
+            ("1111", "20180131", "20150131"),
+            ("1011", "20180131", "20170131"),
+            ("1010", "20180131", ""),
+            ("1010", "20171231", "20170131"),
+            ("0111", "20150131", ""),
+            ("1111", "20141231", ""),
+        ):
+            versions = [member("7", time, active) for time, active in zip(days, actives)]
+            found = memberships([versions], "7", day)
+            self.assertEqual([one.since for one in found], [since] if since else [], actives)
+        # A member that is about another concept from then on.
+        versions = [member("7"), member("8", "20160131"), member("7", "20170131")]
+        for day, since in (("20150131", "20150131"), ("20160131", ""), ("20170131", "20170131")):
+            found = memberships([versions], "7", day)
+            self.assertEqual([one.since for one in found], [since] if since else [], day)
+
+    def test_more_than_are_told(self) -> None:
+        rows = [[member("7")] for _ in range(limits.TOLD_MEMBERS + 3)]
+        entries = refset_entries(memberships(rows, "7", "20200101"), Names({}, {}))
+        self.assertEqual(len(entries), 1)
+        self.assertIn("and 3 more", "".join(entries.values()))
+        rows = [[member("7")._replace(refset=str(one))] for one in range(limits.TOLD_REFSETS + 1)]
+        entries = refset_entries(memberships(rows, "7", "20200101"), Names({}, {}))
+        self.assertEqual(len(entries), limits.TOLD_REFSETS + 1)
+        self.assertIn("and others", entries["more"])

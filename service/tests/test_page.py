@@ -1,0 +1,240 @@
+"""The page for people."""
+
+import asyncio
+import json
+import re
+import unittest
+from collections.abc import Iterable, Sequence
+from urllib.parse import urlencode
+
+from make_release import sctid
+from sctd_service.gateway import limits
+from sctd_service.gateway.page_history import Names, changes
+from sctd_service.gateway.page_record import replacements
+from sctd_service.snomed import IS_A, Association, Concept, Language, Relationship
+from sctd_service.gateway.store import ANY, AnyRow, View
+
+from .demo_releases import REPLACED_BY
+from .house import Shared
+
+
+class Chain(View):
+    """A store in which each concept but the last was replaced by the next."""
+
+    def __init__(self, codes: list[str]) -> None:
+        self.codes = codes
+
+    async def associations(self, codes: Sequence[str], day: str) -> list[list[Association]]:
+        return [self.next(self.codes.index(code)) for code in codes]
+
+    def next(self, place: int) -> list[Association]:
+        both = self.codes[place : place + 2]
+        return [Association("m", "20200101", "1", "1", REPLACED_BY, *both)] if len(both) > 1 else []
+
+    async def concepts(
+        self, codes: Sequence[str], day: str, keep: bool = True
+    ) -> list[Concept | None]:
+        last = self.codes[-1]
+        return [Concept(one, "20200101", str(int(one == last)), "1", "1") for one in codes]
+
+    async def names(
+        self, codes: Iterable[str], day: str, language: Language = ANY
+    ) -> dict[str, str]:
+        return {code: code for code in codes}
+
+
+# Markup that only a text of the store or of a client could have brought.
+FOREIGN = re.compile(r"<script(?! src=\"page.js\" defer>)|<img|</textarea><s|onfocus='|<b>bold")
+
+
+class Page(unittest.TestCase):
+    def setUp(self) -> None:
+        self.house = Shared.get()
+        self.codes = self.house.codes
+
+    def page(self, base: str = "/", **words: str) -> tuple[int, str]:
+        answer = self.house.gateway.send("GET", base + "?" + urlencode(words))
+        return answer.status, answer.text
+
+    def test_record(self) -> None:
+        status, text = self.page(q=self.codes["wrist"], date="2018-01-01")
+        self.assertEqual(status, 200)
+        for part in (
+            "Fracture of wrist (disorder)",
+            "31 January 2021",
+            "Replaced by",
+            "Name changed: ",
+            "pin 3; RECEIPT 3: OK 3 5 20220731",
+            "was active",
+            "was inactive",
+            "Synonym withdrawn: <bdi>Broken wrist</bdi>",
+            "Synonym added: <bdi>Breach of wrist</bdi>",
+            "Synonym withdrawn: <bdi>Breach of wrist</bdi>",
+            "only then",
+            "not then",
+        ):
+            self.assertIn(part, text)
+        # What took its place was retired too, which leads one step further.
+        self.assertIn(self.codes["radius2"], text)
+
+    def test_a_replacement_that_is_no_concept(self) -> None:
+        status, text = self.page(q=self.codes["lost"])
+        found = re.search(r"Same as</b>: <a href=[^>]*><bdi>([0-9]+)</bdi>", text)
+        assert found, (status, text)
+        self.assertEqual((status, found[1][-3:-1]), (200, "01"))
+
+    def test_a_replacement_that_the_store_does_not_have(self) -> None:
+        text = self.page(q=self.codes["lost"])[1]
+        entries = re.findall(r"<li><b>(Replaced by|Same as)</b>: (.*?)</li>", text)
+        self.assertEqual(sorted(name for name, _ in entries), ["Replaced by", "Same as"])
+        for _, entry in entries:
+            self.assertIn("not in the store", entry)
+            self.assertNotIn("inactive<", entry)
+
+    def test_many_steps_to_what_took_its_place(self) -> None:
+        """A list that isn't whole says so."""
+        most = limits.REPLACEMENT_STEPS
+        for count, is_whole in ((most, True), (most + 1, False)):
+            chain = [str(sctid(9_000 + number, "00")) for number in range(count + 1)]
+            html = asyncio.run(replacements(Chain(chain), chain[0], "20200101"))
+            self.assertEqual(html.count("Replaced by"), most)
+            self.assertEqual("isn\u2019t whole" not in html, is_whole, count)
+
+    def test_a_component_that_names_another_concept_from_then_on(self) -> None:
+        """A version may have another target, or another type, and stay active."""
+        called = {"11": "Eleven", "12": "Twelve", "111": "Eleven", "7": "Site"}
+        names = Names(called, {REPLACED_BY: "Replaced by"})
+        member = Association("m", "20200131", "1", "1", REPLACED_BY, "10", "11")
+        part = Relationship("r", "20200131", "1", "1", "10", "11", "0", IS_A, "i", "m")
+        cases: list[tuple[AnyRow, AnyRow, list[str]]] = [
+            (member, member._replace(target="12"), ["Replaced by changed: Eleven \u2192 Twelve"]),
+            (part, part._replace(target="12"), ["Parent changed: Eleven \u2192 Twelve"]),
+            (part, part._replace(type="7"), ["Parent withdrawn: Eleven", "Site added: Eleven"]),
+            (part, part._replace(group="1"), []),
+            (part, part._replace(target="12", active="0"), ["Parent withdrawn: Eleven"]),
+            (part, part._replace(target="111"), ["Parent changed: 11 \u2192 111"]),
+        ]
+        for before, after, told in cases:
+            found = [re.sub(r"</?bdi>", "", one) for one in changes(before, after, names)]
+            self.assertEqual(found, told, after)
+
+    def test_day_before_and_day_of(self) -> None:
+        for date, status in (("2021-01-30", "active"), ("2021-01-31", "inactive")):
+            text = self.page(q=self.codes["wrist"], date=date)[1]
+            self.assertIn(
+                "on %s: %s. http://snomed.info/sct/900000000000207008/version/%s;"
+                % (date, status, date.replace("-", "")),
+                text,
+            )
+
+    def test_the_address_that_stays(self) -> None:
+        text = self.page(q=self.codes["wrist"], date="2018-01-01")[1]
+        found = re.search(r'<a href="(pin/3/\?q=[^"]*)">This page for good, at pin 3</a>', text)
+        assert found
+        self.assertEqual(
+            found[1], "pin/3/?q=%s&amp;date=2018-01-01&amp;other=2022-07-31" % self.codes["wrist"]
+        )
+        again = self.page("/pin/3/", q=self.codes["wrist"], date="2018-01-01", other="2022-07-31")[
+            1
+        ]
+        for part in ("Fracture of wrist (disorder)", "pin 3; RECEIPT 3: OK 3 5 20220731"):
+            self.assertIn(part, again)
+
+    def test_an_earlier_pin(self) -> None:
+        # The history is asked for without a day: what is remembered of it is of one pin.
+        self.assertIn("31 January 2021", self.page(q=self.codes["wrist"])[1])
+        text = self.page("/pin/1/", q=self.codes["wrist"])[1]
+        self.assertIn("RECEIPT 1: OK 1 ", text)
+        self.assertNotIn("was inactive", text)
+        self.assertNotIn("31 January 2021", text)
+
+    def test_values_and_definition(self) -> None:
+        text = self.page(q=self.codes["drug"], date="2019-12-31")[1]
+        for part in (
+            "<strong>500</strong>",
+            "<strong>500.10</strong>",
+            "Fully defined",
+            "Has strength value withdrawn: <bdi>500</bdi>",
+            "Has strength value added: <bdi>500.10</bdi>",
+        ):
+            self.assertIn(part, text)
+
+    def test_nothing_is_markup_that_came_as_text(self) -> None:
+        texts = [
+            self.page(q=self.codes["evil"])[1],
+            self.page(q="<script>alert(9)</script>")[1],
+            self.page(q='"><img src=x>', date="2018-01-01")[1],
+            self.page(q="Hostile")[1],
+            self.page(q="1", date='"><script>')[1],
+            self.page(q="<b>bold")[1],
+            self.page(q="{{content}}")[1],
+            self.house.gateway.send("GET", "/<script>alert(1)</script>").text,
+        ]
+        for text in texts:
+            self.assertEqual(FOREIGN.findall(text), [])
+            self.assertNotIn("\u202e", text)
+            self.assertNotIn("\u200b", text)
+        self.assertIn("&lt;script&gt;alert(1)", texts[0])
+        self.assertIn("\u2039U+202E\u203a", texts[0])
+
+    def test_date_after_the_latest_release(self) -> None:
+        limb = self.codes["limb"]
+        self.assertIn("isn\u2019t known to it", self.page(q=limb, date="2025-01-01")[1])
+        self.assertNotIn("isn\u2019t known to it", self.page(q=limb, date="2022-07-31")[1])
+        self.assertIn(
+            'href="pin/3/?q=%s&amp;date=2025-01-01&amp;' % limb,
+            self.page(q=limb, date="2025-01-01")[1],
+        )
+
+    def test_a_refusal_tells_its_pin(self) -> None:
+        send = self.house.gateway.send
+        for target in ("/?q=1&date=2018-02-31", "/suggest?text=", "/suggest?text=a&date=x"):
+            answer = send("GET", target)
+            self.assertEqual((answer.status, answer.headers.get("x-sctd-pin")), (400, "3"), target)
+        headers = send("GET", "/pin/2/?q=1&date=x").headers
+        self.assertEqual(
+            (headers.get("x-sctd-pin"), headers.get("x-sctd-receipt")),
+            ("2", "RECEIPT 2: OK 2 18 20210131"),
+        )
+
+    def test_two_dates_of_one_day(self) -> None:
+        text = self.page(q=self.codes["wrist"], date="2018-01-01", other="2018-01-01")[1]
+        self.assertIn(">the same day<", text)
+
+    def test_search_and_suggest(self) -> None:
+        self.assertIn("5 terms begin", self.page(q="FRACTURE", date="2021-06-01")[1])
+        self.assertIn("No term begins", self.page(q="nothing such")[1])
+        said = self.house.gateway.send("GET", "/suggest?text=fract&date=2021-06-01")
+        found = {one["code"]: one["active"] for one in json.loads(said.body)}
+        self.assertEqual((found[self.codes["wrist"]], found[self.codes["limb"]]), (False, True))
+
+    def test_wrong_words(self) -> None:
+        for words, status in (
+            ({"q": "12345678"}, 200),
+            ({"q": "1", "date": "2018-02-31"}, 400),
+            ({"q": "x" * 5000}, 200),
+            ({"q": "a\nIMPORT d1"}, 200),
+            ({"q": "a\rb"}, 200),
+            ({"q": "1105007", "date": "x"}, 400),
+            ({"q": "1105007", "date": "20180101"}, 400),
+            ({"q": "1105007", "dat": "2018-01-01"}, 400),
+        ):
+            self.assertEqual(self.page(**words)[0], status, words)
+        for target in (
+            "/?q=1&q=2",
+            "/?q=%ff",
+            "/suggest?text=",
+            "/suggest?text=a%0ab",
+            "/suggest?text=a&date=x",
+        ):
+            self.assertEqual(self.house.gateway.send("GET", target).status, 400, target)
+        self.assertEqual(self.house.gateway.send("GET", "/health").json()["pin"], 3)
+
+    def test_labels_and_headings(self) -> None:
+        text = self.page(q=self.codes["wrist"], date="2018-01-01")[1]
+        fields = set(re.findall(r'<(?:input|textarea)[^>]* id="(\w+)"', text))
+        self.assertEqual(fields, set(re.findall(r'<label for="(\w+)"', text)))
+        self.assertEqual(len(re.findall("<h1>", text)), 1)
+        self.assertEqual(re.findall(r"<h([1-6])>", text)[0], "1")
+        self.assertIn('<html lang="en">', text)
+        self.assertEqual(re.findall(r" style=| on[a-z]+=\"|<style", text), [])

@@ -1,0 +1,54 @@
+"""What the gateway sent to the hub in all tests before these: nothing but questions, each well
+formed."""
+
+import re
+import unittest
+
+from sctd_service.snomed import is_concept_id, is_day
+
+from .house import Shared
+
+DAY, CODE, COUNT = "(?P<day>[0-9]{8})", "(?P<code>[1-9][0-9]{5,17})", "[0-9]{1,4}"
+AFTER, AT = "(?:-|[1-9][0-9]{5,17})", "AT [0-9]{1,10} "
+REFSET = "(?P<refset>[1-9][0-9]{5,17})"
+LINES = [
+    re.compile(line)
+    for line in (
+        "WATCH",
+        "STATUS",
+        f"{AT}DATES",
+        f"{AT}RECEIPT [0-9]{{1,10}}",
+        f"{AT}GET C {CODE} {DAY}",
+        f"{AT}ABOUT [DRV] {CODE} {DAY}",
+        f"{AT}ABOUT M {CODE} {DAY}",
+        f"{AT}CALLED {CODE} {DAY} {REFSET}",
+        f"{AT}VALUES {REFSET} {DAY} {AFTER} {COUNT}",
+        f"{AT}MEMBERS {REFSET} {DAY} - 1",
+        f"{AT}CHILDREN {CODE} {DAY}",
+        f"{AT}ANCESTORS {CODE} {DAY}",
+        f"{AT}DESCENDANTS {CODE} {DAY}",
+        f"{AT}REPLACED {CODE} {DAY}",
+        f"{AT}HISTORY C {CODE}",
+        f"{AT}TIMELINE [DRVAM] {CODE}",
+        f"{AT}PAGE C {DAY} {AFTER} {COUNT}",
+        f"{AT}PAGE M {DAY} - 1",
+        f"{AT}SEARCH {DAY} {AFTER} {COUNT} [^\\x00-\\x1f\\x7f-\\x9f]{{1,200}}",
+    )
+]
+
+
+class Recorded(unittest.TestCase):
+    def test_only_questions_were_sent(self) -> None:
+        recorder = Shared.get().recorder
+        assert recorder
+        lines = [line.decode() for line in recorder.lines]
+        for line in lines:
+            found = [match for match in (one.fullmatch(line) for one in LINES) if match]
+            self.assertEqual(len(found), 1, line)
+            words = found[0].groupdict()
+            self.assertTrue(is_concept_id(words.get("code", "138875005")), line)
+            self.assertTrue(is_concept_id(words.get("refset", "138875005")), line)
+            self.assertTrue(is_day(words.get("day", "20000101")), line)
+        # Each kind of question was among them, so the tests before these were run.
+        for one in LINES:
+            self.assertTrue(any(map(one.fullmatch, lines)), one.pattern)
