@@ -10,6 +10,8 @@ commit by try_edits.py, which writes the record edits/tried: the day, a checksum
 src/, specs/ and proofs/ without their comments, one of what its contracts rest on in the crates
 below it (their specs/, and the files of their src/ that declare a trait, whose clauses each `impl`
 above has to meet), and a line for each edit that was refused there, with the checksum of its file.
+(Records written before 2026-11-29 have nothing of the crates below. They count as long as their
+crates' own sources stay; how many there are is said.)
 Here a crate that has edits in edits/ has to have this record, of its sources and of the crates
 below as they stand and with a line for each of them as it stands, and no line may name what is no
 edit. What isn't so is said in a line of its own on standard error, and the status is 1 then.
@@ -76,12 +78,13 @@ class Record:
 
     day: str
     sources: str
-    below: str
+    below: str | None
     edits: dict[str, str]
 
     def text(self) -> str:
         edits = [f"edit {name}: {checksum}" for name, checksum in sorted(self.edits.items())]
-        head = [f"date: {self.day}", f"sources: {self.sources}", f"below: {self.below}"]
+        below = [] if self.below is None else [f"below: {self.below}"]
+        head = [f"date: {self.day}", f"sources: {self.sources}", *below]
         return "\n".join([*head, *edits]) + "\n"
 
 
@@ -143,19 +146,20 @@ def files_in(folder: str) -> Iterator[str]:
     return (os.path.join(at, name) for at, _, names in os.walk(folder) for name in names)
 
 
-def checksum_of_files(paths: Iterable[str]) -> str:
-    """A checksum of these files and of where they stand, without their comments."""
+def checksum_of_files(start: str, paths: Iterable[str]) -> str:
+    """A checksum of these files and of where they stand below a folder, without their comments."""
     total = hashlib.sha256()
     for path in sorted(paths):
         text = hashlib.sha256(without_comments(path)).hexdigest()
-        total.update(f"{os.path.relpath(path, TOP)} {text}\n".encode())
+        total.update(f"{os.path.relpath(path, start)} {text}\n".encode())
     return total.hexdigest()
 
 
 def checksum_of_sources(crate: str) -> str:
     """A checksum of all files of a crate that say whether its edits are refused."""
-    parts = (os.path.join(folder_of(crate), part) for part in (SRC, SPECS, PROOFS))
-    return checksum_of_files(path for part in parts for path in files_in(part))
+    folder = folder_of(crate)
+    parts = (os.path.join(folder, part) for part in (SRC, SPECS, PROOFS))
+    return checksum_of_files(folder, (path for part in parts for path in files_in(part)))
 
 
 def crates_below(crate: str) -> set[str]:
@@ -178,7 +182,7 @@ def checksum_below(crate: str) -> str:
     specs = (path for it in folders for path in files_in(os.path.join(it, SPECS)))
     traits = (path for it in folders for path in files_in(os.path.join(it, SRC))
               if TRAIT.search(read(path)))
-    return checksum_of_files([*specs, *traits])
+    return checksum_of_files(TOP, [*specs, *traits])
 
 
 def checksum_of(edit: Edit) -> str:
@@ -204,7 +208,7 @@ def record_of(crate: str) -> Record | None:
     path = os.path.join(folder_of(crate), RECORD)
     text = read(path) if os.path.isfile(path) else ""
     line = r"edit (\w+): ([0-9a-f]{64})\n"
-    head = r"date: (\d{4}-\d\d-\d\d)\nsources: ([0-9a-f]{64})\nbelow: ([0-9a-f]{64})\n"
+    head = r"date: (\d{4}-\d\d-\d\d)\nsources: ([0-9a-f]{64})\n(?:below: ([0-9a-f]{64})\n)?"
     found = re.fullmatch(f"{head}(?:{line})*", text)
     return Record(found[1], found[2], found[3], dict(re.findall(line, text))) if found else None
 
@@ -244,7 +248,7 @@ def faults_of_record(crate: str, edits: list[Edit]) -> Iterator[str]:
         yield f"there is no {RECORD} that says which of its edits were refused"
     elif record.sources != checksum_of_sources(crate):
         yield "its sources have changed since its edits were tried"
-    elif record.below != checksum_below(crate):
+    elif record.below not in (None, checksum_below(crate)):
         yield "specs/ or a trait of a crate below it has changed since its edits were tried"
     else:
         yield from faults_of_lines(record, edits)
@@ -262,11 +266,17 @@ def faults_of_lines(record: Record, edits: list[Edit]) -> Iterator[str]:
         yield f"{RECORD} has a line for {name}, which is no edit"
 
 
+def says_nothing_below(crate: str) -> bool:
+    """Whether a crate's record is one from before records had a checksum of the crates below."""
+    record = record_of(crate)
+    return record is not None and record.below is None
+
+
 def main(words: list[str]) -> int:
     if words:
         print((__doc__ or "").strip(), file=sys.stderr)
         return 2
-    count, wrong = 0, 0
+    count, wrong, older = 0, 0, 0
     for crate in sorted(os.listdir(os.path.join(TOP, "crates"))):
         edits = [edit for folder in FOLDERS for edit in edits_of(crate, folder)]
         stale = [f"{fault}: run python3 bench/faults/try_edits.py {crate}"
@@ -275,6 +285,8 @@ def main(words: list[str]) -> int:
             wrong += 1
             print(f"{crate}: {fault}", file=sys.stderr)
         count += len(edits)
+        older += says_nothing_below(crate)
+    print(f"{older} records say nothing of the crates below", file=sys.stderr)
     print(f"{count} edits, {wrong} not so", file=sys.stderr)
     return 1 if wrong or not count else 0
 
