@@ -21,7 +21,7 @@ RELEASES = TOP / "docs" / "releases"
 EXAMPLES = TOP / "examples"
 PIPE_SIZE = 1 << 16
 # How long a call, a reply and the end of a process may take.
-SECONDS = 30
+SECONDS = 120
 LAST_WORDS = ("OK", "ERR", "END")
 DIGEST = re.compile(r"OK ([0-9a-f]{64})\n")
 BLOCK = 4096
