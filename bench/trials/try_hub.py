@@ -40,6 +40,9 @@ SESSIONS = 1_023
 KEPT_SESSIONS = 23
 # So many lines of a client are on their way at most.
 LINES_A_CLIENT = 32
+PAGE = b"PAGE C 20210131 - 1000\n"
+# How long no more bytes come once the hub sends a client no more of its replies.
+QUIET = 3
 # For a hub of which one user may have all sessions.
 MANY_A_USER = ("--connections-a-user", str(SESSIONS))
 DIGESTS = 5
@@ -345,7 +348,7 @@ def unread(place: Place, store: str) -> None:
 
         def hangs_up() -> list[bool]:
             try:
-                silent.connection.sendall(b"PAGE C 20210131 - 1000\n" * 1_000)
+                silent.connection.sendall(PAGE * 1_000)
             except ConnectionError:
                 ended.append(True)
             except OSError:
@@ -364,12 +367,15 @@ def waiting(client: Client) -> int:
     return int.from_bytes(number, sys.byteorder)
 
 
-def is_told_more(client: Client, before: int) -> bool:
-    """Whether more than so many bytes wait for a client within a second."""
-    end = time.monotonic() + 1
-    while waiting(client) <= before and time.monotonic() < end:
+def are_told(client: Client, count: int) -> bool:
+    """Whether so many bytes wait for a client, as soon as they do; and no once no more have come
+    for QUIET seconds."""
+    told, since = waiting(client), time.monotonic()
+    while told < count and time.monotonic() - since < QUIET:
         time.sleep(0.005)
-    return waiting(client) > before
+        if waiting(client) > told:
+            told, since = waiting(client), time.monotonic()
+    return told >= count
 
 
 def left_unread(place: Place, store: str) -> None:
@@ -378,11 +384,11 @@ def left_unread(place: Place, store: str) -> None:
     small = place.changed("clients.py", "range(1, 1024)", "range(1, %d)" % (KEPT_SESSIONS + 3))
     with Hub(small, store, "--questions", small.path("questions")) as hub:
         asking, asked = [Client(hub.questions) for _ in range(2)], [0, 0]
+        asking[0].send(PAGE)
+        size = sum(len(line) + 1 for line in asking[0].read())
         for number, client in enumerate(asking):
-            before = -1
-            while is_told_more(client, before):
-                before = waiting(client)
-                client.send(b"PAGE C 20210131 - 1000\n" * LINES_A_CLIENT)
+            while are_told(client, asked[number] * size):
+                client.send(PAGE * LINES_A_CLIENT)
                 asked[number] += LINES_A_CLIENT
             client.connection.shutdown(socket.SHUT_WR)
         time.sleep(0.2)
