@@ -24,6 +24,7 @@ copy_refusal faults.SourceFailed = Store store.DiskFault
 copy_refusal faults.NotAStore = Store store.NotAStore
 copy_refusal (faults.Damaged damage) = Store (store.Unreadable damage)
 copy_refusal faults.NoSuchImport = PinRange
+copy_refusal faults.LowerLayout = Store store.LaterVersion
 copy_refusal faults.NotEmpty = Store store.NotEmpty
 copy_refusal faults.NoRoom = Store store.Full
 copy_refusal faults.TargetFailed = Store store.DiskFault
@@ -40,16 +41,16 @@ pub record IsCopied {D : Type 0} (view : D → DiskView) (imports : Option ℕ)
     : Type 0 where
   -- every image that a crash may leave is the copy
   pub copied : (view source).is_honest → (view target).is_honest → IfOk result
-      (λ copy. HasCopy imports (view source).moments.state.now copy
+      (λ copy. HasCopy imports None (view source).moments.state.now copy
       (view target_left).moments.state)
   -- a crash at any moment leaves what it might have left before, no store, or the whole copy
   pub any_moment : (view source).is_honest → (view target).is_honest
       → LeavesOnly (view target).moments (view target_left).moments
       (λ c. IsImage (view target).moments.state c ⊎ (IsStore c → ⊥)
-      ⊎ IsCopyOf imports (view source).moments.state.now c)
+      ⊎ IsCopyOf imports None (view source).moments.state.now c)
   pub empty : (view target).is_honest → OnOk result (length (view target).moments.state.now ≡ 0)
   pub refused : (view source).is_honest → (view target).is_honest → IfErr result
-      (λ e. IsNotCopied e imports (view source).moments.state.now
+      (λ e. IsNotCopied e imports None (view source).moments.state.now
       (view target).moments.state.now)
   pub stays : (view source).is_honest → (view target).is_honest
       → StaysUnlessFailed result (view target).moments (view target_left).moments

@@ -28,6 +28,7 @@ fn refusal_of(fault: CopyFault) -> LineRefusal
         CopyFault::NotAStore => LineRefusal::Store(Refusal::NotAStore),
         CopyFault::Damaged(damage) => LineRefusal::Store(Refusal::Unreadable(damage)),
         CopyFault::NoSuchImport => LineRefusal::PinRange,
+        CopyFault::LowerLayout => LineRefusal::Store(Refusal::LaterVersion),
         CopyFault::NotEmpty => LineRefusal::Store(Refusal::NotEmpty),
         CopyFault::NoRoom => LineRefusal::Store(Refusal::Full),
     }
@@ -121,7 +122,7 @@ fn copy_onto<V: Disks, F: Folders, O: Write, E: Write>(
         result.1 result.2 (report result.0 (O.contents output.old) (O.contents output.new)) }
 {
     let (mut source, mut target) = (source, target);
-    let copied = copy(alloc, &mut source, &mut target, imports);
+    let copied = copy(alloc, &mut source, &mut target, imports, None);
     let ended = tell_copy(alloc, &copied, output);
     let context = context_of(disks, path, to, &source, &target, &copied);
     tell_why(ended, &context, faults);

@@ -7,3 +7,4 @@ pub mod Done
 pub mod CopyLaws
 pub mod Copied
 pub mod Planned
+pub mod Windows

@@ -1,8 +1,10 @@
 -- The directory of a copy.
 use Rattle.std.proofs.Common.{◌≡◌, ℕ, ◌+◌, ◌^◌, ◌<◌, ◌≤◌, List, [], ◌∷◌, ◌++◌, length, cond, true, false, refl, sym, ap, subst, arith, length-append}
-use Rattle.std.specs.Prelude.{nat_le}
+use Rattle.std.specs.Prelude.{All, nat_le}
 use Rattle.std.specs.List.{AllByRecursion}
 use Rattle.std.specs.Int.{div_ceil}
+use Rattle.rf2_values.specs.declared.row.Kind.{Kind}
+use Rattle.rf2_values.specs.declared.row.Kind.TheVariants as kinds
 use Rattle.history_model.specs.declared.stamped.StampedRow.{StampedRow}
 use Rattle.history_model.specs.History.{IsHistory}
 use Rattle.history_model.specs.Lists.{listed}
@@ -12,12 +14,12 @@ use Rattle.checksum.specs.declared.form.Form.{Form}
 use Rattle.directory.specs.declared.entry.Entry.{Entry}
 use Rattle.directory.specs.declared.layout.Layout.{Layout}
 use Rattle.directory.specs.declared.layout.Layout.TheVariants as layouts
-use Rattle.directory.specs.Listings.{DirectoryValue, IsEntry, IsListing, HasForm, form_of, most_entries}
+use Rattle.directory.specs.Listings.{DirectoryValue, IsEntry, IsListing, HasForm, form_of, most_entries, number_of}
 use Rattle.directory.specs.Places.{AreApart, AreBeside, end_block, extent_of, extents_of}
 use Rattle.directory.proofs.Adding.{has_written_form}
 use Rattle.segment.specs.Records.{IsSegment, segment_of, record_of}
 use Rattle.segment.proofs.Posting.{segment_length_more}
-use Rattle.store_image.specs.Kept.{AreSegments, IsKept, entry_at}
+use Rattle.store_image.specs.Kept.{AreOfLayout, AreSegments, HasKind, IsKept, entry_at}
 use Rattle.store_image.proofs.Windowed.{record_least}
 use Rattle.store_image.proofs.Damaged.{segments_count as as_many_lists}
 use Rattle.store_copy.specs.Copying.{up_to, before, lists_up_to, entries_from, end_from, copied_listing}
@@ -157,12 +159,45 @@ copied_is_listing layout n lists small few each fits = record {
   forms = entries_forms layout 4 (lists_up_to n lists);
 }
 
--- and what it lists fits together
-pub copied_is_kept : (d : DirectoryValue) (n : ℕ) (lists : List (List StampedRow)) → IsKept d lists → IsListing (copied_listing d.layout n lists) → IsKept (copied_listing d.layout n lists) (lists_up_to n lists)
-copied_is_kept d n lists kept listing = record {
+-- ---- a version of the layout has the kinds of the lower ones
+
+kinds_rise : (own layout : Layout) (kind : Kind) → number_of own ≤ number_of layout → HasKind own kind → HasKind layout kind
+kinds_rise layouts.One layouts.One kind le has = has
+kinds_rise layouts.One layouts.Two kinds.Concept le has = tt
+kinds_rise layouts.One layouts.Two kinds.Description le has = tt
+kinds_rise layouts.One layouts.Two kinds.Relationship le has = tt
+kinds_rise layouts.One layouts.Two kinds.Association le has = tt
+kinds_rise layouts.One layouts.Two kinds.Concrete le has = tt
+kinds_rise layouts.One layouts.Two kinds.Member le has = absurd has
+kinds_rise layouts.One layouts.Three kind le has = tt
+kinds_rise layouts.Two layouts.One kind le has = absurd (omega (arith, le))
+kinds_rise layouts.Two layouts.Two kind le has = has
+kinds_rise layouts.Two layouts.Three kind le has = tt
+kinds_rise layouts.Three layouts.One kind le has = absurd (omega (arith, le))
+kinds_rise layouts.Three layouts.Two kind le has = absurd (omega (arith, le))
+kinds_rise layouts.Three layouts.Three kind le has = has
+
+lists_rise : (own layout : Layout) (lists : List (List StampedRow)) → number_of own ≤ number_of layout → All (AreOfLayout own) lists → All (AreOfLayout layout) lists
+lists_rise own layout lists le all = λ k d lt. λ i s below. kinds_rise own layout _ le (all k d lt i s below)
+
+-- nor has it fewer entries
+pub entries_rise : (own layout : Layout) → number_of own ≤ number_of layout → most_entries own ≤ most_entries layout
+entries_rise layouts.One layouts.One le = omega arith
+entries_rise layouts.One layouts.Two le = omega arith
+entries_rise layouts.One layouts.Three le = omega arith
+entries_rise layouts.Two layouts.One le = absurd (omega (arith, le))
+entries_rise layouts.Two layouts.Two le = omega arith
+entries_rise layouts.Two layouts.Three le = omega arith
+entries_rise layouts.Three layouts.One le = absurd (omega (arith, le))
+entries_rise layouts.Three layouts.Two le = absurd (omega (arith, le))
+entries_rise layouts.Three layouts.Three le = omega arith
+
+-- what the directory lists fits together
+pub copied_is_kept : (d : DirectoryValue) (layout : Layout) (n : ℕ) (lists : List (List StampedRow)) → number_of d.layout ≤ number_of layout → IsKept d lists → IsListing (copied_listing layout n lists) → IsKept (copied_listing layout n lists) (lists_up_to n lists)
+copied_is_kept d layout n lists le kept listing = record {
   listing = listing;
-  segments = entries_segments (form_of d.layout) 4 (lists_up_to n lists) (lists_all n IsSome lists (some_up_to n) (segments_are d.entries lists kept.segments));
+  segments = entries_segments (form_of layout) 4 (lists_up_to n lists) (lists_all n IsSome lists (some_up_to n) (segments_are d.entries lists kept.segments));
   apart = lists_are n lists kept.apart;
   history = subst (λ (rows : List StampedRow). IsHistory (record { imports = n; rows = rows })) (sym (listed_up_to n lists kept.apart)) (up_to_is_history n d.imports (listed lists) kept.history);
-  kinds = lists_kinds n d.layout lists kept.kinds;
+  kinds = lists_rise d.layout layout (lists_up_to n lists) le (lists_kinds n d.layout lists kept.kinds);
 }

@@ -20,10 +20,10 @@ up_to n rows = filter (λ s. nat_le s.import n) rows
 abbrev pub first_imports : ℕ → History → History
 first_imports n h = record { imports = n; rows = up_to n h.rows }
 
--- as many imports as asked for, or all
-abbrev pub chosen : Option ℕ → ℕ → ℕ
-chosen None all = all
-chosen (Some n) all = n
+-- what is asked for, or the store's own
+abbrev pub chosen : {X : Type 0} → Option X → X → X
+chosen None own = own
+chosen (Some x) own = x
 
 -- a list of rows before other lists, unless it is empty
 abbrev pub before : List StampedRow → List (List StampedRow) → List (List StampedRow)
@@ -46,7 +46,7 @@ abbrev pub end_from : ℕ → List (List StampedRow) → ℕ
 end_from first [] = first
 end_from first (rows ∷ lists) = end_from (first + div_ceil (length (segment_of rows)) 4096) lists
 
--- the directory of a copy with the first `n` imports of a store of this layout version, whose
+-- the directory of a copy in this layout version, with the first `n` imports of a store whose
 -- segments have these rows
 abbrev pub copied_listing : Layout → ℕ → List (List StampedRow) → DirectoryValue
 copied_listing layout n lists =

@@ -24,11 +24,11 @@ ghost use Rattle.store_image.specs.Reading.{IsAt};
 ghost use Rattle.store_copy.specs.Copying.{lists_up_to, up_to};
 ghost use Rattle.store_copy.specs.Answers.{CountsSource, CountsTarget, IsFailure};
 ghost use Rattle.store_copy.specs.Private.Writing.{ArePending, CountsRead, CountsWrite, IsNoDamage};
-ghost use Rattle.store_copy.specs.Private.Writing.{IsPlan, IsShut, IsThere, MayBeSegment};
+ghost use Rattle.store_copy.specs.Private.Writing.{IsPlan, IsShut, IsThere, MayBeSegment, Sees};
 
 use crate::fault::{CopyFault, SegmentCopyFault};
 use crate::planning::size_up_to;
-use crate::reading::read_row;
+use crate::reading::Window;
 use crate::slots::{close_slots, open_slot};
 use blocks::{Extent, write_part};
 use directory::{Directory, Entry};
@@ -69,6 +69,7 @@ impl Pending {
         &mut self,
         alloc: Global,
         source: &mut S,
+        window: &mut Window,
         from: Entry,
         at: RowPlace,
         form: Form,
@@ -76,18 +77,23 @@ impl Pending {
         ensures written { OnOk result (self.new.written ≡ self.old.written) }
         ensures len { OnOk result (length self.new.bytes.items
             ≡ length self.old.bytes.items + at.bytes) }
-        ensures bytes { (S.view source.old).is_honest → (s : StampedRow)
+        ensures bytes { (S.view source.old).is_honest
+            → Sees window.old from.first (S.view source.old).moments.state.now → (s : StampedRow)
             → IsThere from.form (4096 * from.first + at.at) s at
             (S.view source.old).moments.state.now
             → OnOk result (self.new.bytes.items ≡ self.old.bytes.items ++ record_in form s) }
-        ensures found { (S.view source.old).is_honest → (s : StampedRow)
+        ensures found { (S.view source.old).is_honest
+            → Sees window.old from.first (S.view source.old).moments.state.now → (s : StampedRow)
             → IsThere from.form (4096 * from.first + at.at) s at
             (S.view source.old).moments.state.now
             → IfErr result (λ e. e ≢ readfault.Damaged) }
+        ensures sees { (S.view source.old).is_honest
+            → Sees window.old from.first (S.view source.old).moments.state.now
+            → OnOk result (Sees window.new from.first (S.view source.old).moments.state.now) }
         ensures meters { OnlyReads (Counts CountsDiskFault result) Unsaid
             (S.view source.old) (S.view source.new) }
     {
-        let row = read_row(alloc, source, from, at)?;
+        let row = window.row(alloc, source, from, at)?;
         put_record(&mut self.bytes, &mut self.fields, form, &row)?;
         Ok(())
     }
@@ -125,6 +131,7 @@ impl Pending {
 fn copy_row<S: Disk, T: Disk>(
     alloc: Global,
     source: &mut S,
+    window: &mut Window,
     from: Entry,
     at: RowPlace,
     target: &mut T,
@@ -136,15 +143,20 @@ fn copy_row<S: Disk, T: Disk>(
     ensures len { OnOk result (pending.new.written + length pending.new.bytes.items
         ≡ pending.old.written + length pending.old.bytes.items + at.bytes) }
     ensures pending { (S.view source.old).is_honest → (T.view target.old).is_honest
+        → Sees window.old from.first (S.view source.old).moments.state.now
         → (rows : List StampedRow) (s : StampedRow)
         → IsThere from.form (4096 * from.first + at.at) s at (S.view source.old).moments.state.now
         → ArePending to.form (extent_of to) rows pending.old.written pending.old.bytes.items
         (T.view target.old).moments.state.now
         → OnOk result (ArePending to.form (extent_of to) (rows ++ s ∷ [])
         pending.new.written pending.new.bytes.items (T.view target.new).moments.state.now) }
-    ensures found { (S.view source.old).is_honest → (s : StampedRow)
+    ensures found { (S.view source.old).is_honest
+        → Sees window.old from.first (S.view source.old).moments.state.now → (s : StampedRow)
         → IsThere from.form (4096 * from.first + at.at) s at (S.view source.old).moments.state.now
         → IfErr result (λ e. IsNoDamage e) }
+    ensures sees { (S.view source.old).is_honest
+        → Sees window.old from.first (S.view source.old).moments.state.now
+        → OnOk result (Sees window.new from.first (S.view source.old).moments.state.now) }
     ensures any_moment { (T.view target.old).is_honest
         → LeavesOnly (T.view target.old).moments (T.view target.new).moments
         (StemsWithin (T.view target.old).moments.state (byte_range (extent_of to))) }
@@ -157,7 +169,7 @@ fn copy_row<S: Disk, T: Disk>(
         (T.view target.old) (T.view target.new) }
 {
     let form = to.form;
-    match pending.take(alloc, source, from, at, form) {
+    match pending.take(alloc, source, window, from, at, form) {
         Ok(()) => {}
         Err(fault) => return Err(SegmentCopyFault::Read(fault)),
     }
@@ -202,9 +214,19 @@ fn copy_segment<S: Disk, T: Disk>(
         (T.view target.old) (T.view target.new) }
 {
     let mut pending = Pending::new(alloc);
+    let mut window = Window::new(alloc);
     for place in segment.places() {
         if place.import <= imports {
-            match copy_row(alloc, source, from, *place, target, to, &mut pending) {
+            match copy_row(
+                alloc,
+                source,
+                &mut window,
+                from,
+                *place,
+                target,
+                to,
+                &mut pending,
+            ) {
                 Ok(()) => {}
                 Err(fault) => return Err(fault),
             }

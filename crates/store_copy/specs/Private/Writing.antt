@@ -1,5 +1,5 @@
 -- The state of a copy while it is written.
-use Rattle.std.specs.Prelude.{◌≡◌, ℕ, Option, Result, Ok, Err, ◌^◌, ◌<◌, ◌≤◌, List, ◌++◌, length, take, drop}
+use Rattle.std.specs.Prelude.{◌≡◌, ℕ, Option, Result, Ok, Err, ◌^◌, ◌+◌, ◌*◌, ◌<◌, ◌≤◌, List, ◌++◌, length, take, drop}
 use Rattle.rf2_values.specs.Key.{key_of}
 use Rattle.blocks.specs.declared.extent.Extent.{Extent}
 use Rattle.blocks.specs.declared.slots.Slot.TheVariants.{A, B}
@@ -7,7 +7,7 @@ use Rattle.blocks.specs.Slots.{IsClosed}
 use Rattle.checksum.specs.declared.form.Form.{Form}
 use Rattle.directory.specs.declared.entry.Entry.{Entry}
 use Rattle.directory.specs.declared.layout.Layout.{Layout}
-use Rattle.directory.specs.Listings.{DirectoryValue, IsListing, form_of}
+use Rattle.directory.specs.Listings.{DirectoryValue, IsListing, form_of, number_of}
 use Rattle.history_model.specs.declared.stamped.StampedRow.{StampedRow}
 use Rattle.segment.specs.declared.place.RowPlace.{RowPlace}
 use Rattle.segment.specs.Records.{IsStamped, record_in, segment_of, segment_in}
@@ -22,11 +22,19 @@ use Rattle.store_copy.specs.declared.fault.CopyFault.TheVariants as faults
 use Rattle.store_copy.specs.declared.fault.SegmentCopyFault.{SegmentCopyFault}
 use Rattle.store_copy.specs.declared.fault.SegmentCopyFault.TheVariants.{Read, Write}
 use Rattle.store_copy.specs.declared.planning.Size.{Size}
+use Rattle.store_copy.specs.declared.reading.Window.{Window}
 
 -- as many imports as asked for, or all, if the store has as many
 abbrev pub IsChosen : Result ℕ CopyFault → Option ℕ → ℕ → Type 0
 IsChosen (Ok n) asked all = (n ≡ chosen asked all) × (n ≤ all)
 IsChosen (Err e) asked all = (e ≡ faults.NoSuchImport) × (all < chosen asked all)
+
+-- the layout version asked for, or the store's, if that isn't above it
+abbrev pub IsChosenLayout : Result Layout CopyFault → Option Layout → Layout → Type 0
+IsChosenLayout (Ok layout) version own =
+    (layout ≡ chosen version own) × (number_of own ≤ number_of layout)
+IsChosenLayout (Err e) version own =
+    (e ≡ faults.LowerLayout) × (number_of (chosen version own) < number_of own)
 
 -- the rows are few and short enough for a segment
 abbrev pub MayBeSegment : List StampedRow → Type 0
@@ -43,11 +51,13 @@ IsPlan copy lists =
     copy.entries ≡ entries_from (form_of copy.layout) 4 (lists_up_to copy.imports lists)
 
 -- the directory and the rows of a store, and the directory of a copy with this many of its imports
-pub record IsPlanned (asked : Option ℕ) (d : DirectoryValue) (lists : List (List StampedRow))
-    (copy : DirectoryValue) : Type 0 where
+-- in this layout version
+pub record IsPlanned (asked : Option ℕ) (version : Option Layout) (d : DirectoryValue)
+    (lists : List (List StampedRow)) (copy : DirectoryValue) : Type 0 where
   pub kept : IsKept d lists
   pub within : chosen asked d.imports ≤ d.imports
-  pub copy_is : copy ≡ copied_listing d.layout (chosen asked d.imports) lists
+  pub not_lower : number_of d.layout ≤ number_of (chosen version d.layout)
+  pub copy_is : copy ≡ copied_listing (chosen version d.layout) (chosen asked d.imports) lists
   pub listing : IsListing copy
 
 -- the file is long enough to have both gates, and both are closed
@@ -72,6 +82,15 @@ pub record IsThere (form : Form) (from : ℕ) (s : StampedRow) (p : RowPlace) (f
   pub stamped : IsStamped s
   pub key : key_of s.row ≡ p.key
   pub import : s.import ≡ p.import
+
+-- the window has the bytes of the record at the place
+abbrev pub HasBytes : Window → RowPlace → Type 0
+HasBytes w p = (w.from ≤ p.at) × (p.at + p.bytes ≤ w.from + length w.bytes.items)
+
+-- the window's bytes are those of the file, in the segment that begins at this block
+abbrev pub Sees : Window → ℕ → List ℕ → Type 0
+Sees w first file =
+    w.bytes.items ≡ take (length w.bytes.items) (drop (4096 * first + w.from) file)
 
 -- the fault of a copy that fails at the segment with this number
 abbrev pub in_segment : ℕ → SegmentCopyFault → CopyFault

@@ -12,8 +12,9 @@ use Rattle.segment.specs.Records.{segment_in, segment_of}
 use Rattle.segment.proofs.Posting.{as_many_places as places_long}
 use Rattle.store_image.specs.Ahead.{BeginsWith}
 use Rattle.store_copy.specs.Copying.{up_to}
-use Rattle.store_copy.specs.Private.Writing.{ArePending, IsThere}
+use Rattle.store_copy.specs.Private.Writing.{ArePending, IsThere, Sees}
 use Rattle.store_copy.proofs.Records.{there_at}
+use Rattle.store_copy.proofs.Windows.{none_seen}
 use Rattle.store_copy.proofs.Steps.{all_written, kept, kept_bytes, left_out, no_pending, none_bytes, step_at, taken_fewer}
 use Rattle.store_copy.proofs.writing.copy_segment.Goals as goal
 use Rattle.store_copy.proofs.writing.copy_segment.Goals.{then-place-imports+in-Ok, else-place-imports}
@@ -33,6 +34,7 @@ loop-place-init g c =
       len = omega (arith, c.new-pending.ensures.written, ap length c.new-pending.ensures.bytes, none_bytes c.args.imports);
       run = λ h. within_none old range.0 range.1;
       elsewhere = λ h. elsewhere_none (range ∷ []) old.state.now;
+      sees = λ s. none_seen c.args.from.first c.new-window.result c.new-window.ensures (g.S.Disk.view c.args.source.now).moments.state.now;
       pending = λ s t at. no_pending c.args.to.form (extent_of c.args.to) c.args.imports [] c.new-pending.result.written c.new-pending.result.bytes.items old.state.now refl c.new-pending.ensures.written c.new-pending.ensures.bytes;
     }
 
@@ -53,7 +55,7 @@ returns-in-Err-clause-found g c = λ s at.
     let inv = c.loop-place.invariant in
     let step = step_at rows c.places-place-items.result.now c.loop-place.place-index p c.places-place-items.ensures c.loop-place-test.true c.place-item.is in
     let there = subst (λ (m : Moments). IsThere c.args.from.form (4096 * c.args.from.first + p.at) step.row p m.state.now) (sym (inv.moments s)) (there_at (g.S.Disk.view c.args.source.now).moments.state.now c.args.from rows step.row p at step.there) in
-    c.in-Err.ensures.found (inv.source.0 s) step.row there
+    c.in-Err.ensures.found (inv.source.0 s) (inv.sees s) step.row there
 
 pub returns-in-Err-clause-any_moment : goal.returns-in-Err-clause-any_moment
 returns-in-Err-clause-any_moment g c = λ h.
@@ -78,7 +80,7 @@ loop-place-preserved g c =
       | then-place-imports+in-Ok w ↦
           let done = w.in-Ok.ensures in
           let new = (g.T.Disk.view w.copy_row.new.target).moments in
-          rw (w.source-is, w.target-is, w.pending-is) (record {
+          rw (w.source-is, w.target-is, w.pending-is, w.window-is) (record {
             source = (λ h. done.source_meters.honesty.0 (inv.source.0 h), λ h. inv.source.1 (done.source_meters.honesty.1 h));
             target = (λ h. done.target_meters.honesty.0 (inv.target.0 h), λ h. inv.target.1 (done.target_meters.honesty.1 h));
             moments = λ h. done.source_meters.moments (inv.source.0 h) ∙ inv.moments h;
@@ -89,14 +91,15 @@ loop-place-preserved g c =
             len = omega (arith, done.len, inv.len, kept_bytes n rows i p step w.if-place-imports.true);
             run = λ h. within_on old mid new range.0 range.1 (inv.run h) (done.any_moment (inv.target.0 h));
             elsewhere = λ h. elsewhere_on (range ∷ []) old.state.now mid.state.now new.state.now (inv.elsewhere h) (done.elsewhere (inv.target.0 h));
+            sees = λ h. subst (λ (m : Moments). Sees w.copy_row.new.window c.args.from.first m.state.now) (sym (done.source_meters.moments (inv.source.0 h))) (done.sees (inv.source.0 h) (inv.sees h));
             pending = λ s t at.
                 let there = subst (λ (m : Moments). IsThere c.args.from.form (4096 * c.args.from.first + p.at) step.row p m.state.now) (sym (inv.moments s)) (there_at (g.S.Disk.view c.args.source.now).moments.state.now c.args.from rows step.row p at step.there) in
                 subst (λ (l : List StampedRow). ArePending form extent l w.copy_row.new.pending.written w.copy_row.new.pending.bytes.items new.state.now) (sym (kept n rows i p step w.if-place-imports.true))
-                (done.pending (inv.source.0 s) (inv.target.0 t) (up_to n (take i rows)) step.row there (inv.pending s t at));
+                (done.pending (inv.source.0 s) (inv.target.0 t) (inv.sees s) (up_to n (take i rows)) step.row there (inv.pending s t at));
           })
       | else-place-imports w ↦
           let out = left_out n rows i p step (omega (arith, w.if-place-imports.false)) in
-          rw (w.source-is, w.target-is, w.pending-is) (record {
+          rw (w.source-is, w.target-is, w.pending-is, w.window-is) (record {
             source = inv.source;
             target = inv.target;
             moments = inv.moments;
@@ -107,6 +110,7 @@ loop-place-preserved g c =
             len = omega (arith, inv.len, ap (λ (l : List StampedRow). length (segment_of l)) out);
             run = inv.run;
             elsewhere = inv.elsewhere;
+            sees = inv.sees;
             pending = λ s t at. subst (λ (l : List StampedRow). ArePending form extent l c.loop-place.pending.written c.loop-place.pending.bytes.items mid.state.now) (sym out) (inv.pending s t at);
           })
     ]
