@@ -7,9 +7,11 @@ An edit is a wrong change of a crate that the prover has to refuse, a file in mu
 a line `file: PATH`, and behind it pairs of lines `old: TEXT` and `new: TEXT`. An old text has to
 stand just once in its file. CI tries the edits of must-fail/; those of edits/ are tried before a
 commit by try_edits.py, which writes the record edits/tried: the day, a checksum of the crate's
-src/, specs/ and proofs/ without their comments, and a line for each edit that was refused there,
-with the checksum of its file. Here a crate that has edits in edits/ has to have this record, of its
-sources as they stand and with a line for each of them as it stands, and no line may name what is no
+src/, specs/ and proofs/ without their comments, one of what its contracts rest on in the crates
+below it (their specs/, and the files of their src/ that declare a trait, whose clauses each `impl`
+above has to meet), and a line for each edit that was refused there, with the checksum of its file.
+Here a crate that has edits in edits/ has to have this record, of its sources and of the crates
+below as they stand and with a line for each of them as it stands, and no line may name what is no
 edit. What isn't so is said in a line of its own on standard error, and the status is 1 then.
 Nothing is built. Standard library alone.
 """
@@ -21,7 +23,7 @@ import hashlib
 import os
 import re
 import sys
-from collections.abc import Iterator
+from collections.abc import Iterable, Iterator
 from dataclasses import dataclass
 
 TOP = os.path.dirname(os.path.dirname(os.path.dirname(os.path.abspath(__file__))))
@@ -31,7 +33,11 @@ MUST_FAIL, EDITS = "must-fail", "edits"
 FOLDERS = (MUST_FAIL, EDITS)
 ENDING = ".edit"
 # What edits change, and what refuses them.
-SOURCES = ("src", "specs", "proofs")
+SRC, SPECS, PROOFS = "src", "specs", "proofs"
+# A file of src/ whose clauses hold for code of the crates above: one that declares a trait.
+TRAIT = re.compile(r"^(?:pub(?:\([a-z]+\))? )?trait ", re.M)
+# A line of crates.txt: a crate, and which ones it uses.
+USES = re.compile(r"^(\w+)[^:#\n]*:([^#\n]*)", re.M)
 RECORD = f"{EDITS}/tried"
 # How a line begins that is a comment, in the files of these endings.
 COMMENTS = {".rt": b"//", ".antt": b"--"}
@@ -65,16 +71,18 @@ class Misfit(Exception):
 
 @dataclass(frozen=True)
 class Record:
-    """Which edits were refused: the day of the last of them, the checksum of the crate's sources,
-    and the checksum of each edit by its name."""
+    """Which edits were refused: the day of the last of them, the checksum of the crate's sources
+    and that of what they rest on below it, and the checksum of each edit by its name."""
 
     day: str
     sources: str
+    below: str
     edits: dict[str, str]
 
     def text(self) -> str:
-        lines = [f"edit {name}: {checksum}" for name, checksum in sorted(self.edits.items())]
-        return "\n".join([f"date: {self.day}", f"sources: {self.sources}", *lines]) + "\n"
+        edits = [f"edit {name}: {checksum}" for name, checksum in sorted(self.edits.items())]
+        head = [f"date: {self.day}", f"sources: {self.sources}", f"below: {self.below}"]
+        return "\n".join([*head, *edits]) + "\n"
 
 
 def read(path: str) -> str:
@@ -123,11 +131,6 @@ def texts_with(edits: list[Edit]) -> dict[str, str]:
     return texts
 
 
-def checksum_of_file(path: str) -> str:
-    with open(path, "rb") as file:
-        return hashlib.sha256(file.read()).hexdigest()
-
-
 def without_comments(path: str) -> bytes:
     """A file without its empty lines and those that are comments, which the prover doesn't read."""
     sign = COMMENTS[os.path.splitext(path)[1]]
@@ -136,23 +139,53 @@ def without_comments(path: str) -> bytes:
     return b"\n".join(line for line in lines if not line.lstrip().startswith(sign))
 
 
+def files_in(folder: str) -> Iterator[str]:
+    return (os.path.join(at, name) for at, _, names in os.walk(folder) for name in names)
+
+
+def checksum_of_files(paths: Iterable[str]) -> str:
+    """A checksum of these files and of where they stand, without their comments."""
+    total = hashlib.sha256()
+    for path in sorted(paths):
+        text = hashlib.sha256(without_comments(path)).hexdigest()
+        total.update(f"{os.path.relpath(path, TOP)} {text}\n".encode())
+    return total.hexdigest()
+
+
 def checksum_of_sources(crate: str) -> str:
     """A checksum of all files of a crate that say whether its edits are refused."""
-    folder = folder_of(crate)
-    places = (place for part in SOURCES for place in os.walk(os.path.join(folder, part)))
-    files = [os.path.relpath(os.path.join(at, name), folder)
-             for at, _, names in places for name in names]
-    total = hashlib.sha256()
-    for path in sorted(files):
-        text = without_comments(os.path.join(folder, path))
-        total.update(f"{path} {hashlib.sha256(text).hexdigest()}\n".encode())
-    return total.hexdigest()
+    parts = (os.path.join(folder_of(crate), part) for part in (SRC, SPECS, PROOFS))
+    return checksum_of_files(path for part in parts for path in files_in(part))
+
+
+def crates_below(crate: str) -> set[str]:
+    """The crates of the repository that a crate uses, directly or through others."""
+    uses = {found[1]: set(found[2].split())
+            for found in USES.finditer(read(os.path.join(TOP, "crates.txt")))}
+    below: set[str] = set()
+    left = [crate]
+    while left:
+        new = uses[left.pop()] & uses.keys() - below
+        below |= new
+        left += new
+    return below
+
+
+def checksum_below(crate: str) -> str:
+    """A checksum of what the contracts of a crate can rest on in the crates below it: definitions,
+    and traits."""
+    folders = [folder_of(name) for name in crates_below(crate)]
+    specs = (path for it in folders for path in files_in(os.path.join(it, SPECS)))
+    traits = (path for it in folders for path in files_in(os.path.join(it, SRC))
+              if TRAIT.search(read(path)))
+    return checksum_of_files([*specs, *traits])
 
 
 def checksum_of(edit: Edit) -> str:
     """The checksum of an edit's file, which is the same in both folders."""
     path = os.path.join(folder_of(edit.crate), edit.folder, edit.name + ENDING)
-    return checksum_of_file(path)
+    with open(path, "rb") as file:
+        return hashlib.sha256(file.read()).hexdigest()
 
 
 def write_record(crate: str, record: Record) -> None:
@@ -171,9 +204,9 @@ def record_of(crate: str) -> Record | None:
     path = os.path.join(folder_of(crate), RECORD)
     text = read(path) if os.path.isfile(path) else ""
     line = r"edit (\w+): ([0-9a-f]{64})\n"
-    form = rf"date: (\d{{4}}-\d\d-\d\d)\nsources: ([0-9a-f]{{64}})\n(?:{line})*"
-    found = re.fullmatch(form, text)
-    return Record(found[1], found[2], dict(re.findall(line, text))) if found else None
+    head = r"date: (\d{4}-\d\d-\d\d)\nsources: ([0-9a-f]{64})\nbelow: ([0-9a-f]{64})\n"
+    found = re.fullmatch(f"{head}(?:{line})*", text)
+    return Record(found[1], found[2], found[3], dict(re.findall(line, text))) if found else None
 
 
 def faults_of_edits(edits: list[Edit]) -> Iterator[str]:
@@ -211,6 +244,8 @@ def faults_of_record(crate: str, edits: list[Edit]) -> Iterator[str]:
         yield f"there is no {RECORD} that says which of its edits were refused"
     elif record.sources != checksum_of_sources(crate):
         yield "its sources have changed since its edits were tried"
+    elif record.below != checksum_below(crate):
+        yield "specs/ or a trait of a crate below it has changed since its edits were tried"
     else:
         yield from faults_of_lines(record, edits)
 

@@ -46,7 +46,9 @@ METER_NAMES = re.compile(r"ensures (?:meters|cache|same_cache|keeps|capacity|loo
 # A clause that hands on what a system is to a word that says more than counts.
 HANDS_ON = re.compile(r"\bP\.stands")
 
-QUESTIONS = "history_store/src/queries.rt"
+# Where the store's questions stand.
+STORE = "history_store/src"
+QUESTIONS = ("queries.rt", "auditing.rt", "membership.rt")
 
 
 class Found(NamedTuple):
@@ -194,9 +196,9 @@ def rows() -> Iterator[Tuple[str, Any]]:
         ensured_by("history_store::Store::import"),
         most,
     )
-    yield "lines of `%s`" % QUESTIONS, read(
-        os.path.join(ROOT, "crates", QUESTIONS)
-    ).count("\n")
+    yield "lines of the store's questions in `%s`" % STORE, sum(
+        read(os.path.join(ROOT, "crates", STORE, name)).count("\n") for name in QUESTIONS
+    )
     yield "lines of src/ in product crates", lines_in("src", product_crates())
     yield "lines of proofs/", lines_in("proofs", every_crate)
 

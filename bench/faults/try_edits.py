@@ -1,10 +1,11 @@
 #!/usr/bin/env python3
-"""Tries the edits of a crate, many in one check, each by the goals of its own function.
+"""Tries the edits of crates, many in one check, each by the goals of its own function.
 
 try_edits.py [--jobs N] [--must-fail] [--anew] [--logs FOLDER] CRATE[/EDIT]..
+try_edits.py [--jobs N] [--must-fail] [--anew] [--logs FOLDER] --all
 
 CRATE stands for the edits of its edits/, with --must-fail for those of its must-fail/ too, and
-CRATE/EDIT for one edit of either folder. An edit is refused where the prover names a goal of the
+CRATE/EDIT for one edit of either folder; --all stands for every crate that has edits. An edit is refused where the prover names a goal of the
 function that it changes, or of a closure of it, which isn't proved any more. That a function calls
 another one that isn't proved is no reason, nor that a statement wasn't admitted, nor that a proof
 file names what the edit took away. (Where a function has answers in proofs/, a change that means
@@ -18,15 +19,15 @@ control is lost, and the crate fails.
 
 A line for each edit says why it was refused. The last line counts the edits and those that were
 not; the status is 1 where there are any. An edit that was refused gets a line in the crate's record
-edits/tried, which check_edits.py compares with the crate. It isn't tried again as long as it and
-the crate's src/, specs/ and proofs/ stay as they are, but with --anew: so an edit that is new, or
-that comes from must-fail/, is tried alone. (A change of a crate below isn't seen.) With --anew the
+edits/tried, which check_edits.py compares with the crate. It isn't tried again as long as it, the
+crate's src/, specs/ and proofs/, and specs/ and traits of the crates below stay as they are, but
+with --anew: so an edit that is new, or that comes from must-fail/, is tried alone. With --anew the
 lines of the edits that are tried go first, and where a control is lost all that the run has added.
 
-The crate has to be proved and its work kept, as `rt check` leaves it in out/. N checks go on at
-once: 1 where none is given. What each check printed is written to FOLDER. This is for the time
-before a commit: `rt ci` tries the edits of must-fail/, each from nothing. It reads the kit's own
-scripts. Standard library alone.
+A crate has to be proved and its work kept, as `rt check` leaves it in out/. N checks go on at once,
+of whichever crates have one to make: 1 where none is given. What each check printed is written to
+FOLDER. This is for the time before a commit: `rt ci` tries the edits of must-fail/, each from
+nothing. It reads the kit's own scripts. Standard library alone.
 """
 
 from __future__ import annotations
@@ -42,8 +43,9 @@ import shutil
 import subprocess
 import sys
 import tempfile
+import threading
 from collections.abc import Iterable, Iterator
-from concurrent.futures import ThreadPoolExecutor
+from concurrent.futures import Future, ThreadPoolExecutor, as_completed
 from dataclasses import dataclass
 from importlib.machinery import SourceFileLoader
 from typing import Any
@@ -56,6 +58,8 @@ from check_edits import Misfit, Record, read, texts_with  # noqa: E402
 # The statement that does nothing, and in how many functions it is tried before the edits.
 PLANTED = " let planted = 0u8; let _ = planted;"
 PLANTS = 6
+# Where a crate has what a check of it kept.
+KEPT = os.path.join("out", "incremental")
 
 COMMENTS = re.compile(r'//[^\n]*|b?"(?:\\.|[^"\\])*"|b?\'(?:\\[^\']*|[^\'\\\n])\'', re.S)
 TRAIT = re.compile(r"(?:pub(?:\([^)]*\))? )?trait\b")
@@ -117,8 +121,9 @@ class Verdict:
         return f"{self.edit}: {self.outcome.value}: {self.why}"
 
 
-# Edits, each with the functions that it changes.
-Batch = list[tuple[Edit, frozenset[str]]]
+# An edit with the functions that it changes; and such edits.
+Unsettled = tuple[Edit, frozenset[str]]
+Batch = list[Unsettled]
 
 
 class LostControl(Exception):
@@ -361,15 +366,34 @@ class Calls:
                    for one in ones for other in others)
 
 
+class Checks:
+    """The prover, so many of whose checks go on at once, of all crates together, and the folder to
+    which what they print is written."""
+
+    def __init__(self, rt: Any, jobs: int, logs: str | None) -> None:
+        self.rt, self.jobs, self.logs = rt, jobs, logs
+        self.turns, self.count = threading.BoundedSemaphore(jobs), itertools.count(1)
+
+    def run(self, crate: Any, texts: dict[str, str], only: Iterable[str], kept: str) -> Report:
+        """A check of a crate with these texts over what was kept, which it adds to."""
+        words = ["--jobs", "1"] + [word for it in only for word in ("--only", it)]
+        ran = self.rt.checked(crate, texts, words, kept)
+        if self.logs:
+            name = f"{self.logs}/{crate.name}.{next(self.count)}"
+            with open(name, "w", encoding="utf-8") as file:
+                file.write(ran.stdout)
+        return Report(ran, crate.name)
+
+
 class Trial:
     """The checks of one crate over what an earlier one kept."""
 
-    def __init__(self, rt: Any, crate: Any, room: str, logs: str | None) -> None:
-        self.rt, self.crate, self.folder, self.name = rt, crate, crate.folder, crate.name
-        self.logs, self.count = logs, itertools.count(1)
+    def __init__(self, checks: Checks, crate: Any, room: str) -> None:
+        self.checks, self.crate, self.folder, self.name = checks, crate, crate.folder, crate.name
         self.seed = os.path.join(room, crate.name)
-        link_folder(os.path.join(self.folder, "out", "incremental"), self.seed)
-        unedited = self.check({}, [], self.seed)
+        with checks.turns:
+            link_folder(os.path.join(self.folder, KEPT), self.seed)
+            unedited = checks.run(crate, {}, [], self.seed)
         self.is_proved, self.names = unedited.status == 0, unedited.proved()
         self.sources, self.calls = dict(self.functions_of_sources()), Calls(self.name, self.seed)
         self.controls: list[tuple[str, Function]] = []
@@ -380,19 +404,12 @@ class Trial:
                 inside = os.path.relpath(path, self.folder)
                 yield inside, functions_in(read(path), inside)
 
-    def check(self, texts: dict[str, str], only: Iterable[str], kept: str) -> Report:
-        words = ["--jobs", "1"] + [word for it in only for word in ("--only", it)]
-        ran = self.rt.checked(self.crate, texts, words, kept)
-        if self.logs:
-            with open(f"{self.logs}/{self.name}.{next(self.count)}", "w", encoding="utf-8") as file:
-                file.write(ran.stdout)
-        return Report(ran, self.name)
-
     def over_copy(self, texts: dict[str, str], only: Iterable[str]) -> Report:
-        """A check over a copy of what was kept."""
-        with tempfile.TemporaryDirectory(dir=os.path.dirname(self.seed)) as room:
-            link_folder(self.seed, f"{room}/kept")
-            return self.check(texts, only, f"{room}/kept")
+        """A check over a copy of what was kept, in its turn."""
+        room = os.path.dirname(self.seed)
+        with self.checks.turns, tempfile.TemporaryDirectory(dir=room) as own:
+            link_folder(self.seed, f"{own}/kept")
+            return self.checks.run(self.crate, texts, only, f"{own}/kept")
 
     def functions_of(self, edit: Edit) -> frozenset[str]:
         """The functions whose bodies an edit changes; none where it changes anything else."""
@@ -456,7 +473,7 @@ class Trial:
                 return path, function
         return None
 
-    def try_batch(self, batch: Batch) -> Iterator[Verdict | Edit]:
+    def try_batch(self, batch: Batch) -> Iterator[Verdict | Unsettled]:
         """Tries edits of different functions in one check: the verdict on each that is refused, and
         each edit of which it says nothing."""
         functions = {name for _, names in batch for name in names}
@@ -475,7 +492,7 @@ class Trial:
         for edit, names in batch:
             once = [it for it in sorted(names) if len(report.said.get(it, [])) == 1]
             reason = self.reason(report, once)
-            yield Verdict(edit, Outcome.REFUSED, reason) if reason else edit
+            yield Verdict(edit, Outcome.REFUSED, reason) if reason else (edit, names)
 
     def try_alone(self, edit: Edit, functions: frozenset[str]) -> Verdict:
         """Tries an edit by a whole check."""
@@ -523,20 +540,26 @@ def fits(batch: Batch, edit: Edit) -> bool:
     return True
 
 
-def try_edits(trial: Trial, edits: list[Edit], pool: ThreadPoolExecutor) -> Iterator[Verdict]:
-    """Tries the edits of a crate, and says what each came to."""
-    functions = {edit: trial.functions_of(edit) for edit in edits}
+def try_edits(trial: Trial, edits: list[Edit]) -> Iterator[Verdict]:
+    """Tries the edits of a crate, and says what each came to. What a check of many leaves unsettled
+    is tried alone as soon as that check has ended."""
+    every = [(edit, trial.functions_of(edit)) for edit in edits]
+    alone = [it for it in every if not it[1]]
     trial.find_controls()
-    batches = batches_of([(it, functions[it]) for it in edits if functions[it]], trial.calls)
-    left = [edit for edit in edits if not functions[edit]]
-    print(f"{trial.name}: {len(edits)} edits, {len(batches)} checks, {len(left)} alone", flush=True)
-    for found in pool.map(lambda batch: list(trial.try_batch(batch)), batches):
-        for it in found:
-            if isinstance(it, Verdict):
-                yield it
+    batches = batches_of([it for it in every if it[1]], trial.calls)
+    print(f"{trial.name}: {len(edits)} edits, {len(batches)} checks, {len(alone)} alone", flush=True)
+    pool = ThreadPoolExecutor(trial.checks.jobs)
+    try:
+        singly = [pool.submit(trial.try_alone, *it) for it in alone]
+        many = [pool.submit(lambda it: list(trial.try_batch(it)), it) for it in batches]
+        for found in (it for check in as_completed(many) for it in check.result()):
+            if isinstance(found, Verdict):
+                yield found
             else:
-                left.append(it)
-    yield from pool.map(lambda edit: trial.try_alone(edit, functions[edit]), left)
+                singly.append(pool.submit(trial.try_alone, *found))
+        yield from (check.result() for check in as_completed(singly))
+    finally:
+        pool.shutdown(cancel_futures=True)
 
 
 def edits_asked(crate: str, wanted: set[str], has_must_fail: bool) -> list[Edit]:
@@ -551,18 +574,23 @@ def edits_asked(crate: str, wanted: set[str], has_must_fail: bool) -> list[Edit]
     return [edit for edit in every if edit.folder == EDITS or has_must_fail]
 
 
+def stands_on(crate: str) -> tuple[str, str]:
+    """The checksums of a crate's sources, and of what they rest on in the crates below it."""
+    return check_edits.checksum_of_sources(crate), check_edits.checksum_below(crate)
+
+
 class Refusals:
-    """The edits of a crate that were refused with its sources as they stand, as its record has
-    them. What is there of other sources, or of an edit that has changed, goes."""
+    """The edits of a crate that were refused with its sources and the crates below as they stand,
+    as its record has them. What is there of others, or of an edit that has changed, goes."""
 
     def __init__(self, crate: str, forgotten: list[Edit]) -> None:
         every = [edit for folder in FOLDERS for edit in check_edits.edits_of(crate, folder)]
-        self.crate, self.sources = crate, check_edits.checksum_of_sources(crate)
+        self.crate, self.stands_on = crate, stands_on(crate)
         self.checksums = {edit.name: check_edits.checksum_of(edit) for edit in every}
         self.has_folder = any(edit.folder == EDITS for edit in every)
         record = check_edits.record_of(crate)
-        if record is None or record.sources != self.sources:
-            record = Record("", self.sources, {})
+        if record is None or (record.sources, record.below) != self.stands_on:
+            record = Record("", *self.stands_on, {})
         names = self.checksums.keys() - {edit.name for edit in forgotten}
         self.day, self.added = record.day, dict[str, str]()
         self.found = {name: checksum for name, checksum in record.edits.items()
@@ -582,28 +610,26 @@ class Refusals:
         self.write()
 
     def are_of_sources(self) -> bool:
-        return self.sources == check_edits.checksum_of_sources(self.crate)
+        return self.stands_on == stands_on(self.crate)
 
     def write(self) -> None:
         """Writes the record, or removes it where it has no line, or the crate no edits/."""
         day = datetime.date.today().isoformat() if self.added else self.day
         lines = self.found | self.added
         if lines and self.has_folder:
-            check_edits.write_record(self.crate, Record(day, self.sources, lines))
+            check_edits.write_record(self.crate, Record(day, *self.stands_on, lines))
         else:
             check_edits.remove_record(self.crate)
 
 
-def try_crate(trial: Trial, edits: list[Edit], kept: Refusals,
-              pool: ThreadPoolExecutor) -> list[str]:
+def try_crate(trial: Trial, edits: list[Edit], kept: Refusals) -> list[str]:
     """Tries edits of a crate, and returns those that aren't refused by their reasons."""
     if not trial.is_proved:
-        print(f"{trial.name}: it isn't proved as it stands: run rt check first")
-        return [trial.name]
+        return failed(trial.name, "it isn't proved as it stands: run rt check first")
     seen: list[Edit] = []
     missed: list[str] = []
     try:
-        for verdict in try_edits(trial, edits, pool):
+        for verdict in try_edits(trial, edits):
             print(verdict, flush=True)
             seen.append(verdict.edit)
             if verdict.outcome is Outcome.REFUSED:
@@ -612,31 +638,47 @@ def try_crate(trial: Trial, edits: list[Edit], kept: Refusals,
                 missed.append(str(verdict.edit))
     except LostControl as why:
         kept.take_back()
-        print(f"{trial.name}: LOST CONTROL: {why}")
-        return [trial.name]
+        return failed(trial.name, f"LOST CONTROL: {why}")
     if sorted(map(str, seen)) != sorted(map(str, edits)):
-        print(f"{trial.name}: {len(edits)} edits, and {len(seen)} verdicts")
-        return [trial.name]
+        return failed(trial.name, f"{len(edits)} edits, and {len(seen)} verdicts")
     return missed
 
 
-def try_rest(rt: Any, crate: Any, edits: list[Edit], given: argparse.Namespace) -> list[str]:
+def failed(crate: str, why: str) -> list[str]:
+    """Says why nothing is known of a crate's edits, and returns what wasn't refused: its name."""
+    print(f"{crate}: {why}", flush=True)
+    return [crate]
+
+
+def try_rest(checks: Checks, crate: Any, edits: list[Edit], is_anew: bool) -> list[str]:
     """Tries those edits of a crate that an earlier try didn't refuse, and returns those that aren't
     refused now either."""
-    kept = Refusals(crate.name, edits if given.anew else [])
+    kept = Refusals(crate.name, edits if is_anew else [])
     left = [edit for edit in edits if not kept.has(edit)]
     if len(left) < len(edits):
         print(f"{crate.name}: {len(edits) - len(left)} edits were refused before, by {kept.day}")
     if not left:
         return []
+    if not os.path.isdir(os.path.join(crate.folder, KEPT)):
+        return failed(crate.name, "no check of it is kept: run rt check first")
     with tempfile.TemporaryDirectory(prefix="try-edits-") as room:
-        with ThreadPoolExecutor(given.jobs) as pool:
-            missed = try_crate(Trial(rt, crate, room, given.logs), left, kept, pool)
+        missed = try_crate(Trial(checks, crate, room), left, kept)
     if not kept.are_of_sources():
         kept.take_back()
-        print(f"{crate.name}: it was changed meanwhile")
-        return [crate.name]
+        return failed(crate.name, "it was changed meanwhile, or a crate below it")
     return missed
+
+
+def try_all(checks: Checks, crates: dict[str, Any], asked: dict[str, list[Edit]],
+            is_anew: bool) -> list[str]:
+    """Tries the edits of these crates, the crates with the most edits first, and returns those that
+    aren't refused. As many crates are begun as checks go on, and one more, so that while one waits
+    for its last check another has some to make."""
+    order = sorted(asked, key=lambda name: -len(asked[name]))
+    with ThreadPoolExecutor(checks.jobs + 1) as pool:
+        tried: list[Future[list[str]]] = [
+            pool.submit(try_rest, checks, crates[name], asked[name], is_anew) for name in order]
+        return [edit for crate in tried for edit in crate.result()]
 
 
 def arguments() -> argparse.Namespace:
@@ -645,11 +687,26 @@ def arguments() -> argparse.Namespace:
     asked.add_argument("--must-fail", action="store_true", help=f"those of {MUST_FAIL}/ too")
     asked.add_argument("--anew", action="store_true", help="those that were refused before too")
     asked.add_argument("--logs", metavar="FOLDER")
-    asked.add_argument("names", nargs="+", metavar="CRATE[/EDIT]")
+    asked.add_argument("--all", action="store_true", help="every crate that has edits")
+    asked.add_argument("names", nargs="*", metavar="CRATE[/EDIT]")
     given = asked.parse_args()
+    if given.all == bool(given.names):
+        asked.error("either names or --all")
     os.makedirs(given.logs or TOP, exist_ok=True)
     given.logs = given.logs and os.path.abspath(given.logs)
     return given
+
+
+def asked_for(given: argparse.Namespace, crates: dict[str, Any]) -> dict[str, list[Edit]]:
+    """The edits that are asked for, by their crates."""
+    names = list(crates) if given.all else given.names
+    found = {}
+    for name in dict.fromkeys(it.partition("/")[0] for it in names):
+        if name not in crates:
+            sys.exit(f"there is no crate {name}")
+        wanted = {it.partition("/")[2] for it in names if it.startswith(f"{name}/")}
+        found[name] = edits_asked(name, wanted, given.must_fail)
+    return {name: edits for name, edits in found.items() if edits}
 
 
 def main() -> int:
@@ -658,13 +715,9 @@ def main() -> int:
     rt = kit()
     rt.rtlib.guarded()
     crates = crates_of(rt)
-    tried = 0
-    missed: list[str] = []
-    for name in dict.fromkeys(it.partition("/")[0] for it in given.names):
-        wanted = {it.partition("/")[2] for it in given.names if it.startswith(f"{name}/")}
-        edits = edits_asked(name, wanted, given.must_fail)
-        lost = try_rest(rt, crates[name], edits, given)
-        tried, missed = tried + len(edits), missed + lost
+    asked = asked_for(given, crates)
+    missed = try_all(Checks(rt, given.jobs, given.logs), crates, asked, given.anew)
+    tried = sum(map(len, asked.values()))
     print(f"{tried} edits tried, {len(missed)} not refused{''.join(f' {it}' for it in missed)}")
     return 1 if missed else 0
 

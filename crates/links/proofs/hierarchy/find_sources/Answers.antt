@@ -5,12 +5,12 @@ use Rattle.links.specs.Edges.{Edges}
 use Rattle.links.specs.Private.{links_in, GivesSource, AreSourcesTaken}
 use Rattle.links.proofs.Numbering.{numbered-more}
 use Rattle.links.proofs.Collected.{none_taken, more_taken}
-use Rattle.links.proofs.hierarchy.sources.Goals as goal
+use Rattle.links.proofs.hierarchy.find_sources.Goals as goal
 
 pub loop-segment-init : goal.loop-segment-init
 loop-segment-init c = λ lists listed_so.
     let a = c.args in
-    rw c.new-ids.ensures.items (none_taken (GivesSource lists a.as_of.now) (λ (x : Link). x.destination) a.destination)
+    rw c.clear.ensures.items (none_taken (GivesSource lists a.as_of.now) (λ (x : Link). x.destination) a.destination)
 
 pub loop-segment-preserved : goal.loop-segment-preserved
 loop-segment-preserved c = λ lists listed_so.
@@ -27,4 +27,4 @@ pub returns : goal.returns
 returns c = λ lists listed_so.
     let a = c.args in
     let all = c.loop-segment.ids.items in
-    (all, subst (λ xs. AreSourcesTaken lists a.as_of.now a.destination (numbered 0 (links_in xs)) all) (take_all c.loop-segment.segment a.links.now c.loop-segment-test.false) (c.loop-segment.invariant lists listed_so), c.sort_once.ensures)
+    subst (λ xs. AreSourcesTaken lists a.as_of.now a.destination (numbered 0 (links_in xs)) all) (take_all c.loop-segment.segment a.links.now c.loop-segment-test.false) (c.loop-segment.invariant lists listed_so)

@@ -1,0 +1,88 @@
+#!/usr/bin/env python3
+"""Compares what the build of the program takes for granted with what docs/PROMISES.md says of it.
+
+check_axioms.py FILE
+
+FILE is what `rt ci` printed. The statements about C functions that a program takes as they are
+written are its axioms: of the crate sctd it has a line `axioms LIBRARY: ..` for each library with
+the number of its functions, and a last line with `axioms=` and the number of all. PROMISES has the
+same three numbers. Where an earlier run on the machine proved sctd, `rt ci` prints none of these
+lines, and there is nothing to compare: this is said. What isn't so is said on standard error, and
+the status is 1 then. Standard library alone.
+"""
+
+from __future__ import annotations
+
+import os
+import re
+import sys
+from collections.abc import Sequence
+from typing import NamedTuple
+
+from check_edits import TOP, read
+
+CRATE = "sctd"
+DOCUMENT = os.path.join("docs", "PROMISES.md")
+# What `rt ci` prints of the crate: of its proof, or that an earlier one is kept.
+PROOF = re.compile(rf"^== {CRATE}\n(.*?)^rt: {CRATE} proved$", re.M | re.S)
+KEPT = re.compile(rf"^rt: {CRATE} is kept:", re.M)
+LIBRARY = re.compile(r"^axioms (\w+): .*\((\d+) of the \d+ declared\)$", re.M)
+ALL = re.compile(r"^logic=proved .*\baxioms=(\d+) ", re.M)
+SAID = re.compile(r"`axioms=(\d+)`,\s+which\s+are\s+(\d+)\s+of\s+the\s+C\s+library's\s+functions"
+                  r"\s+and\s+(\d+)\s+of\s+the\s+system's\s+calls")
+
+
+class Axioms(NamedTuple):
+    """How many C functions are taken for granted, and how many of them are of each library."""
+
+    all: int
+    libraries: dict[str, int]
+
+    def __str__(self) -> str:
+        of = ", ".join(f"{count} of {name}" for name, count in sorted(self.libraries.items()))
+        return f"{self.all}: {of}"
+
+
+def printed(text: str) -> Axioms | None:
+    """The axioms of the program, as `rt ci` printed them; None where it printed none."""
+    proof = PROOF.search(text)
+    total = ALL.search(proof[1]) if proof else None
+    if not proof or not total:
+        return None
+    counts = {name: int(count) for name, count in LIBRARY.findall(proof[1])}
+    return Axioms(int(total[1]), counts)
+
+
+def said(text: str) -> Axioms | None:
+    """The axioms of the program, as PROMISES has them."""
+    found = SAID.search(text)
+    return Axioms(int(found[1]), {"libc": int(found[2]), "os": int(found[3])}) if found else None
+
+
+def fault_of(output: str, document: str) -> str | None:
+    """What isn't so, or None."""
+    built, written = printed(output), said(document)
+    if written is None:
+        return f"{DOCUMENT} doesn't say how many axioms the build of {CRATE} has"
+    if built is None:
+        return None if KEPT.search(output) else f"the output has no axioms of {CRATE}"
+    if built != written:
+        return f"{DOCUMENT} has {written}, and the build of {CRATE} says {built}"
+    return None
+
+
+def main(words: Sequence[str]) -> int:
+    if len(words) != 1:
+        print((__doc__ or "").strip(), file=sys.stderr)
+        return 2
+    output = read(words[0])
+    built = printed(output)
+    fault = fault_of(output, read(os.path.join(TOP, DOCUMENT)))
+    agreed = (f"axioms as {DOCUMENT} has them: {built}" if built
+              else f"axioms not compared: {CRATE} was proved by an earlier run")
+    print(fault or agreed, file=sys.stderr)
+    return 1 if fault else 0
+
+
+if __name__ == "__main__":
+    sys.exit(main(sys.argv[1:]))
