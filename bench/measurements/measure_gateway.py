@@ -267,7 +267,7 @@ def make_store(options: argparse.Namespace, folder: str, store: str) -> None:
     made_release(folder, options.rows, is_package=options.package)
     release = os.path.join(folder, "full")
     for words in (
-        [options.program, "init", "--layout", "3" if options.package else "2", "--store", store],
+        [options.program, "init", "--store", store],
         [options.program, "import", "--quiet", "--store", store, release],
     ):
         subprocess.run(words, check=True, stdout=subprocess.DEVNULL)

@@ -67,10 +67,10 @@ AUDIT = [
     ("DELTA A 20200131 20210131 - 10", [MEMBER, "END 1"]),
     ("REPLACES 2000001 20210131", [MEMBER, "END 1"]),
     ("TIMELINE A 1000004", [MEMBER, "END 1"]),
-    # (A store of this version has no members of reference sets.)
-    ("MEMBERS 900000000000509007 20210131 - 10", ["END 0"]),
-    ("VALUES 900000000000509007 20210131 - 10", ["END 0"]),
-    ("CALLED 1000004 20210131 900000000000509007", ["END 0"]),
+    # (A store of this layout keeps no members of reference sets.)
+    ("MEMBERS 900000000000509007 20210131 - 10", ["ERR 14 LaterVersion"]),
+    ("VALUES 900000000000509007 20210131 - 10", ["ERR 14 LaterVersion"]),
+    ("CALLED 1000004 20210131 900000000000509007", ["ERR 14 LaterVersion"]),
     ("DIGEST", ["OK " + DIGEST_IN_2021]),
 ]
 AT_A_PIN = [("AT 2 " + line, wanted) for line, wanted in AUDIT] + [

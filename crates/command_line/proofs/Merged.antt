@@ -11,9 +11,7 @@ use Rattle.import_check.specs.declared.release.Release.{Release}
 use Rattle.import_check.specs.Release.{files_of}
 use Rattle.history_store.specs.declared.refusal.Refusal.{Refusal}
 use Rattle.history_store.specs.declared.refusal.Refusal.TheVariants as store
-use Rattle.directory.specs.declared.layout.Layout.TheVariants as layouts
-use Rattle.history_store.specs.Rewriting.{HasOnlyPlain}
-use Rattle.history_store.specs.Catalog.{Catalog, Merge as CatalogMerge, plain_count}
+use Rattle.history_store.specs.Catalog.{Catalog, Merge as CatalogMerge}
 use Rattle.history_store.specs.Merging.{IsBegun, IsStepped, IsPublished, GoesOn, IsFinished}
 use Rattle.history_store.specs.Answers.{IsRefusedFor}
 use Rattle.history_store.specs.MergeAnswers.{IsNotBegun, IsNotStepped, IsNotPublished, IsNotTrimmed}
@@ -27,12 +25,11 @@ use Rattle.line_server.specs.declared.refusal.LineRefusal.TheVariants as refusal
 use Rattle.line_server.specs.Sources.{Releases, no_releases, scope_of}
 use Rattle.line_server.specs.ReplyValue.{Answer}
 use Rattle.line_server.specs.StateValue.{StateValue, fresh}
-use Rattle.line_server.specs.Replies.{Server, Replies, IsAnswer, IsRefusal, IsRefusedForDamage, IsPerformed, server}
+use Rattle.line_server.specs.Replies.{Server, Replies, IsAnswer, IsRefusal, NeedsLater, IsRefusedForDamage, IsRefusedForLayout, IsPerformed, server}
 use Rattle.store_life.specs.Life.{Call, Imported, Failed, Other, taken, TakesAll}
 use Rattle.line_server.specs.Turns.{Turn, IsTurn, IsOfAsked}
 use Rattle.command_line.specs.Merging.{HasNoMerge, Merges, IsMergeLine, IsHalt, IsHaltedBy, IsMergedTo, IsMergedAndAsked, TellsLines, rows_left, segments_of, trim_line}
 use Rattle.command_line.specs.Private.{IsAsked, IsAtRest, IsMerging, HasMerged, IsStopped, IsHalted, HaveMerged, IsOneLess, IsTrimmedTo}
-use Rattle.command_line.proofs.Checked.{GoesChecked, not_only_plain, begun_checked, stepped_checked, published_checked}
 use Rattle.command_line.specs.Endings.{Report, Tells}
 use Rattle.command_line.specs.Tasks.{status_line}
 
@@ -63,15 +60,16 @@ pub refused : (outcome : Result Answer LineRefusal) (refusal : LineRefusal) → 
 refused outcome refusal is = subst (λ (o : Result Answer LineRefusal). IsErr o) (sym is) refl
 
 -- a line that was answered OK was answered as its command is
-module _ {D : Type 0} (honest : Type 0) (releases : Releases) (old new : Server D) (line : List ℕ) (session : ℕ) (command : Command) (asks : Asks line session command) where
+module _ {D : Type 0} (honest : Type 0) (releases : Releases) (old new : Server D) (line : List ℕ) (session : ℕ) (command : Command) (asks : Asks line session command) (has_layout : NeedsLater command old.store → ⊥) where
   answered : (outcome : Result Answer LineRefusal) → IsOk outcome → Replies honest releases line outcome old new
       → (answer : Answer) × IsAnswer honest releases session command answer old new
   answered (Ok answer) ok (inl r) =
       let same = one_reading line r.0 session r.1 command r.2 asks in
       (answer, performed r.0 r.1 same.0 same.1 r.3) where
-        performed : (s : ℕ) (c : Command) → s ≡ session → c ≡ command → IsRefusedForDamage c (Ok answer) old new ⊎ IsPerformed honest releases s c (Ok answer) old new → IsAnswer honest releases session command answer old new
+        performed : (s : ℕ) (c : Command) → s ≡ session → c ≡ command → IsRefusedForDamage c (Ok answer) old new ⊎ IsRefusedForLayout c (Ok answer) old new ⊎ IsPerformed honest releases s c (Ok answer) old new → IsAnswer honest releases session command answer old new
         performed s c at is (inl h) = let no : Ok answer ≡ Err (refusals.Store store.Damaged) = h.refused in cc
-        performed s c at is (inr h) = rw (← at, ← is) h.comes_out
+        performed s c at is (inr (inl h)) = let no : Ok answer ≡ Err (refusals.Store store.LaterVersion) = h.refused in cc
+        performed s c at is (inr (inr h)) = rw (← at, ← is) h.comes_out
   answered (Ok answer) ok (inr r) = let no : Ok answer ≡ Err (refusals.Unread r.0) = r.2 in cc
   answered (Err refusal) ok r = let no : false ≡ true = ok in absurd (false≢true no)
 
@@ -85,9 +83,10 @@ module _ {D : Type 0} (honest : Type 0) (releases : Releases) (old new : Server 
   refused_as (Err refusal) err (inl r) =
       let same = one_reading line r.0 session r.1 command r.2 asks in
       (refusal, refl, performed r.0 r.1 same.0 same.1 r.3) where
-        performed : (s : ℕ) (c : Command) → s ≡ session → c ≡ command → IsRefusedForDamage c (Err refusal) old new ⊎ IsPerformed honest releases s c (Err refusal) old new → IsRefusedSo refusal
+        performed : (s : ℕ) (c : Command) → s ≡ session → c ≡ command → IsRefusedForDamage c (Err refusal) old new ⊎ IsRefusedForLayout c (Err refusal) old new ⊎ IsPerformed honest releases s c (Err refusal) old new → IsRefusedSo refusal
         performed s c at is (inl h) = inl (let so : Err refusal ≡ Err (refusals.Store store.Damaged) = h.refused in cc)
-        performed s c at is (inr h) = inr (rw (← at, ← is) h.comes_out)
+        performed s c at is (inr (inl h)) = absurd (has_layout (subst (λ (d : Command). NeedsLater d old.store) is h.needs_later))
+        performed s c at is (inr (inr h)) = inr (rw (← at, ← is) h.comes_out)
   refused_as (Err refusal) err (inr r) = absurd (asked_is_read line session command r.0 asks r.1)
 
 -- ---- why a line of a merge is refused
@@ -182,34 +181,34 @@ module _ {D : Type 0} (view : D → DiskView) where
 
   merge_keeps : (old new : Server D) (turn : Turn) → turn.line ≡ codes "0 MERGE" → IsOk turn.outcome → Goes old turn new → segments_of new ≡ segments_of old
   merge_keeps old new turn is ok t =
-      let a = answered (view old.store.disk).is_honest t.releases old new turn.line 0 Merge (rw is merge_asks) turn.outcome ok t.goes.replies in
+      let a = answered (view old.store.disk).is_honest t.releases old new turn.line 0 Merge (rw is merge_asks) (λ later. later) turn.outcome ok t.goes.replies in
       begun_same old.store.catalog new.store.catalog a.1.0 a.1.1.0
 
   step_keeps : (old new : Server D) (turn : Turn) → turn.line ≡ codes "0 STEP 100000" → IsOk turn.outcome → Goes old turn new → segments_of new ≡ segments_of old
   step_keeps old new turn is ok t =
-      let a = answered (view old.store.disk).is_honest t.releases old new turn.line 0 (Step 100000) (rw is step_asks) turn.outcome ok t.goes.replies in
+      let a = answered (view old.store.disk).is_honest t.releases old new turn.line 0 (Step 100000) (rw is step_asks) (λ later. later) turn.outcome ok t.goes.replies in
       stepped_same 100000 old.store.catalog new.store.catalog a.1.0 a.1.1.0
 
   publish_lowers : (old new : Server D) (turn : Turn) → turn.line ≡ codes "0 PUBLISH" → IsOk turn.outcome → Goes old turn new → segments_of new + 1 ≡ segments_of old
   publish_lowers old new turn is ok t =
-      let a = answered (view old.store.disk).is_honest t.releases old new turn.line 0 Publish (rw is publish_asks) turn.outcome ok t.goes.replies in
+      let a = answered (view old.store.disk).is_honest t.releases old new turn.line 0 Publish (rw is publish_asks) (λ later. later) turn.outcome ok t.goes.replies in
       published_less old.store.catalog new.store.catalog a.1.0.0
 
   trim_keeps : (old new : Server D) (turn : Turn) → turn.line ≡ trim_line → IsOk turn.outcome → Goes old turn new → segments_of new ≡ segments_of old
   trim_keeps old new turn is ok t =
-      let a = answered (view old.store.disk).is_honest t.releases old new turn.line 0 Trim (rw is trim_asks) turn.outcome ok t.goes.replies in
+      let a = answered (view old.store.disk).is_honest t.releases old new turn.line 0 Trim (rw is trim_asks) (λ later. later) turn.outcome ok t.goes.replies in
       ap (λ (s : Catalog). length s.entries) a.1.1.0
 
   -- ---- whether a merge goes on then
 
   begun_goes : (old new : Server D) (turn : Turn) → turn.line ≡ codes "0 MERGE" → IsOk turn.outcome → Goes old turn new → IsMerging new
   begun_goes old new turn is ok t =
-      let a = answered (view old.store.disk).is_honest t.releases old new turn.line 0 Merge (rw is merge_asks) turn.outcome ok t.goes.replies in
+      let a = answered (view old.store.disk).is_honest t.releases old new turn.line 0 Merge (rw is merge_asks) (λ later. later) turn.outcome ok t.goes.replies in
       (a.1.1.1.open_still, (_, ap (λ (c : Catalog). c.merge) a.1.1.0.next_is))
 
   step_goes : (old new : Server D) (turn : Turn) → turn.line ≡ codes "0 STEP 100000" → IsOk turn.outcome → Goes old turn new → IsMerging new × (rows_left new ≡ rows_left old - 100000)
   step_goes old new turn is ok t =
-      let a = answered (view old.store.disk).is_honest t.releases old new turn.line 0 (Step 100000) (rw is step_asks) turn.outcome ok t.goes.replies in
+      let a = answered (view old.store.disk).is_honest t.releases old new turn.line 0 (Step 100000) (rw is step_asks) (λ later. later) turn.outcome ok t.goes.replies in
       let now : left_in new.store.catalog.merge ≡ a.1.0 = ap (λ (c : Catalog). left_in c.merge) a.1.1.0.next_is in
       let before : left_in old.store.catalog.merge ≡ a.1.1.0.merge.left = ap left_in a.1.1.0.goes_on in
       ((a.1.1.1.open_still, (_, ap (λ (c : Catalog). c.merge) a.1.1.0.next_is)), now ∙ a.1.1.0.left_is ∙ ap (λ n. n - 100000) (sym before))
@@ -221,34 +220,34 @@ module _ {D : Type 0} (view : D → DiskView) where
 
   published_rests : (old new : Server D) (turn : Turn) → turn.line ≡ codes "0 PUBLISH" → IsOk turn.outcome → Goes old turn new → IsAtRest new
   published_rests old new turn is ok t =
-      let a = answered (view old.store.disk).is_honest t.releases old new turn.line 0 Publish (rw is publish_asks) turn.outcome ok t.goes.replies in
+      let a = answered (view old.store.disk).is_honest t.releases old new turn.line 0 Publish (rw is publish_asks) (λ later. later) turn.outcome ok t.goes.replies in
       (a.1.0.3, ap (λ (c : Catalog). c.merge) a.1.0.0.next_is)
 
   trimmed_rests : (old new : Server D) (turn : Turn) → turn.line ≡ trim_line → IsOk turn.outcome → Goes old turn new → IsAtRest old → new.store.catalog.merge ≡ None
   trimmed_rests old new turn is ok t rest =
-      let a = answered (view old.store.disk).is_honest t.releases old new turn.line 0 Trim (rw is trim_asks) turn.outcome ok t.goes.replies in
+      let a = answered (view old.store.disk).is_honest t.releases old new turn.line 0 Trim (rw is trim_asks) (λ later. later) turn.outcome ok t.goes.replies in
       ap (λ (c : Catalog). c.merge) a.1.1.0 ∙ rest.1
 
   -- ---- why a line is refused that was due
 
   pub merge_stops : (most : ℕ) (old new : Server D) (turn : Turn) → turn.line ≡ codes "0 MERGE" → IsErr turn.outcome → IsAtRest old → most < segments_of old → Goes old turn new → 1 ≤ most → IsHalt turn.outcome
   merge_stops most old new turn is err rest more t one =
-      let r = refused_as (view old.store.disk).is_honest t.releases old new turn.line 0 Merge (rw is merge_asks) turn.outcome err t.goes.replies in
+      let r = refused_as (view old.store.disk).is_honest t.releases old new turn.line 0 Merge (rw is merge_asks) (λ later. later) turn.outcome err t.goes.replies in
       subst IsHalt (sym r.1) (halts_so r.0 (λ so. merge_halts (view old.store.disk).is_honest t.releases old new r.0 so rest (omega (arith, more, one))) r.2)
 
   pub step_stops : (old new : Server D) (turn : Turn) → turn.line ≡ codes "0 STEP 100000" → IsErr turn.outcome → IsMerging old → Goes old turn new → IsHalt turn.outcome
   step_stops old new turn is err on t =
-      let r = refused_as (view old.store.disk).is_honest t.releases old new turn.line 0 (Step 100000) (rw is step_asks) turn.outcome err t.goes.replies in
+      let r = refused_as (view old.store.disk).is_honest t.releases old new turn.line 0 (Step 100000) (rw is step_asks) (λ later. later) turn.outcome err t.goes.replies in
       subst IsHalt (sym r.1) (halts_so r.0 (λ so. step_halts (view old.store.disk).is_honest t.releases old new 100000 r.0 so on) r.2)
 
   publish_stops : (old new : Server D) (turn : Turn) → turn.line ≡ codes "0 PUBLISH" → IsErr turn.outcome → HasMerged old → Goes old turn new → IsHalt turn.outcome
   publish_stops old new turn is err done t =
-      let r = refused_as (view old.store.disk).is_honest t.releases old new turn.line 0 Publish (rw is publish_asks) turn.outcome err t.goes.replies in
+      let r = refused_as (view old.store.disk).is_honest t.releases old new turn.line 0 Publish (rw is publish_asks) (λ later. later) turn.outcome err t.goes.replies in
       subst IsHalt (sym r.1) (halts_so r.0 (λ so. publish_halts (view old.store.disk).is_honest t.releases old new r.0 so done) r.2)
 
   trim_stops : (old new : Server D) (turn : Turn) → turn.line ≡ trim_line → IsErr turn.outcome → IsAtRest old → Goes old turn new → IsHalt turn.outcome
   trim_stops old new turn is err rest t =
-      let r = refused_as (view old.store.disk).is_honest t.releases old new turn.line 0 Trim (rw is trim_asks) turn.outcome err t.goes.replies in
+      let r = refused_as (view old.store.disk).is_honest t.releases old new turn.line 0 Trim (rw is trim_asks) (λ later. later) turn.outcome err t.goes.replies in
       subst IsHalt (sym r.1) (halts_so r.0 (λ so. trim_halts (view old.store.disk).is_honest t.releases old new r.0 so rest) r.2)
 
   -- ---- lines one after the other
@@ -314,7 +313,7 @@ module _ {D : Type 0} (view : D → DiskView) where
 
   turn_keeps : (old new : Server D) (turn : Turn) → Goes old turn new → (view old.store.disk).is_honest → new.store.history ≡ old.store.history
   turn_keeps old new turn t up =
-      subst (λ (rs : List Release). TakesAll old.store.history rs new.store.history) (none_imported (scope_of old.store.catalog.layout) turn.line turn.call (t.own tt).asked) (t.call.history up)
+      subst (λ (rs : List Release). TakesAll old.store.history rs new.store.history) (none_imported (scope_of old.store.catalog.layout) turn.line turn.call (t.own tt).asked) (t.call.history (inr up))
 
   merges_keep : (old new : Server D) (turns : List Turn) → Merges view old turns new → (view old.store.disk).is_honest
       → (view new.store.disk).is_honest × (new.store.history ≡ old.store.history)
@@ -361,39 +360,6 @@ module _ {D : Type 0} (view : D → DiskView) where
       stopped_after most old b new refusal (have_both old a b have rows)
       (stopped_first most b new refusal last.0 (inr (inr last.1)) (omega (arith, more, same, as_old)) last.3 last.2 (λ one. publish_stops b new last.0 last.1 (refused last.0.outcome refusal last.3) all last.2))
 
-  -- ---- which segments have checksums then
-
-  line_checked : (old new : Server D) (turn : Turn) → IsMergeLine turn.line old → IsOk turn.outcome → Goes old turn new → GoesChecked old.store.catalog → GoesChecked new.store.catalog
-  line_checked old new turn (inl is) ok t so =
-      let a = answered (view old.store.disk).is_honest t.releases old new turn.line 0 Merge (rw is merge_asks) turn.outcome ok t.goes.replies in
-      begun_checked old.store.catalog new.store.catalog a.1.0 a.1.1.0 so
-  line_checked old new turn (inr (inl (is, some))) ok t so =
-      let a = answered (view old.store.disk).is_honest t.releases old new turn.line 0 (Step 100000) (rw is step_asks) turn.outcome ok t.goes.replies in
-      stepped_checked 100000 old.store.catalog new.store.catalog a.1.0 a.1.1.0 so
-  line_checked old new turn (inr (inr is)) ok t so =
-      let a = answered (view old.store.disk).is_honest t.releases old new turn.line 0 Publish (rw is publish_asks) turn.outcome ok t.goes.replies in
-      published_checked old.store.catalog new.store.catalog a.1.0.0 so
-
-  merges_checked : (old new : Server D) (turns : List Turn) → Merges view old turns new → GoesChecked old.store.catalog → GoesChecked new.store.catalog
-  merges_checked old new [] e so = subst (λ (s : Server D). GoesChecked s.store.catalog) (sym e) so
-  merges_checked old new (turn ∷ turns) m so = merges_checked m.0 new turns m.4 (line_checked old m.0 turn m.1 m.2 m.3 so)
-
-  trim_catalog : (old new : Server D) (turn : Turn) → turn.line ≡ trim_line → IsOk turn.outcome → Goes old turn new → new.store.catalog ≡ old.store.catalog
-  trim_catalog old new turn is ok t =
-      let a = answered (view old.store.disk).is_honest t.releases old new turn.line 0 Trim (rw is trim_asks) turn.outcome ok t.goes.replies in
-      a.1.1.0
-
-  all_checked : (most : ℕ) (old mid new : Server D) → HaveMerged view old mid → new.store.catalog ≡ mid.store.catalog → segments_of mid ≡ min (segments_of old) most
-      → most ≤ 1 → HasNoMerge old → old.store.catalog.layout ≡ layouts.Three → (HasOnlyPlain old.store.catalog → ⊥) → plain_count new.store.catalog.entries ≡ 0
-  all_checked most old mid new have same number one none three not_only =
-      let first : GoesChecked old.store.catalog = record {
-        three = three;
-        some = not_only_plain old.store.catalog.layout old.store.catalog.entries three (λ entry only. not_only (entry, only));
-        merging = λ m goes. absurd (let no : None ≡ Some m = sym none ∙ goes in cc);
-      } in
-      let last = merges_checked old mid have.turns have.merges first in
-      ap (λ (c : Catalog). plain_count c.entries) same ∙ elim last.some [ inl two ↦ absurd (omega (arith, two, number, one)) | inr all ↦ all ]
-
   pub trimmed_to : (most : ℕ) (old mid new : Server D) (result : Result (Unit {0}) LineRefusal) → HaveMerged view old mid
       → segments_of mid ≡ min (segments_of old) most → IsAtRest mid → IsAsked view trim_line result mid new
       → IsTrimmedTo view most result old new
@@ -407,7 +373,6 @@ module _ {D : Type 0} (view : D → DiskView) where
     goes = last.2;
     number = trim_keeps mid new last.0 last.1 last.3 last.2 ∙ few;
     none_left = trimmed_rests mid new last.0 last.1 last.3 last.2 rest;
-    checksums = all_checked most old mid new have (trim_catalog mid new last.0 last.1 last.3 last.2) few;
   }
   trimmed_to most old mid new (Err refusal) have few rest last = (
     last.0,

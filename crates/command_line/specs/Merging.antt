@@ -4,12 +4,7 @@ use Rattle.std.specs.Prelude.{None, Result, Ok, Err, Bool, IsOk, IsErr, unwrap_o
 use Rattle.std.specs.Prelude.{option_map}
 use Rattle.line_server.specs.Sources.{no_releases}
 use Rattle.disk_model.specs.View.{DiskView}
-use Rattle.store_life.specs.Life.{Other, IsCall}
-use Rattle.history_store.specs.declared.refusal.Refusal.{Refusal}
 use Rattle.history_store.specs.declared.refusal.Refusal.TheVariants as store
-use Rattle.directory.specs.declared.layout.Layout.TheVariants as layouts
-use Rattle.history_store.specs.Catalog.{plain_count}
-use Rattle.history_store.specs.Rewriting.{HasOnlyPlain, IsRewritingOf}
 use Rattle.history_store.specs.StoreValue.{StoreValue}
 use Rattle.line_server.specs.declared.refusal.LineRefusal.{LineRefusal}
 use Rattle.line_server.specs.declared.refusal.LineRefusal.TheVariants as refusals
@@ -62,10 +57,6 @@ pub record IsMergedTo {D : Type 0} (view : D → DiskView) (most : ℕ) (old new
   pub goes : IsTurn no_releases view before trim new
   pub number : segments_of new ≡ min (segments_of old) most
   pub none_left : HasNoMerge new
-  -- in version 3 no segment without checksums is left if one segment was asked for, unless the
-  -- store's only segment was one
-  pub checksums : most ≤ 1 → HasNoMerge old → old.store.catalog.layout ≡ layouts.Three
-      → (HasOnlyPlain old.store.catalog → ⊥) → plain_count new.store.catalog.entries ≡ 0
 
 -- Why merging segments ends early: because of memory, the disk, its bytes or its room, or the
 -- count of publications. Lines that are asked in this order are refused for no other reason.
@@ -117,25 +108,7 @@ pub record TellsLines {D : Type 0} (view : D → DiskView) (most : ℕ) (left : 
   -- the contents of the store are unchanged
   pub history : (view store.disk).is_honest → after.history ≡ store.history
 
--- after the only segment was rewritten, or didn't have to be, lines merge the segments; otherwise
--- the refusal was written
-abbrev pub GoesOn : {D : Type 0} → (D → DiskView) → ℕ → D → Report → Result Bool Refusal
-    → StoreValue D → Type 0
-GoesOn view most left report (Ok anew) store = TellsLines view most left report store
-GoesOn view most left report (Err e) store =
-    Tells report (Err (refusals.Store e)) × (left ≡ store.disk)
-
--- If the store is of version 3, and its only segment has no checksums, that is rewritten. Then the
--- segments are merged.
-pub record TellsMerge {D : Type 0} (view : D → DiskView) (most : ℕ) (left : D) (report : Report)
-    (store : StoreValue D) : Type 0 where
-  pub result : Result Bool Refusal
-  pub mid : StoreValue D
-  pub rewriting : IsRewritingOf result store mid
-  pub call : IsCall view store Other mid
-  pub goes_on : GoesOn view most left report result mid
-
 -- the store was opened from this disk, and its segments were merged
 abbrev pub IsMergedOnDisk : {D : Type 0} → (D → DiskView) → ℕ → D → D → Report → Type 0
 IsMergedOnDisk view most disk left report =
-    IsOnOpened view (TellsMerge view most left report) disk left report
+    IsOnOpened view (TellsLines view most left report) disk left report

@@ -27,7 +27,6 @@ use Rattle.command_line.specs.Endings.{Report, report, Tells}
 use Rattle.command_line.specs.Words.{AskFor, AskForNone}
 use Rattle.command_line.specs.Merging.{IsMergedOnDisk}
 use Rattle.command_line.specs.Tasks.{IsMade, IsImport, IsStatus, IsServing, IsServingNew}
-use Rattle.command_line.specs.Tasks.{IsUpgrade}
 use Rattle.command_line.specs.Checking.{IsCheck}
 use Rattle.command_line.specs.Digests.{IsDigest}
 use Rattle.command_line.specs.Copies.{IsCopyMade}
@@ -70,7 +69,7 @@ IsDoneAt {D} had done missing left =
     ((disk : D) × (after : D) × had disk × done disk after × (left ≡ Some after))
     ⊎ (missing × (left ≡ None))
 
--- A store of this layout version was made on the disk that exists or was made under a name, once
+-- A store of this layout was made on the disk that exists or was made under a name, once
 -- it was sure that the name survives a crash. If that isn't sure, the disk was left unchanged,
 -- and the failure was written; so it was if no disk can be opened there.
 abbrev pub IsMadeAt : {D : Type 0} → Layout → SystemView D → List ℕ → Option D → Report → Type 0
@@ -81,13 +80,13 @@ IsMadeAt {D} layout system name left report =
     × (left ≡ Some disk))
     ⊎ (system.denies name × IsMissing report × (left ≡ None))
 
--- The first imports of one disk's store, or all, were copied to a disk that was made under
--- another name, which wasn't in use, once it was sure that the new name survives a crash. If one of
--- the two can't be opened or made, or the new name isn't sure to survive, that was written, the new
--- file is removed, and the other disk is unchanged.
-abbrev pub IsCopiedAt : {D : Type 0} → SystemView D → (name to : List ℕ) → Option ℕ
+-- The first imports of one disk's store, or all, were copied, in this layout or in its own, to a
+-- disk that was made under another name, which wasn't in use, once it was sure that the new name
+-- survives a crash. If one of the two can't be opened or made, or the new name isn't sure to
+-- survive, that was written, the new file is removed, and the other disk is unchanged.
+abbrev pub IsCopiedAt : {D : Type 0} → SystemView D → (name to : List ℕ) → Option ℕ → Option Layout
     → (left made : Option D) → Report → Type 0
-IsCopiedAt {D} system name to imports left made report =
+IsCopiedAt {D} system name to imports layout left made report =
     (system.withholds name × IsMissing report × (left ≡ None) × (made ≡ None))
     ⊎ ((source : D) × system.stands name source × system.occupies to × IsMissing report
     × (left ≡ Some source) × (made ≡ None))
@@ -96,7 +95,8 @@ IsCopiedAt {D} system name to imports left made report =
     × IsRemoved system.removes system.retains target made)
     ⊎ ((source : D) × (target : D) × system.stands name source × system.creates to target
     × system.keeps to
-    × IsCopyMade system.disk system.removes system.retains imports source target left made report)
+    × IsCopyMade system.disk system.removes system.retains imports layout source target left made
+    report)
 
 -- The lines were served from the disk of a name, with the releases of a folder that exists. If
 -- there is no such folder, that was written, nothing was read, and the disk is unchanged. If the
@@ -167,18 +167,13 @@ Does system script (tasks.Merge store segments) left made ended streams =
     (report ended streams.old streams.new))
     (IsMissing (report ended streams.old streams.new) × system.withholds store.now) left
     × (streams.rest ≡ streams.input) × (made ≡ None)
-Does system script (tasks.Copy store to imports) left made ended streams =
-    IsCopiedAt system store.now to.now imports left made (report ended streams.old streams.new)
-    × (streams.rest ≡ streams.input)
+Does system script (tasks.Copy store to imports layout) left made ended streams =
+    IsCopiedAt system store.now to.now imports layout left made
+    (report ended streams.old streams.new) × (streams.rest ≡ streams.input)
 Does system script (tasks.Digest store imports) left made ended streams =
     IsDoneAt (system.stands store.now)
     (λ disk after. IsDigest system.disk imports disk after
     (report ended streams.old streams.new))
-    (IsMissing (report ended streams.old streams.new) × system.withholds store.now) left
-    × (streams.rest ≡ streams.input) × (made ≡ None)
-Does system script (tasks.Upgrade store) left made ended streams =
-    IsDoneAt (system.stands store.now)
-    (λ disk after. IsUpgrade system.disk disk after (report ended streams.old streams.new))
     (IsMissing (report ended streams.old streams.new) × system.withholds store.now) left
     × (streams.rest ≡ streams.input) × (made ≡ None)
 Does system script tasks.Demo left made ended streams =
@@ -194,7 +189,7 @@ AsksForPair (Some source) old new = new ≡ raised_by (raised_by old 1) 1
 -- any other task once
 abbrev pub AsksFor : {D : Type 0} → Task → Option D → ℕ → ℕ → Type 0
 AsksFor tasks.Demo left old new = new ≡ old
-AsksFor (tasks.Copy store to imports) left old new = AsksForPair left old new
+AsksFor (tasks.Copy store to imports layout) left old new = AsksForPair left old new
 AsksFor _ left old new = new ≡ raised_by old 1
 
 -- The words ask for a task, and it was done. The status is 0 only if it ended with success.

@@ -3,12 +3,10 @@ use Rattle.std.specs.Prelude.{◌≡◌, ℕ, List, [], codes, Result, Ok, Err}
 use Rattle.directory.specs.declared.layout.Layout.{Layout}
 use Rattle.directory.specs.declared.layout.Layout.TheVariants as layouts
 use Rattle.disk_model.specs.View.{DiskView}
-use Rattle.store_life.specs.Life.{IsCall, Other}
 use Rattle.history_store.specs.declared.refusal.Refusal.{Refusal}
 use Rattle.history_store.specs.StoreValue.{StoreValue}
 use Rattle.history_store.specs.Answers.{StoreOr, disk_of}
 use Rattle.history_store.specs.Openings.{IsMaking, IsOpening}
-use Rattle.history_store.specs.Upgrading.{IsUpgradingOf}
 use Rattle.line_commands.specs.Requests.{import_line}
 use Rattle.line_server.specs.declared.refusal.LineRefusal.{LineRefusal}
 use Rattle.line_server.specs.declared.refusal.LineRefusal.TheVariants.{Store}
@@ -31,7 +29,7 @@ abbrev pub making_told : {D : Type 0} → StoreOr D → Result Answer LineRefusa
 making_told (Ok store) = Ok (AllDone [])
 making_told (Err e) = Err (Store e.0)
 
--- a store of this layout version was made, the outcome was written, and the disk was left in its
+-- a store of this layout was made, the outcome was written, and the disk was left in its
 -- state after that
 pub record IsMade {D : Type 0} (layout : Layout) (view : D → DiskView) (disk left : D)
     (report : Report) : Type 0 where
@@ -82,29 +80,6 @@ status_line = codes "0 STATUS"
 abbrev pub IsStatus : {D : Type 0} → (D → DiskView) → D → D → Report → Type 0
 IsStatus view disk left report = IsOnOpened view
     (λ store. IsLineTold no_releases view status_line store left report) disk left report
-
--- ---- upgrade
-
--- the outcome of an upgrade, as it is written
-abbrev pub upgrade_told : Result (Unit {0}) Refusal → Result Answer LineRefusal
-upgrade_told (Ok done) = Ok (AllDone [])
-upgrade_told (Err e) = Err (Store e)
-
--- the store was upgraded to version 3, or that was refused; the outcome was written, and the disk
--- was left in its state after that
-pub record Upgrades {D : Type 0} (view : D → DiskView) (left : D) (report : Report)
-    (store : StoreValue D) : Type 0 where
-  pub result : Result (Unit {0}) Refusal
-  pub after : StoreValue D
-  pub answer : IsUpgradingOf result store after
-  pub call : IsCall view store Other after
-  pub told : Tells report (upgrade_told result)
-  pub left_so : left ≡ after.disk
-
--- the store was opened from this disk, and upgraded to version 3
-abbrev pub IsUpgrade : {D : Type 0} → (D → DiskView) → D → D → Report → Type 0
-IsUpgrade view disk left report =
-    IsOnOpened view (Upgrades view left report) disk left report
 
 -- ---- serve
 

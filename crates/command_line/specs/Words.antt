@@ -10,6 +10,7 @@ use Rattle.clap.specs.Values.{kind_of}
 use Rattle.clap.specs.declared.builder.value_parser.ValueParser.TheVariants.{Unsigned}
 use Rattle.clap.specs.declared.builder.action.ArgAction.TheVariants.{Set, SetTrue}
 use Rattle.std.specs.Prelude.{[], ◌∷◌, false}
+use Rattle.directory.specs.declared.layout.Layout.{Layout}
 use Rattle.directory.specs.Listings.{number_of}
 use Rattle.command_line.specs.Paths.{IsNamed}
 use Rattle.command_line.specs.declared.words.Task.{Task}
@@ -35,13 +36,14 @@ optional id = record (option id) { required = false }
 abbrev pub flag : Text → Rule
 flag id = record (new_rule id) { long = Some id; action = Some SetTrue }
 
--- the option `--layout`: 2 or 3, and 2 if it isn't given
+-- the option `--layout` of `copy`: 2 or 3
+abbrev pub copy_layout_option : Rule
+copy_layout_option =
+    record (option (codes "layout")) { parser = Some (Unsigned 2 3); required = false }
+
+-- the option `--layout` of `init`: 2 or 3, and 3 if it isn't given
 abbrev pub layout_option : Rule
-layout_option = record (option (codes "layout")) {
-  parser = Some (Unsigned 2 3);
-  defaults = codes "2" ∷ [];
-  required = false;
-}
+layout_option = record copy_layout_option { defaults = codes "3" ∷ [] }
 
 abbrev pub init_command : App
 init_command =
@@ -80,16 +82,13 @@ imports_option = record (option (codes "imports")) {
 }
 
 abbrev pub copy_command : App
-copy_command = with_rule
+copy_command = with_rule (with_rule
     (with_rule (with_rule (new_app (codes "copy")) (option (codes "store"))) (option (codes "to")))
-    imports_option
+    imports_option) copy_layout_option
 
 abbrev pub digest_command : App
 digest_command =
     with_rule (with_rule (new_app (codes "digest")) (option (codes "store"))) imports_option
-
-abbrev pub upgrade_command : App
-upgrade_command = with_rule (new_app (codes "upgrade")) (option (codes "store"))
 
 abbrev pub demo_command : App
 demo_command = new_app (codes "demo")
@@ -104,18 +103,22 @@ empty_program = record {
 abbrev pub program : App
 program =
     with_subcommand (with_subcommand (with_subcommand (with_subcommand (with_subcommand
-    (with_subcommand (with_subcommand (with_subcommand (with_subcommand empty_program
+    (with_subcommand (with_subcommand (with_subcommand empty_program
     init_command.top) import_command.top) serve_command.top) status_command.top) merge_command.top)
-    copy_command.top) digest_command.top) upgrade_command.top) demo_command.top
+    copy_command.top) digest_command.top) demo_command.top
 
 -- ---- what is asked for
+
+-- this layout was given, or the option has no value
+abbrev pub IsLayout : List Row → Option Layout → Type 0
+IsLayout rows None = first_of (codes "layout") rows ≡ None
+IsLayout rows (Some layout) = (text : Text) × (first_of (codes "layout") rows ≡ Some text)
+    × (number_of layout ≡ digits_value 10 (without_leading_plus text))
 
 -- the arguments of this `init` were given
 abbrev pub IsInitOf : List Row → Task → Type 0
 IsInitOf rows (tasks.Init store layout) =
-    (first_of (codes "store") rows ≡ Some store.now)
-    × (text : Text) × (first_of (codes "layout") rows ≡ Some text)
-    × (number_of layout ≡ digits_value 10 (without_leading_plus text))
+    (first_of (codes "store") rows ≡ Some store.now) × IsLayout rows (Some layout)
 IsInitOf rows task = ⊥
 
 -- the flag was given
@@ -147,8 +150,9 @@ AreImports rows (Some imports) = (text : Text) × (first_of (codes "imports") ro
 
 -- the arguments of this copy of a store were given
 abbrev pub IsCopyTaskOf : List Row → Task → Type 0
-IsCopyTaskOf rows (tasks.Copy store to imports) = (first_of (codes "store") rows ≡ Some store.now)
-    × (first_of (codes "to") rows ≡ Some to.now) × AreImports rows imports
+IsCopyTaskOf rows (tasks.Copy store to imports layout) =
+    (first_of (codes "store") rows ≡ Some store.now) × (first_of (codes "to") rows ≡ Some to.now)
+    × AreImports rows imports × IsLayout rows layout
 IsCopyTaskOf rows task = ⊥
 
 -- the arguments of this digest of a store were given
@@ -175,12 +179,10 @@ Reads (Some read) (tasks.Merge store segments) =
     (read.0 ≡ codes "merge") × (first_of (codes "store") read.1 ≡ Some store.now)
     × (text : Text) × (first_of (codes "segments") read.1 ≡ Some text)
     × (segments ≡ digits_value 10 (without_leading_plus text))
-Reads (Some read) (tasks.Copy store to imports) =
-    (read.0 ≡ codes "copy") × IsCopyTaskOf read.1 (tasks.Copy store to imports)
+Reads (Some read) (tasks.Copy store to imports layout) =
+    (read.0 ≡ codes "copy") × IsCopyTaskOf read.1 (tasks.Copy store to imports layout)
 Reads (Some read) (tasks.Digest store imports) =
     (read.0 ≡ codes "digest") × IsDigestTaskOf read.1 (tasks.Digest store imports)
-Reads (Some read) (tasks.Upgrade store) =
-    (read.0 ≡ codes "upgrade") × (first_of (codes "store") read.1 ≡ Some store.now)
 Reads (Some read) tasks.Demo = read.0 ≡ codes "demo"
 
 -- the words, whose first is the program's name, are valid and ask for the task

@@ -9,7 +9,7 @@ use crate::disks::Disks;
 use crate::endings::{Ending, Performed, refuse, tell_done, tell_refusal};
 use crate::folders::Folders;
 use crate::telling::{Context, tell_why};
-use directory::Directory;
+use directory::{Directory, Layout};
 use history_store::Refusal;
 use line_server::{LineRefusal, ServeFault};
 use std::alloc::Global;
@@ -28,6 +28,7 @@ fn refusal_of(fault: CopyFault) -> LineRefusal
         CopyFault::NotAStore => LineRefusal::Store(Refusal::NotAStore),
         CopyFault::Damaged(damage) => LineRefusal::Store(Refusal::Unreadable(damage)),
         CopyFault::NoSuchImport => LineRefusal::PinRange,
+        CopyFault::LowerLayout => LineRefusal::Store(Refusal::LaterVersion),
         CopyFault::NotEmpty => LineRefusal::Store(Refusal::NotEmpty),
         CopyFault::NoRoom => LineRefusal::Store(Refusal::Full),
     }
@@ -85,24 +86,25 @@ fn keep<V: Disks, E: Write>(
     }
 }
 
-/// Copies the first imports of the store of a disk, or all, to a new disk with the name `to`,
-/// and writes the result.
+/// Copies the first imports of the store of a disk, or all, to a new disk with the name `to`, in
+/// this layout or in the store's, and writes the result.
 fn copy_onto<V: Disks, O: Write, E: Write>(
     disks: &V,
     alloc: Global,
     path: &str,
     to: &str,
     imports: Option<u32>,
+    layout: Option<Layout>,
     source: V::Disk,
     target: V::Disk,
     output: &mut O,
     faults: &mut E,
 ) -> Performed<V::Disk>
-    ensures { IsCopyMade V.Disk.view V.removes V.retains imports source target result.1 result.2
-        (report result.0 (O.contents output.old) (O.contents output.new)) }
+    ensures { IsCopyMade V.Disk.view V.removes V.retains imports layout source target
+        result.1 result.2 (report result.0 (O.contents output.old) (O.contents output.new)) }
 {
     let (mut source, mut target) = (source, target);
-    let copied = copy(alloc, &mut source, &mut target, imports);
+    let copied = copy(alloc, &mut source, &mut target, imports, layout);
     let ended = tell_copy(alloc, &copied, output);
     let context = context_of(disks, path, to, &source, &target, &copied);
     tell_why(ended, &context, faults);
@@ -110,7 +112,8 @@ fn copy_onto<V: Disks, O: Write, E: Write>(
     (ended, Some(source), made)
 }
 
-/// Copies the first imports of the store with this name, or all, to a new disk with another name.
+/// Copies the first imports of the store with this name, or all, to a new disk with another name,
+/// in this layout or in the store's.
 /// Before anything is written, it makes sure that the new name survives a crash.
 pub(crate) fn copy_at<V: Disks, F: Folders, O: Write, E: Write>(
     disks: &mut V,
@@ -119,6 +122,7 @@ pub(crate) fn copy_at<V: Disks, F: Folders, O: Write, E: Write>(
     path: &str,
     to: &str,
     imports: Option<u32>,
+    layout: Option<Layout>,
     output: &mut O,
     faults: &mut E,
 ) -> Performed<V::Disk>
@@ -138,7 +142,7 @@ pub(crate) fn copy_at<V: Disks, F: Folders, O: Write, E: Write>(
       is_honest = F.is_honest folders.now;
       releases = F.releases folders.now;
       disk = V.Disk.view;
-    }) path.now to.now imports result.1 result.2
+    }) path.now to.now imports layout result.1 result.2
         (report result.0 (O.contents output.old) (O.contents output.new)) }
     ensures asked { AsksForPair result.1 (V.asked disks.old) (V.asked disks.new) }
 {
@@ -154,6 +158,6 @@ pub(crate) fn copy_at<V: Disks, F: Folders, O: Write, E: Write>(
         return (ended, Some(source), disks.discard(target, faults));
     }
     copy_onto(
-        disks, alloc, path, to, imports, source, target, output, faults,
+        disks, alloc, path, to, imports, layout, source, target, output, faults,
     )
 }

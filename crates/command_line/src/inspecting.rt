@@ -63,7 +63,6 @@ pub(crate) fn status<D: Disk + Drop, O: Write>(
             let mut store = store;
             let figures = Figures {
                 layout: store.version(),
-                plain: store.plain_segments(),
                 blocks: store.blocks_in_use(),
                 latest: store.latest_time(),
             };

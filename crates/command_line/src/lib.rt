@@ -26,7 +26,6 @@ mod running;
 mod serving;
 mod telling;
 mod told_lines;
-mod upgrading;
 mod warning;
 mod words;
 

@@ -6,13 +6,13 @@ ghost use Rattle.line_server.specs.Pins.{AreWithin};
 ghost use Rattle.line_server.specs.StateValue.{fresh};
 ghost use Rattle.command_line.specs.Endings.{report};
 ghost use Rattle.line_server.specs.Replies.{server};
-ghost use Rattle.command_line.specs.Merging.{IsMergedOnDisk, TellsLines, TellsMerge};
+ghost use Rattle.command_line.specs.Merging.{IsMergedOnDisk, TellsLines};
 ghost use Rattle.command_line.specs.Private.{IsAsked, IsAtRest, IsMerging, IsOneLess, IsTrimmedTo};
 ghost use Rattle.command_line.specs.Private.{MergesRows};
 
 use crate::endings::{Ending, refuse, tell};
 use crate::inspecting::{NoReleases, status_request};
-use crate::telling::{tell_rewritten, tell_segments};
+use crate::telling::tell_segments;
 use disk_model::Disk;
 use history_store::Store;
 use line_commands::{Command, Request, Unread};
@@ -142,31 +142,6 @@ fn merge_lines<D: Disk, O: Write, E: Write>(
     tell(alloc, output, outcome)
 }
 
-/// Merges the segments of an open store, and writes the last reply. If a store of version 3 has
-/// only one segment, and that has no checksums, it is rewritten first.
-fn merge_all<D: Disk, O: Write, E: Write>(
-    alloc: Global,
-    path: &str,
-    most: u32,
-    store: &mut Store<D>,
-    output: &mut O,
-    faults: &mut E,
-) -> Result<Ending, ServeFault>
-    requires at_rest { IsAtRest (server fresh store.old) }
-    ensures { TellsMerge D.view most store.new.disk
-        (report result (O.contents output.old) (O.contents output.new)) store.old }
-{
-    match store.rewrite() {
-        Ok(anew) => {
-            if anew {
-                tell_rewritten(path, faults);
-            }
-            merge_lines(alloc, path, most, store, output, faults)
-        }
-        Err(refusal) => refuse(alloc, output, refusal),
-    }
-}
-
 /// Merges the segments of the store of a disk. Returns the disk.
 pub(crate) fn merge<D: Disk + Drop, O: Write, E: Write>(
     alloc: Global,
@@ -182,7 +157,7 @@ pub(crate) fn merge<D: Disk + Drop, O: Write, E: Write>(
     match Store::open(alloc, disk) {
         Ok(store) => {
             let mut store = store;
-            let ended = merge_all(alloc, path, most, &mut store, output, faults);
+            let ended = merge_lines(alloc, path, most, &mut store, output, faults);
             (ended, store.close())
         }
         Err((refusal, disk)) => (refuse(alloc, output, refusal), disk),

@@ -4,7 +4,7 @@ ghost use Rattle.std.specs.Prelude.{◌≡◌, ◌≤◌, ◌⊎◌, IfOk, IfErr
 ghost use Rattle.command_line.specs.Endings.{report};
 ghost use Rattle.line_server.specs.Streams.{streams};
 ghost use Rattle.line_server.specs.Sources.{source_view};
-ghost use Rattle.command_line.specs.Tasks.{IsImport, IsStatus, IsUpgrade};
+ghost use Rattle.command_line.specs.Tasks.{IsImport, IsStatus};
 ghost use Rattle.command_line.specs.Merging.{IsMergedOnDisk};
 ghost use Rattle.command_line.specs.Checking.{IsCheck};
 ghost use Rattle.command_line.specs.Digests.{IsDigest};
@@ -28,7 +28,6 @@ use crate::merging::merge;
 use crate::serving::{serve_disk, serve_new};
 use crate::telling::{Context, tell_figures, tell_why};
 use crate::told_lines::ToldLines;
-use crate::upgrading::upgrade;
 use crate::words::{Refused, Task, task_of};
 use directory::Layout;
 use disk_model::MemDisk;
@@ -145,13 +144,17 @@ fn perform<V: Disks, F: Folders, I: Read, O: Write, E: Write>(
         Task::Merge { store, segments } => {
             alone(merge_at(disks, alloc, *store, *segments, output, faults))
         }
-        Task::Copy { store, to, imports } => copy_at(
-            disks, folders, alloc, *store, *to, *imports, output, faults,
+        Task::Copy {
+            store,
+            to,
+            imports,
+            layout,
+        } => copy_at(
+            disks, folders, alloc, *store, *to, *imports, *layout, output, faults,
         ),
         Task::Digest { store, imports } => {
             alone(digest_at(disks, alloc, *store, *imports, output, faults))
         }
-        Task::Upgrade { store } => alone(upgrade_at(disks, alloc, *store, output, faults)),
         Task::Demo => (demo(alloc, output), None, None),
     }
 }
@@ -163,7 +166,7 @@ fn alone<D: Drop>(ended: Ended<D>) -> Performed<D>
     (ended.0, ended.1, None)
 }
 
-/// Makes a store of this layout version under a name. Before anything is written, it makes sure
+/// Makes a store of this layout under a name. Before anything is written, it makes sure
 /// that the name survives a crash, so that the store is found after one.
 fn init_at<V: Disks, F: Folders, O: Write, E: Write>(
     disks: &mut V,
@@ -426,36 +429,6 @@ fn digest_at<V: Disks, O: Write, E: Write>(
     match disks.open(path, faults) {
         Ok(disk) => {
             let (ended, left) = digest(alloc, disk, imports, output);
-            let context = Context {
-                store: path,
-                last_error: disks.last_error(&left),
-            };
-            tell_why(ended, &context, faults);
-            (ended, Some(left))
-        }
-        Err(_) => (refuse(alloc, output, Refusal::DiskFault), None),
-    }
-}
-
-/// Upgrades the store with this name to version 3.
-fn upgrade_at<V: Disks, O: Write, E: Write>(
-    disks: &mut V,
-    alloc: Global,
-    path: &str,
-    output: &mut O,
-    faults: &mut E,
-) -> Ended<V::Disk>
-    ensures done { IsDoneAt (V.stands disks.old path.now)
-        (λ disk after. IsUpgrade V.Disk.view disk after
-        (report result.0 (O.contents output.old) (O.contents output.new)))
-        (IsMissing (report result.0 (O.contents output.old) (O.contents output.new))
-        × V.withholds disks.old path.now) result.1 }
-    ensures asked { V.asked disks.new ≡ raised_by (V.asked disks.old) 1 }
-{
-    let before = disks.open(path, faults);
-    match before {
-        Ok(disk) => {
-            let (ended, left) = upgrade(alloc, disk, output);
             let context = Context {
                 store: path,
                 last_error: disks.last_error(&left),

@@ -25,7 +25,7 @@ reach 4 GiB"
         7 => "the file is no store",
         8 => "the store is damaged; restore your copy",
         13 => "import numbers or epochs ran out",
-        14 => "a store keeps no members of reference sets before layout 3: sctd upgrade",
+        14 => "that needs layout 3, into which sctd copy --layout 3 brings a store",
         20 => "a line is over 65,535 bytes",
         21 => "it isn't UTF-8",
         22 => "the first line isn't the column names of its kind",
@@ -75,14 +75,12 @@ pub(crate) fn tell_why<E: Write>(
     };
 }
 
-/// Figures about an open store, for people: its layout version, how many of its segments have no
-/// checksums, how many blocks it needs, and the greatest effective time of a row.
+/// Figures about an open store, for people: its layout, how many blocks it needs, and the greatest
+/// effective time of a row.
 #[derive(Clone, Copy)]
 pub(crate) struct Figures {
-    /// The layout version: 1, 2 or 3.
+    /// The layout: 1, 2 or 3.
     pub layout: u32,
-    /// How many segments have no checksums; shown only in version 3.
-    pub plain: u32,
     /// How many blocks of 4,096 bytes the store needs.
     pub blocks: u64,
     /// The greatest effective time of a row, if there is a row.
@@ -118,9 +116,6 @@ fn write_figures<E: Write>(
         let day = latest.value();
         write!(faults, ", latest effective time {day}")?;
     }
-    if figures.layout >= 3 {
-        write!(faults, ", segments without checksums: {}", figures.plain)?;
-    }
     writeln!(faults)
 }
 
@@ -128,15 +123,6 @@ fn write_figures<E: Write>(
 pub(crate) fn tell_segments<E: Write>(store: &str, segments: u32, faults: &mut E) {
     let name = Shown(store.as_bytes());
     let _ = writeln!(faults, "sctd: {name}: segments left: {segments}");
-}
-
-/// Prints that the only segment of a store was rewritten.
-pub(crate) fn tell_rewritten<E: Write>(store: &str, faults: &mut E) {
-    let name = Shown(store.as_bytes());
-    let _ = writeln!(
-        faults,
-        "sctd: {name}: the segment was written anew, with checksums"
-    );
 }
 
 /// Writes why a task on a store was refused, if that wasn't written before.

@@ -10,9 +10,9 @@ ghost use Rattle.command_line.specs.Words.{AreImports, IsCopyTaskOf, IsDigestTas
 ghost use Rattle.command_line.specs.Private.{IsArgument, IsCommand};
 ghost use Rattle.command_line.specs.Words.{wanted, option, optional, flag, segments_option};
 ghost use Rattle.command_line.specs.Words.{init_command, import_command, serve_command};
-ghost use Rattle.command_line.specs.Words.{status_command, merge_command, upgrade_command};
-ghost use Rattle.command_line.specs.Words.{demo_command, layout_option, copy_command};
-ghost use Rattle.command_line.specs.Words.{digest_command, imports_option};
+ghost use Rattle.command_line.specs.Words.{status_command, merge_command, demo_command};
+ghost use Rattle.command_line.specs.Words.{layout_option, copy_layout_option, IsLayout};
+ghost use Rattle.command_line.specs.Words.{copy_command, digest_command, imports_option};
 ghost use Rattle.directory.specs.Listings.{number_of};
 ghost use Rattle.command_line.specs.Words.{empty_program, program};
 
@@ -25,13 +25,13 @@ use directory::Layout;
 use std::alloc::{AllocError, Global};
 use std::num::ParseIntError;
 
-/// The version of the program, and the layout versions of stores that it opens.
-const VERSION: &str = "1.0.0, opens layout versions 1, 2 and 3";
+/// The version of the program, and the layouts of stores that it opens.
+const VERSION: &str = "1.0.0, opens layouts 1, 2 and 3";
 
 /// A task of the program.
 #[derive(Clone, Copy, Debug, PartialEq, Eq)]
 pub enum Task<'a> {
-    /// Make a store of this layout version in a file.
+    /// Make a store of this layout in a file.
     Init {
         store: &'a str,
         layout: Layout,
@@ -66,20 +66,18 @@ pub enum Task<'a> {
         store: &'a str,
         segments: u32,
     },
-    /// Copy the first imports of a store, or all if no number is given, to a new file.
+    /// Copy the first imports of a store, or all if no number is given, to a new file, in this
+    /// layout, or in the store's if none is given.
     Copy {
         store: &'a str,
         to: &'a str,
         imports: Option<u32>,
+        layout: Option<Layout>,
     },
     /// Write the digest of the rows that the first imports brought, or all if no number is given.
     Digest {
         store: &'a str,
         imports: Option<u32>,
-    },
-    /// Upgrade a store to version 3.
-    Upgrade {
-        store: &'a str,
     },
     /// Answer the lines of a script, with a store in memory.
     Demo,
@@ -226,16 +224,28 @@ fn imports<'a>(alloc: Global) -> Arg<'a>
         .action(ArgAction::Set)
 }
 
-/// The option for the layout version of a new store.
+/// The option for the layout of a new store.
 fn layout<'a>(alloc: Global) -> Arg<'a>
     ensures { IsArgument layout_option result }
 {
     Arg::new(alloc, "layout")
         .long("layout")
         .value_name("N")
-        .help("The version of the store's layout: 2, or 3 for checksums and all reference sets")
+        .help("The store's layout: 3, or 2 without checksums, text definitions and members")
         .value_parser(ValueParser::Unsigned(2, 3))
-        .default_value("2")
+        .default_value("3")
+        .action(ArgAction::Set)
+}
+
+/// The option for the layout of a copy.
+fn copy_layout<'a>(alloc: Global) -> Arg<'a>
+    ensures { IsArgument copy_layout_option result }
+{
+    Arg::new(alloc, "layout")
+        .long("layout")
+        .value_name("N")
+        .help("The copy's layout, 2 or 3, not below the store's; the store's if it isn't given")
+        .value_parser(ValueParser::Unsigned(2, 3))
         .action(ArgAction::Set)
 }
 
@@ -300,7 +310,8 @@ fn copy<'a>(alloc: Global) -> Result<Command<'a>, AllocError>
     new_command(alloc, "copy", about, helps::COPY)
         .arg(store(alloc))?
         .arg(to(alloc))?
-        .arg(imports(alloc))
+        .arg(imports(alloc))?
+        .arg(copy_layout(alloc))
 }
 
 fn digest<'a>(alloc: Global) -> Result<Command<'a>, AllocError>
@@ -310,14 +321,6 @@ fn digest<'a>(alloc: Global) -> Result<Command<'a>, AllocError>
     new_command(alloc, "digest", about, helps::DIGEST)
         .arg(store(alloc))?
         .arg(imports(alloc))
-}
-
-fn upgrade<'a>(alloc: Global) -> Result<Command<'a>, AllocError>
-    ensures { IfOk result (IsCommand upgrade_command) }
-{
-    let about =
-        "Brings a store to layout version 3: checksums, all reference sets, and no way back";
-    new_command(alloc, "upgrade", about, helps::UPGRADE).arg(store(alloc))
 }
 
 fn demo<'a>(alloc: Global) -> Command<'a>
@@ -352,7 +355,6 @@ fn commands<'a>(alloc: Global) -> Result<Command<'a>, AllocError>
         .subcommand(merge(alloc)?)?
         .subcommand(copy(alloc)?)?
         .subcommand(digest(alloc)?)?
-        .subcommand(upgrade(alloc)?)?
         .subcommand(demo(alloc))
 }
 
@@ -380,9 +382,6 @@ fn task_in<'a>(matches: &ArgMatches<'a>) -> Option<Task<'a>>
         }
         "copy" => copy_of(found),
         "digest" => digest_of(found),
-        "upgrade" => Some(Task::Upgrade {
-            store: found.get_str("store")?,
-        }),
         "demo" => Some(Task::Demo),
         _ => None,
     }
@@ -393,16 +392,13 @@ fn init_of<'a>(found: &ArgMatches<'a>) -> Option<Task<'a>>
     ensures { IfSome result (IsInitOf (rows_of (found_of found.now))) }
 {
     let store = found.get_str("store")?;
-    match found.get_str("layout")?.parse() {
-        Ok(number) => {
-            let layout = layout_with(number)?;
-            Some(Task::Init { store, layout })
-        }
-        Err(_) => None,
+    match layout_of(found)? {
+        Some(layout) => Some(Task::Init { store, layout }),
+        None => None,
     }
 }
 
-/// The layout version with this number, if stores can be made in it.
+/// The layout with this number, if stores can be made in it.
 fn layout_with(number: u32) -> Option<Layout>
     ensures { IfSome result (λ layout. number_of layout ≡ number) }
 {
@@ -410,6 +406,22 @@ fn layout_with(number: u32) -> Option<Layout>
         2 => Some(Layout::Two),
         3 => Some(Layout::Three),
         _ => None,
+    }
+}
+
+/// The given layout, if there is one. Nothing if stores can't be made in what was given.
+fn layout_of(found: &ArgMatches<'_>) -> Option<Option<Layout>>
+    ensures { IfSome result (IsLayout (rows_of (found_of found.now))) }
+{
+    match found.get_str("layout") {
+        Some(text) => match text.parse() {
+            Ok(number) => {
+                let layout = layout_with(number)?;
+                Some(Some(layout))
+            }
+            Err(_) => None,
+        },
+        None => Some(None),
     }
 }
 
@@ -444,8 +456,14 @@ fn copy_of<'a>(found: &ArgMatches<'a>) -> Option<Task<'a>>
 {
     let store = found.get_str("store")?;
     let to = found.get_str("to")?;
+    let layout = layout_of(found)?;
     match imports_of(found) {
-        Ok(imports) => Some(Task::Copy { store, to, imports }),
+        Ok(imports) => Some(Task::Copy {
+            store,
+            to,
+            imports,
+            layout,
+        }),
         Err(_) => None,
     }
 }

@@ -32,11 +32,14 @@ module _ {D : Type 0} (releases : Releases) (name : List ℕ) (one two : Result 
 
   settled : (session other : ℕ) → IsSure one → IsSure two → Settles honest releases session (Check name) one old checked → Settles also releases other (Import name) two checked new → two ≡ one
   settled session other u v (inl h) (inl k) = k.refused ∙ sym h.refused
-  settled session other u v (inl h) (inr k) = absurd (k.free (ap (λ (s : Server D). s.met_damage) h.unchanged ∙ h.held_back.0, tt))
-  settled session other u v (inr h) (inl k) =
+  settled session other u v (inl h) (inr (inl k)) = absurd k.needs_later
+  settled session other u v (inl h) (inr (inr k)) = absurd (k.free (ap (λ (s : Server D). s.met_damage) h.unchanged ∙ h.held_back.0, tt))
+  settled session other u v (inr (inl h)) k = absurd h.needs_later
+  settled session other u v (inr (inr h)) (inl k) =
       let met : old.met_damage ≡ true = sym (outcome_undamaged honest up releases old checked session (Check name) one h.comes_out) ∙ sym h.damage ∙ k.held_back.0 in
       absurd (h.free (met, tt))
-  settled session other u v (inr h) (inr k) =
+  settled session other u v (inr (inr h)) (inr (inl k)) = absurd k.needs_later
+  settled session other u v (inr (inr h)) (inr (inr k)) =
       with_release (check_told honest releases session name one old checked u h.comes_out) (import_told also releases other name two checked new v k.comes_out)
 
 pub check_foretells : (D : Type 0) (view : D → DiskView) → CheckForetells D view

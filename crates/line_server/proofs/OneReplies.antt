@@ -26,12 +26,13 @@ use Rattle.import_check.specs.declared.release.Release.{Release}
 use Rattle.import_check.specs.Release.{files_of}
 use Rattle.line_server.specs.ReplyValue.{Answer, Done}
 use Rattle.line_server.specs.StateValue.{met_after}
-use Rattle.line_server.specs.Replies.{Server, Same, SameStore, IsChecked, import_words, imports_seen, left_of, IsAnswer, IsImported, IsClosed, IsStoreRefusal, IsOutcome, NamesRelease, Replies}
+use Rattle.line_server.specs.Replies.{Server, Same, SameStore, IsChecked, import_words, imports_seen, left_of, IsAnswer, IsImported, IsClosed, IsStoreRefusal, IsOutcome, NamesRelease, NeedsLater, Replies}
 use Rattle.history_store.specs.Checking.{HasFailed}
 use Rattle.line_server.specs.Laws.{OneReply, AreAlike, IsSure}
 use Rattle.store_life.proofs.AlikeReleases.{import_alike}
 use Rattle.line_server.proofs.AskedOf.{OutcomeAt, outcome_at}
 use Rattle.line_server.proofs.Finding.{AsksFound, same_from, found_out, one_way}
+use Rattle.line_server.proofs.Damage.{not_both}
 use Rattle.line_server.proofs.Pinned.{Settles}
 use Rattle.line_server.proofs.Received.{receipt_out, one_receipt}
 use Rattle.store_life.proofs.OneImports.{one_import}
@@ -385,6 +386,16 @@ module _ {D : Type 0} (releases : Releases) (a b after next : Server D) (honest 
   one_outcome session c x y u v h k =
       one_told c session x y a b after next same (told honest up releases session a after c x tt u h) (told also so releases session b next c y tt v k)
 
+-- a later layout is needed at both of two stores that are alike
+later_too : {D : Type 0} (c : Command) (s t : StoreValue D) → SameStore s t → NeedsLater c s → NeedsLater c t
+later_too (Ask question) s t same later = (ap (λ (k : Catalog). scope_of k.layout) same.catalog ∙ later.0, later.1)
+later_too (At number question) s t same later = (
+  subst (λ (h : History). number ≤ h.imports) (sym same.history) later.0,
+  ap (λ (k : Catalog). scope_of k.layout) same.catalog ∙ later.1,
+  later.2,
+)
+later_too c s t same later = later
+
 module _ {D : Type 0} (releases : Releases) (a b after next : Server D) (honest also : Type 0) (up : honest) (so : also) (same : Same a b) (met : b.met_damage ≡ a.met_damage) where
   -- at states that are alike a command is held back at both or at none
   one_settled : (session : ℕ) (c : Command) (x y : Result Answer LineRefusal) → IsSure x → IsSure y → Settles honest releases session c x a after → Settles also releases session c y b next → (x ≡ y) × AreAlike after next
@@ -392,9 +403,18 @@ module _ {D : Type 0} (releases : Releases) (a b after next : Server D) (honest 
     h.refused ∙ sym k.refused,
     (then_same a b after next same (same_from a after h.unchanged) (same_from b next k.unchanged), ap (λ (d : Server D). d.met_damage) k.unchanged ∙ met ∙ sym (ap (λ (d : Server D). d.met_damage) h.unchanged)),
   )
-  one_settled session c x y u v (inl h) (inr k) = absurd (k.free (met ∙ h.held_back.0, h.held_back.1))
-  one_settled session c x y u v (inr h) (inl k) = absurd (h.free (sym met ∙ k.held_back.0, k.held_back.1))
-  one_settled session c x y u v (inr h) (inr k) =
+  one_settled session c x y u v (inr (inl h)) (inr (inl k)) = (
+    h.refused ∙ sym k.refused,
+    (then_same a b after next same (same_from a after h.unchanged) (same_from b next k.unchanged), ap (λ (d : Server D). d.met_damage) k.unchanged ∙ met ∙ sym (ap (λ (d : Server D). d.met_damage) h.unchanged)),
+  )
+  one_settled session c x y u v (inl h) (inr (inl k)) = absurd (not_both c b.store h.held_back.1 k.needs_later)
+  one_settled session c x y u v (inr (inl h)) (inl k) = absurd (not_both c a.store k.held_back.1 h.needs_later)
+  one_settled session c x y u v (inr (inl h)) (inr (inr k)) = absurd (k.has_layout (later_too c a.store b.store same.store h.needs_later))
+  one_settled session c x y u v (inr (inr h)) (inr (inl k)) =
+      absurd (h.has_layout (later_too c b.store a.store (record { history = sym same.store.history; catalog = sym same.store.catalog; needs_reopen = sym same.store.needs_reopen }) k.needs_later))
+  one_settled session c x y u v (inl h) (inr (inr k)) = absurd (k.free (met ∙ h.held_back.0, h.held_back.1))
+  one_settled session c x y u v (inr (inr h)) (inl k) = absurd (h.free (sym met ∙ k.held_back.0, k.held_back.1))
+  one_settled session c x y u v (inr (inr h)) (inr (inr k)) =
       let one = one_outcome releases a b after next honest also up so same session c x y u v h.comes_out k.comes_out in
       (one.0, (one.1, k.damage ∙ ap (met_after y) met ∙ ap (λ (o : Result Answer LineRefusal). met_after o a.met_damage) (sym one.0) ∙ sym h.damage))
 

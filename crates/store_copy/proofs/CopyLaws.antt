@@ -14,7 +14,7 @@ use Rattle.history_model.proofs.InOrder.{same_ascending, Has-put_all_cases, Has-
 use Rattle.history_model.proofs.Keys.{stamped_total}
 use Rattle.history_model.proofs.Releases.{then_is_history}
 use Rattle.history_model.proofs.Chains.{stamp_is, imports_then}
-use Rattle.directory.specs.Listings.{DirectoryValue}
+use Rattle.directory.specs.Listings.{DirectoryValue, number_of}
 use Rattle.directory.specs.declared.layout.Layout.{Layout}
 use Rattle.segment.proofs.SegmentLaws.{one_segment}
 use Rattle.store_image.specs.Kept.{history_of}
@@ -23,7 +23,7 @@ use Rattle.store_image.specs.OnDisk.{HasStore}
 use Rattle.store_image.proofs.Standing.{represents_one}
 use Rattle.store_image.specs.Images.{Represents}
 use Rattle.store_copy.specs.Copying.{chosen, first_imports, up_to}
-use Rattle.store_copy.specs.Answers.{copy_of, imports_of, lists_of}
+use Rattle.store_copy.specs.Answers.{copy_of, imports_of, layout_of, lists_of}
 use Rattle.store_copy.specs.Laws.{CopyRepresents, EachCrashLeavesACopy, FirstImportsAreReleases, AllImportsAreAll, PinsStay, ReceiptsStay}
 use Rattle.store_copy.proofs.UpTo.{Has-up_to, Has-up_to_from, up_to_ascends, listed_up_to}
 
@@ -33,25 +33,27 @@ represented : (slot : Slot) (d : DirectoryValue) (lists : List (List StampedRow)
 represented slot d lists file shows = record { slot = slot; content = shows.0; lists = lists; stands = shows.2.has_pieces; says = shows.1; other_is_whole = shows.2.other_is_whole; rows = refl }
 
 pub copy_represents : CopyRepresents
-copy_represents asked file c h layout is rep =
+copy_represents asked version file c h layout is rep =
     let of = is.of in
     let d = of.directory in
     let n = imports_of asked of in
     let one = represents_one one_segment file h (history_of d of.lists) layout d.layout rep.0 d.epoch rep.1 d.entries rep.2 (represented of.slot d of.lists file of.is) in
-    let rows : history_of (copy_of asked of) (lists_of asked of) ≡ first_imports n (history_of d of.lists) = ap (λ (rows : List StampedRow). record { imports = n; rows = rows }) (listed_up_to n of.lists of.is.1.kept.apart) in
-    let there : RepresentsAs d.layout (first_imports n (history_of d of.lists)) c = subst (λ (g : History). RepresentsAs d.layout g c) rows (2, (copy_of asked of).entries, represented A (copy_of asked of) (lists_of asked of) c is.is) in
-    let P : History → Type 0 = λ g. (chosen asked g.imports ≤ g.imports) × RepresentsAs layout (first_imports (chosen asked g.imports) g) c in
-    let Q : Layout → Type 0 = λ l. RepresentsAs l (first_imports n (history_of d of.lists)) c in
-    let all : P (history_of d of.lists) = (is.within, subst Q (sym one.1) there) in
+    let rows : history_of (copy_of asked version of) (lists_of asked of) ≡ first_imports n (history_of d of.lists) = ap (λ (rows : List StampedRow). record { imports = n; rows = rows }) (listed_up_to n of.lists of.is.1.kept.apart) in
+    let there : RepresentsAs (layout_of version of) (first_imports n (history_of d of.lists)) c = subst (λ (g : History). RepresentsAs (layout_of version of) g c) rows (2, (copy_of asked version of).entries, represented A (copy_of asked version of) (lists_of asked of) c is.is) in
+    let P : History → Type 0 = λ g. (chosen asked g.imports ≤ g.imports) × (number_of layout ≤ number_of (chosen version layout)) × RepresentsAs (chosen version layout) (first_imports (chosen asked g.imports) g) c in
+    let Q : Layout → Type 0 = λ l. (number_of l ≤ number_of (chosen version l)) × RepresentsAs (chosen version l) (first_imports n (history_of d of.lists)) c in
+    let either = subst Q (sym one.1) (is.not_lower, there) in
+    let all : P (history_of d of.lists) = (is.within, either.0, either.1) in
     subst P (sym one.0) all
 
 pub each_crash_leaves_a_copy : EachCrashLeavesACopy
-each_crash_leaves_a_copy asked file copy state has c image =
+each_crash_leaves_a_copy asked version file copy state has c image =
     let on = has.on_disk in
     let same = has.copy_is in
     record {
       of = has.of;
       within = has.within;
+      not_lower = has.not_lower;
       is = subst (λ d. HasStore A d (lists_of asked has.of) c) same (on.0, on.1, on.2 c image);
     }
 

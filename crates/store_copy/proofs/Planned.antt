@@ -8,11 +8,10 @@ use Rattle.blocks.specs.Extents.{block_limit}
 use Rattle.history_model.specs.declared.stamped.StampedRow.{StampedRow}
 use Rattle.directory.specs.declared.entry.Entry.{Entry}
 use Rattle.directory.specs.declared.layout.Layout.{Layout}
-use Rattle.directory.specs.Listings.{DirectoryValue, IsListing, form_of, most_entries, with_entry}
+use Rattle.directory.specs.Listings.{DirectoryValue, IsListing, most_entries, with_entry}
 use Rattle.segment.specs.Records.{segment_of}
-use Rattle.store_image.specs.Kept.{entry_at}
 use Rattle.store_copy.specs.declared.planning.Size.{Size}
-use Rattle.store_copy.specs.Copying.{up_to, lists_up_to, entries_from, end_from, copied_listing}
+use Rattle.store_copy.specs.Copying.{copied_entry, copied_listing, copied_sums, end_from, entries_from, lists_up_to, up_to}
 use Rattle.store_copy.specs.Private.Writing.{MayBeSegment, next_entry}
 use Rattle.store_copy.proofs.UpTo.{lists-join}
 use Rattle.store_copy.proofs.Listing.{copied_is_listing, end-append, end_grows, entries-append}
@@ -24,28 +23,28 @@ module _ (layout : Layout) (n : ℕ) (lists : List (List StampedRow)) (i : ℕ) 
     pub copied_same : copied ≡ copied_listing layout n (take (i + 1) lists)
     copied_same =
         copied_is
-        ∙ ap (λ (l : List (List StampedRow)). let d : DirectoryValue = record { layout = layout; epoch = 2; imports = n; entries = entries_from (form_of layout) 4 l } in d) (sym (done_none (form_of layout) n lists i rows lt is (omega (arith, none, rows_is))))
+        ∙ ap (λ (l : List (List StampedRow)). let d : DirectoryValue = record { layout = layout; epoch = 2; imports = n; entries = entries_from (copied_sums layout) 4 l } in d) (sym (done_none (copied_sums layout) n lists i rows lt is (omega (arith, none, rows_is))))
 
     pub first_same : first ≡ end_from 4 (lists_up_to n (take (i + 1) lists))
-    first_same = first_is ∙ ap (end_from 4) (sym (done_none (form_of layout) n lists i rows lt is (omega (arith, none, rows_is))))
+    first_same = first_is ∙ ap (end_from 4) (sym (done_none (copied_sums layout) n lists i rows lt is (omega (arith, none, rows_is))))
 
   module _ (some : 1 ≤ size.rows) where
-    next_is : next_entry copied.layout first size ≡ entry_at (form_of layout) (end_from 4 (lists_up_to n (take i lists))) (up_to n rows)
+    next_is : next_entry copied.layout first size ≡ copied_entry (copied_sums layout) (end_from 4 (lists_up_to n (take i lists))) (up_to n rows)
     next_is =
-        let form = ap (λ (d : DirectoryValue). form_of d.layout) copied_is in
-        λ k. record { first = first_is k; bytes = bytes_is k; rows = rows_is k; form = form k }
+        let has = ap (λ (d : DirectoryValue). copied_sums d.layout) copied_is in
+        λ k. record { first = first_is k; bytes = bytes_is k; rows = rows_is k; sums = has k }
 
     pub copied_more : with_entry copied (next_entry copied.layout first size) ≡ copied_listing layout n (take (i + 1) lists)
     copied_more =
         ap (λ (e : Entry). with_entry copied e) next_is
-        ∙ ap (λ (d : DirectoryValue). with_entry d (entry_at (form_of layout) (end_from 4 (lists_up_to n (take i lists))) (up_to n rows))) copied_is
+        ∙ ap (λ (d : DirectoryValue). with_entry d (copied_entry (copied_sums layout) (end_from 4 (lists_up_to n (take i lists))) (up_to n rows))) copied_is
         ∙ ap (λ (es : List Entry). let d : DirectoryValue = record { layout = layout; epoch = 2; imports = n; entries = es } in d)
-        (sym (ap (entries_from (form_of layout) 4) (done_some (form_of layout) n lists i rows lt is (omega (arith, some, rows_is))) ∙ entries-append (form_of layout) 4 (lists_up_to n (take i lists)) (up_to n rows)))
+        (sym (ap (entries_from (copied_sums layout) 4) (done_some (copied_sums layout) n lists i rows lt is (omega (arith, some, rows_is))) ∙ entries-append (copied_sums layout) 4 (lists_up_to n (take i lists)) (up_to n rows)))
 
     pub first_more : first + div_ceil size.bytes 4096 ≡ end_from 4 (lists_up_to n (take (i + 1) lists))
     first_more =
         ap (λ k. k + div_ceil size.bytes 4096) first_is ∙ ap (λ k. end_from 4 (lists_up_to n (take i lists)) + div_ceil k 4096) bytes_is
-        ∙ sym (ap (end_from 4) (done_some (form_of layout) n lists i rows lt is (omega (arith, some, rows_is))) ∙ end-append 4 (lists_up_to n (take i lists)) (up_to n rows))
+        ∙ sym (ap (end_from 4) (done_some (copied_sums layout) n lists i rows lt is (omega (arith, some, rows_is))) ∙ end-append 4 (lists_up_to n (take i lists)) (up_to n rows))
 
     pub next_listed : n < 2 ^ 32 → length lists ≤ most_entries layout → AllByRecursion MayBeSegment lists → first + div_ceil size.bytes 4096 ≤ block_limit → IsListing (with_entry copied (next_entry copied.layout first size))
     next_listed small few each fits =

@@ -10,21 +10,22 @@ use Rattle.segment.specs.Records.{record_in, record_of, segment_in, IsRecordAt}
 use Rattle.segment.specs.Standing.{record_len, with_places}
 use Rattle.segment.proofs.Posting.{says, record_there}
 use Rattle.segment.proofs.RecordLaws.{length-record_in}
-use Rattle.store_image.specs.Reading.{IsAt}
+use Rattle.store_copy.specs.Private.Writing.{IsSegmentAt}
 use Rattle.store_image.proofs.Windowed.{record_least}
 use Rattle.store_copy.specs.Private.Writing.{IsThere}
+use Rattle.directory.specs.Listings.{form_in}
 
-pub there_at : (file : List ℕ) (entry : Entry) (rows : List StampedRow) (s : StampedRow) (p : RowPlace) → IsAt file entry rows → Has (with_places 0 rows) (s, p) → IsThere entry.form (4096 * entry.first + p.at) s p file
+pub there_at : (file : List ℕ) (entry : Entry) (rows : List StampedRow) (s : StampedRow) (p : RowPlace) → IsSegmentAt file entry rows → Has (with_places 0 rows) (s, p) → IsThere (form_in entry.sums) (4096 * entry.first + p.at) s p file
 there_at file entry rows s p at h =
-    let piece = segment_in entry.form rows in
-    let found = record_there entry.form rows piece s p (record { each = at.0.is.each; ascending = at.0.is.ascending; bytes_are = refl }) h in
+    let piece = segment_in (form_in entry.sums) rows in
+    let found = record_there (form_in entry.sums) rows piece s p (record { each = at.0.is.each; ascending = at.0.is.ascending; bytes_are = refl }) h in
     let told = says 0 rows (s, p) h in
     let bytes : p.bytes ≡ length (record_of s) = told.bytes_are in
     let got = ap length found.bytes_are in
-    let ends : p.at + p.bytes ≤ length piece = omega (arith, got, length-take (length (record_of s)) (drop p.at piece), length-drop p.at piece, length-record_in entry.form s, record_least s, bytes) in
+    let ends : p.at + p.bytes ≤ length piece = omega (arith, got, length-take (length (record_of s)) (drop p.at piece), length-drop p.at piece, length-record_in (form_in entry.sums) s, record_least s, bytes) in
     let is = part_of_piece (4096 * entry.first) (length piece) p.at p.bytes file piece at.1.bytes refl at.1.within ends ∙ ap (λ n. take n (drop p.at piece)) bytes ∙ found.bytes_are in
     record {
-      whole = ap length is ∙ length-record_in entry.form s ∙ sym bytes;
+      whole = ap length is ∙ length-record_in (form_in entry.sums) s ∙ sym bytes;
       is = is;
       stamped = found.is;
       key = sym told.key_is;

@@ -4,13 +4,14 @@ use Rattle.std.specs.Int.{div_ceil}
 use Rattle.std.specs.List.{filter}
 use Rattle.history_model.specs.declared.stamped.StampedRow.{StampedRow}
 use Rattle.history_model.specs.History.{History}
-use Rattle.checksum.specs.declared.form.Form.{Form}
 use Rattle.directory.specs.declared.entry.Entry.{Entry}
 use Rattle.directory.specs.declared.layout.Layout.{Layout}
-use Rattle.directory.specs.Listings.{DirectoryValue, form_of}
+use Rattle.directory.specs.declared.layout.Layout.TheVariants as layouts
+use Rattle.directory.specs.declared.sums.Sums.{Sums}
+use Rattle.directory.specs.declared.sums.Sums.TheVariants as sums
+use Rattle.directory.specs.Listings.{DirectoryValue}
 use Rattle.directory.specs.Places.{end_block, extent_of}
 use Rattle.segment.specs.Records.{segment_of}
-use Rattle.store_image.specs.Kept.{entry_at}
 
 -- the rows that the first `n` imports brought, each with its import number
 unfoldable pub up_to : ℕ → List StampedRow → List StampedRow
@@ -20,10 +21,10 @@ up_to n rows = filter (λ s. nat_le s.import n) rows
 abbrev pub first_imports : ℕ → History → History
 first_imports n h = record { imports = n; rows = up_to n h.rows }
 
--- as many imports as asked for, or all
-abbrev pub chosen : Option ℕ → ℕ → ℕ
-chosen None all = all
-chosen (Some n) all = n
+-- what is asked for, or the store's own
+abbrev pub chosen : {X : Type 0} → Option X → X → X
+chosen None own = own
+chosen (Some x) own = x
 
 -- a list of rows before other lists, unless it is empty
 abbrev pub before : List StampedRow → List (List StampedRow) → List (List StampedRow)
@@ -35,18 +36,29 @@ abbrev pub lists_up_to : ℕ → List (List StampedRow) → List (List StampedRo
 lists_up_to n [] = []
 lists_up_to n (rows ∷ lists) = before (up_to n rows) (lists_up_to n lists)
 
+-- the checksums of a copied segment: in version 3 its records have them, and a merge gives it one of
+-- its own
+abbrev pub copied_sums : Layout → Sums
+copied_sums layouts.Three = sums.Records
+copied_sums _ = sums.Nowhere
+
+-- the entry of a segment of these rows, from block `first` on
+abbrev pub copied_entry : Sums → ℕ → List StampedRow → Entry
+copied_entry has first rows =
+    record { first = first; bytes = length (segment_of rows); rows = length rows; sums = has }
+
 -- the entries of the segments of these rows, from block `first` on, without a block between them
-abbrev pub entries_from : Form → ℕ → List (List StampedRow) → List Entry
-entries_from form first [] = []
-entries_from form first (rows ∷ lists) = entry_at form first rows
-    ∷ entries_from form (end_block (extent_of (entry_at form first rows))) lists
+abbrev pub entries_from : Sums → ℕ → List (List StampedRow) → List Entry
+entries_from has first [] = []
+entries_from has first (rows ∷ lists) = copied_entry has first rows
+    ∷ entries_from has (end_block (extent_of (copied_entry has first rows))) lists
 
 -- the block after these segments
 abbrev pub end_from : ℕ → List (List StampedRow) → ℕ
 end_from first [] = first
 end_from first (rows ∷ lists) = end_from (first + div_ceil (length (segment_of rows)) 4096) lists
 
--- the directory of a copy with the first `n` imports of a store of this layout version, whose
+-- the directory of a copy in this layout version, with the first `n` imports of a store whose
 -- segments have these rows
 abbrev pub copied_listing : Layout → ℕ → List (List StampedRow) → DirectoryValue
 copied_listing layout n lists =
@@ -54,5 +66,5 @@ copied_listing layout n lists =
       layout = layout;
       epoch = 2;
       imports = n;
-      entries = entries_from (form_of layout) 4 (lists_up_to n lists);
+      entries = entries_from (copied_sums layout) 4 (lists_up_to n lists);
     }

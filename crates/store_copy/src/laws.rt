@@ -4,7 +4,8 @@ ghost use Rattle.store_copy.specs.Laws.{CopyRepresents, EachCrashLeavesACopy};
 ghost use Rattle.store_copy.specs.Laws.{AllImportsAreAll, FirstImportsAreReleases};
 ghost use Rattle.store_copy.specs.Laws.{PinsStay, ReceiptsStay};
 
-/// A copy represents the history of the first imports, in the layout version of the store.
+/// A copy represents the history of the first imports, in the layout version of the store or in the
+/// higher one that was asked for.
 pub fn copy_represents()
     ensures { CopyRepresents }
 {}

@@ -8,14 +8,24 @@ ghost use Rattle.blocks.specs.Extents.{block_limit};
 ghost use Rattle.directory.specs.Listings.{IsListing, with_entry, most_entries};
 ghost use Rattle.segment.specs.Records.{segment_of};
 ghost use Rattle.store_copy.specs.declared.fault.CopyFault.TheVariants as faults;
-ghost use Rattle.store_copy.specs.Copying.{copied_listing, end_from, lists_up_to, up_to};
+ghost use Rattle.store_copy.specs.Copying.{copied_listing, copied_sums, end_from, lists_up_to, up_to};
 ghost use Rattle.store_copy.specs.Private.Writing.{MayBeSegment, next_entry};
 
 use crate::fault::CopyFault;
 use blocks::BLOCK_LIMIT;
-use directory::{Directory, Entry, Layout};
+use directory::{Directory, Entry, Layout, Sums};
 use std::alloc::Global;
 use store_image::SegmentPlaces;
+
+/// The checksums of a copied segment.
+fn copied_sums(layout: Layout) -> Sums
+    ensures { result ≡ copied_sums layout }
+{
+    match layout {
+        Layout::One | Layout::Two => Sums::Nowhere,
+        Layout::Three => Sums::Records,
+    }
+}
 
 /// How many bytes and rows of a segment are copied.
 #[derive(Clone, Copy)]
@@ -54,7 +64,7 @@ fn list_next(copied: &mut Directory, first: u32, size: Size) -> Result<u32, Copy
         first,
         bytes: size.bytes,
         rows: size.rows,
-        form: copied.layout().form(),
+        sums: copied_sums(copied.layout()),
     };
     let end = entry.extent().end();
     if end > u64::from(BLOCK_LIMIT) {

@@ -3,6 +3,7 @@
 ghost use Rattle.std.specs.Prelude.{◌≡◌, ◌≢◌, ◌↔◌, ◌+◌, ◌*◌, ◌<◌, ◌≤◌, length, take, drop, IsTrue};
 ghost use Rattle.std.specs.Prelude.{IfOk, IfErr, MatchResult};
 ghost use Rattle.disk_model.specs.View.{OnlyReads, AtMost};
+ghost use Rattle.directory.specs.Listings.{form_in};
 ghost use Rattle.fault_counts.specs.Counting.{Counts, CountsDiskFault};
 ghost use Rattle.fault_counts.specs.declared.fault.ReadFault.TheVariants as readfault;
 ghost use Rattle.history_model.specs.declared.stamped.StampedRow.{StampedRow};
@@ -60,7 +61,8 @@ pub(crate) fn read_row<S: Disk>(
     at: RowPlace,
 ) -> Result<StampedRow, ReadFault>
     ensures found { (S.view source.old).is_honest → (s : StampedRow)
-        → IsThere entry.form (4096 * entry.first + at.at) s at (S.view source.old).moments.state.now
+        → IsThere (form_in entry.sums) (4096 * entry.first + at.at) s at
+        (S.view source.old).moments.state.now
         → MatchResult result (λ row. row ≡ s) (λ e. e ≢ readfault.Damaged) }
     // Whatever the disk returned, the row has the key, the import number and the length of its
     // place.
@@ -70,7 +72,7 @@ pub(crate) fn read_row<S: Disk>(
 {
     let from = BLOCK * u64::from(entry.first) + u64::from(at.at);
     let len = at.bytes;
-    let form = entry.form;
+    let form = entry.form();
     let bytes = read_bytes(alloc, source, from, len)?;
     match record_at(alloc, form, bytes.as_slice(), 0) {
         Ok((row, next)) => {

@@ -12,7 +12,7 @@ ghost use Rattle.blocks.specs.Extents.{block_limit, byte_range};
 ghost use Rattle.blocks.specs.Outside.{SameOutside, StemsWithin};
 ghost use Rattle.checksum.specs.declared.form.Form.{Form as FormValue};
 ghost use Rattle.history_model.specs.declared.stamped.StampedRow.{StampedRow};
-ghost use Rattle.directory.specs.Listings.{IsEntry};
+ghost use Rattle.directory.specs.Listings.{IsEntry, form_in};
 ghost use Rattle.directory.specs.Places.{end_block, extent_of};
 ghost use Rattle.segment.specs.Records.{record_in, segment_in, segment_of};
 ghost use Rattle.store_image.specs.Ahead.{BeginsWith};
@@ -20,11 +20,10 @@ ghost use Rattle.store_image.specs.Pieces.{HoldsAll};
 ghost use Rattle.store_image.specs.Images.{IsStore};
 ghost use Rattle.store_image.specs.Kept.{AreSegments, IsKept, pieces_of};
 ghost use Rattle.store_image.specs.OnDisk.{HasStore, IsOnDisk};
-ghost use Rattle.store_image.specs.Reading.{IsAt};
 ghost use Rattle.store_copy.specs.Copying.{lists_up_to, up_to};
 ghost use Rattle.store_copy.specs.Answers.{CountsSource, CountsTarget, IsFailure};
 ghost use Rattle.store_copy.specs.Private.Writing.{ArePending, CountsRead, CountsWrite, IsNoDamage};
-ghost use Rattle.store_copy.specs.Private.Writing.{IsPlan, IsShut, IsThere, MayBeSegment};
+ghost use Rattle.store_copy.specs.Private.Writing.{IsPlan, IsSegmentAt, IsShut, IsThere, MayBeSegment};
 
 use crate::fault::{CopyFault, SegmentCopyFault};
 use crate::planning::size_up_to;
@@ -77,11 +76,11 @@ impl Pending {
         ensures len { OnOk result (length self.new.bytes.items
             ≡ length self.old.bytes.items + at.bytes) }
         ensures bytes { (S.view source.old).is_honest → (s : StampedRow)
-            → IsThere from.form (4096 * from.first + at.at) s at
+            → IsThere (form_in from.sums) (4096 * from.first + at.at) s at
             (S.view source.old).moments.state.now
             → OnOk result (self.new.bytes.items ≡ self.old.bytes.items ++ record_in form s) }
         ensures found { (S.view source.old).is_honest → (s : StampedRow)
-            → IsThere from.form (4096 * from.first + at.at) s at
+            → IsThere (form_in from.sums) (4096 * from.first + at.at) s at
             (S.view source.old).moments.state.now
             → IfErr result (λ e. e ≢ readfault.Damaged) }
         ensures meters { OnlyReads (Counts CountsDiskFault result) Unsaid
@@ -137,13 +136,15 @@ fn copy_row<S: Disk, T: Disk>(
         ≡ pending.old.written + length pending.old.bytes.items + at.bytes) }
     ensures pending { (S.view source.old).is_honest → (T.view target.old).is_honest
         → (rows : List StampedRow) (s : StampedRow)
-        → IsThere from.form (4096 * from.first + at.at) s at (S.view source.old).moments.state.now
-        → ArePending to.form (extent_of to) rows pending.old.written pending.old.bytes.items
+        → IsThere (form_in from.sums) (4096 * from.first + at.at) s at
+        (S.view source.old).moments.state.now
+        → ArePending (form_in to.sums) (extent_of to) rows pending.old.written pending.old.bytes.items
         (T.view target.old).moments.state.now
-        → OnOk result (ArePending to.form (extent_of to) (rows ++ s ∷ [])
+        → OnOk result (ArePending (form_in to.sums) (extent_of to) (rows ++ s ∷ [])
         pending.new.written pending.new.bytes.items (T.view target.new).moments.state.now) }
     ensures found { (S.view source.old).is_honest → (s : StampedRow)
-        → IsThere from.form (4096 * from.first + at.at) s at (S.view source.old).moments.state.now
+        → IsThere (form_in from.sums) (4096 * from.first + at.at) s at
+        (S.view source.old).moments.state.now
         → IfErr result (λ e. IsNoDamage e) }
     ensures any_moment { (T.view target.old).is_honest
         → LeavesOnly (T.view target.old).moments (T.view target.new).moments
@@ -156,7 +157,7 @@ fn copy_row<S: Disk, T: Disk>(
     ensures target_meters { Calls (Counts CountsWrite result) Stays Unsaid
         (T.view target.old) (T.view target.new) }
 {
-    let form = to.form;
+    let form = to.form();
     match pending.take(alloc, source, from, at, form) {
         Ok(()) => {}
         Err(fault) => return Err(SegmentCopyFault::Read(fault)),
@@ -184,11 +185,11 @@ fn copy_segment<S: Disk, T: Disk>(
     requires size { to.bytes ≡ length (segment_of (up_to imports segment.now)) }
     // After `Ok` a read of the extent returns the segment of these rows.
     ensures written { (S.view source.old).is_honest → (T.view target.old).is_honest
-        → IsAt (S.view source.old).moments.state.now from segment.now
-        → OnOk result (BeginsWith (extent_of to) (segment_in to.form (up_to imports segment.now))
+        → IsSegmentAt (S.view source.old).moments.state.now from segment.now
+        → OnOk result (BeginsWith (extent_of to) (segment_in (form_in to.sums) (up_to imports segment.now))
         (T.view target.new).moments.state.now) }
     ensures found { (S.view source.old).is_honest
-        → IsAt (S.view source.old).moments.state.now from segment.now
+        → IsSegmentAt (S.view source.old).moments.state.now from segment.now
         → IfErr result (λ e. IsNoDamage e) }
     ensures any_moment { (T.view target.old).is_honest
         → LeavesOnly (T.view target.old).moments (T.view target.new).moments

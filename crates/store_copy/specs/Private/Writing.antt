@@ -7,16 +7,19 @@ use Rattle.blocks.specs.Slots.{IsClosed}
 use Rattle.checksum.specs.declared.form.Form.{Form}
 use Rattle.directory.specs.declared.entry.Entry.{Entry}
 use Rattle.directory.specs.declared.layout.Layout.{Layout}
-use Rattle.directory.specs.Listings.{DirectoryValue, IsListing, form_of}
+use Rattle.blocks.specs.Extents.{start_of}
+use Rattle.directory.specs.Places.{extent_of}
+use Rattle.directory.specs.Listings.{DirectoryValue, IsListing, number_of}
 use Rattle.history_model.specs.declared.stamped.StampedRow.{StampedRow}
 use Rattle.segment.specs.declared.place.RowPlace.{RowPlace}
 use Rattle.segment.specs.Records.{IsStamped, record_in, segment_of, segment_in}
 use Rattle.store_image.specs.Ahead.{BeginsWith}
-use Rattle.store_image.specs.Kept.{IsKept}
+use Rattle.store_image.specs.Kept.{IsKept, IsSegmentOf, segment_with}
+use Rattle.store_image.specs.Pieces.{Holds}
 use Rattle.fault_counts.specs.Counting.{CountsDiskFault, HasRisen}
 use Rattle.fault_counts.specs.declared.fault.ReadFault.TheVariants as reading
 use Rattle.store_image.specs.declared.fault.Damage.TheVariants as damages
-use Rattle.store_copy.specs.Copying.{chosen, copied_listing, entries_from, lists_up_to}
+use Rattle.store_copy.specs.Copying.{chosen, copied_listing, copied_sums, entries_from, lists_up_to}
 use Rattle.store_copy.specs.declared.fault.CopyFault.{CopyFault}
 use Rattle.store_copy.specs.declared.fault.CopyFault.TheVariants as faults
 use Rattle.store_copy.specs.declared.fault.SegmentCopyFault.{SegmentCopyFault}
@@ -28,6 +31,13 @@ abbrev pub IsChosen : Result ℕ CopyFault → Option ℕ → ℕ → Type 0
 IsChosen (Ok n) asked all = (n ≡ chosen asked all) × (n ≤ all)
 IsChosen (Err e) asked all = (e ≡ faults.NoSuchImport) × (all < chosen asked all)
 
+-- the layout version asked for, or the store's, if that isn't above it
+abbrev pub IsChosenLayout : Result Layout CopyFault → Option Layout → Layout → Type 0
+IsChosenLayout (Ok layout) version own =
+    (layout ≡ chosen version own) × (number_of own ≤ number_of layout)
+IsChosenLayout (Err e) version own =
+    (e ≡ faults.LowerLayout) × (number_of (chosen version own) < number_of own)
+
 -- the rows are few and short enough for a segment
 abbrev pub MayBeSegment : List StampedRow → Type 0
 MayBeSegment rows = (length (segment_of rows) < 2 ^ 32) × (length rows < 2 ^ 32)
@@ -35,19 +45,21 @@ MayBeSegment rows = (length (segment_of rows) < 2 ^ 32) × (length rows < 2 ^ 32
 -- the entry of a segment with this many bytes and rows, from block `first` on
 abbrev pub next_entry : Layout → ℕ → Size → Entry
 next_entry layout first size =
-    record { first = first; bytes = size.bytes; rows = size.rows; form = form_of layout }
+    record { first = first; bytes = size.bytes; rows = size.rows; sums = copied_sums layout }
 
 -- the directory lists the copied rows of these segments, one segment directly after the other
 abbrev pub IsPlan : DirectoryValue → List (List StampedRow) → Type 0
 IsPlan copy lists =
-    copy.entries ≡ entries_from (form_of copy.layout) 4 (lists_up_to copy.imports lists)
+    copy.entries ≡ entries_from (copied_sums copy.layout) 4 (lists_up_to copy.imports lists)
 
 -- the directory and the rows of a store, and the directory of a copy with this many of its imports
-pub record IsPlanned (asked : Option ℕ) (d : DirectoryValue) (lists : List (List StampedRow))
-    (copy : DirectoryValue) : Type 0 where
+-- in this layout version
+pub record IsPlanned (asked : Option ℕ) (version : Option Layout) (d : DirectoryValue)
+    (lists : List (List StampedRow)) (copy : DirectoryValue) : Type 0 where
   pub kept : IsKept d lists
   pub within : chosen asked d.imports ≤ d.imports
-  pub copy_is : copy ≡ copied_listing d.layout (chosen asked d.imports) lists
+  pub not_lower : number_of d.layout ≤ number_of (chosen version d.layout)
+  pub copy_is : copy ≡ copied_listing (chosen version d.layout) (chosen asked d.imports) lists
   pub listing : IsListing copy
 
 -- the file is long enough to have both gates, and both are closed
@@ -55,6 +67,11 @@ pub record IsShut (file : List ℕ) : Type 0 where
   pub long : 8193 ≤ length file
   pub first : IsClosed A file
   pub second : IsClosed B file
+
+-- the entry's extent in the file has the segment of these rows
+abbrev pub IsSegmentAt : List ℕ → Entry → List StampedRow → Type 0
+IsSegmentAt file entry rows =
+    IsSegmentOf entry rows × Holds (start_of (extent_of entry), segment_with entry rows) file
 
 -- the first bytes of the segment of these rows are in the extent, and the others are pending
 pub record ArePending (form : Form) (extent : Extent) (rows : List StampedRow) (written : ℕ)

@@ -25,7 +25,7 @@ use Rattle.store_image.specs.declared.fault.RowsFault.{RowsFault}
 use Rattle.store_image.specs.declared.fault.RowsFault.TheVariants as faults
 use Rattle.store_image.specs.declared.reading.ReadTo.{ReadTo}
 use Rattle.store_image.specs.declared.window.Window.{Window}
-use Rattle.store_image.specs.Kept.{HasKind, AreSegments}
+use Rattle.store_image.specs.Kept.{HasKind, AreSegments, AreSummed}
 use Rattle.store_image.specs.Reading.{AreNumbered, IsAt}
 
 -- the count of failures has risen if the disk failed, and otherwise is unchanged
@@ -136,10 +136,11 @@ AreOfKinds layout places = All (λ (p : RowPlace). HasKind layout p.key.kind) pl
 
 -- ---- the rows of all segments
 
--- each entry's segment has its rows, no key is in two segments, and no import number is greater
--- than `imports`
+-- each entry's segment has its rows and its checksum, no key is in two segments, and no import
+-- number is greater than `imports`
 pub record AreRead (imports : ℕ) (entries : List Entry)
     (lists : List (List StampedRow)) : Type 0 where
   pub segments : AreSegments entries lists
+  pub sums : AreSummed entries lists
   pub apart : AreLists lists
   pub numbered : AllByRecursion (AreNumbered imports) lists

@@ -6,7 +6,7 @@ returns-in-Ok g c =
     record {
       had = c.open.result;
       opening = c.open.ensures.opened;
-      does = rw (c.in-Ok.is, c.close.ensures.disk) c.merge_all-ended.ensures;
+      does = rw (c.in-Ok.is, c.close.ensures.disk) c.merge_lines-ended.ensures;
     }
 
 pub returns-in-Err : goal.returns-in-Err

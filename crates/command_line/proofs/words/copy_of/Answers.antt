@@ -9,4 +9,5 @@ returns-in-Ok c =
       sym (rows (codes "store")) ∙ sym c.in_ok-store.ensures,
       sym (rows (codes "to")) ∙ sym c.in_ok-to.ensures,
       c.in-Ok.ensures,
+      c.in_ok-layout.ensures,
     )

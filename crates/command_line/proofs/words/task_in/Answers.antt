@@ -49,9 +49,8 @@ init_read n rows (Some (tasks.Check store folder name quiet)) is h = absurd h
 init_read n rows (Some (tasks.Serve store folder)) is h = absurd h
 init_read n rows (Some (tasks.Status store)) is h = absurd h
 init_read n rows (Some (tasks.Merge store segments)) is h = absurd h
-init_read n rows (Some (tasks.Copy store to imports)) is h = absurd h
+init_read n rows (Some (tasks.Copy store to imports layout)) is h = absurd h
 init_read n rows (Some (tasks.Digest store imports)) is h = absurd h
-init_read n rows (Some (tasks.Upgrade store)) is h = absurd h
 init_read n rows (Some tasks.Demo) is h = absurd h
 
 pub returns-in-init : goal.returns-in-init
@@ -69,9 +68,8 @@ import_read n rows (Some (tasks.Check store folder name quiet)) is h = (is, h)
 import_read n rows (Some (tasks.Serve store folder)) is h = absurd h
 import_read n rows (Some (tasks.Status store)) is h = absurd h
 import_read n rows (Some (tasks.Merge store segments)) is h = absurd h
-import_read n rows (Some (tasks.Copy store to imports)) is h = absurd h
+import_read n rows (Some (tasks.Copy store to imports layout)) is h = absurd h
 import_read n rows (Some (tasks.Digest store imports)) is h = absurd h
-import_read n rows (Some (tasks.Upgrade store)) is h = absurd h
 import_read n rows (Some tasks.Demo) is h = absurd h
 
 pub returns-in-import : goal.returns-in-import
@@ -89,9 +87,8 @@ copy_read n rows (Some (tasks.Check store folder name quiet)) is h = absurd h
 copy_read n rows (Some (tasks.Serve store folder)) is h = absurd h
 copy_read n rows (Some (tasks.Status store)) is h = absurd h
 copy_read n rows (Some (tasks.Merge store segments)) is h = absurd h
-copy_read n rows (Some (tasks.Copy store to imports)) is h = (is, h)
+copy_read n rows (Some (tasks.Copy store to imports layout)) is h = (is, h)
 copy_read n rows (Some (tasks.Digest store imports)) is h = absurd h
-copy_read n rows (Some (tasks.Upgrade store)) is h = absurd h
 copy_read n rows (Some tasks.Demo) is h = absurd h
 
 pub returns-in-copy : goal.returns-in-copy
@@ -109,9 +106,8 @@ digest_read n rows (Some (tasks.Check store folder name quiet)) is h = absurd h
 digest_read n rows (Some (tasks.Serve store folder)) is h = absurd h
 digest_read n rows (Some (tasks.Status store)) is h = absurd h
 digest_read n rows (Some (tasks.Merge store segments)) is h = absurd h
-digest_read n rows (Some (tasks.Copy store to imports)) is h = absurd h
+digest_read n rows (Some (tasks.Copy store to imports layout)) is h = absurd h
 digest_read n rows (Some (tasks.Digest store imports)) is h = (is, h)
-digest_read n rows (Some (tasks.Upgrade store)) is h = absurd h
 digest_read n rows (Some tasks.Demo) is h = absurd h
 
 pub returns-in-digest : goal.returns-in-digest
@@ -137,15 +133,6 @@ returns-in_ok-get_str-in-status c =
     rw is (
       c.in-status.is,
       given found (codes "store") c.in_ok-get_str-in-status.field-0.now c.in_ok-get_str-in-status.ensures,
-    )
-
-pub returns-in_ok-get_str-in-upgrade : goal.returns-in_ok-get_str-in-upgrade
-returns-in_ok-get_str-in-upgrade c =
-    let found = found_of c.in_ok-name.found.now in
-    let is = met c.args.matches.now c.in_ok-name.name.now (rows_of found) c.in_ok-name.ensures.name c.in_ok-name.ensures.rows in
-    rw is (
-      c.in-upgrade.is,
-      given found (codes "store") c.in_ok-get_str-in-upgrade.field-0.now c.in_ok-get_str-in-upgrade.ensures,
     )
 
 pub returns-in-Ok : goal.returns-in-Ok

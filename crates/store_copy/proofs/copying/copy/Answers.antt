@@ -1,4 +1,5 @@
 use Rattle.std.proofs.Common.{inl, List, length, sym, ap, subst, ◌∙◌}
+use Rattle.std.proofs.lemmas.Result.{err_from_is_err_and}
 use Rattle.std.specs.List.{AllByRecursion}
 use Rattle.disk_model.specs.Disk.{Moments}
 use Rattle.disk_model.proofs.MomentSteps.{stayed}
@@ -22,7 +23,7 @@ write_copy-requires-clause-small g c =
 pub write_copy-requires-clause-kept : goal.write_copy-requires-clause-kept
 write_copy-requires-clause-kept g c =
     let l = c.in_ok-of.field-0 in
-    subst (λ (lists : List (List StampedRow)). IsKept l.copy (lists_up_to l.copy.imports lists)) (sym c.as_slice.ensures.value) (copy_kept c.args.imports l.of l.segments.items l.copy c.in_ok-of.ensures.planned)
+    subst (λ (lists : List (List StampedRow)). IsKept l.copy (lists_up_to l.copy.imports lists)) (sym c.as_slice.ensures.value) (copy_kept c.args.imports c.args.layout l.of l.segments.items l.copy c.in_ok-of.ensures.planned)
 
 pub returns-in_err-write_copy-clause-any_moment : goal.returns-in_err-write_copy-clause-any_moment
 returns-in_err-write_copy-clause-any_moment g c = λ s t.
@@ -35,8 +36,8 @@ returns-in_err-write_copy-clause-any_moment g c = λ s t.
     let none = ap (λ (m : Moments). length m.state.now) same ∙ c.in_ok-check_empty.ensures.exact t in
     let has = c.in_ok-of.ensures.read s in
     let planned = c.in_ok-of.ensures.planned in
-    let held = held_still c.args.imports l.of l.segments.items l.copy planned l.slot file has c.entries-from.result.now c.as_slice.result.now (g.S.Disk.view c.read_and_plan.new.source).moments.state.now c.entries-from.ensures.entries c.as_slice.ensures.value (c.read_and_plan.ensures.now s) in
-    copy_run c.args.imports l.of l.segments.items l.copy planned l.slot file has m0 m1 m2 c.as_slice.result.now same c.as_slice.ensures.value
+    let held = held_still c.args.imports c.args.layout l.of l.segments.items l.copy planned l.slot file has c.entries-from.result.now c.as_slice.result.now (g.S.Disk.view c.read_and_plan.new.source).moments.state.now c.entries-from.ensures.entries c.as_slice.ensures.value (c.read_and_plan.ensures.now s) in
+    copy_run c.args.imports c.args.layout l.of l.segments.items l.copy planned l.slot file has m0 m1 m2 c.as_slice.result.now same c.as_slice.ensures.value
     (c.write_copy.ensures.any_moment (c.read_and_plan.ensures.meters.honesty.0 s) (c.check_empty.ensures.meters.honesty.0 t) held none)
 
 pub returns-clause-any_moment : goal.returns-clause-any_moment
@@ -50,8 +51,8 @@ returns-clause-any_moment g c = λ s t.
     let none = ap (λ (m : Moments). length m.state.now) same ∙ c.in_ok-check_empty.ensures.exact t in
     let has = c.in_ok-of.ensures.read s in
     let planned = c.in_ok-of.ensures.planned in
-    let held = held_still c.args.imports l.of l.segments.items l.copy planned l.slot file has c.entries-from.result.now c.as_slice.result.now (g.S.Disk.view c.read_and_plan.new.source).moments.state.now c.entries-from.ensures.entries c.as_slice.ensures.value (c.read_and_plan.ensures.now s) in
-    copy_run c.args.imports l.of l.segments.items l.copy planned l.slot file has m0 m1 m2 c.as_slice.result.now same c.as_slice.ensures.value
+    let held = held_still c.args.imports c.args.layout l.of l.segments.items l.copy planned l.slot file has c.entries-from.result.now c.as_slice.result.now (g.S.Disk.view c.read_and_plan.new.source).moments.state.now c.entries-from.ensures.entries c.as_slice.ensures.value (c.read_and_plan.ensures.now s) in
+    copy_run c.args.imports c.args.layout l.of l.segments.items l.copy planned l.slot file has m0 m1 m2 c.as_slice.result.now same c.as_slice.ensures.value
     (c.write_copy.ensures.any_moment (c.read_and_plan.ensures.meters.honesty.0 s) (c.check_empty.ensures.meters.honesty.0 t) held none)
 
 pub returns-clause-copied : goal.returns-clause-copied
@@ -62,6 +63,12 @@ returns-clause-copied g c = λ s t.
     let none = ap (λ (m : Moments). length m.state.now) same ∙ c.in_ok-check_empty.ensures.exact t in
     let has = c.in_ok-of.ensures.read s in
     let planned = c.in_ok-of.ensures.planned in
-    let held = held_still c.args.imports l.of l.segments.items l.copy planned l.slot file has c.entries-from.result.now c.as_slice.result.now (g.S.Disk.view c.read_and_plan.new.source).moments.state.now c.entries-from.ensures.entries c.as_slice.ensures.value (c.read_and_plan.ensures.now s) in
-    has_copied c.args.imports l.of l.segments.items l.copy planned l.slot file has (g.T.Disk.view c.write_copy.new.target).moments.state c.as_slice.result.now c.as_slice.ensures.value
+    let held = held_still c.args.imports c.args.layout l.of l.segments.items l.copy planned l.slot file has c.entries-from.result.now c.as_slice.result.now (g.S.Disk.view c.read_and_plan.new.source).moments.state.now c.entries-from.ensures.entries c.as_slice.ensures.value (c.read_and_plan.ensures.now s) in
+    has_copied c.args.imports c.args.layout l.of l.segments.items l.copy planned l.slot file has (g.T.Disk.view c.write_copy.new.target).moments.state c.as_slice.result.now c.as_slice.ensures.value
     (c.in_ok-write_copy.ensures.on_disk (c.read_and_plan.ensures.meters.honesty.0 s) (c.check_empty.ensures.meters.honesty.0 t) held none)
+
+pub returns-in_err-of-clause-refused : goal.returns-in_err-of-clause-refused
+returns-in_err-of-clause-refused g c = λ s t.
+    let none = c.in_ok-check_empty.ensures.exact t in
+    let p = err_from_is_err_and c.from_residual-in_err-of.result c.from_residual-in_err-of.ensures.1 in
+    rw (p.1, p.2) (c.in_err-of.ensures.refused s (g.T.Disk.view c.args.target.now).moments.state.now none)

@@ -2,7 +2,6 @@ use Rattle.std.proofs.Common.{◌≤◌, List, length, sym, ap, subst, ◌∙◌
 use Rattle.std.specs.List.{AllByRecursion}
 use Rattle.std.proofs.lemmas.List.{map-id}
 use Rattle.std.proofs.lemmas.Result.{err_from_is_err_and}
-use Rattle.directory.specs.declared.layout.Layout.{Layout}
 use Rattle.directory.specs.Listings.{most_entries}
 use Rattle.history_model.specs.declared.stamped.StampedRow.{StampedRow}
 use Rattle.store_image.specs.Kept.{IsKept}
@@ -11,8 +10,8 @@ use Rattle.store_image.specs.OnDisk.{HasStore}
 use Rattle.store_copy.specs.Answers.{Shown}
 use Rattle.store_copy.specs.Copying.{chosen}
 use Rattle.store_copy.specs.Private.Writing.{MayBeSegment}
-use Rattle.store_copy.proofs.Copied.{not_chosen, not_planned}
-use Rattle.store_copy.proofs.Listing.{segments_small}
+use Rattle.store_copy.proofs.Copied.{chosen_not_lower, chosen_within, not_chosen, not_lowered, not_planned}
+use Rattle.store_copy.proofs.Listing.{entries_rise, segments_small}
 use Rattle.store_copy.proofs.copying.read_and_plan.Goals as goal
 
 pub returns-in_err-imports-clause-refused : goal.returns-in_err-imports-clause-refused
@@ -21,7 +20,7 @@ returns-in_err-imports-clause-refused g c = λ honest.
     let l = c.in_ok-slot.field-0 in
     let of : Shown file = record { slot = l.slot; directory = l.directory; lists = l.segments.items; is = subst (λ (r : List (List StampedRow)). HasStore l.slot l.directory r file) (map-id l.segments.items) (c.in_ok-slot.ensures.exact honest) } in
     let p = err_from_is_err_and c.from_residual-in_err-imports.result c.from_residual-in_err-imports.ensures.1 in
-    rw (p.1, p.2) (λ target. not_chosen c.in_err-imports.field-0.0 c.args.imports c.imports.result file target of c.imports.ensures c.in_err-imports.ensures)
+    rw (p.1, p.2) (λ target none. not_chosen c.args.imports c.args.layout file target none of c.in_err-imports.field-0.0 c.imports.result c.imports.ensures c.in_err-imports.ensures)
 
 pub plan-requires-clause-small : goal.plan-requires-clause-small
 plan-requires-clause-small g c =
@@ -36,7 +35,18 @@ plan-requires-clause-few g c =
     let long = ap length c.as_slice.ensures.value in
     let count = kept.listing.count in
     let few : length c.as_slice.result.now ≤ most_entries l.directory.layout = omega (arith, long, segments_count l.directory.entries l.segments.items kept.segments, count) in
-    subst (λ (layout : Layout). length c.as_slice.result.now ≤ most_entries layout) (sym c.layout.ensures) few
+    let rises = entries_rise c.layout.result c.in_ok-layout.layout c.in_ok-layout.ensures.1 in
+    let own = ap most_entries c.layout.ensures in
+    omega (arith, few, rises, own)
+
+pub returns-in_err-layout-clause-refused : goal.returns-in_err-layout-clause-refused
+returns-in_err-layout-clause-refused g c = λ honest.
+    let file = (g.S.Disk.view c.args.source.now).moments.state.now in
+    let l = c.in_ok-slot.field-0 in
+    let of : Shown file = record { slot = l.slot; directory = l.directory; lists = l.segments.items; is = subst (λ (r : List (List StampedRow)). HasStore l.slot l.directory r file) (map-id l.segments.items) (c.in_ok-slot.ensures.exact honest) } in
+    let p = err_from_is_err_and c.from_residual-in_err-layout.result c.from_residual-in_err-layout.ensures.1 in
+    let within = chosen_within c.args.imports c.imports.result l.directory.imports c.in_ok-imports.imports c.imports.ensures c.in_ok-imports.ensures in
+    rw (p.1, p.2) (λ target none. not_lowered c.args.imports c.args.layout file target none of c.in_err-layout.field-0.0 within c.layout.result c.layout.ensures c.in_err-layout.ensures)
 
 pub returns-in_err-copy-clause-refused : goal.returns-in_err-copy-clause-refused
 returns-in_err-copy-clause-refused g c = λ honest.
@@ -45,4 +55,6 @@ returns-in_err-copy-clause-refused g c = λ honest.
     let of : Shown file = record { slot = l.slot; directory = l.directory; lists = l.segments.items; is = subst (λ (r : List (List StampedRow)). HasStore l.slot l.directory r file) (map-id l.segments.items) (c.in_ok-slot.ensures.exact honest) } in
     let p = err_from_is_err_and c.from_residual-in_err-copy.result c.from_residual-in_err-copy.ensures.1 in
     let same = c.in_ok-imports.ensures.0 ∙ ap (chosen c.args.imports) c.imports.ensures in
-    rw (p.1, p.2) (λ target. not_planned c.in_err-copy.field-0.0 c.args.imports c.in_ok-imports.imports c.as_slice.result.now file target of same c.as_slice.ensures.value c.in_err-copy.ensures.refused)
+    let within = chosen_within c.args.imports c.imports.result l.directory.imports c.in_ok-imports.imports c.imports.ensures c.in_ok-imports.ensures in
+    let not_lower = chosen_not_lower c.args.layout c.layout.result l.directory.layout c.in_ok-layout.layout c.layout.ensures c.in_ok-layout.ensures in
+    rw (p.1, p.2) (λ target none. not_planned c.args.imports c.args.layout file target none of c.in_err-copy.field-0.0 within not_lower c.in_ok-imports.imports c.as_slice.result.now same c.as_slice.ensures.value c.in_err-copy.ensures.refused)

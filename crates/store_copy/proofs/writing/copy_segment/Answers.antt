@@ -17,6 +17,7 @@ use Rattle.store_copy.proofs.Records.{there_at}
 use Rattle.store_copy.proofs.Steps.{all_written, kept, kept_bytes, left_out, no_pending, none_bytes, step_at, taken_fewer}
 use Rattle.store_copy.proofs.writing.copy_segment.Goals as goal
 use Rattle.store_copy.proofs.writing.copy_segment.Goals.{then-place-imports+in-Ok, else-place-imports}
+use Rattle.directory.specs.Listings.{form_in}
 
 pub loop-place-init : goal.loop-place-init
 loop-place-init g c =
@@ -33,7 +34,7 @@ loop-place-init g c =
       len = omega (arith, c.new-pending.ensures.written, ap length c.new-pending.ensures.bytes, none_bytes c.args.imports);
       run = λ h. within_none old range.0 range.1;
       elsewhere = λ h. elsewhere_none (range ∷ []) old.state.now;
-      pending = λ s t at. no_pending c.args.to.form (extent_of c.args.to) c.args.imports [] c.new-pending.result.written c.new-pending.result.bytes.items old.state.now refl c.new-pending.ensures.written c.new-pending.ensures.bytes;
+      pending = λ s t at. no_pending (form_in c.args.to.sums) (extent_of c.args.to) c.args.imports [] c.new-pending.result.written c.new-pending.result.bytes.items old.state.now refl c.new-pending.ensures.written c.new-pending.ensures.bytes;
     }
 
 pub copy_row-requires-clause-inside : goal.copy_row-requires-clause-inside
@@ -52,7 +53,7 @@ returns-in-Err-clause-found g c = λ s at.
     let p = c.place-item.result in
     let inv = c.loop-place.invariant in
     let step = step_at rows c.places-place-items.result.now c.loop-place.place-index p c.places-place-items.ensures c.loop-place-test.true c.place-item.is in
-    let there = subst (λ (m : Moments). IsThere c.args.from.form (4096 * c.args.from.first + p.at) step.row p m.state.now) (sym (inv.moments s)) (there_at (g.S.Disk.view c.args.source.now).moments.state.now c.args.from rows step.row p at step.there) in
+    let there = subst (λ (m : Moments). IsThere (form_in c.args.from.sums) (4096 * c.args.from.first + p.at) step.row p m.state.now) (sym (inv.moments s)) (there_at (g.S.Disk.view c.args.source.now).moments.state.now c.args.from rows step.row p at step.there) in
     c.in-Err.ensures.found (inv.source.0 s) step.row there
 
 pub returns-in-Err-clause-any_moment : goal.returns-in-Err-clause-any_moment
@@ -68,7 +69,7 @@ loop-place-preserved g c =
     let i = c.loop-place.place-index in
     let p = c.place-item.result in
     let inv = c.loop-place.invariant in
-    let form = c.args.to.form in
+    let form = (form_in c.args.to.sums) in
     let extent = extent_of c.args.to in
     let range = byte_range extent in
     let old = (g.T.Disk.view c.args.target.now).moments in
@@ -90,7 +91,7 @@ loop-place-preserved g c =
             run = λ h. within_on old mid new range.0 range.1 (inv.run h) (done.any_moment (inv.target.0 h));
             elsewhere = λ h. elsewhere_on (range ∷ []) old.state.now mid.state.now new.state.now (inv.elsewhere h) (done.elsewhere (inv.target.0 h));
             pending = λ s t at.
-                let there = subst (λ (m : Moments). IsThere c.args.from.form (4096 * c.args.from.first + p.at) step.row p m.state.now) (sym (inv.moments s)) (there_at (g.S.Disk.view c.args.source.now).moments.state.now c.args.from rows step.row p at step.there) in
+                let there = subst (λ (m : Moments). IsThere (form_in c.args.from.sums) (4096 * c.args.from.first + p.at) step.row p m.state.now) (sym (inv.moments s)) (there_at (g.S.Disk.view c.args.source.now).moments.state.now c.args.from rows step.row p at step.there) in
                 subst (λ (l : List StampedRow). ArePending form extent l w.copy_row.new.pending.written w.copy_row.new.pending.bytes.items new.state.now) (sym (kept n rows i p step w.if-place-imports.true))
                 (done.pending (inv.source.0 s) (inv.target.0 t) (up_to n (take i rows)) step.row there (inv.pending s t at));
           })
@@ -121,7 +122,7 @@ returns-in-Ok-flush-clause-written g c = λ s t at.
     let rows = c.args.segment.now in
     let i = c.loop-place.place-index in
     let inv = c.loop-place.invariant in
-    let form = c.args.to.form in
+    let form = (form_in c.args.to.sums) in
     let file = (g.T.Disk.view c.flush.new.target).moments.state.now in
     let long = ap length c.places-place-items.ensures ∙ places_long 0 rows in
     let so_far = subst (λ (e : Extent). ArePending form e (up_to n (take i rows)) c.loop-place.pending.written c.loop-place.pending.bytes.items (g.T.Disk.view c.loop-place.target).moments.state.now) (sym c.extent.ensures) (inv.pending s t at) in

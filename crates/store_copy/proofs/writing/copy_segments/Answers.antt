@@ -1,14 +1,14 @@
 use Rattle.std.proofs.Common.{◌≡◌, ◌<◌, ◌≤◌, length, sym, ap, subst, ◌∙◌, arith}
 use Rattle.blocks.specs.Extents.{byte_range}
-use Rattle.directory.specs.Listings.{form_of}
 use Rattle.directory.specs.Places.{extent_of}
 use Rattle.segment.specs.Records.{segment_in}
 use Rattle.store_image.specs.Ahead.{BeginsWith}
-use Rattle.store_copy.specs.Copying.{up_to}
+use Rattle.store_copy.specs.Copying.{copied_sums, up_to}
 use Rattle.store_copy.specs.Answers.{IsFailure}
 use Rattle.store_copy.proofs.Done.{entry_is, fails_in, first_entry, held_none, held_some, left_none, left_some, run_shut, segment_still}
 use Rattle.store_copy.proofs.writing.copy_segments.Goals as goal
 use Rattle.store_copy.proofs.writing.copy_segments.Goals.{then-size_up_to-gt0+in-Some+in-Ok, else-size_up_to-gt0}
+use Rattle.directory.specs.Listings.{form_in}
 
 pub returns-in-Err-clause-found : goal.returns-in-Err-clause-found
 returns-in-Err-clause-found g c = λ s are held.
@@ -28,7 +28,7 @@ returns-in-Err-clause-any_moment g c = λ t shut.
 pub loop-i-preserved : goal.loop-i-preserved
 loop-i-preserved g c =
     let n = c.args.copy.now.imports in
-    let form = form_of c.args.copy.now.layout in
+    let form = copied_sums c.args.copy.now.layout in
     let lists = c.args.segments.now in
     let i = c.loop-i.i in
     let rows = c.index-segments-i.result in
@@ -64,7 +64,7 @@ loop-i-preserved g c =
             run = λ h shut. run_shut old mid new (byte_range (extent_of to)) (omega (arith, first)) (inv.run h shut) (done.any_moment (inv.target.0 h));
             held = λ s t are held.
                 let written = done.written (inv.source.0 s) (inv.target.0 t) (segment_still (g.S.Disk.view c.args.source.now).moments (g.S.Disk.view c.loop-i.source).moments c.args.from.now lists i _ rows (inv.moments s) are held lt is) in
-                let begins = subst (λ k. BeginsWith (extent_of to) (segment_in to.form (up_to k rows)) new.state.now) same written in
+                let begins = subst (λ k. BeginsWith (extent_of to) (segment_in (form_in to.sums) (up_to k rows)) new.state.now) same written in
                 held_some form n lists i rows lt is some to mid.state.now new.state.now (entry_is form n lists i rows lt is some c.loop-i.left.now behind to inv.left split) each.0 (done.elsewhere (inv.target.0 t)) begins (inv.held s t are held);
           })
       | else-size_up_to-gt0 w ↦

@@ -1,4 +1,7 @@
-use Rattle.std.proofs.Common.{sym, arith}
+use Rattle.std.proofs.Common.{List, sym, subst, arith}
+use Rattle.directory.specs.declared.entry.Entry.{Entry}
+use Rattle.store_image.specs.Kept.{AreSummed}
+use Rattle.store_copy.proofs.Listing.{entries_summed}
 use Rattle.store_image.proofs.Damaged.{segments_count}
 use Rattle.disk_model.proofs.MomentSteps.{at_end}
 use Rattle.store_copy.specs.Copying.{lists_up_to}
@@ -32,7 +35,7 @@ returns-in_err-open_slot-clause-any_moment g c = λ s t held none.
     let first = c.in_ok-close_slots.ensures.long t none in
     let more = c.in_ok-copy_segments.ensures.long on in
     opening_run copy lists m0 m2 m3 (writing_run copy lists m0 m1 m2 (closing_run copy lists m0 m1 (c.close_slots.ensures.any_moment t none)) run)
-    (c.open_slot.ensures.any_moment (c.copy_segments.ensures.target_meters.honesty.0 on) lists c.requires.kept (at_end m1 m2 IsShut run) (omega (arith, first, more)) (c.in_ok-copy_segments.ensures.held s on c.requires.from held))
+    (c.open_slot.ensures.any_moment (c.copy_segments.ensures.target_meters.honesty.0 on) lists c.requires.kept (subst (λ (es : List Entry). AreSummed es lists) (sym c.requires.copy) (entries_summed copy.layout 4 lists)) (at_end m1 m2 IsShut run) (omega (arith, first, more)) (c.in_ok-copy_segments.ensures.held s on c.requires.from held))
 
 pub returns-clause-any_moment : goal.returns-clause-any_moment
 returns-clause-any_moment g c = λ s t held none.
@@ -47,7 +50,7 @@ returns-clause-any_moment g c = λ s t held none.
     let first = c.in_ok-close_slots.ensures.long t none in
     let more = c.in_ok-copy_segments.ensures.long on in
     opening_run copy lists m0 m2 m3 (writing_run copy lists m0 m1 m2 (closing_run copy lists m0 m1 (c.close_slots.ensures.any_moment t none)) run)
-    (c.open_slot.ensures.any_moment (c.copy_segments.ensures.target_meters.honesty.0 on) lists c.requires.kept (at_end m1 m2 IsShut run) (omega (arith, first, more)) (c.in_ok-copy_segments.ensures.held s on c.requires.from held))
+    (c.open_slot.ensures.any_moment (c.copy_segments.ensures.target_meters.honesty.0 on) lists c.requires.kept (subst (λ (es : List Entry). AreSummed es lists) (sym c.requires.copy) (entries_summed copy.layout 4 lists)) (at_end m1 m2 IsShut run) (omega (arith, first, more)) (c.in_ok-copy_segments.ensures.held s on c.requires.from held))
 
 pub returns-clause-on_disk : goal.returns-clause-on_disk
 returns-clause-on_disk g c = λ s t held none.
@@ -59,4 +62,4 @@ returns-clause-on_disk g c = λ s t held none.
     let run = c.copy_segments.ensures.any_moment on (c.in_ok-close_slots.ensures.shut t none) in
     let first = c.in_ok-close_slots.ensures.long t none in
     let more = c.in_ok-copy_segments.ensures.long on in
-    c.in_ok-open_slot.ensures.on_disk (c.copy_segments.ensures.target_meters.honesty.0 on) lists c.requires.kept (at_end m1 m2 IsShut run) (omega (arith, first, more)) (c.in_ok-copy_segments.ensures.held s on c.requires.from held)
+    c.in_ok-open_slot.ensures.on_disk (c.copy_segments.ensures.target_meters.honesty.0 on) lists c.requires.kept (subst (λ (es : List Entry). AreSummed es lists) (sym c.requires.copy) (entries_summed copy.layout 4 lists)) (at_end m1 m2 IsShut run) (omega (arith, first, more)) (c.in_ok-copy_segments.ensures.held s on c.requires.from held)
