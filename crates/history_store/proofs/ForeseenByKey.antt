@@ -108,7 +108,7 @@ module _ (h : History) (catalog : Catalog) (release : Release) where
 abbrev Cause : {D : Type 0} → StoreValue D → Release → Refusal → Type 0
 Cause s release e = ((e ≡ refusals.ReopenNeeded) × (s.needs_reopen ≡ true)) ⊎ ((s.needs_reopen ≡ false) × (IsOutByKey e s.history s.catalog release ⊎ DependsOnReading (Err e)))
 
-cause : {D : Type 0} (s : StoreValue D) (release : Release) (e : Refusal) → IsRefusedFor (IsNotTakenByKey s.history s.catalog release) e s → Cause s release e
+cause : {D : Type 0} {Writes : Type 0} (s : StoreValue D) (release : Release) (e : Refusal) → IsRefusedFor (IsNotTakenByKey Writes s.history s.catalog release) e s → Cause s release e
 cause s release refusals.ReopenNeeded why = inl (refl, why)
 cause s release refusals.CountSpent why = inr (why.0, inl why.1)
 cause s release refusals.LaterVersion why = inr (why.0, inl why.1)

@@ -27,7 +27,7 @@ is_later_answer (Ok receipt) = false
 is_later_answer (Err e) = is_later e
 
 module _ {D : Type 0} (s : StoreValue D) (release : Release) where
-  why : (e : Refusal) → is_later e ≡ true → IsRefusedFor (IsNotTakenByKey s.history s.catalog release) e s → IsTooEarly s release
+  why : {Writes : Type 0} (e : Refusal) → is_later e ≡ true → IsRefusedFor (IsNotTakenByKey Writes s.history s.catalog release) e s → IsTooEarly s release
   why refusals.LaterVersion is refused = (refused.0, refused.1.0, refused.1.1)
   why refusals.OutOfMemory is refused = absurd (false≢true is)
   why refusals.DiskFault is refused = absurd (false≢true is)
@@ -46,7 +46,7 @@ module _ {D : Type 0} (s : StoreValue D) (release : Release) where
   why (refusals.Line file line fault) is refused = absurd (false≢true is)
   why (refusals.Contradiction file line) is refused = absurd (false≢true is)
 
-  that : (e : Refusal) → IsTooEarly s release → IsRefusedFor (IsNotTakenByKey s.history s.catalog release) e s → e ≡ refusals.LaterVersion
+  that : {Writes : Type 0} (e : Refusal) → IsTooEarly s release → IsRefusedFor (IsNotTakenByKey Writes s.history s.catalog release) e s → e ≡ refusals.LaterVersion
   that refusals.LaterVersion early refused = refl
   that refusals.OutOfMemory early refused = absurd (refused.1.version early.2)
   that refusals.DiskFault early refused = absurd (refused.1.0.version early.2)

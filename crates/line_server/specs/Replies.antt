@@ -22,6 +22,7 @@ use Rattle.history_store.specs.Catalog.{Merge as CatalogMerge}
 use Rattle.history_store.specs.StoreValue.{StoreValue}
 use Rattle.store_digest.specs.Digest.{digest_of, IsDigestByKey}
 use Rattle.history_store.specs.Answers.{IsImportOf, IsImportOnAnyDisk, IsReadRefusal, IsRefused}
+use Rattle.history_store.specs.Queries.{IsWithoutRead}
 use Rattle.history_store.specs.Checking.{IsCheckingOf, IsCheckingOnAnyDisk}
 use Rattle.history_store.specs.MergeAnswers.{IsBeginningOf, IsSteppingOf, IsPublishingOf}
 use Rattle.history_store.specs.MergeAnswers.{IsAbandoningOf, IsTrimmingOf}
@@ -244,13 +245,16 @@ abbrev pub IsLacking : {D : Type 0} → Refusal → Server D → Server D → Ty
 IsLacking refusal old new =
     (refusal ≡ store.OutOfMemory) × (old.store.needs_reopen ≡ false) × Same old new
 
--- A question is refused as a call of the store that only reads. On an honest disk nothing is
--- reported as damaged.
-pub record IsUnfound {D : Type 0} (honest : Type 0) (refusal : Refusal)
-    (old new : Server D) : Type 0 where
+-- A question about the first `seen` imports is refused as a call of the store that only reads. On
+-- an honest disk nothing is reported as damaged. On every disk the disk fails, or a row is damaged,
+-- only if the question finds something else than no rows.
+pub record IsUnfound {D : Type 0} (honest : Type 0) (seen : ℕ) (question : Question)
+    (refusal : Refusal) (old new : Server D) : Type 0 where
   pub cause : IsReadRefusal refusal old.store
   pub refused : IsRefused refusal old.store new.store
   pub undamaged : honest → refusal ≢ store.Damaged
+  pub causes : IsFound question (rows_at seen old.store.history.rows) (Rows [])
+      → IsWithoutRead refusal
   pub pins : new.pins ≡ old.pins
 
 -- the store's refusal of a question about the first `seen` imports
@@ -264,7 +268,7 @@ IsRefusalAt honest seen (Descendants concept date) refusal old new =
     IsClosed refusal old new ⊎ IsLacking refusal old new
 IsRefusalAt honest seen AskDates refusal old new =
     IsClosed refusal old new ⊎ IsLacking refusal old new
-IsRefusalAt honest seen question refusal old new = IsUnfound honest refusal old new
+IsRefusalAt honest seen question refusal old new = IsUnfound honest seen question refusal old new
 
 -- The store's refusal of a command. For an import or a check the source is asked first, and memory
 -- may run out there too. On an honest disk no step of a merge finds damage.

@@ -72,9 +72,9 @@ is_fault store.DiskFault = true
 is_fault _ = false
 
 -- a store that has to be opened again isn't blamed on the disk
-open_at_fault : {D : Type 0} (e : Refusal) (s : StoreValue D) (release : Release) → e ≡ store.DiskFault → IsRefusedFor (IsNotTakenByKey s.history s.catalog release) e s → s.needs_reopen ≡ false
-open_at_fault e s release is cause = at_fault (subst (λ (r : Refusal). IsRefusedFor (IsNotTakenByKey s.history s.catalog release) r s) is cause) where
-  at_fault : IsRefusedFor (IsNotTakenByKey s.history s.catalog release) store.DiskFault s → s.needs_reopen ≡ false
+open_at_fault : {D : Type 0} {Writes : Type 0} (e : Refusal) (s : StoreValue D) (release : Release) → e ≡ store.DiskFault → IsRefusedFor (IsNotTakenByKey Writes s.history s.catalog release) e s → s.needs_reopen ≡ false
+open_at_fault {D} {Writes} e s release is cause = at_fault (subst (λ (r : Refusal). IsRefusedFor (IsNotTakenByKey Writes s.history s.catalog release) r s) is cause) where
+  at_fault : IsRefusedFor (IsNotTakenByKey Writes s.history s.catalog release) store.DiskFault s → s.needs_reopen ≡ false
   at_fault h = h.0
 
 module _ {D : Type 0} (view : D → DiskView) (old new : StoreValue D) (release : Release) (crash : IsCrashSafe view (IsBeforeOrAfter old.catalog.layout old.history release) old new) (honesty : (view old.disk).is_honest ↔ (view new.disk).is_honest) where
@@ -94,7 +94,7 @@ module _ {D : Type 0} (view : D → DiskView) (old new : StoreValue D) (release 
   }
 
   -- the disk failed
-  failed : (e : Refusal) → e ≡ store.DiskFault → IsRefusedFor (IsNotTakenByKey old.history old.catalog release) e old → IsRefused e old new → IsCall view old (Failed release) new
+  failed : {Writes : Type 0} (e : Refusal) → e ≡ store.DiskFault → IsRefusedFor (IsNotTakenByKey Writes old.history old.catalog release) e old → IsRefused e old new → IsCall view old (Failed release) new
   failed e is_fault cause r =
       let open_before = open_at_fault e old release is_fault cause in
       record {
