@@ -11,7 +11,7 @@ use Rattle.lru.specs.LruCache.{LruCache}
 use Rattle.blocks.specs.Cache.{LooksUpSome}
 use Rattle.blocks.proofs.Looked.{some_more}
 use Rattle.directory.specs.declared.entry.Entry.{Entry}
-use Rattle.directory.specs.Listings.{IsEntry}
+use Rattle.directory.specs.Listings.{IsEntry, form_in}
 use Rattle.segment.specs.declared.place.RowPlace.{RowPlace}
 use Rattle.checksum.specs.declared.form.Form.{Form}
 use Rattle.segment.specs.Records.{record_in, IsStamped}
