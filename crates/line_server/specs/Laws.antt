@@ -8,7 +8,10 @@ use Rattle.history_model.specs.Brought.{ImportReceiptOf}
 use Rattle.import_check.specs.declared.scope.Scope.TheVariants as scopes
 use Rattle.import_check.specs.declared.release.Release.{Release}
 use Rattle.import_check.specs.Release.{files_of}
+use Rattle.directory.specs.declared.entry.Entry.{Entry}
+use Rattle.directory.specs.declared.sums.Sums.TheVariants as sums
 use Rattle.history_store.specs.declared.refusal.Refusal.TheVariants as store
+use Rattle.history_store.specs.Catalog.{Catalog}
 use Rattle.history_store.specs.Prepared.{HasMembers}
 use Rattle.history_store.specs.StoreValue.{IsAcknowledged}
 use Rattle.line_commands.specs.Questions.{Question, Receipt as AskReceipt}
@@ -19,7 +22,7 @@ use Rattle.line_server.specs.declared.refusal.LineRefusal.TheVariants as refusal
 use Rattle.line_server.specs.Sources.{Releases, SourceView, source_view}
 use Rattle.line_server.specs.ReplyValue.{Answer, Done}
 use Rattle.line_server.specs.StateValue.{IsHeldBack}
-use Rattle.line_server.specs.Replies.{Server, Replies, Same, IsFound, IsAskedOf, NeedsLater}
+use Rattle.line_server.specs.Replies.{Server, Replies, IsFound, IsAskedOf, NeedsLater}
 use Rattle.line_server.specs.Replies.{receipt_of}
 use Rattle.store_life.specs.Life.{Imported, taken, Called, IsLife}
 use Rattle.store_life.specs.Laws.{AgreeUpTo, BroughtAlike}
@@ -70,9 +73,23 @@ LinesAreCalls {D} source view = (old new : Server D) (turns : List Turn)
     → Run source view old turns new
     → IsLife view old.store (map (λ turn. Called turn.call) turns) new.store
 
--- the servers are equal, except perhaps for the disks of their stores
-abbrev pub AreAlike : {D : Type 0} → Server D → Server D → Type 0
-AreAlike a b = Same a b × (b.met_damage ≡ a.met_damage)
+-- the segment without its checksums
+abbrev pub entry_without_sums : Entry → Entry
+entry_without_sums entry = record entry { sums = sums.Nowhere }
+
+-- the catalog without the checksums of its segments
+abbrev pub without_sums : Catalog → Catalog
+without_sums catalog =
+    record catalog { entries = map entry_without_sums catalog.entries }
+
+-- The servers are equal, except perhaps for the disks of their stores and the checksums of
+-- segments: a merge computes one of the rows that it wrote, which aren't in a catalog.
+pub record AreAlike {D : Type 0} (a b : Server D) : Type 0 where
+  pub pins : b.pins ≡ a.pins
+  pub history : b.store.history ≡ a.store.history
+  pub catalog : without_sums b.store.catalog ≡ without_sums a.store.catalog
+  pub needs_reopen : b.store.needs_reopen ≡ a.store.needs_reopen
+  pub met_damage : b.met_damage ≡ a.met_damage
 
 -- A line has one reply in states that are equal in this sense, and leaves states that are so too.
 abbrev pub OneReply : (D : Type 0) → (D → DiskView) → Type 0
