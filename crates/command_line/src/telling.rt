@@ -10,6 +10,7 @@ use line_server::{LineRefusal, ServeFault};
 use rf2_values::EffectiveTime;
 use shown_names::Shown;
 use std::io::{self, Write};
+use store_image::Damage;
 
 /// What the number of a refusal means.
 pub(crate) fn meaning(code: usize) -> &'static str {
@@ -48,6 +49,10 @@ them; no part is . or .., and it has at most 1,024 bytes"
         _ => "it was refused",
     }
 }
+
+/// What else may be the reason why a store's directory can't be read.
+const UPGRADED: &str = " (or, if `sctd upgrade` of an older program was ever used on it, copy it \
+with the `sctd copy` of that program)";
 
 /// What a message about the end of a task says of the store: its name, and the system error of its
 /// file.
@@ -132,9 +137,10 @@ fn write_refusal<E: Write>(
     faults: &mut E,
 ) -> io::Result<()> {
     if let LineRefusal::Store(Refusal::Unreadable(damage)) = refusal {
+        let also = if damage == Damage::Directory { UPGRADED } else { "" };
         return writeln!(
             faults,
-            "sctd: {store}: the store is damaged: {damage}; restore your copy"
+            "sctd: {store}: the store is damaged: {damage}; restore your copy{also}"
         );
     }
     let code = usize::from(refusal.code());
