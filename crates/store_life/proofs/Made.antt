@@ -13,7 +13,7 @@ use Rattle.store_image.specs.Images.{RepresentsAs, RepresentsHistory}
 use Rattle.history_store.specs.declared.refusal.Refusal.{Refusal}
 use Rattle.history_store.specs.declared.refusal.Refusal.TheVariants as store
 use Rattle.history_store.specs.StoreValue.{StoreValue, IsAcknowledged}
-use Rattle.history_store.specs.Answers.{IsStill, IsRefused, IsImportOf, IsImportOnAnyDisk, IsRefusedFor, IsNotTakenByKey, IsBeforeOrAfter, IsReadingOf}
+use Rattle.history_store.specs.Answers.{IsStill, IsRefused, IsImportOf, IsImportOnAnyDisk, IsBeforeOrAfter, IsReadingOf}
 use Rattle.history_store.specs.Crashes.{IsCrashSafe}
 use Rattle.history_store.specs.Checking.{IsCheckingOnAnyDisk}
 use Rattle.history_store.specs.MergeAnswers.{IsBeginningOf, IsSteppingOf, IsAbandoningOf, IsTrimmingOf}
@@ -71,12 +71,6 @@ abbrev is_fault : Refusal → Bool
 is_fault store.DiskFault = true
 is_fault _ = false
 
--- a store that has to be opened again isn't blamed on the disk
-open_at_fault : {D : Type 0} {Writes : Type 0} (e : Refusal) (s : StoreValue D) (release : Release) → e ≡ store.DiskFault → IsRefusedFor (IsNotTakenByKey Writes s.history s.catalog release) e s → s.needs_reopen ≡ false
-open_at_fault {D} {Writes} e s release is cause = at_fault (subst (λ (r : Refusal). IsRefusedFor (IsNotTakenByKey Writes s.history s.catalog release) r s) is cause) where
-  at_fault : IsRefusedFor (IsNotTakenByKey Writes s.history s.catalog release) store.DiskFault s → s.needs_reopen ≡ false
-  at_fault h = h.0
-
 module _ {D : Type 0} (view : D → DiskView) (old new : StoreValue D) (release : Release) (crash : IsCrashSafe view (IsBeforeOrAfter old.catalog.layout old.history release) old new) (honesty : (view old.disk).is_honest ↔ (view new.disk).is_honest) where
   before_or_after : (c : List ℕ) → IsBeforeOrAfter old.catalog.layout old.history release c → RepresentsHistory old.history c ⊎ RepresentsNext old.history release c
   before_or_after c (inl s) = inl (old.catalog.layout, s)
@@ -94,9 +88,8 @@ module _ {D : Type 0} (view : D → DiskView) (old new : StoreValue D) (release 
   }
 
   -- the disk failed
-  failed : {Writes : Type 0} (e : Refusal) → e ≡ store.DiskFault → IsRefusedFor (IsNotTakenByKey Writes old.history old.catalog release) e old → IsRefused e old new → IsCall view old (Failed release) new
-  failed e is_fault cause r =
-      let open_before = open_at_fault e old release is_fault cause in
+  failed : (e : Refusal) → e ≡ store.DiskFault → old.needs_reopen ≡ false → IsRefused e old new → IsCall view old (Failed release) new
+  failed e is_fault open_before r =
       record {
         history = λ of_any. r.history;
         needs_reopen = r.closed is_fault;
@@ -109,7 +102,7 @@ module _ {D : Type 0} (view : D → DiskView) (old new : StoreValue D) (release 
 module _ {D : Type 0} (view : D → DiskView) where
   pub import_made : ImportIsACall D view
   import_made old new release (Ok receipt) answer at_all crash same honesty = imported view old new release crash honesty receipt at_all answer
-  import_made old new release (Err store.DiskFault) answer at_all crash same honesty = failed view old new release crash honesty store.DiskFault refl at_all.0 at_all.1
+  import_made old new release (Err store.DiskFault) answer at_all crash same honesty = failed view old new release crash honesty store.DiskFault refl at_all.0.0 at_all.1
   import_made old new release (Err e) answer at_all crash same honesty =
       still view old new at_all.1.history crash.closed honesty (λ h. same h (λ is. false≢true (ap is_fault is))) crash.acknowledged
 
