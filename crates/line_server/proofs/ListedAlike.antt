@@ -48,7 +48,8 @@ bare_set (x ∷ entries) zero entry = refl
 bare_set (x ∷ entries) (suc i) entry = ap (λ (rest : List Entry). entry_without_sums x ∷ rest) (bare_set entries i entry)
 
 pub bare_remove : (entries : List Entry) (i : ℕ) → map entry_without_sums (remove entries i) ≡ remove (map entry_without_sums entries) i
-bare_remove [] i = refl
+bare_remove [] zero = refl
+bare_remove [] (suc i) = refl
 bare_remove (x ∷ entries) zero = refl
 bare_remove (x ∷ entries) (suc i) = ap (λ (rest : List Entry). entry_without_sums x ∷ rest) (bare_remove entries i)
 
@@ -130,18 +131,18 @@ module _ (c d : Catalog) (alike : without_sums d ≡ without_sums c) where
   same_why h release store.Full why = record { room = admitted h release why.room; accepted = why.accepted; lacks = no_place _ why.lacks }
   same_why h release _ why = why
 
-module _ {D : Type 0} (a b next : StoreValue D) (alike : without_sums b.catalog ≡ without_sums a.catalog) (release : Release) where
-  -- the store with the catalog of the other
-  abbrev pub listed_as : StoreValue D
-  listed_as = record b { catalog = a.catalog }
+-- the second store with the catalog of the first
+abbrev pub listed_as : {D : Type 0} → StoreValue D → StoreValue D → StoreValue D
+listed_as a b = record b { catalog = a.catalog }
 
-  not_imported : (e : Refusal) → IsRefusedFor (IsNotTaken b.history b.catalog release) e b → IsRefusedFor (IsNotTaken b.history a.catalog release) e listed_as
+module _ {D : Type 0} (a b next : StoreValue D) (alike : without_sums b.catalog ≡ without_sums a.catalog) (release : Release) where
+  not_imported : (e : Refusal) → IsRefusedFor (IsNotTaken b.history b.catalog release) e b → IsRefusedFor (IsNotTaken b.history a.catalog release) e (listed_as a b)
   not_imported store.ReopenNeeded why = why
   not_imported e why = (why.0, same_why a.catalog b.catalog alike b.history release e why.1)
 
   -- an import at one of the catalogs is one at the other
   pub imported_alike : (result : Result Receipt Refusal) → IsImportOf result b next release
-      → (other : StoreValue D) × IsImportOf result listed_as other release
+      → (other : StoreValue D) × IsImportOf result (listed_as a b) other release
       × (other.history ≡ next.history) × (without_sums other.catalog ≡ without_sums next.catalog) × (other.needs_reopen ≡ next.needs_reopen)
   imported_alike (Ok receipt) i =
       let t = i.0 in
@@ -175,7 +176,7 @@ module _ (entries : List Entry) where
     second = λ k within other another. first_of j k (x.second k (subst (λ (n : ℕ). k < n) (bare_length entries) within) other another);
   }
 
-  bare_inputs : Inputs entries → Inputs (map entry_without_sums entries)
+  abbrev bare_inputs : Inputs entries → Inputs (map entry_without_sums entries)
   bare_inputs x = record {
     i = x.i;
     j = x.j;
