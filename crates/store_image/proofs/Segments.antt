@@ -7,7 +7,7 @@ use Rattle.std.proofs.lemmas.List.{append-nil, take_more, nil_from_length}
 use Rattle.std.proofs.lemmas.List.Elements.{All-nil, All-push, All-head, All-tail}
 use Rattle.list_lemmas.proofs.Each.{each_of_pushed}
 use Rattle.blocks.specs.Extents.{start_of}
-use Rattle.store_image.specs.Private.Reading.{bytes_of}
+use Rattle.store_image.specs.Reader.{bytes_of}
 use Rattle.directory.specs.declared.entry.Entry.{Entry}
 use Rattle.directory.specs.Listings.{IsEntry}
 use Rattle.directory.specs.Places.{extent_of}

@@ -36,11 +36,13 @@ pub(crate) struct Window {
 impl Window {
     ghost use Rattle.disk_model.specs.Disk.{raised_by};
     ghost use Rattle.fault_counts.specs.Counting.{CountsEach};
-    ghost use Rattle.store_image.specs.Private.Reading.{bytes_of};
+    ghost use Rattle.store_image.specs.Reader.{bytes_of};
     ghost use Rattle.segment.specs.Records.{record_of, IsStamped};
     ghost use Rattle.checksum.specs.Crc32c.{continued};
-    ghost use Rattle.store_image.specs.Private.Reading.{CountsFault, bytes_in, HasRecord};
-    ghost use Rattle.store_image.specs.Private.Reading.{HasNoRecord, IsNoRecord, Sees, IsFull};
+    ghost use Rattle.store_image.specs.Reader.{bytes_in};
+    ghost use Rattle.store_image.specs.Private.Reading.{CountsFault, HasRecord};
+    ghost use Rattle.store_image.specs.Reader.{Sees};
+    ghost use Rattle.store_image.specs.Private.Reading.{HasNoRecord, IsNoRecord, IsFull};
 
     /// A window without a segment, that is, on one without bytes.
     pub(crate) fn new(alloc: Global) -> Result<Window, AllocError> {
@@ -149,6 +151,8 @@ impl Window {
         ensures form { self.new.form ≡ self.old.form }
         ensures from { IfOk result (λ r. self.new.from ≤ r.1) }
         ensures reached { IfOk result (λ r. r.1 ≤ self.new.from + self.new.len) }
+        // Whatever the result, it has or reaches the offset as before.
+        ensures still { (self.new.from ≤ at) × (at ≤ self.new.from + self.new.len) }
         ensures asked { self.old.asked ≤ self.new.asked }
         ensures is { IfOk result (λ r. IsStamped r.0) }
         ensures next { IfOk result (λ r. r.1 ≡ at + length (record_of r.0)) }

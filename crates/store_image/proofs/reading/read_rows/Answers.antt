@@ -2,7 +2,7 @@ use Rattle.std.proofs.Common.{◌≡◌, ℕ, ◌≤◌, List, length, refl, sym
 use Rattle.std.proofs.lemmas.Result.{err_from_is_err_and}
 use Rattle.disk_model.specs.Disk.{Moments}
 use Rattle.blocks.specs.declared.extent.Extent.{Extent}
-use Rattle.store_image.specs.Private.Reading.{bytes_of}
+use Rattle.store_image.specs.Reader.{bytes_of}
 use Rattle.directory.specs.Places.{extent_of}
 use Rattle.directory.specs.Listings.{HasSumOf, form_in}
 use Rattle.checksum.specs.Crc32c.{crc32c}
@@ -10,7 +10,8 @@ use Rattle.segment.specs.Records.{segment_in}
 use Rattle.store_image.specs.Kept.{segment_with}
 use Rattle.history_model.specs.declared.stamped.StampedRow.{StampedRow}
 use Rattle.checksum.specs.declared.form.Form.{Form}
-use Rattle.store_image.specs.Private.Reading.{Sees, BeginsWith, IsNotNext}
+use Rattle.store_image.specs.Reader.{Sees}
+use Rattle.store_image.specs.Private.Reading.{BeginsWith, IsNotNext}
 use Rattle.store_image.proofs.Segments.{none_read, none_begins, none_summed, not_next, wrong_end, wrong_sum, segment_found}
 use Rattle.store_image.proofs.reading.read_rows.Goals as goal
 

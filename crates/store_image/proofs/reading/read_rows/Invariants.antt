@@ -1,11 +1,12 @@
 use Rattle.std.proofs.Common.{◌≡◌, ◌↔◌, ◌+◌, ◌≤◌, length}
-use Rattle.store_image.specs.Private.Reading.{bytes_of}
+use Rattle.store_image.specs.Reader.{bytes_of}
 use Rattle.directory.specs.Places.{extent_of}
 use Rattle.directory.specs.Listings.{form_in}
 use Rattle.checksum.specs.Crc32c.{crc32c}
 use Rattle.segment.specs.Records.{segment_in}
 use Rattle.disk_model.specs.Disk.{raised_by}
-use Rattle.store_image.specs.Private.Reading.{Sees, AreReadTo, BeginsWith}
+use Rattle.store_image.specs.Reader.{Sees}
+use Rattle.store_image.specs.Private.Reading.{AreReadTo, BeginsWith}
 use Rattle.store_image.proofs.reading.read_rows.Given as goal
 
 -- so many rows are read, and the segment's bytes begin with their records

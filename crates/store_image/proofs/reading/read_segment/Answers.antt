@@ -5,7 +5,8 @@ use Rattle.directory.specs.Places.{extent_of}
 use Rattle.directory.specs.Listings.{HasSumOf, form_in}
 use Rattle.store_image.specs.Kept.{IsSegmentOf, segment_with}
 use Rattle.store_image.specs.Reading.{AreNumbered, IsAt}
-use Rattle.store_image.specs.Private.Reading.{bytes_of, BeginsWith}
+use Rattle.store_image.specs.Reader.{bytes_of}
+use Rattle.store_image.specs.Private.Reading.{BeginsWith}
 use Rattle.store_image.proofs.Segments.{at_found}
 use Rattle.store_image.proofs.reading.read_segment.Goals as goal
 
