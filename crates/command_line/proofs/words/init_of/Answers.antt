@@ -7,5 +7,5 @@ pub returns-in-Some : goal.returns-in-Some
 returns-in-Some c =
     let rows = first_value-rows (found_of c.args.found.now) in (
       sym (rows (codes "store")) ∙ sym c.in_ok-store.ensures,
-      rw c.in-Some.is at c.in_ok-layout_of.ensures,
+      rw c.in-Some.is at c.in_ok-layout.ensures,
     )
