@@ -1,9 +1,10 @@
 -- The laws of copies.
-use Rattle.std.specs.Prelude.{◌==◌, nat_le}
+use Rattle.std.specs.Prelude.{◌==◌, nat_le, All}
 use Rattle.std.specs.List.{AllByRecursion, filter}
 use Rattle.std.proofs.Common.{◌≡◌, inl, inr, ℕ, zero, suc, ◌+◌, ◌≤◌, Bool, true, false, cond, List, [], ◌∷◌, length, map, take, refl, sym, ap, subst, ◌∙◌, arith}
 use Rattle.std.proofs.lemmas.Bool.Decides.{nat_tests}
 use Rattle.std.proofs.lemmas.Bool.{false_from_ne_true}
+use Rattle.std.proofs.lemmas.List.Elements.{All-from_recursion}
 use Rattle.rf2_values.specs.Row.{RowValue}
 use Rattle.blocks.specs.declared.slots.Slot.{Slot}
 use Rattle.blocks.specs.declared.slots.Slot.TheVariants.{A}
@@ -15,16 +16,20 @@ use Rattle.history_model.proofs.Keys.{stamped_total}
 use Rattle.history_model.proofs.Releases.{then_is_history}
 use Rattle.history_model.proofs.Chains.{stamp_is, imports_then}
 use Rattle.directory.specs.Listings.{DirectoryValue, number_of}
+use Rattle.directory.specs.declared.entry.Entry.{Entry}
 use Rattle.directory.specs.declared.layout.Layout.{Layout}
+use Rattle.directory.specs.declared.layout.Layout.TheVariants as layouts
+use Rattle.directory.specs.declared.sums.Sums.TheVariants as sums
+use Rattle.directory.specs.Places.{end_block, extent_of}
 use Rattle.segment.proofs.SegmentLaws.{one_segment}
-use Rattle.store_image.specs.Kept.{history_of}
+use Rattle.store_image.specs.Kept.{entry_at, history_of}
 use Rattle.store_image.specs.Images.{RepresentsAs}
 use Rattle.store_image.specs.OnDisk.{HasStore}
 use Rattle.store_image.proofs.Standing.{represents_one}
 use Rattle.store_image.specs.Images.{Represents}
-use Rattle.store_copy.specs.Copying.{chosen, first_imports, up_to}
+use Rattle.store_copy.specs.Copying.{chosen, entries_from, first_imports, up_to}
 use Rattle.store_copy.specs.Answers.{copy_of, imports_of, layout_of, lists_of}
-use Rattle.store_copy.specs.Laws.{CopyRepresents, EachCrashLeavesACopy, FirstImportsAreReleases, AllImportsAreAll, PinsStay, ReceiptsStay}
+use Rattle.store_copy.specs.Laws.{CopyRepresents, EachCrashLeavesACopy, EachSegmentIsSummed, FirstImportsAreReleases, AllImportsAreAll, PinsStay, ReceiptsStay}
 use Rattle.store_copy.proofs.UpTo.{Has-up_to, Has-up_to_from, up_to_ascends, listed_up_to}
 
 -- ---- what a copy represents
@@ -45,6 +50,22 @@ copy_represents asked version file c h layout is rep =
     let either = subst Q (sym one.1) (is.not_lower, there) in
     let all : P (history_of d of.lists) = (is.within, either.0, either.1) in
     subst P (sym one.0) all
+
+-- in version 3 each entry has a checksum of the whole segment
+abbrev IsWhole : Entry → Type 0
+IsWhole entry = (sum : ℕ) × (entry.sums ≡ sums.Whole sum)
+
+whole_sums : (first : ℕ) (lists : List (List StampedRow)) → AllByRecursion IsWhole (entries_from layouts.Three first lists)
+whole_sums first [] = tt
+whole_sums first (rows ∷ lists) = ((_, refl), whole_sums (end_block (extent_of (entry_at layouts.Three first rows))) lists)
+
+pub each_segment_is_summed : EachSegmentIsSummed
+each_segment_is_summed asked version file copy state has three =
+    let lists = lists_of asked has.of in
+    let layout = sym (ap (λ (d : DirectoryValue). d.layout) has.copy_is) ∙ three in
+    let entries = ap (λ (d : DirectoryValue). d.entries) has.copy_is ∙ ap (λ (l : Layout). entries_from l 4 lists) layout in
+    let each = All-from_recursion IsWhole (entries_from layouts.Three 4 lists) (whole_sums 4 lists) in
+    subst (λ (es : List Entry). All IsWhole es) (sym entries) each
 
 pub each_crash_leaves_a_copy : EachCrashLeavesACopy
 each_crash_leaves_a_copy asked version file copy state has c image =

@@ -1,8 +1,9 @@
 -- The result of a copy, and what it leaves on the target disk.
-use Rattle.std.specs.Prelude.{◌≡◌, ◌⊎◌, ℕ, ◌<◌, ◌≤◌, Option, List, length, Result, Ok, Err}
+use Rattle.std.specs.Prelude.{◌≡◌, ◌⊎◌, ℕ, ◌+◌, ◌*◌, ◌<◌, ◌≤◌, Option, List, length, Result, Ok, Err}
 use Rattle.fault_counts.specs.Counting.{HasRisen}
 use Rattle.disk_model.specs.Disk.{DiskState, Moments}
 use Rattle.blocks.specs.Extents.{block_limit}
+use Rattle.blocks.specs.Slots.{slots_read}
 use Rattle.blocks.specs.declared.slots.Slot.{Slot}
 use Rattle.blocks.specs.declared.slots.Slot.TheVariants.{A}
 use Rattle.history_model.specs.declared.stamped.StampedRow.{StampedRow}
@@ -13,6 +14,7 @@ use Rattle.store_image.specs.declared.fault.LoadFault.TheVariants as loading
 use Rattle.store_image.specs.declared.fault.MakeFault.{MakeFault}
 use Rattle.store_image.specs.declared.fault.MakeFault.TheVariants as making
 use Rattle.store_image.specs.Answers.{IsNotOpened}
+use Rattle.store_image.specs.Kept.{IsKept, bytes_listed}
 use Rattle.store_image.specs.OnDisk.{HasStore, IsOnDisk}
 use Rattle.store_copy.specs.declared.fault.CopyFault.{CopyFault}
 use Rattle.store_copy.specs.declared.fault.CopyFault.TheVariants as faults
@@ -79,6 +81,18 @@ pub record HasCopy (asked : Option ℕ) (version : Option Layout) (file : List �
   pub not_lower : IsNotLower version of
   pub copy_is : copy ≡ copy_of asked version of
   pub on_disk : IsOnDisk state A copy (lists_of asked of)
+
+-- What was read of a source for a copy: a directory, and the rows of its segments, which on an honest
+-- disk are those of the store in the file. The slots were read, and each byte of the segments twice,
+-- at most.
+pub record IsReadTwice (honest : Type 0) (file : List ℕ) (copy : DirectoryValue) (before after : ℕ)
+    : Type 0 where
+  pub directory : DirectoryValue
+  pub lists : List (List StampedRow)
+  pub kept : IsKept directory lists
+  pub within : copy.imports ≤ directory.imports
+  pub is : honest → (slot : Slot) × HasStore slot directory lists file
+  pub reads : after ≤ before + slots_read + 2 * bytes_listed directory.entries
 
 -- Why a store couldn't be copied: the first reason, in the order in which they stand here, in which
 -- all disks that don't fail are looked at: the target isn't empty; the source isn't a store, or is

@@ -6,12 +6,10 @@ use Rattle.history_model.specs.declared.stamped.StampedRow.{StampedRow}
 use Rattle.history_model.specs.History.{History}
 use Rattle.directory.specs.declared.entry.Entry.{Entry}
 use Rattle.directory.specs.declared.layout.Layout.{Layout}
-use Rattle.directory.specs.declared.layout.Layout.TheVariants as layouts
-use Rattle.directory.specs.declared.sums.Sums.{Sums}
-use Rattle.directory.specs.declared.sums.Sums.TheVariants as sums
 use Rattle.directory.specs.Listings.{DirectoryValue}
 use Rattle.directory.specs.Places.{end_block, extent_of}
 use Rattle.segment.specs.Records.{segment_of}
+use Rattle.store_image.specs.Kept.{entry_at}
 
 -- the rows that the first `n` imports brought, each with its import number
 unfoldable pub up_to : ℕ → List StampedRow → List StampedRow
@@ -36,22 +34,12 @@ abbrev pub lists_up_to : ℕ → List (List StampedRow) → List (List StampedRo
 lists_up_to n [] = []
 lists_up_to n (rows ∷ lists) = before (up_to n rows) (lists_up_to n lists)
 
--- the checksums of a copied segment: in version 3 its records have them, and a merge gives it one of
--- its own
-abbrev pub copied_sums : Layout → Sums
-copied_sums layouts.Three = sums.Records
-copied_sums _ = sums.Nowhere
-
--- the entry of a segment of these rows, from block `first` on
-abbrev pub copied_entry : Sums → ℕ → List StampedRow → Entry
-copied_entry has first rows =
-    record { first = first; bytes = length (segment_of rows); rows = length rows; sums = has }
-
--- the entries of the segments of these rows, from block `first` on, without a block between them
-abbrev pub entries_from : Sums → ℕ → List (List StampedRow) → List Entry
-entries_from has first [] = []
-entries_from has first (rows ∷ lists) = copied_entry has first rows
-    ∷ entries_from has (end_block (extent_of (copied_entry has first rows))) lists
+-- the entries of new segments of these rows in a layout version, from block `first` on, without a
+-- block between them
+abbrev pub entries_from : Layout → ℕ → List (List StampedRow) → List Entry
+entries_from layout first [] = []
+entries_from layout first (rows ∷ lists) = entry_at layout first rows
+    ∷ entries_from layout (end_block (extent_of (entry_at layout first rows))) lists
 
 -- the block after these segments
 abbrev pub end_from : ℕ → List (List StampedRow) → ℕ
@@ -59,12 +47,12 @@ end_from first [] = first
 end_from first (rows ∷ lists) = end_from (first + div_ceil (length (segment_of rows)) 4096) lists
 
 -- the directory of a copy in this layout version, with the first `n` imports of a store whose
--- segments have these rows
+-- segments have these rows: in version 3 each segment has a checksum of all its bytes
 abbrev pub copied_listing : Layout → ℕ → List (List StampedRow) → DirectoryValue
 copied_listing layout n lists =
     record {
       layout = layout;
       epoch = 2;
       imports = n;
-      entries = entries_from (copied_sums layout) 4 (lists_up_to n lists);
+      entries = entries_from layout 4 (lists_up_to n lists);
     }

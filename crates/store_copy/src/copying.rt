@@ -1,19 +1,21 @@
 //! Copying a store.
 
-ghost use Rattle.std.specs.Prelude.{◌≡◌, ◌⊎◌, ◌↔◌, ℕ, List, length};
+ghost use Rattle.std.specs.Prelude.{◌≡◌, ◌⊎◌, ◌↔◌, ◌+◌, ◌≤◌, ℕ, List, length};
 ghost use Rattle.std.specs.Prelude.{IfOk, IfErr, OnOk};
 ghost use Rattle.disk_model.specs.Disk.{IsImage, LeavesOnly};
 ghost use Rattle.disk_model.specs.View.{Calls, Stays, Unsaid};
+ghost use Rattle.blocks.specs.Slots.{slots_read};
 ghost use Rattle.fault_counts.specs.Counting.{Counts};
 ghost use Rattle.store_image.specs.Answers.{synced};
 ghost use Rattle.store_image.specs.Images.{IsStore};
+ghost use Rattle.store_image.specs.Kept.{bytes_listed};
 ghost use Rattle.store_image.specs.OnDisk.{HasStore};
 ghost use Rattle.store_copy.specs.Answers.{CountsSource, CountsTarget, HasCopy, IsCopyOf};
-ghost use Rattle.store_copy.specs.Answers.{IsNotCopied, StaysUnlessFailed};
+ghost use Rattle.store_copy.specs.Answers.{IsNotCopied, IsReadTwice, StaysUnlessFailed};
 ghost use Rattle.store_copy.specs.Private.Writing.{IsChosen, IsChosenLayout, IsPlanned};
 
 use crate::fault::CopyFault;
-use crate::planning::plan;
+use crate::planning::check_room;
 use crate::writing::write_copy;
 use blocks::Slot;
 use directory::{Directory, Layout};
@@ -82,7 +84,9 @@ fn read_and_plan<S: Disk>(
     ensures any_moment { (S.view source.old).is_honest
         → LeavesOnly (S.view source.old).moments (S.view source.new).moments
         (IsImage (S.view source.old).moments.state) }
-    ensures meters { Calls (Counts CountsSource result) Unsaid Unsaid
+    ensures meters { Calls (Counts CountsSource result)
+        (λ before after. IfOk result
+        (λ p. after ≤ before + slots_read + bytes_listed p.of.entries)) Unsaid
         (S.view source.old) (S.view source.new) }
     // No error is one of the target disk.
     ensures target_failures { (n : ℕ) → Counts CountsTarget result n n }
@@ -94,7 +98,9 @@ fn read_and_plan<S: Disk>(
     } = load::<S, SegmentPlaces>(alloc, source)?;
     let imports = chosen(imports, of.imports())?;
     let layout = chosen_layout(layout, of.layout())?;
-    let copy = plan(alloc, layout, imports, segments.as_slice())?;
+    check_room(imports, segments.as_slice())?;
+    let mut copy = Directory::new(alloc, layout)?;
+    copy.advance(imports);
     Ok(Planned {
         slot,
         of,
@@ -107,9 +113,10 @@ fn read_and_plan<S: Disk>(
 /// the directory of the copy. The copy has the layout version that is asked for, or the store's if
 /// none is given, and the rows that these imports brought, with their import numbers. It has one
 /// segment for each of the store's segments in which there are such rows, one directly after the
-/// other, whose records are written in the form of the copy's layout version. The store is read twice: first as an opening reads it, and then row by row, where
-/// each row has to have the key, the import number and the length of its place. The calls on its
-/// disk are reads, one sync and requests for its length.
+/// other, each as an import of its rows would write and list it. The store is read twice, each time
+/// through a buffer of fixed size: first as an opening reads it, and then once more, where each row
+/// has to have the key, the import number and the length of its place. The calls on its disk are
+/// reads, one sync and requests for its length.
 pub fn copy<S: Disk, T: Disk>(
     alloc: Global,
     source: &mut S,
@@ -144,7 +151,11 @@ pub fn copy<S: Disk, T: Disk>(
     ensures source_any_moment { (S.view source.old).is_honest
         → LeavesOnly (S.view source.old).moments (S.view source.new).moments
         (IsImage (S.view source.old).moments.state) }
-    ensures source_meters { Calls (Counts CountsSource result) Unsaid Unsaid
+    // After `Ok`, on every disk: it has read the slots, and each byte of the segments twice, at most.
+    ensures source_meters { Calls (Counts CountsSource result)
+        (λ before after. IfOk result
+        (λ copy. IsReadTwice (S.view source.old).is_honest
+        (S.view source.old).moments.state.now copy before after)) Unsaid
         (S.view source.old) (S.view source.new) }
     ensures target_meters { Calls (Counts CountsTarget result) Stays Unsaid
         (T.view target.old) (T.view target.new) }
@@ -153,10 +164,10 @@ pub fn copy<S: Disk, T: Disk>(
     let Planned {
         of,
         segments,
-        copy,
+        mut copy,
         ..
     } = read_and_plan(alloc, source, imports, layout)?;
     let from = of.entries();
-    write_copy(alloc, source, from, segments.as_slice(), target, &copy)?;
+    write_copy(alloc, source, from, segments.as_slice(), target, &mut copy)?;
     Ok(copy)
 }
