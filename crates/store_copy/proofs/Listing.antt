@@ -1,5 +1,5 @@
 -- The directory of a copy.
-use Rattle.std.proofs.Common.{◌≡◌, ℕ, ◌+◌, ◌^◌, ◌<◌, ◌≤◌, List, [], ◌∷◌, ◌++◌, length, cond, true, false, refl, sym, ap, subst, ◌∙◌, arith, length-append}
+use Rattle.std.proofs.Common.{◌≡◌, ℕ, ◌+◌, ◌≤◌, List, [], ◌∷◌, ◌++◌, length, cond, true, false, refl, sym, ap, subst, ◌∙◌, arith, length-append}
 use Rattle.std.specs.Prelude.{All, nat_le}
 use Rattle.std.specs.List.{AllByRecursion}
 use Rattle.std.specs.Int.{div_ceil}
@@ -22,7 +22,6 @@ use Rattle.segment.specs.Records.{IsSegment, segment_in, segment_of, record_of}
 use Rattle.segment.proofs.Posting.{segment_length_more}
 use Rattle.store_image.specs.Kept.{AreOfLayout, AreSegments, AreSummed, HasKind, IsKept, entry_at, segment_with}
 use Rattle.store_image.proofs.Windowed.{record_least}
-use Rattle.store_image.proofs.Damaged.{segments_count as as_many_lists}
 use Rattle.store_copy.specs.Copying.{up_to, before, lists_up_to, entries_from, end_from, copied_listing}
 use Rattle.store_copy.specs.Private.Writing.{AreEntriesFrom, IsEntryFrom, MayBeListed, MayBeSegment}
 use Rattle.store_copy.proofs.UpTo.{up_to_ascends, up_to_all, lists_all, lists_are, listed_up_to, up_to_is_history, lists_kinds, lists_count}

@@ -6,7 +6,6 @@ use Rattle.list_lemmas.proofs.Each.{each_of_taken}
 use Rattle.blocks.specs.Extents.{block_limit}
 use Rattle.checksum.specs.Crc32c.{crc32c}
 use Rattle.history_model.specs.declared.stamped.StampedRow.{StampedRow}
-use Rattle.directory.specs.declared.entry.Entry.{Entry}
 use Rattle.directory.specs.declared.layout.Layout.{Layout}
 use Rattle.directory.specs.Listings.{DirectoryValue, IsListing, form_of, sums_of, with_entry}
 use Rattle.segment.specs.Records.{segment_in, segment_of}

@@ -1,13 +1,10 @@
 use Rattle.std.proofs.Common.{◌≡◌, ℕ, ◌+◌, ◌<◌, ◌≤◌, List, length, take, sym, ap, subst, ◌∙◌, arith, rules}
-use Rattle.std.specs.Int.{div_ceil}
 use Rattle.blocks.specs.declared.extent.Extent.{Extent}
-use Rattle.blocks.specs.Extents.{block_limit, byte_range}
+use Rattle.blocks.specs.Extents.{byte_range}
 use Rattle.checksum.specs.Crc32c.{crc32c}
-use Rattle.checksum.specs.declared.form.Form.{Form}
 use Rattle.directory.specs.declared.entry.Entry.{Entry}
 use Rattle.directory.specs.declared.sums.Sums.TheVariants as sums
 use Rattle.directory.specs.Listings.{form_of}
-use Rattle.directory.specs.declared.layout.Layout.{Layout}
 use Rattle.segment.specs.Records.{segment_in, segment_of}
 use Rattle.store_image.specs.Ahead.{BeginsWith}
 use Rattle.store_image.proofs.Segments.{bytes_more, bytes_up_to, bytes_within}

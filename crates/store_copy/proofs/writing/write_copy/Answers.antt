@@ -1,4 +1,4 @@
-use Rattle.std.proofs.Common.{List, sym, subst, arith}
+use Rattle.std.proofs.Common.{sym, subst, arith}
 use Rattle.directory.specs.Listings.{DirectoryValue, IsListing}
 use Rattle.disk_model.specs.Disk.{LeavesOnly}
 use Rattle.disk_model.proofs.MomentSteps.{at_end}
