@@ -6,6 +6,7 @@
 //! - `copy-from FAILURE CALLS WHAT` lets a call of the kept disk fail after CALLS others, and
 //!   `copy-reads WHAT` each of its reads in turn: the copy is then refused and leaves no store, or
 //!   it is whole;
+//! - `copy-requests WHAT` prints how many bytes a copy requests of the kept disk;
 //! - `copy-crashes WHAT` prints how many stores crashes during a copy leave, over all its moments
 //!   and the four choices of each, and `copy-fails FAILURE WHAT` the most of them if each call of
 //!   the copy's disk fails in turn. Each of these stores has to be whole.
@@ -194,6 +195,21 @@ fn copy_reads(alloc: Global, kept: &[u8], words: &str) -> Answer {
     Err(NoAnswer::NoQuestion)
 }
 
+/// How many bytes a copy requests of the disk.
+fn copy_requests(alloc: Global, kept: &[u8], words: &str) -> Answer {
+    let asked = Asked::of(words)?;
+    let mut source = disk_of(alloc, kept)?;
+    let mut target = MemDisk::new(alloc);
+    let refused = refusal(alloc, &mut source, &mut target, asked);
+    match spell(alloc, refused, source.bytes() == kept, &target)? {
+        Some(answer) => Ok(answer),
+        None => {
+            let requested = source.bytes_read();
+            Ok(format!(in alloc; "{requested}")?)
+        }
+    }
+}
+
 /// How many stores the crashes during a copy leave; none if one of them isn't whole.
 fn count_stores(alloc: Global, target: &MemDisk, whole: Whole) -> Result<Option<u32>, NoAnswer> {
     let mut stores = 0u32;
@@ -257,6 +273,7 @@ pub fn try_copies(alloc: Global, kept: &[u8], word: &str, words: &str) -> Answer
     match word {
         "copy-from" => copy_from(alloc, kept, words),
         "copy-reads" => copy_reads(alloc, kept, words),
+        "copy-requests" => copy_requests(alloc, kept, words),
         "copy-crashes" => copy_crashes(alloc, kept, words),
         "copy-fails" => copy_fails(alloc, kept, words),
         _ => Err(NoAnswer::NoQuestion),
