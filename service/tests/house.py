@@ -144,13 +144,13 @@ class Answer:
 
 
 class House:
-    """A store, its hub and its gateway. What the gateway asks is recorded, if that is wanted. The
-    store is of a version of the layout, and the releases are whole packages, if that is wanted."""
+    """A store of a layout, its hub and its gateway. What the gateway asks is recorded, and the
+    releases are whole packages, if that is wanted."""
 
     def __init__(
         self,
         is_recorded: bool = False,
-        layout: int = 2,
+        layout: int = 3,
         is_whole: bool = False,
         words: Sequence[str] = (),
     ) -> None:
@@ -210,7 +210,7 @@ class House:
 
 
 class Shared:
-    """The houses that the tests share which leave them as they are: one whose store keeps no
+    """The houses that the tests share which leave them as they are: one whose releases have no
     members, and one of whole packages."""
 
     one: House | None = None
@@ -225,7 +225,7 @@ class Shared:
     @classmethod
     def get_whole(cls, words: Sequence[str]) -> House:
         if cls.whole is None:
-            cls.whole = House(layout=3, is_whole=True, words=words)
+            cls.whole = House(is_whole=True, words=words)
         return cls.whole
 
     @classmethod

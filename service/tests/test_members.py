@@ -15,7 +15,7 @@ from sctd_service.gateway.hub import HubGone, TooCostly
 from sctd_service.gateway.page_history import Names
 from sctd_service.gateway.page_members import memberships, refset_entries
 from sctd_service.gateway.pool import Member, Session
-from sctd_service.gateway.problems import Problem
+from sctd_service.gateway.problems import NO_MEMBERS, Problem
 from sctd_service.snomed import RefsetMember
 from sctd_service.gateway.store import View, called_of, members_of
 
@@ -537,8 +537,8 @@ class Page(Whole):
         self.assertIn(odd + ": Y1 \u00b7 ask &lt;i&gt;them&lt;/i&gt;", limb)
 
 
-class AsBefore(unittest.TestCase):
-    """Stores that keep no members, asked with all that is new."""
+class WithoutMembers(unittest.TestCase):
+    """Stores that have no members, asked for what they say."""
 
     def compared(self, house: House) -> None:
         fhir, codes = house.gateway.fhir, house.codes
@@ -567,19 +567,46 @@ class AsBefore(unittest.TestCase):
             self.assertNotIn(">%s<" % title, text)
         self.assertNotIn("in short", text)
 
-    def test_layouts_and_packages_without_members(self) -> None:
-        for layout, is_whole in ((2, True), (2, False), (3, False)):
-            house = House(layout=layout, is_whole=is_whole, words=WORDS)
-            try:
-                self.compared(house)
-            finally:
-                house.end()
+    def test_packages_without_members(self) -> None:
+        house = House(words=WORDS)
+        self.addCleanup(house.end)
+        self.compared(house)
+        self.assertNotIn("layout", house.gateway.told())
+
+    def test_a_layout_without_members(self) -> None:
+        """What needs members is refused with a sentence, and all else is answered."""
+        house = House(layout=2, is_whole=True, words=WORDS)
+        self.addCleanup(house.end)
+        fhir, codes = house.gateway.fhir, house.codes
+        code = {"system": SCT, "code": codes["wrist"]}
+        refset = SCT + "?fhir_vs=refset/" + codes["set"]
+        needing: tuple[tuple[str, dict[str, str]], ...] = (
+            (LOOKUP, code),
+            (LOOKUP, {**code, "property": "parent", "displayLanguage": "en"}),
+            (LOOKUP, {**code, "property": "inactivationIndicator", "displayLanguage": "de"}),
+            (EXPAND, {"url": refset}),
+            (EXPAND, {"url": SCT + "?fhir_vs=refset"}),
+            ("ValueSet/$validate-code", {"url": refset, **code}),
+        )
+        for path, words in needing:
+            status, said = fhir(path, **words)
+            self.assertEqual((status, issue(said)), (422, "not-supported"), (path, words))
+            self.assertEqual(said["issue"][0]["diagnostics"], NO_MEMBERS, (path, words))
+        page = house.gateway.send("GET", "/?q=" + codes["wrist"])
+        self.assertEqual(page.status, 422)
+        self.assertIn("keeps no members", page.text)
+        free = {**code, "property": "parent", "displayLanguage": "und"}
+        self.assertEqual(fhir(LOOKUP, **free)[0], 200)
+        within = SCT + "?fhir_vs=isa/" + codes["limb"]
+        words = {"url": within, **code, "displayLanguage": "und"}
+        self.assertEqual(fhir("ValueSet/$validate-code", **words)[0], 200)
+        self.assertIn("sctd-gateway: " + NO_MEMBERS, house.gateway.told())
 
 
 class AnotherStore(unittest.TestCase):
     def test_reference_sets_of_another_store(self) -> None:
         """Its first import is another one: nothing that is remembered of a set holds."""
-        house = House(layout=3, is_whole=True, words=WORDS)
+        house = House(is_whole=True, words=WORDS)
         self.addCleanup(house.end)
         url = "%s?fhir_vs=refset/%s" % (version("20210131"), house.codes["set"])
         for releases, names in (

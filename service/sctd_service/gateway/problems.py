@@ -51,3 +51,10 @@ def too_costly(text: str) -> Problem:
 
 def not_supported(text: str) -> Problem:
     return Problem(422, "not-supported", text)
+
+
+# Why there is no answer from a store below layout 3.
+NO_MEMBERS = (
+    "the store's layout keeps no members of reference sets, which this needs: "
+    "sctd copy --layout 3 makes a store that does"
+)
