@@ -341,8 +341,8 @@ FAULTS = [
     Fault(
         "texts aren't escaped",
         "markup.py",
-        "else escape(visible(part)) for",
         "else visible(part) for",
+        "else Markup(visible(part)) for",
         "test_page " + PAGE,
     ),
     Fault(

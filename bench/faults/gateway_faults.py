@@ -5,7 +5,7 @@ gateway_faults.py PROGRAM [NUMBER ..]
 
 PROGRAM is the built `sctd`. Each fault is a text of a file that is exchanged, and the tests that
 are run with it. One that no test fails for is said to be NOT SEEN, and the status is 1 then. It
-takes some minutes. Standard library alone; the gateway needs h11.
+takes some minutes. Standard library alone; the gateway needs its packages.
 """
 
 from __future__ import annotations
@@ -21,7 +21,7 @@ from collections.abc import Sequence
 ROOT = os.path.dirname(os.path.dirname(os.path.dirname(os.path.abspath(__file__))))
 sys.path.insert(0, os.path.join(ROOT, "bench", "trials"))
 from gateway_fault_table import FAULTS, PAGE, Fault  # noqa: E402
-from try_gateway import python_with_h11  # noqa: E402
+from try_gateway import python_with_packages  # noqa: E402
 
 SECONDS = 300
 NOT_RUN = 3
@@ -85,9 +85,9 @@ def main(words: Sequence[str]) -> int:
     if not words:
         print((__doc__ or "").strip(), file=sys.stderr)
         return 2
-    python, program = python_with_h11(), os.path.abspath(words[0])
+    python, program = python_with_packages(), os.path.abspath(words[0])
     if python is None:
-        print("not run: h11 is missing")
+        print("not run: a package that the gateway needs is missing")
         return NOT_RUN
     chosen = [int(word) for word in words[1:]] or range(len(FAULTS))
     seen = [tried(number, FAULTS[number], python, program) for number in chosen]

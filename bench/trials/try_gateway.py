@@ -4,8 +4,9 @@
 try_gateway.py PROGRAM [HUB]
 
 PROGRAM is the built `sctd`; HUB is another hub than service/sctd-hub. The tests that mostly wait for
-a limit of time run beside the others. They need h11, which is looked for in this Python and then in
-the system's; where neither has it, that is said and the status is 3, so that it counts as skipped.
+a limit of time run beside the others. They need the packages of PACKAGES, which are looked for in
+this Python and then in the system's; where neither has them all, that is said and the status is 3,
+so that it counts as skipped.
 Where mypy is installed it checks the types too, and where there is a Chromium try_page.py looks at
 the page. The last line is `N passed, M failed`, with `, K skipped` where something was. The status
 is 1 where something failed.
@@ -24,6 +25,8 @@ from typing import Optional
 ROOT = os.path.dirname(os.path.dirname(os.path.dirname(os.path.abspath(__file__))))
 SERVICE = os.path.join(ROOT, "service")
 SYSTEM_PYTHON = "/usr/bin/python3"
+# What the gateway needs, by the names of Python. Debian has each as a package of its own.
+PACKAGES = ("h11", "markupsafe")
 SECONDS = 170
 NOT_RUN = 3
 # The order of those of one run matters: the last of them reads what all before it have asked.
@@ -47,10 +50,10 @@ RUNS = [
 ]
 
 
-def python_with_h11() -> Optional[str]:
-    """A Python of at least the version that the gateway needs, with h11; None where there is
-    none."""
-    check = "import sys, h11; sys.exit(sys.version_info < (3, 11))"
+def python_with_packages() -> Optional[str]:
+    """A Python of at least the version that the gateway needs, with its packages; None where there
+    is none."""
+    check = "import sys, %s; sys.exit(sys.version_info < (3, 11))" % ", ".join(PACKAGES)
     for python in (sys.executable, SYSTEM_PYTHON):
         try:
             done = subprocess.run([python, "-c", check], stderr=subprocess.DEVNULL, check=False)
@@ -127,9 +130,10 @@ def main(words: Sequence[str]) -> int:
     if len(words) not in (1, 2):
         print((__doc__ or "").strip(), file=sys.stderr)
         return 2
-    python = python_with_h11()
+    python = python_with_packages()
     if python is None:
-        print("h11 is missing: the gateway wasn't tried\n0 passed, 0 failed, 1 skipped")
+        print("no Python here has %s: the gateway wasn't tried" % ", ".join(PACKAGES))
+        print("0 passed, 0 failed, 1 skipped")
         return NOT_RUN
     program = os.path.abspath(words[0])
     hub = os.path.abspath(words[1]) if len(words) == 2 else os.path.join(SERVICE, "sctd-hub")

@@ -6,12 +6,12 @@ try_units.py PROGRAM
 PROGRAM is the built `sctd`. systemd-nspawn boots a container on this machine's own files; what is
 changed there stays in memory and is dropped, and the network is the container's. `sctd`, examples/
 and service/ are put into /opt/sctd, and the commands at the top of both units are run there as they
-stand, but for that which installs h11: the last of each starts the unit. An import, a copy and
+stand, but for that which installs packages: the last of each starts the unit. An import, a copy and
 answers of the gateway have to come, each user may connect to what the units say and to nothing
 else, no process may write beside its own folders, and what is killed has to be started again. Last
 the units are stopped.
 
-It needs root, overlayfs, systemd-nspawn, curl, and h11 in the system's Python. Where it lacks one
+It needs root, overlayfs, systemd-nspawn, curl, and the gateway's packages in the system's Python. Where it lacks one
 of them, or the container can't be booted, it says "not run" and ends with status 3; the status is 1
 where something isn't as it has to be. It takes half a minute. Standard library alone.
 """
@@ -149,13 +149,16 @@ def is_repeated(step: Step) -> bool:
 
 def lacks(program: str) -> str:
     """What this machine lacks, or nothing."""
+    # (In the container this script is alone.)
+    from try_gateway import PACKAGES
+
     if os.geteuid() != 0:
         return "it takes root"
     for command in ("systemd-nspawn", "unshare", "curl", "runuser"):
         if shutil.which(command) is None:
             return "there is no " + command
-    if subprocess.run([PYTHON, "-c", "import h11"], stderr=subprocess.DEVNULL).returncode:
-        return "there is no h11"
+    if subprocess.run([PYTHON, "-c", "import " + ", ".join(PACKAGES)], stderr=subprocess.DEVNULL).returncode:
+        return "there isn't each of %s" % ", ".join(PACKAGES)
     return "" if os.access(program, os.X_OK) else "%s isn't a program" % program
 
 

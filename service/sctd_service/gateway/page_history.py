@@ -3,7 +3,9 @@
 from collections.abc import Iterable, Mapping
 from typing import NamedTuple
 
-from .markup import Html, joined, tag, term, time
+from markupsafe import Markup
+
+from .markup import joined, tag, term, time
 from ..snomed import (
     DEFINED,
     FULLY_SPECIFIED_NAME,
@@ -54,10 +56,10 @@ async def history(
     timeline: Iterable[Versions],
     marks: Mapping[str, str],
     refsets: Mapping[str, str],
-) -> Html:
+) -> Markup:
     """The changes by day, oldest first, with the days that are marked among them."""
     names = Names(await view.names(other_codes(timeline), view.latest), refsets)
-    events: dict[str, list[Html]] = {day: [tag("em", said)] for day, said in marks.items()}
+    events: dict[str, list[Markup]] = {day: [tag("em", said)] for day, said in marks.items()}
     for versions in timeline:
         before: AnyRow | None = None
         for row in versions:
@@ -115,7 +117,7 @@ def said_by(row: AnyRow | None, names: Names) -> Said | None:
     return Said(what, row.target, names.of(row.target))
 
 
-def changes(before: AnyRow | None, row: AnyRow, names: Names) -> list[Html]:
+def changes(before: AnyRow | None, row: AnyRow, names: Names) -> list[Markup]:
     """What a row changed against the one before it, in words."""
     if isinstance(row, Concept):
         return concept_changes(before, row)
@@ -133,7 +135,7 @@ def changes(before: AnyRow | None, row: AnyRow, names: Names) -> list[Html]:
     return found
 
 
-def concept_changes(before: AnyRow | None, row: Concept) -> list[Html]:
+def concept_changes(before: AnyRow | None, row: Concept) -> list[Markup]:
     found = []
     if before is None or before.active != row.active:
         found.append(tag("b", "Concept ", "active" if row.is_active else "inactive"))

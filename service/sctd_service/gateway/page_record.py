@@ -4,10 +4,12 @@ import datetime
 from collections.abc import Iterable, Sequence
 from typing import NamedTuple
 
+from markupsafe import Markup
+
 from . import limits
 from .fhir.translation import MAPS
 from .fhir.versions import Edition
-from .markup import Html, address, aside, joined, tag, term, time, verdict, visible
+from .markup import address, aside, joined, tag, term, time, verdict, visible
 from .page_history import Names, codes_of_member, history
 from .page_members import Membership, memberships, refset_entries
 from ..snomed import (
@@ -42,7 +44,7 @@ OPTIONAL = ("Preferred term", "Text definition", "Why retired", "Reference sets"
 MORE_STEPS = "This isn\u2019t whole: inactive concepts at its end may lead further."
 
 # The entries of one row of the table: what tells each from others, and what is shown.
-Entries = dict[str, Html]
+Entries = dict[str, Markup]
 
 
 class Question(NamedTuple):
@@ -154,7 +156,7 @@ class Side(NamedTuple):
                 found[key] = joined(term(name), ": ", value, group)
         return found
 
-    def link(self, code: str) -> Html:
+    def link(self, code: str) -> Markup:
         href = address(q=code, date=with_hyphens(self.day))
         return joined(tag("a", term(self.names[code]), href=href), " ", aside(code))
 
@@ -175,7 +177,7 @@ async def side_of(
     return Side(day, facts, await view.names(codes, day), members)
 
 
-async def record(view: View, question: Question) -> Html:
+async def record(view: View, question: Question) -> Markup:
     code, latest = question.code, view.latest
     language, timeline = Language("", question.edition.languages), await view.timeline(code)
     then, now = [
@@ -224,7 +226,7 @@ def not_known_yet(date: str, latest: str) -> list[str]:
     ]
 
 
-def sentence(side: Side, versions: Iterable[Concept]) -> Html:
+def sentence(side: Side, versions: Iterable[Concept]) -> Markup:
     """What the code was on a day, and since when where it was retired."""
     if side.facts is None:
         return joined(
@@ -252,7 +254,7 @@ def sentence(side: Side, versions: Iterable[Concept]) -> Html:
     )
 
 
-def compared(then: Side, now: Side, latest: str) -> Html:
+def compared(then: Side, now: Side, latest: str) -> Markup:
     """The table of both days. What stands on one of them alone is marked, in words too."""
     left, right = then.entries(), now.entries()
     body = []
@@ -279,7 +281,7 @@ def compared(then: Side, now: Side, latest: str) -> Html:
     )
 
 
-def column_head(side: Side, said: str) -> Html:
+def column_head(side: Side, said: str) -> Markup:
     return tag(
         "th",
         time(side.day),
@@ -289,7 +291,7 @@ def column_head(side: Side, said: str) -> Html:
     )
 
 
-def cell(own: Entries, other: Entries, is_marked: bool, said: str) -> Html:
+def cell(own: Entries, other: Entries, is_marked: bool, said: str) -> Markup:
     entries = []
     for key, shown in own.items():
         if is_marked and key not in other:
@@ -299,9 +301,9 @@ def cell(own: Entries, other: Entries, is_marked: bool, said: str) -> Html:
     return tag("td", tag("ul", *entries) if entries else aside("none"))
 
 
-async def replacements(view: View, code: str, day: str) -> Html:
+async def replacements(view: View, code: str, day: str) -> Markup:
     """What took the concept's place by then, step by step."""
-    steps: list[Html] = []
+    steps: list[Markup] = []
     seen, turn = {code}, [code]
     while turn and len(steps) < limits.REPLACEMENT_STEPS:
         told = await view.associations(turn, day)
@@ -327,7 +329,7 @@ def refset_place(row: Association) -> int:
 
 def replacement(
     row: Association, code: str, day: str, target: Concept | None, names: dict[str, str]
-) -> Html:
+) -> Markup:
     """One association, and in whose place its target is where that isn't the record's concept."""
     link = tag("a", term(names[row.target]), href=address(q=row.target, date=with_hyphens(day)))
     status = "active" if target and target.is_active else "inactive"
@@ -346,7 +348,7 @@ def replacement(
     )
 
 
-def report(view: View, question: Question, then: Side) -> Html:
+def report(view: View, question: Question, then: Side) -> Markup:
     """A line to be copied into a report, and the address under which the page stays as it is."""
     line = "SNOMED CT %s |%s| on %s: %s. %s; pin %d; %s; read on %s" % (
         question.code,
