@@ -26,7 +26,7 @@ ROOT = os.path.dirname(os.path.dirname(os.path.dirname(os.path.abspath(__file__)
 SERVICE = os.path.join(ROOT, "service")
 SYSTEM_PYTHON = "/usr/bin/python3"
 # What the gateway needs, by the names of Python. Debian has each as a package of its own.
-PACKAGES = ("h11", "markupsafe")
+PACKAGES = ("h11", "markupsafe", "prometheus_client")
 SECONDS = 170
 NOT_RUN = 3
 # The order of those of one run matters: the last of them reads what all before it have asked.
@@ -44,7 +44,7 @@ RUNS = [
         "test_lines",
         "test_recorded",
     ),
-    ("test_hub", "test_large_answers"),
+    ("test_hub", "test_large_answers", "test_metrics"),
     ("test_releases", "test_delivery"),
     ("test_members",),
 ]

@@ -27,6 +27,7 @@ MODULES = (
     "test_large_answers",
     "test_delivery",
     "test_members",
+    "test_metrics",
     "test_heads",
     "test_lines",
     "test_recorded",

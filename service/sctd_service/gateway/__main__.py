@@ -125,7 +125,7 @@ async def serve(found: argparse.Namespace) -> int:
     edition = Edition(found.edition, found.languages, dict(found.map))
     pool = Pool(found.socket)
     app = App(pool, edition, found.cors)
-    server = http.Server(app.answer, refused_request, log=found.log)
+    server = http.Server(app.answer, refused_request, [app.count, *[http.log] * found.log])
     try:
         listens = await listening(server, found.listen)
     except OSError as error:

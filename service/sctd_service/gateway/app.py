@@ -2,23 +2,23 @@
 `/pin/N`, as the first N imports left the store."""
 
 import asyncio
+import contextlib
 import json
 import re
 import traceback
 from collections.abc import AsyncIterator, Awaitable, Sequence
-from contextlib import asynccontextmanager
 from pathlib import Path
 from urllib.parse import parse_qsl, unquote
 
 from .. import VERSION
 from ..logs import tell
-from . import delivery, http, limits, page
+from . import delivery, http, limits, metrics, page
 from .fhir import OPERATIONS, Operation
 from .fhir.inputs import Given, Query, posted
 from .fhir.outputs import dumped, written
 from .fhir.request import Request
 from .fhir.versions import Edition
-from .hub import NEEDS_LATER_LAYOUT, OUT_OF_MEMORY, HubGone, HubRefused, TooCostly
+from .hub import NEEDS_LATER_LAYOUT, OUT_OF_MEMORY, HubGone, HubRefused, Reply, TooCostly
 from .pool import NoSuchPin, Pool
 from .problems import (
     NO_MEMBERS,
@@ -51,8 +51,12 @@ SAFE: Headers = (
 FILES = {"/page.css": "text/css; charset=utf-8", "/page.js": "text/javascript; charset=utf-8"}
 # The pages, and the words that each of them knows.
 PAGES = {"/": page.WORDS, "/suggest": ("text", "date")}
-# What a proxy and a monitor ask: whether the gateway runs, and whether the store can be asked.
-LIVE, HEALTH = "/live", "/health"
+# What a proxy and a monitor ask: whether the gateway runs, whether the store can be asked, and how
+# often what was done.
+LIVE, HEALTH, METRICS = "/live", "/health", "/metrics"
+PATHS = {*FILES, *PAGES, LIVE, HEALTH, METRICS}
+# As what a request is counted that is for none of these, and one that couldn't be read.
+OTHER, UNREAD = "other", "unread"
 READS = ("GET", "HEAD")
 METHODS = (*READS, "POST")
 PATH = re.compile(r"(?:/pin/([0-9]{1,10}))?(/[^?#]*)\Z", re.ASCII | re.DOTALL)
@@ -91,7 +95,7 @@ class App:
 
     def __init__(self, pool: Pool, edition: Edition, origins: Sequence[str] = ()) -> None:
         self.pool, self.edition, self.origins = pool, edition, origins
-        self.walks = asyncio.Semaphore(limits.WALKS)
+        self.walks, self.metrics = asyncio.Semaphore(limits.WALKS), metrics.Metrics()
         self.files = {
             path: http.Response(200, kind, file_of(path), SAFE) for path, kind in FILES.items()
         }
@@ -130,7 +134,7 @@ class App:
         if path.startswith(FHIR_BASE) or path + "/" == FHIR_BASE:
             given = pairs_of(words)
             return await self.fhir(request, pin, path.removeprefix(FHIR_BASE), given)
-        if path not in self.files and path not in PAGES and path not in (LIVE, HEALTH):
+        if path not in PATHS:
             raise not_found("there is no such page")
         if request.method == "POST":
             raise Problem(405, "not-supported", "a page is asked for by GET", READS)
@@ -140,9 +144,11 @@ class App:
             return http.Response(200, JSON, dumped({"live": True}), SAFE)
         if path == HEALTH:
             return await self.health(pin)
+        if path == METRICS:
+            return await self.monitored()
         return await self.page(request, pin, path, pairs_of(words))
 
-    @asynccontextmanager
+    @contextlib.asynccontextmanager
     async def view(
         self, request: http.Request, pin: int | None, is_walk: bool
     ) -> AsyncIterator[View]:
@@ -215,6 +221,22 @@ class App:
             return health_of(503, {**state, "problem": "the store is damaged"})
         return health_of(200, state)
 
+    async def monitored(self) -> http.Response:
+        """What a monitor counts. Of a hub that doesn't answer in time there is nothing."""
+        told: Reply = ()
+        view = None
+        with contextlib.suppress(HubGone, HubRefused, TimeoutError):
+            async with asyncio.timeout(limits.HEALTH_SECONDS):
+                told = await self.pool.asked("METRICS")
+                async with self.pool.opened(None) as session:
+                    view = View(session)
+        return http.Response(200, metrics.KIND, self.metrics.text(view, told), SAFE)
+
+    def count(self, request: http.Request | None, response: http.Response, seconds: float) -> None:
+        """Counts an answer."""
+        operation = operation_of(request.target) if request else UNREAD
+        self.metrics.answered(operation, response.status, seconds)
+
     async def shown(
         self, view: View, path: str, words: dict[str, str], is_pinned: bool
     ) -> http.Response:
@@ -248,6 +270,13 @@ async def told_of(view: View, fhir: bool, answer: Awaitable[http.Response]) -> h
         response = refusal(too_costly(str(error)), fhir)
     pin = (("X-Sctd-Pin", str(view.pin)), ("X-Sctd-Receipt", view.receipt))
     return response._replace(headers=response.headers + pin)
+
+
+def operation_of(target: str) -> str:
+    """What a request is counted as: an operation, a page, or one of all others."""
+    found = PATH.match(target.partition("?")[0])
+    path = unquote(found[2]).removeprefix(FHIR_BASE) if found else ""
+    return path if path in OPERATIONS or path in PATHS else OTHER
 
 
 def is_fhir(target: str) -> bool:

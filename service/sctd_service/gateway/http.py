@@ -9,7 +9,7 @@ next request has been awaited longest makes room, also where a part of that has 
 import asyncio
 import re
 import time
-from collections.abc import Awaitable, Callable, Iterable
+from collections.abc import Awaitable, Callable, Iterable, Sequence
 from email.utils import formatdate
 from http import HTTPStatus
 from typing import NamedTuple
@@ -71,6 +71,8 @@ class Left(Exception):
 
 Answer = Callable[[Request], Awaitable[Response]]
 Refusal = Callable[[int, str], Response]
+# Is told of each answer: to which request, if that could be read, and how long it took.
+Observer = Callable[[Request | None, Response, float], None]
 
 
 def check_head(head: bytes) -> None:
@@ -225,8 +227,10 @@ class Client:
 class Server:
     """Answers clients. `waiting` are those whose next request isn't whole, the longest first."""
 
-    def __init__(self, answer: Answer, refusal: Refusal, log: bool = False) -> None:
-        self.answer, self.refusal, self.log = answer, refusal, log
+    def __init__(
+        self, answer: Answer, refusal: Refusal, observers: Sequence[Observer] = ()
+    ) -> None:
+        self.answer, self.refusal, self.observers = answer, refusal, observers
         self.waiting: dict[Client, None] = {}
         self.open: dict[Client, asyncio.Task[None] | None] = {}
         self.untaken, self.is_ending = 0, False
@@ -267,15 +271,16 @@ class Server:
             self.waiting.pop(client, None)
             self.waiting[client] = None
             request = await client.request(head)
+            began = time.monotonic()
             self.waiting.pop(client, None)
             response = await self.answer(request)
             stays = client.stays and not self.is_ending
         except Bad as bad:
             response, stays = self.refusal(bad.status, bad.text), False
         self.waiting.pop(client, None)
+        for observer in self.observers:
+            observer(request, response, time.monotonic() - began)
         await self.send(client, response, stays, with_body)
-        if self.log:
-            log(request, response, time.monotonic() - began)
         if not stays:
             await client.linger()
         return stays

@@ -237,6 +237,14 @@ class Pool:
         finally:
             self.give_back(connection)
 
+    async def asked(self, line: str) -> Reply:
+        """The hub's own reply to a line, which isn't as of any pin."""
+        connection = await self.connection(await self.watched())
+        try:
+            return (await connection.ask([line]))[0]
+        finally:
+            self.give_back(connection)
+
     def give_back(self, connection: Connection) -> None:
         if connection.whole and self.is_of_this_hub(connection):
             self.idle.append(connection)

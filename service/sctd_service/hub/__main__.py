@@ -16,6 +16,7 @@ is its owner's alone, too, or with `--group` that group's.
 The program answers one line after the other, and is sent the next ones meanwhile, at most 32 of a
 client. An import or a DIGEST goes alone and keeps the others waiting. `WATCH` is answered `OK` and
 the number of imports, and the client is told so again with each import, before that is answered.
+`METRICS` is answered with what a monitor counts, each line of Prometheus' text as a row.
 `BACKUP PATH`, on the socket of `--socket`, copies the store while questions are answered. When more
 than N segments stand (100 if not said), the hub merges in short steps between the clients' lines;
 where the store is full, an import waits for a merge.
@@ -157,8 +158,7 @@ async def serve(options: argparse.Namespace) -> int:
         # Another hub may have begun to listen while the store was opened.
         if not all(is_clear(path) for path in paths):
             return 1
-        imports = int(status.split(b" ")[1])
-        store = Store(program, imports, options.store, options.program, options.merge_above)
+        store = Store(program, status, options.store, options.program, options.merge_above)
         hub = Hub(program, store, options.connections_a_user)
         return await serve_clients(hub, listeners_of(options))
     finally:

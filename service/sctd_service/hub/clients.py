@@ -162,6 +162,8 @@ class Client(asyncio.Protocol):
             self.watches = True
             self.hub.watchers[self] = None
             self.send(self.hub.store.imports_told())
+        elif sort is Sort.METRICS:
+            self.send(self.hub.metrics_told())
         else:
             self.is_busy = True
             self.hub.begin(self.carried_out(sort, line))
@@ -269,6 +271,20 @@ class Hub:
         if sort is Sort.CHANGE:
             return await self.store.change(client.session, line, client.user)
         return await self.program.ask(client.session, line, client.user, alone=True)
+
+    def metrics_told(self) -> bytes:
+        """What METRICS is answered, which needs no reply of the program: each line as a row."""
+        store = self.store
+        now = (
+            ("pin", "Imports, which are the pin of a question without one.", store.imports),
+            ("rows", "Rows of the store.", int(store.state[2])),
+            ("segments", "Segments of the store.", int(store.state[3])),
+            ("bytes", "Bytes of the store's file.", store.size()),
+            ("damaged", "Whether somebody was told that the store is damaged.",
+             int(bool(self.program.damaged_at))),
+            ("connections", "Connections of clients.", len(self.clients)))
+        rows = self.program.metrics.text(now).encode().splitlines()
+        return b"".join((*(b"ROW %s\n" % row for row in rows), b"END %d\n" % len(rows)))
 
     def tell_watchers(self) -> None:
         """Tells of an import, before it is answered."""

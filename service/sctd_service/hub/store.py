@@ -33,12 +33,14 @@ class Refused(Exception):
 
 class Store:
     """What is done with the store one after the other: changes, merges of the hub's own, copies.
-    `imports` is how many imports it has, and `on_import` is called before one is answered."""
+    `state` is what STATUS was answered last, `imports` how many imports there are, and `on_import`
+    is called before one is answered."""
 
-    def __init__(self, program: Program, imports: int, path: str, command: str,
+    def __init__(self, program: Program, status: bytes, path: str, command: str,
                  merge_above: int) -> None:
         self.program, self.path, self.command = program, path, command
-        self.imports = imports
+        self.state = status.split()
+        self.imports = int(self.state[1])
         self.on_import: Callable[[], None] = lambda: None
         self.merge_above = merge_above
         # Which file the path has named since the program opened it.
@@ -83,6 +85,7 @@ class Store:
     def note_reply(self, session: int, line: bytes, reply: bytes) -> None:
         """Notes what a line has changed, and logs its reply."""
         word, is_refused = first_word(line), reply.startswith(REFUSED)
+        self.program.metrics.changed(line, reply)
         if word in LOGGED or (word in LOGGED_REFUSED and is_refused):
             log("%s: %s" % (shown(without_cr(line)), shown(reply)))
         if word == IMPORT and not is_refused:
@@ -110,11 +113,19 @@ class Store:
         reply = (await self.program.ask(HUB_SESSION, b"STATUS"))[:-1]
         if reply.startswith(REFUSED):
             raise Refused("STATUS was answered %s" % shown(reply))
-        return reply.split(b" ")
+        self.state = reply.split(b" ")
+        return self.state
 
     def imports_told(self) -> bytes:
         """What WATCH is answered, and told again with each import."""
         return b"OK %d\n" % self.imports
+
+    def size(self) -> int:
+        """The bytes of the store's file, or of the one that has its name."""
+        try:
+            return os.stat(self.path).st_size
+        except OSError:
+            return 0
 
     def is_replaced(self) -> bool:
         """Whether another file has the store's name, or none."""
@@ -170,6 +181,7 @@ class Store:
         except Refused as failed:
             reply = b"ERR hub Backup " + str(failed).encode("utf-8", "backslashreplace")
         log("%s: %s" % (shown(BACKUP + b" " + name), shown(reply)))
+        self.program.metrics.changed(BACKUP, reply)
         return reply + b"\n"
 
     async def copied(self, name: bytes) -> bytes:

@@ -1,0 +1,169 @@
+"""What a monitor counts of the gateway and, through it, of the hub."""
+
+import socket
+import unittest
+from collections.abc import Iterable
+
+from prometheus_client.parser import text_string_to_metric_families
+from sctd_service.hub.lines import kind_of
+from sctd_service.hub.metrics import BOUNDS, Metrics
+
+from .house import SCT, SECONDS, Gateway, House
+
+Labels = dict[str, str]
+
+
+def samples(text: str) -> dict[tuple[str, frozenset[tuple[str, str]]], float]:
+    """Each sample by its name and its labels. One that stands twice is a fault."""
+    found = {}
+    for family in text_string_to_metric_families(text):  # type: ignore[no-untyped-call]
+        for one in family.samples:
+            key = (one.name, frozenset(one.labels.items()))
+            assert key not in found, key
+            found[key] = one.value
+    return found
+
+
+def scraped(gateway: Gateway) -> dict[tuple[str, frozenset[tuple[str, str]]], float]:
+    answer = gateway.send("GET", "/metrics")
+    assert (answer.status, answer.headers["content-type"]) == (
+        200,
+        "text/plain; version=0.0.4; charset=utf-8",
+    )
+    return samples(answer.text)
+
+
+def labels(**words: str) -> frozenset[tuple[str, str]]:
+    return frozenset(words.items())
+
+
+class Counted(unittest.TestCase):
+    house: House
+
+    @classmethod
+    def setUpClass(cls) -> None:
+        cls.house = House()
+        cls.addClassCleanup(cls.house.end)
+
+    def setUp(self) -> None:
+        self.gateway = self.house.gateway
+
+    def change(self, *lines: bytes) -> None:
+        """Sends lines to the hub's own socket, and waits for the last line of each reply."""
+        with socket.socket(socket.AF_UNIX) as hub:
+            hub.settimeout(SECONDS)
+            hub.connect(self.house.socket)
+            with hub.makefile("rwb") as stream:
+                for line in lines:
+                    stream.write(line + b"\n")
+                    stream.flush()
+                    stream.readline()
+
+    def test_requests_by_operation_and_status(self) -> None:
+        asked: Iterable[tuple[str, str, str, str]] = (
+            ("GET", "/fhir/CodeSystem/$lookup?system=%s&code=138875005" % SCT, "lookup", "200"),
+            ("GET", "/pin/1/fhir/CodeSystem/$lookup?system=%s&code=5" % SCT, "lookup", "404"),
+            ("POST", "/fhir/metadata", "metadata", "405"),
+            ("GET", "/pin/1/?q=1105007", "/", "200"),
+            ("GET", "/live", "/live", "200"),
+            ("GET", "/nothing/of/this", "other", "404"),
+            ("GET", "/fhir/Patient", "other", "404"),
+            ("GET", "/pin%2f1/health", "other", "404"),
+        )
+        names = {"lookup": "CodeSystem/$lookup"}
+        before = scraped(self.gateway)
+        for method, target, _, status in asked:
+            sent = self.gateway.send(method, target, b"" if method == "POST" else None)
+            self.assertEqual(str(sent.status), status, target)
+        self.gateway.raw(b"nonsense\r\n\r\n")
+        after = scraped(self.gateway)
+        wanted = [(names.get(name, name), status) for _, _, name, status in asked]
+        wanted.append(("unread", "400"))
+        for operation, status in set(wanted):
+            key = ("sctd_gateway_requests_total", labels(operation=operation, status=status))
+            more = wanted.count((operation, status))
+            self.assertEqual(after[key] - before.get(key, 0), more, key)
+        for operation in {operation for operation, _ in wanted}:
+            key = ("sctd_gateway_request_seconds_count", labels(operation=operation))
+            more = sum(name == operation for name, _ in wanted)
+            self.assertEqual(after[key] - before.get(key, 0), more, key)
+            top = ("sctd_gateway_request_seconds_bucket", labels(operation=operation, le="+Inf"))
+            self.assertEqual(after[top], after[key], key)
+
+    def test_state_of_the_store(self) -> None:
+        found = scraped(self.gateway)
+        with socket.socket(socket.AF_UNIX) as hub:
+            hub.connect(self.house.questions)
+            hub.sendall(b"STATUS\n")
+            _, imports, rows, segments, _ = hub.recv(1 << 16).split()
+        with open(self.house.store, "rb") as file:
+            size = file.seek(0, 2)
+        for name, value in (
+            ("sctd_pin", int(imports)),
+            ("sctd_gateway_pin", int(imports)),
+            ("sctd_rows", int(rows)),
+            ("sctd_segments", int(segments)),
+            ("sctd_bytes", size),
+            ("sctd_damaged", 0),
+            ("sctd_gateway_hub_up", 1),
+            # 31 July 2022.
+            ("sctd_gateway_latest_release_timestamp_seconds", 1_659_225_600),
+        ):
+            self.assertEqual(found[name, labels()], value, name)
+
+    def test_changes_by_result(self) -> None:
+        self.change(b"IMPORT d1", b"IMPORT nothing", b"IMPORT nothing", b"CHECK d2", b"FROB")
+        found = scraped(self.gateway)
+        for command, result, count in (
+            ("IMPORT", "OK", 1),
+            ("IMPORT", "ERR 45 NoFolder", 2),
+            ("CHECK", "OK", 1),
+            ("other", "ERR 42 Command", 1),
+        ):
+            key = ("sctd_changes_total", labels(command=command, result=result))
+            self.assertEqual(found[key], count, key)
+        self.assertEqual(found["sctd_line_seconds_count", labels(line="IMPORT")], 3)
+        longest = found["sctd_longest_line_seconds", labels(line="IMPORT")]
+        self.assertLessEqual(longest, found["sctd_line_seconds_sum", labels(line="IMPORT")])
+        self.assertGreater(longest, 0)
+
+    def test_hub_that_does_not_answer(self) -> None:
+        """What the gateway counts is told all the same."""
+        with self.house.stopped_program():
+            found = scraped(self.gateway)
+            self.assertEqual(found["sctd_gateway_hub_up", labels()], 1)
+            self.assertIn(("sctd_rows", labels()), found)
+        self.house.stop_hub()
+        found = scraped(self.gateway)
+        self.assertEqual(found["sctd_gateway_hub_up", labels()], 0)
+        self.assertNotIn(("sctd_rows", labels()), found)
+        self.assertNotEqual(found["sctd_gateway_pin", labels()], 3)
+        self.house.start_hub()
+        self.assertEqual(scraped(self.gateway)["sctd_gateway_hub_up", labels()], 1)
+
+
+class Times(unittest.TestCase):
+    def test_histograms(self) -> None:
+        metrics = Metrics()
+        for seconds in (0.0, BOUNDS[0], 0.5, 5_000.0):
+            metrics.took(b"7 AT 2 GET C 138875005 20200101\n", seconds)
+        found = samples(metrics.text([]))
+        buckets = [
+            found["sctd_line_seconds_bucket", labels(line="GET", le=bound)]
+            for bound in (*map(str, BOUNDS), "+Inf")
+        ]
+        self.assertEqual(buckets, [2, 2, 2, 2, 3, 3, 3, 4])
+        self.assertEqual(found["sctd_line_seconds_count", labels(line="GET")], 4)
+        self.assertEqual(found["sctd_longest_line_seconds", labels(line="GET")], 5_000)
+
+    def test_kinds_of_lines(self) -> None:
+        for line, kind in (
+            (b"0 STATUS\n", "STATUS"),
+            (b"1023 IMPORT r1\r\n", "IMPORT"),
+            (b"1 AT 5 DESCENDANTS 138875005 20200101\n", "DESCENDANTS"),
+            (b"1 AT 5\n", "other"),
+            (b"1 \n", "other"),
+            (b"1 status\n", "other"),
+            (b"1 \xff\n", "other"),
+        ):
+            self.assertEqual(kind_of(line), kind, line)
