@@ -27,7 +27,7 @@ from typing import Any, Optional
 from urllib.parse import urlencode
 
 import chromium
-from try_gateway import ROOT, SERVICE, python_with_packages
+from try_gateway import ROOT, SERVICE, python_with
 
 NOT_RUN = 3
 DESK, PHONE = 1000, 360
@@ -236,7 +236,7 @@ def looked_at(page: Page, codes: Codes) -> None:
 
 def tried(path: str, program: str, picture: Optional[str]) -> None:
     from tests.house import House
-    from tests.test_members import WORDS
+    from tests.demo_members import WORDS
 
     os.environ.update(SCTD_PROGRAM=program, SCTD_HUB=os.path.join(ROOT, "service", "sctd-hub"))
     browser = chromium.Browser(path)
@@ -274,7 +274,7 @@ def main(words: Sequence[str]) -> int:
     if len(words) not in (1, 2):
         print((__doc__ or "").strip(), file=sys.stderr)
         return 2
-    python, path = python_with_packages(), chromium.found()
+    python, path = python_with(), chromium.found()
     if python is None or path is None:
         print("not run: there is no %s" % ("package of the gateway" if python is None else "Chromium"))
         return NOT_RUN

@@ -1,13 +1,14 @@
 """What a monitor counts of the gateway and, through it, of the hub."""
 
 import socket
-import unittest
 from collections.abc import Iterable
 
+import pytest
 from prometheus_client.parser import text_string_to_metric_families
 from sctd_service.hub.lines import kind_of
 from sctd_service.hub.metrics import BOUNDS, Metrics
 
+from .asked import Asked
 from .house import SCT, SECONDS, Gateway, House
 
 Labels = dict[str, str]
@@ -37,16 +38,8 @@ def labels(**words: str) -> frozenset[tuple[str, str]]:
     return frozenset(words.items())
 
 
-class Counted(unittest.TestCase):
-    house: House
-
-    @classmethod
-    def setUpClass(cls) -> None:
-        cls.house = House()
-        cls.addClassCleanup(cls.house.end)
-
-    def setUp(self) -> None:
-        self.gateway = self.house.gateway
+class TestCounted(Asked):
+    of = "own_house"
 
     def change(self, *lines: bytes) -> None:
         """Sends lines to the hub's own socket, and waits for the last line of each reply."""
@@ -74,7 +67,7 @@ class Counted(unittest.TestCase):
         before = scraped(self.gateway)
         for method, target, _, status in asked:
             sent = self.gateway.send(method, target, b"" if method == "POST" else None)
-            self.assertEqual(str(sent.status), status, target)
+            assert str(sent.status) == status, target
         self.gateway.raw(b"nonsense\r\n\r\n")
         after = scraped(self.gateway)
         wanted = [(names.get(name, name), status) for _, _, name, status in asked]
@@ -82,13 +75,13 @@ class Counted(unittest.TestCase):
         for operation, status in set(wanted):
             key = ("sctd_gateway_requests_total", labels(operation=operation, status=status))
             more = wanted.count((operation, status))
-            self.assertEqual(after[key] - before.get(key, 0), more, key)
+            assert after[key] - before.get(key, 0) == more, key
         for operation in {operation for operation, _ in wanted}:
             key = ("sctd_gateway_request_seconds_count", labels(operation=operation))
             more = sum(name == operation for name, _ in wanted)
-            self.assertEqual(after[key] - before.get(key, 0), more, key)
+            assert after[key] - before.get(key, 0) == more, key
             top = ("sctd_gateway_request_seconds_bucket", labels(operation=operation, le="+Inf"))
-            self.assertEqual(after[top], after[key], key)
+            assert after[top] == after[key], key
 
     def test_state_of_the_store(self) -> None:
         found = scraped(self.gateway)
@@ -109,7 +102,7 @@ class Counted(unittest.TestCase):
             # 31 July 2022.
             ("sctd_gateway_latest_release_timestamp_seconds", 1_659_225_600),
         ):
-            self.assertEqual(found[name, labels()], value, name)
+            assert found[name, labels()] == value, name
 
     def test_changes_by_result(self) -> None:
         self.change(b"IMPORT d1", b"IMPORT nothing", b"IMPORT nothing", b"CHECK d2", b"FROB")
@@ -121,28 +114,28 @@ class Counted(unittest.TestCase):
             ("other", "ERR 42 Command", 1),
         ):
             key = ("sctd_changes_total", labels(command=command, result=result))
-            self.assertEqual(found[key], count, key)
-        self.assertEqual(found["sctd_line_seconds_count", labels(line="IMPORT")], 3)
+            assert found[key] == count, key
+        assert found["sctd_line_seconds_count", labels(line="IMPORT")] == 3
         longest = found["sctd_longest_line_seconds", labels(line="IMPORT")]
-        self.assertLessEqual(longest, found["sctd_line_seconds_sum", labels(line="IMPORT")])
-        self.assertGreater(longest, 0)
+        assert longest <= found["sctd_line_seconds_sum", labels(line="IMPORT")]
+        assert longest > 0
 
     def test_hub_that_does_not_answer(self) -> None:
         """What the gateway counts is told all the same."""
         with self.house.stopped_program():
             found = scraped(self.gateway)
-            self.assertEqual(found["sctd_gateway_hub_up", labels()], 1)
-            self.assertIn(("sctd_rows", labels()), found)
+            assert found["sctd_gateway_hub_up", labels()] == 1
+            assert ("sctd_rows", labels()) in found
         self.house.stop_hub()
         found = scraped(self.gateway)
-        self.assertEqual(found["sctd_gateway_hub_up", labels()], 0)
-        self.assertNotIn(("sctd_rows", labels()), found)
-        self.assertNotEqual(found["sctd_gateway_pin", labels()], 3)
+        assert found["sctd_gateway_hub_up", labels()] == 0
+        assert ("sctd_rows", labels()) not in found
+        assert found["sctd_gateway_pin", labels()] != 3
         self.house.start_hub()
-        self.assertEqual(scraped(self.gateway)["sctd_gateway_hub_up", labels()], 1)
+        assert scraped(self.gateway)["sctd_gateway_hub_up", labels()] == 1
 
 
-class Times(unittest.TestCase):
+class TestTimes:
     def test_histograms(self) -> None:
         metrics = Metrics()
         for seconds in (0.0, BOUNDS[0], 0.5, 5_000.0):
@@ -152,12 +145,13 @@ class Times(unittest.TestCase):
             found["sctd_line_seconds_bucket", labels(line="GET", le=bound)]
             for bound in (*map(str, BOUNDS), "+Inf")
         ]
-        self.assertEqual(buckets, [2, 2, 2, 2, 3, 3, 3, 4])
-        self.assertEqual(found["sctd_line_seconds_count", labels(line="GET")], 4)
-        self.assertEqual(found["sctd_longest_line_seconds", labels(line="GET")], 5_000)
+        assert buckets == [2, 2, 2, 2, 3, 3, 3, 4]
+        assert found["sctd_line_seconds_count", labels(line="GET")] == 4
+        assert found["sctd_longest_line_seconds", labels(line="GET")] == 5_000
 
-    def test_kinds_of_lines(self) -> None:
-        for line, kind in (
+    @pytest.mark.parametrize(
+        "line, kind",
+        (
             (b"0 STATUS\n", "STATUS"),
             (b"1023 IMPORT r1\r\n", "IMPORT"),
             (b"1 AT 5 DESCENDANTS 138875005 20200101\n", "DESCENDANTS"),
@@ -165,5 +159,7 @@ class Times(unittest.TestCase):
             (b"1 \n", "other"),
             (b"1 status\n", "other"),
             (b"1 \xff\n", "other"),
-        ):
-            self.assertEqual(kind_of(line), kind, line)
+        ),
+    )
+    def test_kinds_of_lines(self, line: bytes, kind: str) -> None:
+        assert kind_of(line) == kind, line
