@@ -6,7 +6,7 @@ from .house import House
 
 
 class Asked:
-    """Tests that ask a house: the one that all share, where a class doesn't name another fixture."""
+    """Tests that ask a house: the one that all share, if a class names no other fixture."""
 
     of = "house"
 

@@ -11,7 +11,7 @@ from urllib.parse import urlencode
 import pytest
 from make_release import sctid
 from sctd_service.gateway import languages, limits, refsets
-from sctd_service.gateway.hub import HubGone, TooCostly
+from sctd_service.gateway.hub import HubGone
 from sctd_service.gateway.page_history import Names
 from sctd_service.gateway.page_members import memberships, refset_entries
 from sctd_service.gateway.pool import Member, Session
@@ -30,6 +30,7 @@ US_TAG, GB_TAG = "en-x-sctlang-90000000-00005090-07", "en-x-sctlang-90000000-000
 CONTEXT = "http://snomed.info/fhir/StructureDefinition/designation-use-context"
 # The reference set, how it has a description, and as what.
 Context = tuple[str, str, str]
+TOO_MANY = "more than [0-9]+ "
 FSN, SYNONYM = "900000000000003001", "900000000000013009"
 
 
@@ -702,25 +703,28 @@ class TestLargeSets:
             found = asyncio.run(refsets.components_of(view, "2", "20200101"))
             assert (len(found), len(set(found))) == (count, count)
             assert len(view.asked) == pages
-        with pytest.raises(TooCostly):
+        with pytest.raises(Problem, match=TOO_MANY) as refused:
             view = ManyMembers(limits.REFSET_MEMBERS + 1)
             asyncio.run(refsets.components_of(view, "2", "20200101"))
+        assert refused.value.code == "too-costly"
 
     def test_of_which_it_is_asked_whether_they_are_active(self) -> None:
         view = ManyMembers(limits.WALK_CONCEPTS)
         found = asyncio.run(refsets.active_codes_of(view, "2", "20200101"))
         assert len(found) == limits.WALK_CONCEPTS // 10
-        with pytest.raises(TooCostly):
+        with pytest.raises(Problem, match=TOO_MANY) as refused:
             view = ManyMembers(limits.WALK_CONCEPTS + 1)
             asyncio.run(refsets.active_codes_of(view, "2", "20200101"))
+        assert refused.value.code == "too-costly"
 
     def test_among_how_many_there_are(self) -> None:
         view = ManyMembers(limits.REFSET_CHOICE)
         found = asyncio.run(refsets.with_members(view, "20200101"))
         assert len(found) == limits.REFSET_CHOICE
-        with pytest.raises(TooCostly):
+        with pytest.raises(Problem, match=TOO_MANY) as refused:
             view = ManyMembers(limits.REFSET_CHOICE + 1)
             asyncio.run(refsets.with_members(view, "20200101"))
+        assert refused.value.code == "too-costly"
 
 
 class TestMemberships:

@@ -33,38 +33,21 @@ ORIGIN = re.compile(r"https?://[A-Za-z0-9.\[\]:-]+\Z", re.ASCII)
 
 def options() -> argparse.Namespace:
     words = argparse.ArgumentParser(
-        prog="sctd-gateway", description="sctd as FHIR R4 over HTTP, and a page for people."
-    )
+        prog="sctd-gateway", description="sctd as FHIR R4 over HTTP, and a page for people.")
     words.add_argument("--socket", required=True, help="the hub's socket")
     words.add_argument(
-        "--edition", required=True, help="the module of the edition that the store holds"
-    )
+        "--edition", required=True, help="the module of the edition that the store holds")
     words.add_argument(
-        "--listen", default="127.0.0.1:8080", help="HOST:PORT, or the path of a socket"
-    )
+        "--listen", default="127.0.0.1:8080", help="HOST:PORT, or the path of a socket")
     words.add_argument(
-        "--languages",
-        type=refsets_of,
-        default=(),
-        metavar="SCTID,..",
-        help="the language reference sets whose preferred terms are shown, the most wanted first",
-    )
+        "--languages", type=refsets_of, default=(), metavar="SCTID,..",
+        help="the language reference sets whose preferred terms are shown, the most wanted first")
     words.add_argument(
-        "--map",
-        type=map_of,
-        action="append",
-        default=[],
-        metavar="SCTID=URI",
-        help="the code system to which the simple map of this reference set leads",
-    )
+        "--map", type=map_of, action="append", default=[], metavar="SCTID=URI",
+        help="the code system to which the simple map of this reference set leads")
     words.add_argument(
-        "--cors",
-        type=origin_of,
-        action="append",
-        default=[],
-        metavar="ORIGIN",
-        help="a site whose pages may read answers, such as https://forms.example.org, or *",
-    )
+        "--cors", type=origin_of, action="append", default=[], metavar="ORIGIN",
+        help="a site whose pages may read answers, such as https://forms.example.org, or *")
     words.add_argument(
         "--log", action="store_true", help="a line of each request to standard error"
     )
@@ -108,8 +91,7 @@ async def listening(server: http.Server, place: str) -> asyncio.Server:
         return await asyncio.start_unix_server(server.connected, place, backlog=limits.BACKLOG)
     host, _, port = place.rpartition(":")
     return await asyncio.start_server(
-        server.connected, host.strip("[]"), int(port), backlog=limits.BACKLOG
-    )
+        server.connected, host.strip("[]"), int(port), backlog=limits.BACKLOG)
 
 
 async def tell_layout(pool: Pool) -> None:

@@ -1,4 +1,4 @@
-"""What a monitor counts of the gateway, and what the hub counts, in the text that Prometheus reads."""
+"""What a monitor counts of gateway and hub, in the text that Prometheus reads."""
 
 import datetime
 import math
@@ -21,19 +21,14 @@ class Metrics:
         self.registry = CollectorRegistry()
         ProcessCollector(namespace="sctd_gateway", registry=self.registry)
         self.requests = Counter(
-            "sctd_gateway_requests", "Requests.", ("operation", "status"), registry=self.registry
-        )
+            "sctd_gateway_requests", "Requests.", ("operation", "status"), registry=self.registry)
         self.seconds = Histogram(
             "sctd_gateway_request_seconds",
-            "How long requests took from their last byte until they were answered.",
-            ["operation"],
-            buckets=BOUNDS,
-            registry=self.registry,
-        )
+            "How long requests took from their last byte until they were answered.", ["operation"],
+            buckets=BOUNDS, registry=self.registry)
         self.pin = self.gauge("pin", "Imports that the hub has told of.")
         self.latest = self.gauge(
-            "latest_release_timestamp_seconds", "When the latest day of a row began (UTC)."
-        )
+            "latest_release_timestamp_seconds", "When the latest day of a row began (UTC).")
         self.hub = self.gauge("hub_up", "Whether the hub has answered for this.")
 
     def gauge(self, name: str, what: str) -> Gauge:

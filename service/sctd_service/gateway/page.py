@@ -58,8 +58,7 @@ async def answer(edition: Edition, view: View, form: Form, is_pinned: bool) -> b
         content = await record(view, Question(edition, form.q, date, other, is_pinned))
     else:
         content = verdict(
-            "This isn\u2019t a concept\u2019s code: its check digit or its kind is wrong."
-        )
+            "This isn\u2019t a concept\u2019s code: its check digit or its kind is wrong.")
     return framed(content, form, view)
 
 
@@ -75,15 +74,11 @@ async def results(view: View, form: Form, day: str) -> Markup:
     for row in sorted(found, key=lambda row: (len(row.term), row.term)):
         if row.concept in concepts:
             link = tag(
-                "a",
-                term(row.term),
-                href=address(q=row.concept, date=with_hyphens(day), other=form.other),
-            )
+                "a", term(row.term),
+                href=address(q=row.concept, date=with_hyphens(day), other=form.other))
             inactive = (
-                []
-                if concepts[row.concept].is_active
-                else [" ", tag("span", "inactive", class_="inactive")]
-            )
+                [] if concepts[row.concept].is_active
+                else [" ", tag("span", "inactive", class_="inactive")])
             entries.append(tag("li", link, " ", aside(row.concept), *inactive))
     said = counted(len(found), len(searched) < limits.RESULT_TERMS)
     head = verdict(said, " with \u201c", term(form.q), "\u201d on ", time(day), ".")
@@ -108,9 +103,7 @@ async def suggestions(view: View, text: str, date: str) -> list[dict[str, str | 
     concepts = await view.concepts([row.concept for row in found], day)
     return [
         {"code": row.concept, "term": row.term, "active": concept.is_active}
-        for row, concept in zip(found, concepts)
-        if concept
-    ]
+        for row, concept in zip(found, concepts) if concept]
 
 
 def refused(text: str) -> bytes:

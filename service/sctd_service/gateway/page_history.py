@@ -7,17 +7,8 @@ from markupsafe import Markup
 
 from .markup import joined, tag, term, time
 from ..snomed import (
-    DEFINED,
-    FULLY_SPECIFIED_NAME,
-    IS_A,
-    TEXT_DEFINITION,
-    Association,
-    Concept,
-    Description,
-    RefsetMember,
-    Relationship,
-    is_concept_id,
-)
+    DEFINED, FULLY_SPECIFIED_NAME, IS_A, TEXT_DEFINITION, Association, Concept, Description,
+    RefsetMember, Relationship, is_concept_id)
 from .store import AnyRow, Versions, View
 
 ARROW = " \u2192 "
@@ -68,9 +59,7 @@ async def history(
     # A row that changed nothing that is told, such as its module, makes no entry.
     entries = [
         tag("li", time(day), tag("ul", *(tag("li", said) for said in events[day])))
-        for day in sorted(events)
-        if events[day]
-    ]
+        for day in sorted(events) if events[day]]
     return tag("ol", *entries, class_="timeline")
 
 

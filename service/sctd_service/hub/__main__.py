@@ -84,8 +84,8 @@ def is_clear(path: str) -> bool:
 class Listener:
     """A socket of the hub's, with its rights: its owner's alone, or also a group's."""
 
-    def __init__(self, path: str, group: Optional[int]) -> None:
-        self.path = path
+    def __init__(self, path: str, may_change: bool, group: Optional[int] = None) -> None:
+        self.path, self.may_change = path, may_change
         self.socket = socket.socket(socket.AF_UNIX)
         before = os.umask(0o177)
         try:
@@ -102,13 +102,6 @@ class Listener:
         sockets.remove(self.path, self.identity)
 
 
-async def listen(hub: Hub, listeners: list[tuple[Listener, bool]]) -> list[asyncio.Server]:
-    return [
-        await hub.loop.create_unix_server(
-            functools.partial(Client, hub, may_change), sock=listener.socket, backlog=BACKLOG)
-        for listener, may_change in listeners]
-
-
 async def end_duties(duties: list["asyncio.Task[None]"]) -> None:
     """Ends what the hub does beside its clients, and tells what failed of it."""
     for duty in duties:
@@ -118,11 +111,14 @@ async def end_duties(duties: list["asyncio.Task[None]"]) -> None:
             tell("hub: %r" % fault)
 
 
-async def serve_clients(hub: Hub, listeners: list[tuple[Listener, bool]]) -> int:
+async def serve_clients(hub: Hub, listeners: list[Listener]) -> int:
     """Serves all clients, and answers the status to end with."""
     for number in (signal.SIGTERM, signal.SIGINT):
         asyncio.get_running_loop().add_signal_handler(number, hub.end, 0)
-    servers = await listen(hub, listeners)
+    servers = [
+        await hub.loop.create_unix_server(
+            functools.partial(Client, hub, one.may_change), sock=one.socket, backlog=BACKLOG)
+        for one in listeners]
     duties = [asyncio.create_task(duty) for duty in (hub.follow(), hub.merge(), hub.look())]
     print("OK ready", flush=True)
     tell_systemd()
@@ -132,7 +128,7 @@ async def serve_clients(hub: Hub, listeners: list[tuple[Listener, bool]]) -> int
     hub.end(1)
     if hub.program.exited.done():
         tell("hub: the program has ended")
-    for server, (listener, _) in zip(servers, listeners):
+    for server, listener in zip(servers, listeners):
         server.close()
         listener.remove()
     await hub.stop()
@@ -160,19 +156,12 @@ async def serve(options: argparse.Namespace) -> int:
             return 1
         store = Store(program, status, options.store, options.program, options.merge_above)
         hub = Hub(program, store, options.connections_a_user)
-        return await serve_clients(hub, listeners_of(options))
+        listeners = [Listener(options.socket, True)] if options.socket else []
+        if options.questions:
+            listeners.append(Listener(options.questions, False, options.group))
+        return await serve_clients(hub, listeners)
     finally:
         await program.stop()
-
-
-def listeners_of(options: argparse.Namespace) -> list[tuple[Listener, bool]]:
-    """The sockets, and whether the store may be changed on each."""
-    found = []
-    if options.socket:
-        found.append((Listener(options.socket, None), True))
-    if options.questions:
-        found.append((Listener(options.questions, options.group), False))
-    return found
 
 
 def group_of(name: str) -> int:
