@@ -9,8 +9,8 @@ MEMBERS = "test_members"
 
 
 class Fault(NamedTuple):
-    """What is wrong, the file below sctd_service/gateway, its text, what stands there instead, and the
-    tests."""
+    """What is wrong, the file as seen from sctd_service/gateway, its text, what stands there instead,
+    and the tests."""
 
     what: str
     file: str
