@@ -58,9 +58,8 @@ FAULTS = [
     Fault(
         "replies stay when another hub comes",
         "pool.py",
-        "        self.memory, self.subtrees, self.refsets = no_replies(), no_subtrees(), no_refsets()\n"
-        "        for",
-        "        self.subtrees, self.refsets = no_subtrees(), no_refsets()\n        for",
+        "        self.memory: Recent[Reply] = ",
+        "        self.memory = getattr(self, \"memory\", None) or ",
         "test_hub",
     ),
     Fault(
@@ -74,9 +73,8 @@ FAULTS = [
     Fault(
         "subtrees stay when another hub comes",
         "pool.py",
-        "        self.memory, self.subtrees, self.refsets = no_replies(), no_subtrees(), no_refsets()\n"
-        "        for",
-        "        self.memory, self.refsets = no_replies(), no_refsets()\n        for",
+        "        self.subtrees: Recent[Members] = ",
+        "        self.subtrees = getattr(self, \"subtrees\", None) or ",
         "test_hub",
     ),
     Fault(
@@ -638,9 +636,8 @@ FAULTS = [
     Fault(
         "reference sets stay when another hub comes",
         "pool.py",
-        "        self.memory, self.subtrees, self.refsets = no_replies(), no_subtrees(), no_refsets()\n"
-        "        for",
-        "        self.memory, self.subtrees = no_replies(), no_subtrees()\n        for",
+        "        self.refsets: Recent[Codes] = ",
+        "        self.refsets = getattr(self, \"refsets\", None) or ",
         MEMBERS,
     ),
     Fault(
@@ -767,6 +764,13 @@ FAULTS = [
         "../hub/metrics.py",
         "\" \".join(words)] += 1",
         "\"OK\"] += 1",
+        "test_metrics",
+    ),
+    Fault(
+        "what the hub counts is made anew for each line",
+        "../hub/clients.py",
+        "if now - self.metrics_made >= METRICS_SECONDS:",
+        "if True:",
         "test_metrics",
     ),
 ]

@@ -1,17 +1,21 @@
 """What a monitor counts of the gateway and, through it, of the hub."""
 
+import re
 import socket
+import time
 from collections.abc import Iterable
 
 import pytest
 from prometheus_client.parser import text_string_to_metric_families
+from sctd_service.hub.clients import METRICS_SECONDS
 from sctd_service.hub.lines import kind_of
 from sctd_service.hub.metrics import BOUNDS, Metrics
 
 from .asked import Asked
 from .house import SCT, SECONDS, Gateway, House
 
-Labels = dict[str, str]
+# How long these tests may take.
+LATE_SECONDS = 900
 
 
 def samples(text: str) -> dict[tuple[str, frozenset[tuple[str, str]]], float]:
@@ -26,6 +30,7 @@ def samples(text: str) -> dict[tuple[str, frozenset[tuple[str, str]]], float]:
 
 
 def scraped(gateway: Gateway) -> dict[tuple[str, frozenset[tuple[str, str]]], float]:
+    time.sleep(METRICS_SECONDS)  # The hub makes it anew from then on.
     answer = gateway.send("GET", "/metrics")
     assert (answer.status, answer.headers["content-type"]) == (
         200,
@@ -103,6 +108,10 @@ class TestCounted(Asked):
             ("sctd_gateway_latest_release_timestamp_seconds", 1_659_225_600),
         ):
             assert found[name, labels()] == value, name
+        began = found["sctd_gateway_start_time_seconds", labels()]
+        assert 0 <= time.time() - began < LATE_SECONDS
+        assert 0 < found["sctd_gateway_processor_seconds", labels()] < LATE_SECONDS
+        assert found["sctd_gateway_memory_bytes", labels()] > 1_000_000
 
     def test_changes_by_result(self) -> None:
         self.change(b"IMPORT d1", b"IMPORT nothing", b"IMPORT nothing", b"CHECK d2", b"FROB")
@@ -119,6 +128,21 @@ class TestCounted(Asked):
         longest = found["sctd_longest_line_seconds", labels(line="IMPORT")]
         assert longest <= found["sctd_line_seconds_sum", labels(line="IMPORT")]
         assert longest > 0
+
+    def test_many_at_once(self) -> None:
+        """They aren't made each time, though there is something new each time."""
+        count, began = 200, time.monotonic()
+        with socket.socket(socket.AF_UNIX) as hub:
+            hub.settimeout(SECONDS)
+            hub.connect(self.house.questions)
+            hub.sendall(b"STATUS\nMETRICS\n" * count)
+            hub.shutdown(socket.SHUT_WR)
+            got = b"".join(iter(lambda: hub.recv(1 << 16), b""))
+        took = time.monotonic() - began
+        replies = re.split(rb"^OK .*\n", got, flags=re.M)[1:]
+        assert len(replies) == count
+        assert all(re.search(rb"^END [0-9]+\n\Z", one, re.M) for one in replies)
+        assert len(set(replies)) <= 2 + took / METRICS_SECONDS
 
     def test_hub_that_does_not_answer(self) -> None:
         """What the gateway counts is told all the same."""

@@ -2,9 +2,11 @@
 
 import datetime
 import math
+import resource
+import time
 
 from prometheus_client import CONTENT_TYPE_LATEST, CollectorRegistry, Counter, Gauge, Histogram
-from prometheus_client import ProcessCollector, generate_latest
+from prometheus_client import generate_latest
 
 from .hub import Reply
 from .store import View
@@ -19,7 +21,6 @@ class Metrics:
 
     def __init__(self) -> None:
         self.registry = CollectorRegistry()
-        ProcessCollector(namespace="sctd_gateway", registry=self.registry)
         self.requests = Counter(
             "sctd_gateway_requests", "Requests.", ("operation", "status"), registry=self.registry)
         self.seconds = Histogram(
@@ -30,6 +31,11 @@ class Metrics:
         self.latest = self.gauge(
             "latest_release_timestamp_seconds", "When the latest day of a row began (UTC).")
         self.hub = self.gauge("hub_up", "Whether the hub has answered for this.")
+        self.gauge("start_time_seconds", "When the gateway began.").set_to_current_time()
+        # (The library's own count of a process needs files that the unit doesn't show it.)
+        used = self.gauge("processor_seconds", "Time of the processor that the gateway has taken.")
+        used.set_function(time.process_time)
+        self.gauge("memory_bytes", "Memory that the gateway takes.").set_function(memory)
 
     def gauge(self, name: str, what: str) -> Gauge:
         return Gauge("sctd_gateway_" + name, what, registry=self.registry)
@@ -46,6 +52,11 @@ class Metrics:
         self.latest.set(seconds_of(view.latest) if view and view.latest else math.nan)
         rows = "".join(line.removeprefix("ROW ") + "\n" for line in told[:-1])
         return generate_latest(self.registry) + rows.encode()
+
+
+def memory() -> float:
+    with open("/proc/self/statm", "rb") as pages:
+        return int(pages.read().split()[1]) * resource.getpagesize()
 
 
 def seconds_of(day: str) -> float:

@@ -70,18 +70,6 @@ class Recent(Generic[Kept]):
             self.used -= self.kept.popitem(last=False)[1][1]
 
 
-def no_replies() -> Recent[Reply]:
-    return Recent(math.inf, limits.MEMORY_BYTES)
-
-
-def no_subtrees() -> Recent[Members]:
-    return Recent(limits.SUBTREES, limits.SUBTREE_CONCEPTS)
-
-
-def no_refsets() -> Recent[Codes]:
-    return Recent(limits.REFSETS, limits.REFSET_CONCEPTS)
-
-
 class Watch(asyncio.Protocol):
     """A connection by which the hub tells how many imports there are. `known` ends with its first
     word, `is_open` with the hub."""
@@ -136,16 +124,17 @@ class Pool:
         self.places = asyncio.Semaphore(limits.HUB_CONNECTIONS)
         self.idle: list[Connection] = []
         self.beginning = asyncio.Lock()
-        self.watch: Watch | None = None
-        self.memory, self.subtrees, self.refsets = no_replies(), no_subtrees(), no_refsets()
+        self.forget()
 
     def is_of_this_hub(self, connection: Connection) -> bool:
         return self.watch is not None and connection.identity == self.watch.identity
 
     def forget(self) -> None:
         """What comes next may be told of another store."""
-        self.watch = None
-        self.memory, self.subtrees, self.refsets = no_replies(), no_subtrees(), no_refsets()
+        self.watch: Watch | None = None
+        self.memory: Recent[Reply] = Recent(math.inf, limits.MEMORY_BYTES)
+        self.subtrees: Recent[Members] = Recent(limits.SUBTREES, limits.SUBTREE_CONCEPTS)
+        self.refsets: Recent[Codes] = Recent(limits.REFSETS, limits.REFSET_CONCEPTS)
         for connection in self.idle:
             connection.close()
         self.idle.clear()
