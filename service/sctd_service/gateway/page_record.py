@@ -131,8 +131,13 @@ class Side(NamedTuple):
         return found
 
     def link(self, code: str) -> Markup:
-        href = address(q=code, date=with_hyphens(self.day))
-        return joined(tag("a", term(self.names[code]), href=href), " ", aside(code))
+        return linked(code, self.names[code], self.day)
+
+
+def linked(code: str, name: str, day: str) -> Markup:
+    """A concept, which leads to its record of a day."""
+    href = address(q=code, date=with_hyphens(day))
+    return joined(tag("a", term(name), href=href), " ", aside(code))
 
 
 async def side_of(view: View, code: str, day: str, language: Language,
@@ -273,13 +278,12 @@ def refset_place(row: Association) -> int:
 def replacement(row: Association, code: str, day: str, target: Concept | None,
                 names: dict[str, str]) -> Markup:
     """One association, and in whose place its target is where that isn't the record's concept."""
-    link = tag("a", term(names[row.target]), href=address(q=row.target, date=with_hyphens(day)))
     status = "active" if target and target.is_active else "inactive"
     said = status if target else "not in the store"
     source = [" in the place of ", term(names[row.source])] if row.source != code else []
     return tag(
-        "li", tag("b", REFSETS.get(row.refset, row.refset)), ": ", link, " ", aside(row.target),
-        " ", tag("span", said, class_=status), *source)
+        "li", tag("b", REFSETS.get(row.refset, row.refset)), ": ",
+        linked(row.target, names[row.target], day), " ", tag("span", said, class_=status), *source)
 
 
 def report(view: View, question: Question, then: Side) -> Markup:
