@@ -5,8 +5,9 @@
 It asks through a socket of the hub and listens on 127.0.0.1:8080, or where `--listen`
 says. It prints `OK ready` once it does. `--languages` has the SCTIDs of the language reference sets
 whose preferred terms are shown, such as 900000000000509007,900000000000508004, the most wanted
-first; without it fully specified names are. TLS, users and the log of who asked what are those of
-the house's own proxy in front of it.
+first; without it fully specified names are. Options may also stand in the table `[gateway]` of the
+file of `--config`. TLS, users and the log of who asked what are those of the house's own proxy in
+front of it.
 """
 
 import argparse
@@ -16,7 +17,7 @@ import re
 import signal
 import sys
 
-from .. import sockets
+from .. import settings, sockets
 from ..snomed import distinct, is_concept_id
 from . import http, limits
 from .app import App, refused_request
@@ -51,7 +52,7 @@ def options() -> argparse.Namespace:
     words.add_argument(
         "--log", action="store_true", help="a line of each request to standard error"
     )
-    found = words.parse_args()
+    found = settings.parsed(words, "gateway", sys.argv[1:])
     if not is_concept_id(found.edition):
         words.error("the edition is the SCTID of a module, such as 900000000000207008")
     if len(dict(found.map)) < len(found.map):

@@ -1,8 +1,8 @@
-#!/usr/bin/env python3
 """Lets many programs ask one `sctd serve` over Unix sockets.
 
 sctd-hub --program SCTD --store FILE --releases DIR [--socket PATH]
          [--questions PATH [--group NAME]] [--merge-above N] [--connections-a-user N]
+         [--make-store] [--config FILE]
 
 The hub starts `sctd serve` and listens on the sockets, of which there has to be one. Each
 connection is a session of its own: a client sends lines without the session's number, such as
@@ -35,7 +35,12 @@ says (250 if it isn't said), and one that says nothing for ten minutes is closed
 
 PATH may name the socket that an earlier hub left behind, which is replaced. Anything else that
 stands there, such as a file or the socket of a program that runs, stays, and the hub ends with
-status 1. Standard library alone.
+status 1.
+
+Before the program opens FILE, its pages are dropped from memory, since after a failed write Linux
+may keep there what the disk doesn't have. With `--make-store` a first start makes the store: where
+there is no FILE, and nothing but folders is beside it. Options may also stand in the table `[hub]`
+of the file of `--config`. Standard library alone.
 """
 
 import argparse
@@ -50,8 +55,9 @@ import socket
 import sys
 from typing import Any, Optional
 
-from .. import sockets
+from .. import settings, sockets
 from ..logs import log, tell
+from . import opening
 from .clients import Client, Hub
 from .program import Ended, Program
 from .store import MOST_SEGMENTS, Store
@@ -143,6 +149,9 @@ async def serve(options: argparse.Namespace) -> int:
     paths = [path for path in (options.socket, options.questions) if path]
     if not all(is_clear(path) for path in paths):
         return 1
+    if options.make_store:
+        opening.make(options.program, options.store)
+    opening.drop_pages(options.store)
     program = await Program.start(
         [options.program, "serve", "--store", options.store, "--releases", options.releases])
     try:
@@ -186,17 +195,22 @@ def connections_of(text: str) -> int:
 
 
 def options_of(words: list[str]) -> argparse.Namespace:
-    parser = argparse.ArgumentParser(description="Many clients for one store.")
-    for name in ("program", "store", "releases"):
-        parser.add_argument("--" + name, required=True)
-    parser.add_argument("--socket", help="takes every line; its owner's alone")
-    parser.add_argument("--questions", help="only answers questions")
-    parser.add_argument("--group", type=group_of, help="who may ask on the socket of --questions")
+    parser = argparse.ArgumentParser(prog="sctd-hub", description="Many clients for one store.")
+    parser.add_argument("--program", required=True, metavar="SCTD", help="the program sctd")
+    parser.add_argument("--store", required=True, metavar="FILE", help="the file of the store")
+    parser.add_argument("--releases", required=True, metavar="DIR",
+                        help="the folder that holds a folder for each unpacked release")
+    parser.add_argument("--socket", metavar="PATH", help="takes every line; its owner's alone")
+    parser.add_argument("--questions", metavar="PATH", help="only answers questions")
+    parser.add_argument("--group", type=group_of, metavar="NAME",
+                        help="who may ask on the socket of --questions")
     parser.add_argument("--merge-above", type=segments_of, default=100, metavar="N",
                         help="how many segments may stand until the hub merges")
     parser.add_argument("--connections-a-user", type=connections_of, default=MOST_A_USER,
                         metavar="N", help="how many a user may have on the socket of --questions")
-    options = parser.parse_args(words)
+    parser.add_argument("--make-store", action="store_true",
+                        help="makes the store if its folder has nothing but folders")
+    options = settings.parsed(parser, "hub", words)
     if not options.socket and not options.questions:
         parser.error("--socket or --questions has to be given")
     if options.socket == options.questions:
@@ -214,6 +228,9 @@ def main() -> int:
         resource.setrlimit(resource.RLIMIT_NOFILE, (most_files, most_files))
     try:
         return asyncio.run(serve(options))
+    except opening.NoStore as why:
+        print("hub: %s: %s" % (options.store, why), file=sys.stderr)
+        return 1
     except OSError as why:
         print("hub: %s" % why, file=sys.stderr)
         return 1
