@@ -95,9 +95,10 @@ INSTALLATION = (
     Step("the gateway is started", "systemctl enable --now sctd-gateway" + DONE, "0"),
     Step("both run", "systemctl is-active sctd sctd-gateway", "active\nactive", True),
     Step("the commands' versions", "for name in sctd-hub sctd-gateway; do $name --version; done | "
-         "sed -E 's/commit [0-9a-f]{12}( with changes)?/a commit/'",
+         "sed -E 's/(commit [0-9a-f]{12}|an unknown commit).*/a commit/'",
          "sctd-hub 1.0.0, a commit\nsctd-gateway 1.0.0, a commit"),
-    Step("the program's version", "sctd --version | sed -E 's/commit [0-9a-f]{12}.*/a commit/'",
+    Step("the program's version", "sctd --version | sed -E 's/(commit [0-9a-f]{12}|an unknown commit).*/"
+         "a commit/'",
          "sctd 1.0.0, opens layouts 1, 2 and 3\nbuilt from a commit"),
     Step("a manual page", "man -P cat sctd.conf 2>&1 | grep -c merge-above", "1"),
 )

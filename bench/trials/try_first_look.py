@@ -190,6 +190,9 @@ def first(clone: Path, is_built: bool) -> None:
         same("whether it says so", NOT_PROVED in told.text, True)
         asks(told)
         by_chromium(told)
+        again = told.line.replace("GET C 1000004 20200630", "IMPORT package/Full")
+        imported = shell(again.replace("/questions.sock", "/sctd.sock"))
+        same("an import of one's own", imported, "OK 2 0 34\n")
         same("the status after Ctrl-C", look.interrupt(), 0)
         same("whether the page is still there", is_open(told.port), False)
         sockets = re.findall(r"\S+/questions.sock", told.line)
@@ -209,7 +212,7 @@ def second(clone: Path) -> None:
             same("whether it is another port", told.port != first_look.PORT, True)
             asks(told)
             status = shell(told.line.replace("GET C 1000004 20200630", "STATUS"))
-            same("the store", status, "OK 1 34 1 -\n")
+            same("the store", status, "OK 2 34 1 -\n")
             os.kill(look.process.pid, signal.SIGTERM)
             same("the status after SIGTERM", look.process.wait(SECONDS), 0)
 

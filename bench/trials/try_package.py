@@ -1,13 +1,14 @@
 #!/usr/bin/env python3
 """Makes the Debian package of the built program, and looks at it.
 
-try_package.py PROGRAM
+try_package.py PROGRAM [TRIAL ..]
 
-PROGRAM is the built `sctd`. The package has to be the same when it is made again, to have what it
-has to have and nothing else, to complete words in bash and zsh, to have manual pages without
-warnings, and nothing that lintian calls an error. Each option of the hub and of the gateway has to
-stand in the guide's chapter about settings, and each key of the settings has to be an option. Then
-it is installed in a container (package_container.py).
+PROGRAM is the built `sctd`; a TRIAL is one of the list TRIALS below, and without any all are done.
+The package has to be the same when it is made again, to have what it has to have and nothing else,
+to complete words in bash and zsh, to have manual pages without warnings, and nothing that lintian
+calls an error. Each option of the hub and of the gateway has to stand in the guide's chapter about
+settings, and each key of the settings has to be an option. Then it is installed in a container
+(package_container.py).
 
 Where this machine lacks what a part needs, a line that begins with `skipped` says so. The status is
 1 where something isn't as it has to be, and 3 where no package can be made here. Standard library
@@ -239,10 +240,10 @@ TRIALS: Sequence[Callable[[Made], None]] = (
     same_again, contents, versions, settings, manual_pages, completions, lintian, container)
 
 
-def tried(made: Made) -> int:
-    """Does all trials, and tells which failed or couldn't be done."""
+def tried(made: Made, trials: Sequence[Callable[[Made], None]]) -> int:
+    """Does the trials, and tells which failed or couldn't be done."""
     wrong = 0
-    for trial in TRIALS:
+    for trial in trials:
         try:
             trial(made)
         except Skipped as why:
@@ -250,12 +251,13 @@ def tried(made: Made) -> int:
         except (Wrong, subprocess.TimeoutExpired) as why:
             wrong += 1
             print("WRONG: %s: %s" % (trial.__name__, why), flush=True)
-    print("trials: %d, wrong: %d" % (len(TRIALS), wrong))
+    print("trials: %d, wrong: %d" % (len(trials), wrong))
     return 1 if wrong else 0
 
 
 def main(words: Sequence[str]) -> int:
-    if len(words) != 1:
+    named = {trial.__name__: trial for trial in TRIALS}
+    if not words or not named.keys() >= set(words[1:]):
         print((__doc__ or "").strip(), file=sys.stderr)
         return 2
     missing = next((tool for tool in TOOLS if shutil.which(tool) is None), None)
@@ -264,7 +266,8 @@ def main(words: Sequence[str]) -> int:
         print("not run: there is no %s" % (missing or "Python with what the gateway imports"))
         return NOT_RUN
     with tempfile.TemporaryDirectory(prefix="sctd-package-") as place:
-        return tried(Made(Path(words[0]).absolute(), Path(place), python))
+        made = Made(Path(words[0]).absolute(), Path(place), python)
+        return tried(made, [named[word] for word in words[1:]] or TRIALS)
 
 
 if __name__ == "__main__":
