@@ -149,7 +149,8 @@ def versions(made: Made) -> None:
     plain = run(str(made.package.program), "--version")[1]
     for option in ("--version", "-V"):
         same("sctd " + option, run(str(command), option), (0, plain + made.package.origin + "\n"))
-    same("another command", run(str(command), "demo"), run(str(made.package.program), "demo"))
+    words = ["status", "--store", "/no/such file"]
+    same("another command", run(str(command), *words), run(str(made.package.program), *words))
     commit = built.commit_of(built.PACKAGE_PARTS)
     for name in ("sctd-hub", "sctd-gateway"):
         told = run(made.python, str(made.path(debian.SHARE + "/service/" + name)), "--version")
@@ -213,6 +214,23 @@ def completions(made: Made) -> None:
     same("zsh", run("zsh", "-n", zsh), (0, ""))
 
 
+def types(made: Made) -> None:
+    """The types of what makes it are right, and a shell can read its scripts."""
+    scripts = [ROOT / "packaging" / "debian" / name for name in debian.SCRIPTS]
+    for script in [ROOT / "try", *scripts]:
+        same("sh -n %s" % script.name, run("sh", "-n", str(script)), (0, ""))
+    if shutil.which("mypy") is None:
+        raise Skipped("there is no mypy")
+    modules = [path.name for path in sorted((ROOT / "packaging").glob("*.py"))]
+    for files in (modules, ["build"], ["deb"]):
+        done = subprocess.run(
+            ["mypy", "--strict", "--cache-dir=/dev/null", *files], cwd=ROOT / "packaging",
+            env=os.environ | {"MYPYPATH": "%s/bench:%s/service" % (ROOT, ROOT)},
+            capture_output=True, text=True, timeout=SECONDS, check=False)
+        same("mypy of %s" % files[0], (done.returncode, done.stdout.partition(":")[0]),
+             (0, "Success"))
+
+
 def lintian(made: Made) -> None:
     """Lintian finds no error in it."""
     if shutil.which("lintian") is None:
@@ -237,7 +255,7 @@ def container(made: Made) -> None:
 
 
 TRIALS: Sequence[Callable[[Made], None]] = (
-    same_again, contents, versions, settings, manual_pages, completions, lintian, container)
+    same_again, contents, versions, settings, manual_pages, completions, types, lintian, container)
 
 
 def tried(made: Made, trials: Sequence[Callable[[Made], None]]) -> int:

@@ -33,6 +33,7 @@ SCRIPTS: list[tuple[str, ...]] = [
     ("trials/try_flips.py", "5000", "100"),
     ("trials/try_package.py",),
     ("trials/try_first_look.py",),
+    ("trials/try_proxy.py",),
 ]
 NOT_RUN = 3
 
