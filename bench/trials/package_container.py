@@ -172,11 +172,18 @@ REMOVAL = (
     Step("what is left of the sockets", "ls /run/sctd /run/sctd-test 2>/dev/null", ""),
     Step("what is left of the package", "ls -d /usr/bin/sctd* /usr/libexec/sctd /usr/share/sctd "
          "/etc/sctd/sctd.conf 2>/dev/null", "/etc/sctd/sctd.conf"),
+    Step("an installation after it", "dpkg -i " + SECOND + DONE, "0"),
+    Step("what runs then", "systemctl is-active sctd sctd-gateway", "active\nactive", True),
+    Step("the store after it", "echo DIGEST " + ASKING % ("sctd", "sctd") + " | cmp - /opt/digest; "
+         "echo $?", "0", True),
     Step("a purge", "dpkg -P sctd" + DONE, "0"),
     Step("what is left of the settings", "ls /etc/sctd", "test.conf"),
+    Step("what is left of the units", "ls /etc/systemd/system /etc/systemd/system/*.wants "
+         "2> /dev/null | grep sctd", ""),
     Step("the stores are kept", "ls -d /var/lib/sctd/*e /var/lib/sctd-test/*e /var/backups/sctd/*",
          "/var/backups/sctd/copy\n/var/lib/sctd-test/terms.store\n/var/lib/sctd/terms.store"),
     Step("a new installation", "dpkg -i " + SECOND + DONE, "0"),
+    Step("a gateway that nobody has started", "systemctl is-active sctd-gateway", "inactive"),
     Step("it has the store", "echo DIGEST " + ASKING % ("sctd", "sctd") + " | cmp - /opt/digest; "
          "echo $?", "0", True),
     Step("a store that is removed", "systemctl stop sctd; mv " + STORE + " /opt/away; "

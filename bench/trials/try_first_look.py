@@ -199,12 +199,19 @@ def first(clone: Path, is_built: bool) -> None:
         same("sockets that are left", [path for path in sockets if os.path.exists(path)], [])
 
 
+@contextlib.contextmanager
+def usual_port_taken() -> Iterator[None]:
+    with socket.socket() as taken:
+        taken.setsockopt(socket.SOL_SOCKET, socket.SO_REUSEADDR, 1)
+        with contextlib.suppress(OSError):  # Another program has taken it.
+            taken.bind((first_look.HOST, first_look.PORT))
+            taken.listen()
+        yield
+
+
 def second(clone: Path) -> None:
     """The second time, with the usual port taken. The store is that of the first time."""
-    with contextlib.suppress(OSError), socket.socket() as taken:
-        taken.setsockopt(socket.SOL_SOCKET, socket.SO_REUSEADDR, 1)
-        taken.bind((first_look.HOST, first_look.PORT))
-        taken.listen()
+    with usual_port_taken():
         begun = time.monotonic()
         with looking(clone) as look:
             told = look.told(SECONDS)
@@ -213,7 +220,7 @@ def second(clone: Path) -> None:
             asks(told)
             status = shell(told.line.replace("GET C 1000004 20200630", "STATUS"))
             same("the store", status, "OK 2 34 1 -\n")
-            os.kill(look.process.pid, signal.SIGTERM)
+            look.process.terminate()
             same("the status after SIGTERM", look.process.wait(SECONDS), 0)
 
 
