@@ -98,7 +98,7 @@ class House:
         self.gateways: list[subprocess.Popen[bytes]] = []
         self.nginx: Optional[subprocess.Popen[bytes]] = None
         self.authority = Authority(place, "users")
-        self.user = self.authority.sign("user", "/O=House\\,CN=nobody/CN=" + USER)
+        self.user = self.authority.sign("user", "/CN=%s/O=House\\,CN=nobody" % USER)
         self.stranger = Authority(place, "strangers").sign("stranger", "/CN=" + USER)
         self.server = Authority(place, "servers")
         self.server.sign("server", "/CN=terms.example.org")
