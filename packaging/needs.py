@@ -1,27 +1,24 @@
 #!/usr/bin/env python3
-"""What the service and the trials of the package need of Debian: the one list of it.
+"""What the service and its trials need of Debian: the one list of it, for the package, for ./try and
+for .ci/run.
 
 packaging/needs.py
 
-It prints the packages that this machine lacks, in one line. The package, ./try and .ci/run use it.
+It prints the packages that this machine lacks, in one line. Which modules the service imports stands
+in service/pyproject.toml.
 """
 
 import importlib.util
+import re
 import shutil
+import tomllib
 from collections.abc import Iterator
+from pathlib import Path
 
-# The modules of Python that the service imports, and Debian's package of each. (The first h11 that
-# takes no chunk with a wrong end is 0.16, and Debian has mended its 0.14.)
-MODULES = {"h11": "python3-h11"}
+PROJECT = Path(__file__).resolve().parents[1] / "service" / "pyproject.toml"
 LEAST_PYTHON = (3, 11)
-# What else the installed package depends on. The program needs the C library alone.
-DEPENDS = (
-    "libc6 (>= 2.34)",
-    "python3 (>= %d.%d)" % LEAST_PYTHON,
-    *MODULES.values(),
-    "systemd",
-)
-# The commands that only trials need, and Debian's package of each.
+# What of Python only tests need, and the commands that only trials need, with Debian's packages.
+TESTED_WITH = {"pytest": "python3-pytest"}
 TRIED_WITH = {
     "curl": "curl",
     "lintian": "lintian",
@@ -33,9 +30,26 @@ TRIED_WITH = {
 }
 
 
+def modules() -> dict[str, str]:
+    """The modules of Python that the service imports, and Debian's package of each."""
+    listed = tomllib.loads(PROJECT.read_text("utf-8"))["project"]["dependencies"]
+    names = [re.split(r"[^\w-]", one)[0].lower() for one in listed]
+    return {name.replace("-", "_"): "python3-" + name.replace("_", "-") for name in names}
+
+
+MODULES = modules()
+# What the installed package depends on. The program needs the C library alone.
+DEPENDS = (
+    "libc6 (>= 2.34)",
+    "python3 (>= %d.%d)" % LEAST_PYTHON,
+    *MODULES.values(),
+    "systemd",
+)
+
+
 def lacking() -> Iterator[str]:
     """The packages that this machine and this Python lack."""
-    for module, package in MODULES.items():
+    for module, package in {**MODULES, **TESTED_WITH}.items():
         if importlib.util.find_spec(module) is None:
             yield package
     for command, package in TRIED_WITH.items():

@@ -134,7 +134,7 @@ def dropped_pages(place: Place, store: str) -> None:
               '"serve", "--store", "%s"' % store]
     at = [next((number for number, line in enumerate(lines) if step in line and part in line), -1)
           for step, part in zip(steps, wanted)]
-    same("which of the steps before the start are there", [number >= 0 for number in at], [True] * 3)
+    same("which steps before the start are there", [number >= 0 for number in at], [True] * 3)
     same("their order", sorted(at), at)
 
 

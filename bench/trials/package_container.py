@@ -22,9 +22,12 @@ from typing import NamedTuple
 
 PYTHON = "/usr/bin/python3"
 NOT_RUN = 3
-# How long the container may run, and how long a step may take to come out as it has to.
-SECONDS = 240
-STEP_SECONDS = 60
+# How long the container may run, a command may take, and one is tried again until it prints what it
+# has to. After so many wrong steps the others aren't looked at.
+SECONDS = 280
+COMMAND_SECONDS = 60
+WAIT_SECONDS = 30
+MOST_WRONG = 3
 # In the container: this script, both packages, and what it says there.
 PLACE, SAID = "opt/trial", "opt/said"
 SYSTEM = "etc/systemd/system"
@@ -38,6 +41,8 @@ ExecStopPost=/bin/systemctl poweroff --force
 
 CLIENT = "python3 /usr/share/sctd/examples/client.py"
 ASKING = "| runuser -u %s -- " + CLIENT + " /run/sctd/%s.sock 2>&1"
+DIGEST = "echo DIGEST " + ASKING % ("sctd", "sctd")
+SAME_DIGEST = DIGEST + " | cmp - /opt/digest 2>&1; echo $?"
 TEST_ASKING = "| runuser -u sctd -- " + CLIENT + " /run/sctd-test/sctd.sock 2>&1"
 HEALTH = "curl -s http://127.0.0.1:8080/health"
 TEST_HEALTH = "curl -s http://127.0.0.1:8081/health"
@@ -97,8 +102,8 @@ INSTALLATION = (
     Step("the commands' versions", "for name in sctd-hub sctd-gateway; do $name --version; done | "
          "sed -E 's/(commit [0-9a-f]{12}|an unknown commit).*/a commit/'",
          "sctd-hub 1.0.0, a commit\nsctd-gateway 1.0.0, a commit"),
-    Step("the program's version", "sctd --version | sed -E 's/(commit [0-9a-f]{12}|an unknown commit).*/"
-         "a commit/'",
+    Step("the program's version", "sctd --version | "
+         "sed -E 's/(commit [0-9a-f]{12}|an unknown commit).*/a commit/'",
          "sctd 1.0.0, opens layouts 1, 2 and 3\nbuilt from a commit"),
     Step("a manual page", "man -P cat sctd.conf 2>&1 | grep -c merge-above", "1"),
 )
@@ -150,8 +155,7 @@ KILLS = (
     Step("how often each was", "systemctl show -p NRestarts --value sctd sctd-gateway", "1\n\n1"),
 )
 UPGRADE = (
-    Step("the digest of the store", "echo DIGEST " + ASKING % ("sctd", "sctd") +
-         " > /opt/digest; wc -l < /opt/digest", "1"),
+    Step("the digest of the store", DIGEST + " > /opt/digest; wc -l < /opt/digest", "1"),
     Step("the processes before", "echo %s %s %s > /opt/before; echo $?"
          % (MAIN % "sctd", MAIN % "sctd-gateway", MAIN % "sctd@test"), "0"),
     Step("an upgrade", "dpkg -i " + SECOND + DONE, "0"),
@@ -161,8 +165,7 @@ UPGRADE = (
     Step("processes that stayed", "for number in $(cat /opt/before); do kill -0 $number; done "
          "2> /dev/null; echo $?", "1"),
     Step("the settings stay", "grep -c '^edition' /etc/sctd/sctd.conf", "1"),
-    Step("the store stays", "echo DIGEST " + ASKING % ("sctd", "sctd") + " | cmp - /opt/digest; "
-         "echo $?", "0"),
+    Step("the store stays", SAME_DIGEST, "0", True),
     Step("the gateway answers again", LOOKUP, '"display","valueString":"Path"', True),
 )
 REMOVAL = (
@@ -174,8 +177,7 @@ REMOVAL = (
          "/etc/sctd/sctd.conf 2>/dev/null", "/etc/sctd/sctd.conf"),
     Step("an installation after it", "dpkg -i " + SECOND + DONE, "0"),
     Step("what runs then", "systemctl is-active sctd sctd-gateway", "active\nactive", True),
-    Step("the store after it", "echo DIGEST " + ASKING % ("sctd", "sctd") + " | cmp - /opt/digest; "
-         "echo $?", "0", True),
+    Step("the store after it", SAME_DIGEST, "0", True),
     Step("a purge", "dpkg -P sctd" + DONE, "0"),
     Step("what is left of the settings", "ls /etc/sctd", "test.conf"),
     Step("what is left of the units", "ls /etc/systemd/system /etc/systemd/system/*.wants "
@@ -184,8 +186,7 @@ REMOVAL = (
          "/var/backups/sctd/copy\n/var/lib/sctd-test/terms.store\n/var/lib/sctd/terms.store"),
     Step("a new installation", "dpkg -i " + SECOND + DONE, "0"),
     Step("a gateway that nobody has started", "systemctl is-active sctd-gateway", "inactive"),
-    Step("it has the store", "echo DIGEST " + ASKING % ("sctd", "sctd") + " | cmp - /opt/digest; "
-         "echo $?", "0", True),
+    Step("it has the store", SAME_DIGEST, "0", True),
     Step("a store that is removed", "systemctl stop sctd; mv " + STORE + " /opt/away; "
          "systemctl start sctd" + DONE, "1"),
     Step("why no new one is made", "systemctl stop sctd; journalctl -u sctd -o cat | "
@@ -196,23 +197,30 @@ STEPS = (*INSTALLATION, *USE, *TEST_STORE, *KILLS, *UPGRADE, *REMOVAL)
 
 
 def printed(command: str) -> str:
-    done = subprocess.run(["bash", "-c", command], stdin=subprocess.DEVNULL,
-                          stdout=subprocess.PIPE, timeout=STEP_SECONDS, check=False)
+    try:
+        done = subprocess.run(["bash", "-c", command], stdin=subprocess.DEVNULL,
+                              stdout=subprocess.PIPE, timeout=COMMAND_SECONDS, check=False)
+    except subprocess.TimeoutExpired:
+        return "it takes too long"
     return "\n".join(line.strip() for line in done.stdout.decode().strip().split("\n"))
 
 
 def look() -> int:
     """In the container: does each step, and tells what wasn't as wanted."""
-    wrong = 0
+    wrong, count = 0, 0
     for step in STEPS:
-        end, found = time.monotonic() + STEP_SECONDS, printed(step.command)
+        if wrong == MOST_WRONG:
+            break
+        count += 1
+        end, found = time.monotonic() + WAIT_SECONDS, printed(step.command)
         while found != step.wanted and step.is_repeated and time.monotonic() < end:
             time.sleep(0.2)
             found = printed(step.command)
         if found != step.wanted:
             wrong += 1
             print("WRONG: %s: %.300r in place of %r" % (step.what, found, step.wanted), flush=True)
-    print("package: %d looked at, %d not as wanted" % (len(STEPS), wrong), flush=True)
+    said = "package: %d of %d looked at, %d not as wanted"
+    print(said % (count, len(STEPS), wrong), flush=True)
     return 1 if wrong else 0
 
 
@@ -256,14 +264,20 @@ def boot(folder: Path, packages: Sequence[Path]) -> int:
     layers = "lowerdir=/,upperdir=%s,workdir=%s" % (upper, work)
     mount("-t", "overlay", "overlay", "-o", layers, str(root))
     fill(root, packages)
-    done = subprocess.run(
-        ["systemd-nspawn", "--register=no", "--keep-unit", "--link-journal=no", "--private-network",
-         "--console=pipe", "--boot", "--directory", str(root),
-         "systemd.unit=multi-user.target", "systemd.wants=looking.service"],
-        stdin=subprocess.DEVNULL, stdout=subprocess.PIPE, stderr=subprocess.STDOUT,
-        timeout=SECONDS, check=False)
+    words = ["systemd-nspawn", "--register=no", "--keep-unit", "--link-journal=no",
+             "--private-network", "--console=pipe", "--boot", "--directory", str(root),
+             "systemd.unit=multi-user.target", "systemd.wants=looking.service"]
+    container = subprocess.Popen(words, stdin=subprocess.DEVNULL, stdout=subprocess.PIPE,
+                                 stderr=subprocess.STDOUT)
+    try:
+        console = container.communicate(timeout=SECONDS)[0].decode("utf-8", "replace")
+    except subprocess.TimeoutExpired:
+        # (It ends the container first, which goes on where it is killed.)
+        container.terminate()
+        container.communicate(timeout=COMMAND_SECONDS)
+        console = "the container hasn't ended after %d seconds" % SECONDS
     if not (root / SAID).exists():
-        print("not run: %s" % done.stdout.decode("utf-8", "replace").strip().split("\n")[-1])
+        print("not run: %s" % console.strip().split("\n")[-1])
         return NOT_RUN
     said = (root / SAID).read_text("utf-8")
     print(said, end="")

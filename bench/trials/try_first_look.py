@@ -4,12 +4,12 @@
 try_first_look.py [--build] PROGRAM
 
 PROGRAM is the built `sctd`, which stands in for the one that ./try builds without a proof; with
-`--build` that is built, which takes minutes, and its time is printed. The page, the FHIR request and
-the line that ./try prints are tried as they are printed, the page also by Chromium where there is
-one. It has to say that the program isn't proved, to end with all that it started at Ctrl-C, to keep
-its store for the next time, to take another port where the usual one is taken, and to name what is
-missing. The status is 1 where something isn't as it has to be, and 3 where the kit or what the
-gateway imports is missing here. Standard library alone.
+`--build` that is built, which takes minutes, and its time is printed. The page, the FHIR request
+and the line that ./try prints are tried as they are printed, the page also by Chromium where there
+is one. It has to say that the program isn't proved, to end with all that it started at Ctrl-C, to
+keep its store for the next time, to take another port where the usual one is taken, and to name
+what is missing. The status is 1 where something isn't as it has to be, and 3 where the kit or what
+the gateway imports is missing here. Standard library alone.
 """
 
 from __future__ import annotations
@@ -111,8 +111,9 @@ class Look:
 
     def __init__(self, clone: Path, *words: str, **around: str) -> None:
         self.process = subprocess.Popen(
-            [str(clone / "try"), *words], cwd="/", env=os.environ | around, stdin=subprocess.DEVNULL,
-            stdout=subprocess.PIPE, stderr=subprocess.STDOUT, start_new_session=True)
+            [str(clone / "try"), *words], cwd="/", env=os.environ | around,
+            stdin=subprocess.DEVNULL, stdout=subprocess.PIPE, stderr=subprocess.STDOUT,
+            start_new_session=True)
         assert self.process.stdout
         self.output, self.text = self.process.stdout, ""
 

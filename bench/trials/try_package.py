@@ -36,9 +36,10 @@ sys.path.append(str(ROOT / "packaging"))
 import built  # noqa: E402
 import debian  # noqa: E402
 import first_look  # noqa: E402
+from needs import MODULES  # noqa: E402
 
 NOT_RUN = 3
-SECONDS = 300
+SECONDS = 320
 TOOLS = ("dpkg-deb", "strip")
 # What a package has to have, beside the files of the service.
 FILES = """
@@ -244,6 +245,9 @@ def container(made: Made) -> None:
     lacks = package_container.lacks()
     if lacks:
         raise Skipped(lacks)
+    for name in MODULES.values():
+        if run("dpkg", "--status", name)[0]:
+            raise Skipped("%s isn't installed" % name)
     place = made.folder / "container"
     place.mkdir()
     status, told = run("unshare", "--mount", sys.executable, package_container.__file__, str(place),
