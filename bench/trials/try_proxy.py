@@ -159,10 +159,11 @@ class House:
         paths = "\n".join("%s_temp_path %s/%s;" % (name, self.place, name) for name in PATHS)
         main = self.place / "nginx.conf"
         main.write_text(MAIN % {"place": self.place, "paths": paths}, encoding="utf-8")
-        with open(self.place / "log", "ab") as log:
-            nginx = subprocess.Popen(
-                ["nginx", "-e", str(self.place / "error.log"), "-c", str(main)],
-                stdin=subprocess.DEVNULL, stdout=log, stderr=log, start_new_session=True)
+        log = open(self.place / "log", "ab")
+        nginx = subprocess.Popen(
+            ["nginx", "-e", str(self.place / "error.log"), "-c", str(main)],
+            stdin=subprocess.DEVNULL, stdout=log, stderr=log, start_new_session=True)
+        log.close()
         end = time.monotonic() + SECONDS
         while not self.is_listening():
             if nginx.poll() is not None or time.monotonic() > end:
@@ -190,7 +191,8 @@ def free_ports(count: int) -> list[int]:
         found = [stack.enter_context(socket.socket()) for _ in range(count)]
         for one in found:
             one.bind((HOST, 0))
-        return [int(one.getsockname()[1]) for one in found]
+        ports = [int(one.getsockname()[1]) for one in found]
+    return ports
 
 
 class Client:
@@ -216,12 +218,13 @@ def who_may_ask(house: House) -> None:
     same("without one", Client(house, None).get(LOOKUP)[0], 400)
     same("with one of another authority", Client(house, house.stranger).get(LOOKUP)[0], 400)
     for path in ("/metrics", "//metrics", "/x/../metrics", "/%6detrics"):
-        same(path, Client(house, house.user).get(path)[0], 404)
+        status, answer = Client(house, house.user).get(path)
+        same("%s, and whether nginx itself answers" % path, (status, b"nginx" in answer), (404, True))
     line = next(one for one in house.log() if one["status"] == 200)
     gateways = ["%s:%d" % (HOST, port) for port in house.ports[:GATEWAYS]]
-    same("what is logged", {**line, "gateway": line["gateway"] in gateways},
-         {**line, "user": USER.replace(",", "\\,"), "method": "GET", "request": LOOKUP, "pin": "1",
-          "gateway": True})
+    same("the gateway that is logged", line["gateway"] in gateways, True)
+    wanted = {"user": USER.replace(",", "\\,"), "method": "GET", "request": LOOKUP, "pin": "1"}
+    same("what is logged", {name: line[name] for name in wanted}, wanted)
 
 
 class Asking:
