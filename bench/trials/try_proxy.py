@@ -219,7 +219,7 @@ def who_may_ask(house: House) -> None:
     same("with one of another authority", Client(house, house.stranger).get(LOOKUP)[0], 400)
     for path in ("/metrics", "//metrics", "/x/../metrics", "/%6detrics"):
         status, answer = Client(house, house.user).get(path)
-        same("%s, and whether nginx itself answers" % path, (status, b"nginx" in answer), (404, True))
+        same("%s, and whether it is nginx's" % path, (status, b"nginx" in answer), (404, True))
     line = next(one for one in house.log() if one["status"] == 200)
     gateways = ["%s:%d" % (HOST, port) for port in house.ports[:GATEWAYS]]
     same("the gateway that is logged", line["gateway"] in gateways, True)
