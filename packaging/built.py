@@ -126,6 +126,7 @@ def unproved(folder: Path) -> Built:
     kit, program, known = kit_folder(), folder / CRATE, folder / SOURCES
     digest = digest_of_sources(kit)
     if not (program.exists() and known.exists() and known.read_text("ascii") == digest):
+        print("Building the program without a proof, which takes minutes ..", flush=True)
         known.unlink(missing_ok=True)
         build_unproved(kit, program)
         known.write_text(digest, encoding="ascii")

@@ -178,7 +178,6 @@ def write_command(made: built.Built) -> Path:
 def look(port: int | None) -> None:
     """Builds, serves and tells, until it is interrupted."""
     python = look_for_all()
-    print("Building the program without a proof, which takes minutes the first time ..", flush=True)
     made = built.unproved(HOME)
     command = write_command(made)
     with tempfile.TemporaryDirectory(prefix="sctd-try-") as sockets:
