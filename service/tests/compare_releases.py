@@ -316,7 +316,7 @@ def compared(
         root = Path(folder)
         store, questions = str(root / "store"), str(root / "questions")
         run(sys.executable, str(make), *words, folder, str(rows), str(seed))
-        run(program, "init", "--store", store)
+        run(program, "init", "--layout", "3" if is_package else "2", "--store", store)
         run(program, "import", "--quiet", "--store", store, str(root / "full"))
         serving = begun_hub(hub, program, store, folder, "--questions", questions)
         gateway: Gateway | None = None

@@ -144,13 +144,13 @@ class Answer:
 
 
 class House:
-    """A store of a layout, its hub and its gateway. What the gateway asks is recorded, and the
-    releases are whole packages, if that is wanted."""
+    """A store, its hub and its gateway. What the gateway asks is recorded, if that is wanted. The
+    store is of a version of the layout, and the releases are whole packages, if that is wanted."""
 
     def __init__(
         self,
         is_recorded: bool = False,
-        layout: int = 3,
+        layout: int = 2,
         is_whole: bool = False,
         words: Sequence[str] = (),
     ) -> None:

@@ -15,7 +15,7 @@ from sctd_service.gateway.hub import HubGone
 from sctd_service.gateway.page_history import Names
 from sctd_service.gateway.page_members import memberships, refset_entries
 from sctd_service.gateway.pool import Member, Session
-from sctd_service.gateway.problems import NO_MEMBERS, Problem
+from sctd_service.gateway.problems import Problem
 from sctd_service.snomed import RefsetMember
 from sctd_service.gateway.store import View, called_of, members_of
 
@@ -542,8 +542,8 @@ class TestPage(Whole):
         assert odd + ": Y1 \u00b7 ask &lt;i&gt;them&lt;/i&gt;" in limb
 
 
-class TestWithoutMembers:
-    """Stores that have no members, asked for what they say."""
+class TestAsBefore:
+    """Stores that keep no members, asked with all that is new."""
 
     def compared(self, house: House) -> None:
         fhir, codes = house.gateway.fhir, house.codes
@@ -572,46 +572,19 @@ class TestWithoutMembers:
             assert ">%s<" % title not in text
         assert "in short" not in text
 
-    def test_packages_without_members(self, request: pytest.FixtureRequest) -> None:
-        house = House(words=demo.WORDS)
+    @pytest.mark.parametrize("layout, is_whole", [(2, True), (2, False), (3, False)])
+    def test_layouts_and_packages_without_members(
+        self, layout: int, is_whole: bool, request: pytest.FixtureRequest
+    ) -> None:
+        house = House(layout=layout, is_whole=is_whole, words=demo.WORDS)
         request.addfinalizer(house.end)
         self.compared(house)
-        assert "layout" not in house.gateway.told()
-
-    def test_a_layout_without_members(self, request: pytest.FixtureRequest) -> None:
-        """What needs members is refused with a sentence, and all else is answered."""
-        house = House(layout=2, is_whole=True, words=demo.WORDS)
-        request.addfinalizer(house.end)
-        fhir, codes = house.gateway.fhir, house.codes
-        code = {"system": SCT, "code": codes["wrist"]}
-        refset = SCT + "?fhir_vs=refset/" + codes["set"]
-        needing: tuple[tuple[str, dict[str, str]], ...] = (
-            (LOOKUP, code),
-            (LOOKUP, {**code, "property": "parent", "displayLanguage": "en"}),
-            (LOOKUP, {**code, "property": "inactivationIndicator", "displayLanguage": "de"}),
-            (EXPAND, {"url": refset}),
-            (EXPAND, {"url": SCT + "?fhir_vs=refset"}),
-            ("ValueSet/$validate-code", {"url": refset, **code}),
-        )
-        for path, words in needing:
-            status, said = fhir(path, **words)
-            assert (status, issue(said)) == (422, "not-supported"), (path, words)
-            assert said["issue"][0]["diagnostics"] == NO_MEMBERS, (path, words)
-        page = house.gateway.send("GET", "/?q=" + codes["wrist"])
-        assert page.status == 422
-        assert "keeps no members" in page.text
-        free = {**code, "property": "parent", "displayLanguage": "und"}
-        assert fhir(LOOKUP, **free)[0] == 200
-        within = SCT + "?fhir_vs=isa/" + codes["limb"]
-        words = {"url": within, **code, "displayLanguage": "und"}
-        assert fhir("ValueSet/$validate-code", **words)[0] == 200
-        assert "sctd-gateway: " + NO_MEMBERS in house.gateway.told()
 
 
 class TestAnotherStore:
     def test_reference_sets_of_another_store(self, request: pytest.FixtureRequest) -> None:
         """Its first import is another one: nothing that is remembered of a set holds."""
-        house = House(is_whole=True, words=demo.WORDS)
+        house = House(layout=3, is_whole=True, words=demo.WORDS)
         request.addfinalizer(house.end)
         url = "%s?fhir_vs=refset/%s" % (version("20210131"), house.codes["set"])
         for releases, names in (

@@ -28,8 +28,6 @@ LINES = [
         f"{AT}DESCENDANTS {CODE} {DAY}",
         f"{AT}REPLACED {CODE} {DAY}",
         f"{AT}HISTORY C {CODE}",
-        # At the start, whether the store's layout keeps members.
-        f"{AT}HISTORY M 0{{8}}(-0{{4}}){{3}}-0{{12}}",
         f"{AT}TIMELINE [DRVAM] {CODE}",
         f"{AT}PAGE C {DAY} {AFTER} {COUNT}",
         f"{AT}PAGE M {DAY} - 1",

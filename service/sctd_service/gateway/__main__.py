@@ -12,7 +12,6 @@ front of it.
 
 import argparse
 import asyncio
-import contextlib
 import re
 import signal
 import sys
@@ -22,10 +21,7 @@ from ..snomed import distinct, is_concept_id
 from . import http, limits
 from .app import App, refused_request
 from .fhir.versions import Edition
-from .hub import HubGone, HubRefused
 from .pool import Pool
-from .problems import NO_MEMBERS
-from .store import View
 
 # A URI that names a code system: a scheme, and no space or control character.
 SYSTEM = re.compile(r"[A-Za-z][A-Za-z0-9+.-]*:[\x21-\x7e]+\Z", re.ASCII)
@@ -95,19 +91,9 @@ async def listening(server: http.Server, place: str) -> asyncio.Server:
         server.connected, host.strip("[]"), int(port), backlog=limits.BACKLOG)
 
 
-async def tell_layout(pool: Pool) -> None:
-    """Says on standard error if the store's layout keeps no members of reference sets. Where no
-    hub answers yet nothing is said: each request that needs them is told so."""
-    with contextlib.suppress(HubGone, HubRefused, TimeoutError):
-        async with asyncio.timeout(limits.BEGIN_SECONDS), pool.session(None) as session:
-            if not await View(session).keeps_members():
-                print("sctd-gateway: %s" % NO_MEMBERS, file=sys.stderr, flush=True)
-
-
 async def serve(found: argparse.Namespace) -> int:
     edition = Edition(found.edition, found.languages, dict(found.map))
-    pool = Pool(found.socket)
-    app = App(pool, edition, found.cors)
+    app = App(Pool(found.socket), edition, found.cors)
     server = http.Server(app.answer, refused_request, [app.count, *[http.log] * found.log])
     try:
         listens = await listening(server, found.listen)
@@ -118,10 +104,8 @@ async def serve(found: argparse.Namespace) -> int:
     end = asyncio.Event()
     for number in (signal.SIGTERM, signal.SIGINT):
         asyncio.get_running_loop().add_signal_handler(number, end.set)
-    asked = asyncio.create_task(tell_layout(pool))
     print("OK ready", flush=True)
     await end.wait()
-    asked.cancel()
     listens.close()
     await server.stop()
     # (From 3.13 on Python has removed it already, and another gateway may have made its own.)

@@ -18,10 +18,9 @@ from .fhir.inputs import Given, Query, posted
 from .fhir.outputs import dumped, written
 from .fhir.request import Request
 from .fhir.versions import Edition
-from .hub import NEEDS_LATER_LAYOUT, OUT_OF_MEMORY, HubGone, HubRefused, Reply
+from .hub import OUT_OF_MEMORY, HubGone, HubRefused, Reply
 from .pool import Pool
-from .problems import (
-    NO_MEMBERS, Json, Problem, invalid, missing, not_found, not_supported, too_costly)
+from .problems import Json, Problem, invalid, missing, not_found, too_costly
 from .store import View
 
 Headers = tuple[tuple[str, str], ...]
@@ -288,8 +287,6 @@ def problem_of(error: Exception) -> Problem:
         why = str(error) or "it is busy, perhaps with an import"
         return Problem(503, "transient", "the terminology can't be asked at the moment: %s" % why)
     if isinstance(error, HubRefused):
-        if error.number == NEEDS_LATER_LAYOUT:
-            return not_supported(NO_MEMBERS)
         tell("sctd-gateway: the hub said %s" % error)
         return Problem(503 if error.number == OUT_OF_MEMORY else 500, "exception", str(error))
     tell("".join(traceback.format_exception(error)).rstrip("\n"))

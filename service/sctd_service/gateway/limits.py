@@ -33,8 +33,6 @@ PACKED_APART_BYTES = 64 << 10
 SLICE_CONCEPTS = 50
 # How long /health may take, whatever hangs.
 HEALTH_SECONDS = 2.0
-# For how long a hub is asked, at the start, whether its store keeps members.
-BEGIN_SECONDS = 5.0
 # When a client that is answered 503 is told to ask again.
 RETRY_SECONDS = 5
 # Expansions and records, which may ask thousands of questions, that go on at once.

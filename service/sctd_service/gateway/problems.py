@@ -30,9 +30,3 @@ conflict = partial(Problem, 400, "conflict")
 not_found = partial(Problem, 404, "not-found")
 too_costly = partial(Problem, 422, "too-costly")
 not_supported = partial(Problem, 422, "not-supported")
-
-# Why there is no answer from a store below layout 3.
-NO_MEMBERS = (
-    "the store's layout keeps no members of reference sets, which this needs: "
-    "sctd copy --layout 3 makes a store that does"
-)

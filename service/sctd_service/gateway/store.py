@@ -8,7 +8,7 @@ from collections.abc import Iterable, Sequence
 from typing import TypeVar
 
 from . import limits
-from .hub import NEEDS_LATER_LAYOUT, HubGone, HubRefused, Reply
+from .hub import HubGone, Reply
 from .pool import Member, Members, Session
 from .problems import too_costly
 from ..snomed import (
@@ -27,8 +27,6 @@ SEARCHED = re.compile(
     "[^\x00-\x1f\x7f-\x9f\u2028\u2029\ud800-\udfff]{1,%d}\\Z" % limits.FILTER_CHARACTERS)
 # The identifier of a member, where that of any other row but an association has digits alone.
 MEMBER_ID = re.compile(r"[0-9a-f]{8}(-[0-9a-f]{4}){3}-[0-9a-f]{12}\Z", re.ASCII)
-# The identifier of no member.
-NO_MEMBER_ID = "00000000-0000-0000-0000-000000000000"
 # The columns that each member has.
 MEMBER_COLUMNS = 6
 # Of the languages of no house.
@@ -172,16 +170,6 @@ class View:
         """Whether the store has any member of a reference set, of whichever day."""
         line = "MEMBERS %s %s %s 1" % (refset, self.latest, FIRST)
         return bool(members_of((await self.ask([line]))[0]))
-
-    async def keeps_members(self) -> bool:
-        """Whether the store's layout keeps members of reference sets."""
-        try:
-            await self.ask(["HISTORY M %s" % NO_MEMBER_ID])
-        except HubRefused as refused:
-            if refused.number == NEEDS_LATER_LAYOUT:
-                return False
-            raise
-        return True
 
     async def has_members(self) -> bool:
         """Whether the store has a member of any reference set."""

@@ -38,9 +38,9 @@ stands there, such as a file or the socket of a program that runs, stays, and th
 status 1.
 
 Before the program opens FILE, its pages are dropped from memory, since after a failed write Linux
-may keep there what the disk doesn't have. With `--make-store` a first start makes the store: where
-there is no FILE, and nothing but folders is beside it. Options may also stand in the table `[hub]`
-of the file of `--config`. Standard library alone.
+may keep there what the disk doesn't have. With `--make-store` a first start makes the store, in
+layout 3: where there is no FILE, and nothing but folders is beside it. Options may also stand in
+the table `[hub]` of the file of `--config`. Standard library alone.
 """
 
 import argparse
