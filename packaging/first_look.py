@@ -22,14 +22,13 @@ from collections.abc import Sequence
 from pathlib import Path
 
 import built
-from needs import LEAST_PYTHON, MODULES
+from needs import MODULES, python_with
 
 TOP = built.TOP
 sys.path.append(str(TOP / "service"))
 from sctd_service.protocol import HubClient, HubFailed  # noqa: E402
 
 HOME = TOP / "out" / "try"
-SYSTEM_PYTHON = "/usr/bin/python3"
 HOST, PORT = "127.0.0.1", 8080
 # The sample package, below docs/: what of it is imported, its module and its language.
 SAMPLE = "package/Full"
@@ -51,24 +50,9 @@ class Failed(Exception):
     """Why there is nothing to look at."""
 
 
-def has_modules(python: str) -> bool:
-    """Whether a Python is new enough, and has what the gateway imports."""
-    check = "import sys, %s; sys.exit(sys.version_info < %r)" % (", ".join(MODULES), LEAST_PYTHON)
-    try:
-        done = subprocess.run([python, "-c", check], stderr=subprocess.DEVNULL, check=False)
-    except OSError:
-        return False
-    return done.returncode == 0
-
-
-def python_of_gateway() -> str | None:
-    """A Python that can run the gateway; None where there is none."""
-    return next((one for one in (sys.executable, SYSTEM_PYTHON) if has_modules(one)), None)
-
-
 def look_for_all() -> str:
     """The Python that the gateway takes. What this machine lacks is told all at once."""
-    python, lacks = python_of_gateway(), []
+    python, lacks = python_with(), []
     if python is None:
         lacks.append("the gateway needs: sudo apt-get install " + " ".join(MODULES.values()))
     if shutil.which("rt") is None:

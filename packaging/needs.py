@@ -1,5 +1,5 @@
 #!/usr/bin/env python3
-"""What the service and its trials need of Debian: the one list of it, for the package, for ./try and
+"""What the service and its trials need of Debian: the one list of it, for the package, ./try and
 for .ci/run.
 
 packaging/needs.py
@@ -11,11 +11,14 @@ in service/pyproject.toml.
 import importlib.util
 import re
 import shutil
+import subprocess
+import sys
 import tomllib
-from collections.abc import Iterator
+from collections.abc import Iterable, Iterator
 from pathlib import Path
 
 PROJECT = Path(__file__).resolve().parents[1] / "service" / "pyproject.toml"
+SYSTEM_PYTHON = "/usr/bin/python3"
 LEAST_PYTHON = (3, 11)
 # What of Python only tests need, and the commands that only trials need, with Debian's packages.
 TESTED_WITH = {"pytest": "python3-pytest"}
@@ -45,6 +48,22 @@ DEPENDS = (
     *MODULES.values(),
     "systemd",
 )
+
+
+def has_modules(python: str, modules: Iterable[str] = MODULES) -> bool:
+    """Whether a Python is new enough, and has some modules."""
+    check = "import sys, %s; sys.exit(sys.version_info < %r)" % (", ".join(modules), LEAST_PYTHON)
+    try:
+        done = subprocess.run([python, "-c", check], stderr=subprocess.DEVNULL, check=False)
+    except OSError:
+        return False
+    return done.returncode == 0
+
+
+def python_with(modules: Iterable[str] = MODULES) -> str | None:
+    """A Python that has some modules, this one or the system's; None where neither does."""
+    names = tuple(modules)
+    return next((one for one in (sys.executable, SYSTEM_PYTHON) if has_modules(one, names)), None)
 
 
 def lacking() -> Iterator[str]:

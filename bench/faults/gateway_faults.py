@@ -19,9 +19,10 @@ import tempfile
 from collections.abc import Sequence
 
 ROOT = os.path.dirname(os.path.dirname(os.path.dirname(os.path.abspath(__file__))))
-sys.path.insert(0, os.path.join(ROOT, "bench", "trials"))
+sys.path[:0] = [os.path.join(ROOT, "bench", "trials"), os.path.join(ROOT, "packaging")]
 from gateway_fault_table import FAULTS, PAGE, Fault  # noqa: E402
-from try_gateway import OF_TESTS, python_with, words_of  # noqa: E402
+from needs import python_with  # noqa: E402
+from try_gateway import OF_TESTS, words_of  # noqa: E402
 
 SECONDS = 300
 NOT_RUN = 3
@@ -58,7 +59,7 @@ def failed(root: str, python: str, program: str, tests: str) -> list[str]:
 def tried(number: int, fault: Fault, python: str, program: str) -> bool:
     """Whether a test fails with the fault."""
     with tempfile.TemporaryDirectory() as root:
-        for name in ("service", "bench", "docs"):
+        for name in ("service", "packaging", "bench", "docs"):
             shutil.copytree(
                 os.path.join(ROOT, name),
                 os.path.join(root, name),

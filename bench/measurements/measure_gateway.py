@@ -40,8 +40,9 @@ from typing import Any
 from measure_harness import made_release, seconds_used
 
 BENCH = os.path.dirname(os.path.dirname(os.path.abspath(__file__)))
-sys.path.append(os.path.join(BENCH, "trials"))
-from try_gateway import ROOT, SERVICE, python_with  # noqa: E402
+sys.path += [os.path.join(BENCH, "trials"), os.path.join(os.path.dirname(BENCH), "packaging")]
+from needs import python_with  # noqa: E402
+from try_gateway import ROOT, SERVICE  # noqa: E402
 
 PROCESSES = 2
 FEW_CODES = 200

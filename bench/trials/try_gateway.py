@@ -21,14 +21,13 @@ import subprocess
 import sys
 from collections.abc import Iterable, Sequence
 from pathlib import Path
-from typing import Optional
 
 ROOT = os.path.dirname(os.path.dirname(os.path.dirname(os.path.abspath(__file__))))
+sys.path.append(os.path.join(ROOT, "packaging"))
+from needs import MODULES, TESTED_WITH, python_with  # noqa: E402
+
 SERVICE = os.path.join(ROOT, "service")
-SYSTEM_PYTHON = "/usr/bin/python3"
-# What the gateway needs, and its tests. Debian has each as a package of its own.
-PACKAGES = ("h11", "markupsafe", "prometheus_client")
-OF_TESTS = (*PACKAGES, "pytest")
+OF_TESTS = (*MODULES, *TESTED_WITH)
 MYPY = ("mypy", "--strict")
 SECONDS = 170
 NOT_RUN = 3
@@ -41,20 +40,6 @@ APART = (
     ("test_members",),
 )
 COUNT = re.compile(r"(\d+) (passed|failed|errors?)\b")
-
-
-def python_with(packages: Sequence[str] = PACKAGES) -> Optional[str]:
-    """A Python of at least the version that the gateway needs, with packages; None where there is
-    none."""
-    check = "import sys, %s; sys.exit(sys.version_info < (3, 11))" % ", ".join(packages)
-    for python in (sys.executable, SYSTEM_PYTHON):
-        try:
-            done = subprocess.run([python, "-c", check], stderr=subprocess.DEVNULL, check=False)
-        except OSError:
-            continue
-        if done.returncode == 0:
-            return python
-    return None
 
 
 def runs() -> list[Sequence[str]]:

@@ -35,8 +35,7 @@ ROOT = Path(__file__).resolve().parents[2]
 sys.path.append(str(ROOT / "packaging"))
 import built  # noqa: E402
 import debian  # noqa: E402
-import first_look  # noqa: E402
-from needs import MODULES  # noqa: E402
+from needs import MODULES, python_with  # noqa: E402
 
 NOT_RUN = 3
 SECONDS = 320
@@ -283,7 +282,7 @@ def main(words: Sequence[str]) -> int:
         print((__doc__ or "").strip(), file=sys.stderr)
         return 2
     missing = next((tool for tool in TOOLS if shutil.which(tool) is None), None)
-    python = first_look.python_of_gateway()
+    python = python_with()
     if missing or python is None:
         print("not run: there is no %s" % (missing or "Python with what the gateway imports"))
         return NOT_RUN

@@ -7,8 +7,8 @@ PROGRAM is the built `sctd`. A record, a retired concept, hostile terms, a searc
 the page without its script, and records of whole packages: the console may say nothing, no dialog
 may open, nothing may break the page's policy, and nothing may be wider than the window. Each field
 has a label, and each text a contrast of at least 4.5 to what is behind it. PICTURE is written with
-the page of a package's record. Where there is no Chromium or no package that the gateway needs, that is said and the status is
-3; it is 1 where something is wrong.
+the page of a package's record. Where there is no Chromium, or something that the gateway imports
+is missing, that is said and the status is 3; it is 1 where something is wrong.
 """
 
 from __future__ import annotations
@@ -27,7 +27,10 @@ from typing import Any, Optional
 from urllib.parse import urlencode
 
 import chromium
-from try_gateway import ROOT, SERVICE, python_with
+from try_gateway import ROOT, SERVICE
+
+sys.path.append(os.path.join(ROOT, "packaging"))
+from needs import python_with  # noqa: E402
 
 NOT_RUN = 3
 DESK, PHONE = 1000, 360

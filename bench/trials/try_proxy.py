@@ -38,6 +38,7 @@ ROOT = Path(__file__).resolve().parents[2]
 SERVICE = ROOT / "service"
 sys.path += [str(ROOT / "packaging"), str(SERVICE)]
 import first_look  # noqa: E402
+from needs import python_with  # noqa: E402
 from sctd_service.protocol import HubClient, HubFailed  # noqa: E402
 
 NOT_RUN = 3
@@ -305,7 +306,7 @@ def main(words: Sequence[str]) -> int:
         print((__doc__ or "").strip(), file=sys.stderr)
         return 2
     missing = next((tool for tool in ("nginx", "openssl") if shutil.which(tool) is None), None)
-    python = first_look.python_of_gateway()
+    python = python_with()
     if missing or python is None:
         print("not run: there is no %s" % (missing or "Python with what the gateway imports"))
         return NOT_RUN
