@@ -8,6 +8,7 @@ are given twice. `--version` says from which commit the package was made.
 """
 
 import argparse
+import tomllib
 from collections.abc import Iterator, Sequence
 from pathlib import Path
 
@@ -52,8 +53,6 @@ def with_files(words: Sequence[str], table: str) -> Iterator[str]:
 
 def words_of_file(path: str, table: str) -> Iterator[str]:
     """The options that a table of a file has."""
-    import tomllib  # (It comes with Python 3.11; without a file the hub needs less.)
-
     with open(path, "rb") as file:
         try:
             settings = tomllib.load(file)
