@@ -65,7 +65,7 @@ MOST_LINES_OF_README = 10
 # A line to complete in bash, and what has to be among its completions; * is a file of the folder.
 COMPLETED = (
     ("sctd i", ["import", "init"]),
-    ("sctd copy --l", ["--layout"]),
+    ("sctd init --l", ["--layout"]),
     ("sctd import --", ["--check", "--help", "--quiet", "--releases", "--store"]),
     ("sctd serve --store a-", ["a-file", "a-folder"]),
     ("sctd serve --releases a-", ["a-folder"]),
