@@ -7,9 +7,9 @@ PROGRAM is the built program sctd. Each line that begins with `$ ` in a ```conso
 guide, with the lines after it that begin with `> `, is run by bash in one fresh folder, in order;
 what it writes to standard output and standard error has to be the lines up to the next command,
 byte for byte, and it has to end within a minute, with the status 0: one that ends with another
-says so in its own lines, as by `echo "status $?"`. The chapter about the gateway needs h11, in the
-system's Python: where that is missing its commands are left out, and the last line says how many.
-Standard library alone.
+says so in its own lines, as by `echo "status $?"`. The chapter about the gateway needs what the
+gateway imports, in the system's Python: where it is missing its commands are left out, and the last
+line says how many. Standard library alone.
 """
 
 from __future__ import annotations
@@ -23,11 +23,12 @@ import tempfile
 from collections.abc import Iterator, Mapping, Sequence
 
 ROOT = os.path.dirname(os.path.dirname(os.path.dirname(os.path.abspath(__file__))))
+sys.path.append(os.path.join(ROOT, "packaging"))
+from needs import SYSTEM_PYTHON, has_modules  # noqa: E402
 
 # How long a command may take.
 SECONDS = 60
 GATEWAY_CHAPTER = "FHIR and the page"
-SYSTEM_PYTHON = "/usr/bin/python3"
 
 
 class Example:
@@ -79,14 +80,6 @@ def run(command: str, folder: str, around: Mapping[str, str]) -> str:
     return printed.decode("utf-8", "backslashreplace") + end
 
 
-def has_h11() -> bool:
-    try:
-        return not subprocess.run([SYSTEM_PYTHON, "-c", "import h11"], stderr=subprocess.DEVNULL,
-                                  check=False).returncode
-    except OSError:
-        return False
-
-
 def wrong_in(wanted: Sequence[Example], program: str, place: str) -> Iterator[Example]:
     """The examples that don't print what they have to, run in a folder; each is told."""
     tools, work = os.path.join(place, "tools"), os.path.join(place, "work")
@@ -117,11 +110,11 @@ def main(words: Sequence[str]) -> int:
     guide = words[1] if len(words) == 2 else os.path.join(ROOT, "docs", "GUIDE.md")
     with open(guide, encoding="utf-8", newline="") as file:
         every = examples(file.read())
-    h11 = has_h11()
-    wanted = [one for one in every if one.chapter != GATEWAY_CHAPTER or h11]
+    has_all = has_modules(SYSTEM_PYTHON)
+    wanted = [one for one in every if one.chapter != GATEWAY_CHAPTER or has_all]
     with tempfile.TemporaryDirectory() as place:
         wrong = len(list(wrong_in(wanted, os.path.abspath(words[0]), place)))
-    left_out = ", %d left out: h11 is missing" % (len(every) - len(wanted))
+    left_out = ", %d left out: a package is missing" % (len(every) - len(wanted))
     print("%d commands, %d print something else or fail%s" % (
         len(wanted), wrong, left_out if len(wanted) < len(every) else ""))
     return 1 if wrong or not wanted else 0

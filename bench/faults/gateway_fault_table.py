@@ -9,8 +9,8 @@ MEMBERS = "test_members"
 
 
 class Fault(NamedTuple):
-    """What is wrong, the file below sctd_service/gateway, its text, what stands there instead, and the
-    tests."""
+    """What is wrong, the file as seen from sctd_service/gateway, its text, what stands there instead,
+    and the tests."""
 
     what: str
     file: str
@@ -58,23 +58,23 @@ FAULTS = [
     Fault(
         "replies stay when another hub comes",
         "pool.py",
-        "        self.memory.clear()\n",
-        "",
+        "        self.memory: Recent[Reply] = ",
+        "        self.memory = getattr(self, \"memory\", None) or ",
         "test_hub",
     ),
     Fault(
         "a reply is remembered whatever its pin was",
         "pool.py",
-        "        found = self.kept.get((pin, line))\n",
-        "        pin = next((key[0] for key in self.kept if key[1] == line), pin)\n"
-        "        found = self.kept.get((pin, line))\n",
+        "        found = self.kept.get(key)\n",
+        "        key = next((one for one in self.kept if one[1:] == key[1:]), key)\n"
+        "        found = self.kept.get(key)\n",
         "test_page",
     ),
     Fault(
         "subtrees stay when another hub comes",
         "pool.py",
-        "        self.subtrees, self.refsets = no_subtrees(), no_refsets()\n        for",
-        "        self.refsets = no_refsets()\n        for",
+        "        self.subtrees: Recent[Members] = ",
+        "        self.subtrees = getattr(self, \"subtrees\", None) or ",
         "test_hub",
     ),
     Fault(
@@ -290,8 +290,8 @@ FAULTS = [
     Fault(
         "an answer has no date",
         "http.py",
-        '            "Date: " + formatdate(usegmt=True),\n',
-        "",
+        'phrase),\n            "Date: " + formatdate(usegmt=True)]',
+        "phrase)]",
         "test_requests",
     ),
     Fault(
@@ -341,8 +341,8 @@ FAULTS = [
     Fault(
         "texts aren't escaped",
         "markup.py",
-        "else escape(visible(part)) for",
         "else visible(part) for",
+        "else Markup(visible(part)) for",
         "test_page " + PAGE,
     ),
     Fault(
@@ -636,8 +636,8 @@ FAULTS = [
     Fault(
         "reference sets stay when another hub comes",
         "pool.py",
-        "        self.subtrees, self.refsets = no_subtrees(), no_refsets()\n        for",
-        "        self.subtrees = no_subtrees()\n        for",
+        "        self.refsets: Recent[Codes] = ",
+        "        self.refsets = getattr(self, \"refsets\", None) or ",
         MEMBERS,
     ),
     Fault(
@@ -692,7 +692,7 @@ FAULTS = [
     Fault(
         "the capabilities don't name the languages",
         "fhir/capabilities.py",
-        "            **languages,\n",
+        " **languages,",
         "",
         MEMBERS,
     ),
@@ -730,5 +730,47 @@ FAULTS = [
         "ABOUT = \"DRVAM\"",
         "ABOUT = \"DRVA\"",
         MEMBERS,
+    ),
+    Fault(
+        "requests are counted without their status",
+        "metrics.py",
+        "self.requests.labels(operation, status)",
+        "self.requests.labels(operation, 200)",
+        "test_metrics",
+    ),
+    Fault(
+        "what the hub counts is left out",
+        "metrics.py",
+        "generate_latest(self.registry) + rows.encode()",
+        "generate_latest(self.registry)",
+        "test_metrics",
+    ),
+    Fault(
+        "what is asked below a pin isn't counted as its operation",
+        "app.py",
+        "    path = unquote(found[2]).removeprefix",
+        "    path = unquote(found[0]).removeprefix",
+        "test_metrics",
+    ),
+    Fault(
+        "a question behind AT isn't counted as itself",
+        "../hub/lines.py",
+        "words[3] if words[1] == b\"AT\" else words[1]",
+        "words[1]",
+        "test_metrics",
+    ),
+    Fault(
+        "a refused import is counted as one that was done",
+        "../hub/metrics.py",
+        "\" \".join(words)] += 1",
+        "\"OK\"] += 1",
+        "test_metrics",
+    ),
+    Fault(
+        "what the hub counts is made anew for each line",
+        "../hub/clients.py",
+        "if now - self.metrics_made >= METRICS_SECONDS:",
+        "if True:",
+        "test_metrics",
     ),
 ]

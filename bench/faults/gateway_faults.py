@@ -5,7 +5,7 @@ gateway_faults.py PROGRAM [NUMBER ..]
 
 PROGRAM is the built `sctd`. Each fault is a text of a file that is exchanged, and the tests that
 are run with it. One that no test fails for is said to be NOT SEEN, and the status is 1 then. It
-takes some minutes. Standard library alone; the gateway needs h11.
+takes some minutes. Standard library alone; the gateway and its tests need their packages.
 """
 
 from __future__ import annotations
@@ -19,9 +19,10 @@ import tempfile
 from collections.abc import Sequence
 
 ROOT = os.path.dirname(os.path.dirname(os.path.dirname(os.path.abspath(__file__))))
-sys.path.insert(0, os.path.join(ROOT, "bench", "trials"))
+sys.path[:0] = [os.path.join(ROOT, "bench", "trials"), os.path.join(ROOT, "packaging")]
 from gateway_fault_table import FAULTS, PAGE, Fault  # noqa: E402
-from try_gateway import python_with_h11  # noqa: E402
+from needs import python_with  # noqa: E402
+from try_gateway import OF_TESTS, words_of  # noqa: E402
 
 SECONDS = 300
 NOT_RUN = 3
@@ -34,7 +35,7 @@ def failed(root: str, python: str, program: str, tests: str) -> list[str]:
         words, folder = [sys.executable, os.path.join("bench", "trials", PAGE), program], root
         if test != PAGE:
             hub = os.path.join(root, "service", "sctd-hub")
-            words = [python, "-m", "tests", program, hub, test]
+            words = words_of(python, program, hub, [test])
             folder = os.path.join(root, "service")
         try:
             done = subprocess.run(
@@ -49,17 +50,16 @@ def failed(root: str, python: str, program: str, tests: str) -> list[str]:
             )
             said = done.stdout
         except subprocess.TimeoutExpired:
-            said = "FAIL: %s takes too long" % test
-        found += re.findall(r"^(?:FAIL|ERROR): (\w+)", said, re.M) + re.findall(
-            r"^WRONG: (.{1,90})", said, re.M
-        )
+            said = "WRONG: %s takes too long" % test
+        found += re.findall(r"^(?:FAILED|ERROR) \S+::(\w+)", said, re.M)
+        found += re.findall(r"^WRONG: (.{1,90})", said, re.M)
     return list(dict.fromkeys(found))
 
 
 def tried(number: int, fault: Fault, python: str, program: str) -> bool:
     """Whether a test fails with the fault."""
     with tempfile.TemporaryDirectory() as root:
-        for name in ("service", "bench", "docs"):
+        for name in ("service", "packaging", "bench", "docs"):
             shutil.copytree(
                 os.path.join(ROOT, name),
                 os.path.join(root, name),
@@ -85,9 +85,9 @@ def main(words: Sequence[str]) -> int:
     if not words:
         print((__doc__ or "").strip(), file=sys.stderr)
         return 2
-    python, program = python_with_h11(), os.path.abspath(words[0])
+    python, program = python_with(OF_TESTS), os.path.abspath(words[0])
     if python is None:
-        print("not run: h11 is missing")
+        print("not run: a package that the gateway or its tests need is missing")
         return NOT_RUN
     chosen = [int(word) for word in words[1:]] or range(len(FAULTS))
     seen = [tried(number, FAULTS[number], python, program) for number in chosen]

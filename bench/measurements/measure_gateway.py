@@ -40,8 +40,9 @@ from typing import Any
 from measure_harness import made_release, seconds_used
 
 BENCH = os.path.dirname(os.path.dirname(os.path.abspath(__file__)))
-sys.path.append(os.path.join(BENCH, "trials"))
-from try_gateway import ROOT, SERVICE, python_with_h11  # noqa: E402
+sys.path += [os.path.join(BENCH, "trials"), os.path.join(os.path.dirname(BENCH), "packaging")]
+from needs import python_with  # noqa: E402
+from try_gateway import ROOT, SERVICE  # noqa: E402
 
 PROCESSES = 2
 FEW_CODES = 200
@@ -327,9 +328,9 @@ def main() -> int:
     words.add_argument("--raw-only", action="store_true")
     words.add_argument("--package", action="store_true")
     options = words.parse_args()
-    python = python_with_h11()
+    python = python_with()
     if python is None:
-        print("not run: h11 is missing")
+        print("not run: a package that the gateway needs is missing")
         return NOT_RUN
     with tempfile.TemporaryDirectory() as folder:
         tried(options, folder, python)

@@ -428,13 +428,12 @@ def steps(place: Place, store: str) -> None:
     same("imports between two steps", sum(b"1 IMPORT between" in some for some in between), 1)
 
 
-UNIT = "service/sctd.service"
-GATEWAY_UNIT = os.path.join(ROOT, "service", "sctd-gateway.service")
-DROPPING = "ExecStartPre=/usr/bin/dd if=/dev/null of=/var/lib/sctd/terms.store oflag=nocache \\"
+UNIT = os.path.join(ROOT, "packaging", "sctd.service")
+GATEWAY_UNIT = os.path.join(ROOT, "packaging", "sctd-gateway.service")
 # Lines of both units, and of that of the hub.
 LINES = ["NoNewPrivileges=yes", "CapabilityBoundingSet=", "ProtectSystem=strict", "UMask=0077",
          "SupplementaryGroups=sctd-ask", "SystemCallFilter=@system-service"]
-HUB_LINES = ["PrivateNetwork=yes", "RestrictAddressFamilies=AF_UNIX", DROPPING,
+HUB_LINES = ["PrivateNetwork=yes", "RestrictAddressFamilies=AF_UNIX",
              "Environment=GLIBC_TUNABLES=glibc.malloc.hugetlb=1"]
 # The greatest exposures that `systemd-analyze security` may find, in tenths; one was 87 once.
 MOST_EXPOSED, GATEWAY_EXPOSED = 6, 10
@@ -443,8 +442,7 @@ MOST_EXPOSED, GATEWAY_EXPOSED = 6, 10
 def units(place: Place, store: str) -> None:
     """The units are as hardened as they can be. That of the hub gives questions to a group and
     imports to its owner."""
-    own = place.script(UNIT)
-    for path, lines in ((own, LINES + HUB_LINES), (GATEWAY_UNIT, LINES)):
+    for path, lines in ((UNIT, LINES + HUB_LINES), (GATEWAY_UNIT, LINES)):
         text = content(path).decode()
         for line in lines:
             same("how often %s has %r" % (path, line), text.count("\n%s\n" % line), 1)
@@ -452,7 +450,7 @@ def units(place: Place, store: str) -> None:
     analysing = shutil.which("systemd-analyze")
     if analysing is None:
         raise Skipped("there is no systemd-analyze")
-    for path, most in ((own, MOST_EXPOSED), (GATEWAY_UNIT, GATEWAY_EXPOSED)):
+    for path, most in ((UNIT, MOST_EXPOSED), (GATEWAY_UNIT, GATEWAY_EXPOSED)):
         done = subprocess.run(
             [analysing, "security", "--offline=true", "--threshold=%d" % most, path],
             stdout=subprocess.PIPE, stderr=subprocess.STDOUT, timeout=SECONDS, check=False)
@@ -481,11 +479,11 @@ def allowed_calls(lists: Sequence[str]) -> set[str]:
 
 
 def system_calls(place: Place, store: str) -> None:
-    """What the hub, the program and the unit's first command ask of the system, the unit allows. A
-    copy and its folder are synced before it is checked."""
+    """What the hub and the program ask of the system, the unit allows. A copy and its folder are
+    synced before it is checked."""
     if shutil.which("systemd-analyze") is None or not has_strace():
         raise Skipped("it takes systemd-analyze and strace")
-    text = content(place.script(UNIT)).decode()
+    text = content(UNIT).decode()
     allowed = allowed_calls(re.findall(r"^SystemCallFilter=(.*)$", text, re.M))
     trace = place.path("trace")
     own = place.make_store("own")
@@ -498,12 +496,6 @@ def system_calls(place: Place, store: str) -> None:
             same(line, client.ask(line)[0].split(" ")[0], "OK")
         client.leave()
         same("the end of the hub", hub.stop("a hub that is stopped"), 0)
-    found = re.search(r"^ExecStartPre=(.*?[^\\])$", text, re.M | re.S)
-    assert found
-    first = found[1].replace("\\\n", " ").replace("/var/lib/sctd/terms.store", own).split()
-    done = subprocess.run(["strace", "-A", "-f", "-qq", "-o", trace, "-e", "signal=none", *first],
-                          timeout=SECONDS, check=False)
-    same("the unit's first command", done.returncode, 0)
     until("the trace has its end", lambda: b"exit_group" in content(trace)[-200:])
     lines = content(trace).decode("utf-8", "backslashreplace")
     called = set(re.findall(r"^[0-9]+ +([a-z_0-9]+)\(", lines, re.M))

@@ -1,14 +1,13 @@
 #!/usr/bin/env python3
 """Tries what a failed sync leaves on Linux, on a medium that refuses one block.
 
-try_failed_sync.py [--unit FILE] PROGRAM
+try_failed_sync.py PROGRAM
 
 PROGRAM is the built program sctd. Linux forgets the pages of a file whose write failed: a later
 read gets from memory what the medium doesn't have. This script makes a file system on a loop
-device, lets the last sync of an import fail, starts the program again as the unit does (that is
-service/sctd.service, or FILE), stops the next import between two of its syncs, and looks at what
-the medium has. It fails if the import that was confirmed before isn't told both times: the unit has
-to drop what memory keeps of the file.
+device, lets the last sync of an import fail, starts the program again as the hub does, stops the
+next import between two of its syncs, and looks at what the medium has. It fails if the import that
+was confirmed before isn't told both times: the hub has to drop what memory keeps of the file.
 
 It takes root, strace, e2fsprogs, util-linux and a loop device; where it lacks one of them it says
 "not run" and ends with status 3. Standard library alone.
@@ -26,8 +25,10 @@ import time
 from collections.abc import Sequence
 
 ROOT = os.path.dirname(os.path.dirname(os.path.dirname(os.path.abspath(__file__))))
+sys.path.append(os.path.join(ROOT, "service"))
+from sctd_service.hub import opening  # noqa: E402
+
 RELEASES = os.path.join(ROOT, "docs", "releases")
-UNIT = os.path.join(ROOT, "service", "sctd.service")
 BLOCK = 4096
 # An import's syncs: two of the opening, then one of the segment, of the gate that is closed, of the
 # content, and of the gate that is opened.
@@ -162,13 +163,6 @@ class Program:
                                 stderr=subprocess.DEVNULL, text=True)
 
 
-def steps_before_start(unit: str) -> list[str]:
-    """The commands that the unit runs before it starts the program."""
-    with open(unit, encoding="utf-8") as file:
-        lines = file.read().replace("\\\n", " ").split("\n")
-    return [line.split("=", 1)[1] for line in lines if line.startswith("ExecStartPre=")]
-
-
 def wait_for_stop(trace: str) -> int:
     """The process that the trace says is stopped."""
     for _ in range(LOOKS):
@@ -181,7 +175,7 @@ def wait_for_stop(trace: str) -> int:
     raise NotRun("strace doesn't stop the import")
 
 
-def trial(program_path: str, unit: str, place: str) -> tuple[str, str]:
+def trial(program_path: str, place: str) -> tuple[str, str]:
     """What the server says after the restart, and what the medium has in the end."""
     with Medium(place) as medium:
         program = Program(program_path, medium.store)
@@ -200,8 +194,7 @@ def trial(program_path: str, unit: str, place: str) -> tuple[str, str]:
         if not reply.startswith("ERR 2 "):
             raise NotRun("the medium took the block: %r" % reply)
         medium.accept()
-        for step in steps_before_start(unit):
-            run(*step.replace("/var/lib/sctd/terms.store", medium.store).split())
+        opening.drop_pages(medium.store)
         restarted = program.status()
         program.import_stopped_at_sync("r3", CONTENT_SYNC, "KILL", trace).communicate()
         medium.mount_again()
@@ -209,9 +202,6 @@ def trial(program_path: str, unit: str, place: str) -> tuple[str, str]:
 
 
 def main(words: Sequence[str]) -> int:
-    unit = UNIT
-    if words[:1] == ["--unit"] and words[1:]:
-        unit, words = words[1], words[2:]
     if len(words) != 1:
         print((__doc__ or "").strip(), file=sys.stderr)
         return 2
@@ -221,7 +211,7 @@ def main(words: Sequence[str]) -> int:
             raise NotRun("it takes root" if not missing else "there is no " + missing[0])
         program = os.path.abspath(words[0])
         with tempfile.TemporaryDirectory() as place:
-            found = trial(program, unit, place)
+            found = trial(program, place)
     except NotRun as why:
         print("not run: %s" % why)
         return NOT_RUN

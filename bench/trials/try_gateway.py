@@ -1,69 +1,64 @@
 #!/usr/bin/env python3
-"""Tries the gateway with the built program and the hub: its own tests, in service/tests.
+"""Tries the gateway with the built program and the hub: its own tests, in service/tests, by pytest.
 
 try_gateway.py PROGRAM [HUB]
 
-PROGRAM is the built `sctd`; HUB is another hub than service/sctd-hub. The tests that mostly wait for
-a limit of time run beside the others. They need h11, which is looked for in this Python and then in
-the system's; where neither has it, that is said and the status is 3, so that it counts as skipped.
-Where mypy is installed it checks the types too, and where there is a Chromium try_page.py looks at
-the page. The last line is `N passed, M failed`, with `, K skipped` where something was. The status
-is 1 where something failed.
+PROGRAM is the built `sctd`; HUB is another hub than service/sctd-hub. Several runs go on beside
+each other, since some tests mostly wait for a limit of time. They need the packages of OF_TESTS,
+which are looked for in this Python and then in the system's; where neither has them all, that is
+said and the status is 3, so that it counts as skipped. Where mypy is installed it checks the types
+too, and where there is a Chromium try_page.py looks at the page. The last line is
+`N passed, M failed`, with `, K skipped` where something was. The status is 1 where something failed.
 """
 
 from __future__ import annotations
 
 import os
+import re
 import shutil
 import signal
 import subprocess
 import sys
-from collections.abc import Sequence
-from typing import Optional
+from collections.abc import Iterable, Sequence
+from pathlib import Path
 
 ROOT = os.path.dirname(os.path.dirname(os.path.dirname(os.path.abspath(__file__))))
+sys.path.append(os.path.join(ROOT, "packaging"))
+from needs import MODULES, TESTED_WITH, python_with  # noqa: E402
+
 SERVICE = os.path.join(ROOT, "service")
-SYSTEM_PYTHON = "/usr/bin/python3"
-SECONDS = 170
+OF_TESTS = (*MODULES, *TESTED_WITH)
+MYPY = ("mypy", "--strict")
+# (They take 75 on four processors that are busy.)
+SECONDS = 400
 NOT_RUN = 3
-# The order of those of one run matters: the last of them reads what all before it have asked.
-RUNS = [
+# Modules that run beside each other. All others are one more run.
+APART = (
     ("test_waits",),
     ("test_silent_hub", "test_limits"),
-    (
-        "test_lookup",
-        "test_validation",
-        "test_value_sets",
-        "test_requests",
-        "test_page",
-        "test_load",
-        "test_heads",
-        "test_lines",
-        "test_recorded",
-    ),
-    ("test_hub", "test_large_answers"),
+    ("test_hub", "test_large_answers", "test_metrics"),
     ("test_releases", "test_delivery"),
     ("test_members",),
-]
+)
+COUNT = re.compile(r"(\d+) (passed|failed|errors?)\b")
 
 
-def python_with_h11() -> Optional[str]:
-    """A Python of at least the version that the gateway needs, with h11; None where there is
-    none."""
-    check = "import sys, h11; sys.exit(sys.version_info < (3, 11))"
-    for python in (sys.executable, SYSTEM_PYTHON):
-        try:
-            done = subprocess.run([python, "-c", check], stderr=subprocess.DEVNULL, check=False)
-        except OSError:
-            continue
-        if done.returncode == 0:
-            return python
-    return None
+def runs() -> list[Sequence[str]]:
+    """The names of all modules of tests, by the runs that they are in."""
+    every = {path.stem for path in Path(SERVICE, "tests").glob("test_*.py")}
+    return [*APART, sorted(every.difference(*APART))]
 
 
-def begun(python: str, program: str, hub: str, modules: Sequence[str]) -> subprocess.Popen[bytes]:
+def words_of(python: str, program: str, hub: str, modules: Iterable[str]) -> list[str]:
+    """The command that runs the tests of some modules, in the folder of the service."""
+    files = ["tests/%s.py" % module for module in modules]
+    paths = ["--program=" + os.path.abspath(program), "--hub=" + os.path.abspath(hub)]
+    return [python, "-m", "pytest", "-q", "-p", "no:cacheprovider", *files, *paths]
+
+
+def begun(words: Sequence[str]) -> subprocess.Popen[bytes]:
     return subprocess.Popen(
-        [python, "-m", "tests", program, hub, *modules],
+        words,
         cwd=SERVICE,
         stdin=subprocess.DEVNULL,
         stdout=subprocess.PIPE,
@@ -80,21 +75,21 @@ def ended(run: subprocess.Popen[bytes], modules: Sequence[str]) -> tuple[int, in
         os.killpg(run.pid, signal.SIGKILL)
         printed = run.communicate()[0].decode("utf-8", "backslashreplace") + "\nit takes too long"
     lines = printed.rstrip("\n").split("\n")
-    words = lines[-1].replace(",", "").split(" ")
-    if len(words) != 4 or words[1::2] != ["passed", "failed"]:
-        words = ["0", "passed", "1", "failed"]
-    if run.returncode or words[2] != "0":
+    counts = {what: int(count) for count, what in COUNT.findall(lines[-1])}
+    passed = counts.pop("passed", 0)
+    if run.returncode or counts or not passed:
         print("\n".join(["%s:" % " ".join(modules)] + lines[-60:]), flush=True)
-    return int(words[0]), max(int(words[2]), int(run.returncode != 0))
+        return passed, max(sum(counts.values()), 1)
+    return passed, 0
 
 
-def types() -> tuple[int, int, int]:
+def types(python: str) -> tuple[int, int, int]:
     """Whether the types are right: how many passed, failed and were skipped, which is 1 of them."""
     if shutil.which("mypy") is None:
         print("mypy isn't installed: the types weren't checked")
         return 0, 0, 1
     done = subprocess.run(
-        ["mypy", "--strict", "-p", "sctd_service", "-p", "tests"],
+        [*MYPY, "--python-executable", python, "-p", "sctd_service", "-p", "tests"],
         cwd=SERVICE,
         text=True,
         capture_output=True,
@@ -127,14 +122,15 @@ def main(words: Sequence[str]) -> int:
     if len(words) not in (1, 2):
         print((__doc__ or "").strip(), file=sys.stderr)
         return 2
-    python = python_with_h11()
+    python = python_with(OF_TESTS)
     if python is None:
-        print("h11 is missing: the gateway wasn't tried\n0 passed, 0 failed, 1 skipped")
+        print("no Python here has %s: the gateway wasn't tried" % ", ".join(OF_TESTS))
+        print("0 passed, 0 failed, 1 skipped")
         return NOT_RUN
     program = os.path.abspath(words[0])
-    hub = os.path.abspath(words[1]) if len(words) == 2 else os.path.join(SERVICE, "sctd-hub")
-    runs = [(begun(python, program, hub, modules), modules) for modules in RUNS]
-    counts = [types(), page(program), *((*ended(run, modules), 0) for run, modules in runs)]
+    hub = words[1] if len(words) == 2 else os.path.join(SERVICE, "sctd-hub")
+    begun_runs = [(begun(words_of(python, program, hub, names)), names) for names in runs()]
+    counts = [types(python), page(program), *((*ended(*run), 0) for run in begun_runs)]
     passed, failed, skipped = map(sum, zip(*counts))
     print("%d passed, %d failed" % (passed, failed) + (", %d skipped" % skipped if skipped else ""))
     return 1 if failed else 0

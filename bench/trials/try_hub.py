@@ -3,13 +3,13 @@
 
 try_hub.py PROGRAM [FOLDER]
 
-PROGRAM is the built `sctd`; FOLDER is another tree with service/ and examples/. Tried
-are clients, openings, sockets and their rights, the socket for questions alone, lines in turns,
-damage, ends, the log, merges, copies, the unit, client.py and read_records.py. The status is 1 at
-the first thing that isn't as it has to be, and the last line then says what: a client that the hub
-hangs up on, one that gets no reply, a hub that doesn't end. A trial that can't be done on this
-machine says so in a line that begins with `skipped`. The status is 3 where the system doesn't allow
-so many open files. No hub is left running, however it ends. Standard library alone.
+PROGRAM is the built `sctd`; FOLDER is another tree with service/ and examples/. Tried are clients,
+openings, first starts, settings, sockets and their rights, the socket for questions alone, lines in
+turns, damage, ends, the log, merges, copies, the units, client.py and read_records.py. The status
+is 1 at the first thing that isn't as it has to be, and the last line then says what: a client that
+the hub hangs up on, one that gets no reply, a hub that doesn't end. A trial that can't be done on
+this machine says so in a line that begins with `skipped`. The status is 3 where the system doesn't
+allow so many open files. No hub is left running, however it ends. Standard library alone.
 """
 
 from __future__ import annotations
@@ -30,6 +30,7 @@ from collections.abc import Sequence
 import hub_copies
 import hub_crowds
 import hub_duties
+import hub_openings
 import hub_readers
 from hub_harness import HUB, RECORDER, ROOT, Client, Hub, Place, until
 from operators_harness import Skipped, Wrong, same
@@ -427,7 +428,7 @@ def all_trials(place: Place, skipped: list[str]) -> int:
     tries = [openings, kept_sessions, turns, disk_fault, ends, unread, left_unread, kill_program]
     tries += [words, sockets]
     tries += hub_duties.TRIALS + hub_crowds.TRIALS + hub_copies.TRIALS
-    tries += hub_readers.TRIALS + [damage]
+    tries += hub_openings.TRIALS + hub_readers.TRIALS + [damage]
     count = len(on_one_hub)
     for each in tries:
         begun = time.monotonic()

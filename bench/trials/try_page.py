@@ -7,8 +7,8 @@ PROGRAM is the built `sctd`. A record, a retired concept, hostile terms, a searc
 the page without its script, and records of whole packages: the console may say nothing, no dialog
 may open, nothing may break the page's policy, and nothing may be wider than the window. Each field
 has a label, and each text a contrast of at least 4.5 to what is behind it. PICTURE is written with
-the page of a package's record. Where there is no Chromium or no h11, that is said and the status is
-3; it is 1 where something is wrong.
+the page of a package's record. Where there is no Chromium, or something that the gateway imports
+is missing, that is said and the status is 3; it is 1 where something is wrong.
 """
 
 from __future__ import annotations
@@ -27,7 +27,10 @@ from typing import Any, Optional
 from urllib.parse import urlencode
 
 import chromium
-from try_gateway import ROOT, SERVICE, python_with_h11
+from try_gateway import ROOT, SERVICE
+
+sys.path.append(os.path.join(ROOT, "packaging"))
+from needs import python_with  # noqa: E402
 
 NOT_RUN = 3
 DESK, PHONE = 1000, 360
@@ -236,7 +239,7 @@ def looked_at(page: Page, codes: Codes) -> None:
 
 def tried(path: str, program: str, picture: Optional[str]) -> None:
     from tests.house import House
-    from tests.test_members import WORDS
+    from tests.demo_members import WORDS
 
     os.environ.update(SCTD_PROGRAM=program, SCTD_HUB=os.path.join(ROOT, "service", "sctd-hub"))
     browser = chromium.Browser(path)
@@ -274,9 +277,9 @@ def main(words: Sequence[str]) -> int:
     if len(words) not in (1, 2):
         print((__doc__ or "").strip(), file=sys.stderr)
         return 2
-    python, path = python_with_h11(), chromium.found()
+    python, path = python_with(), chromium.found()
     if python is None or path is None:
-        print("not run: there is no %s" % ("h11" if python is None else "Chromium"))
+        print("not run: there is no %s" % ("package of the gateway" if python is None else "Chromium"))
         return NOT_RUN
     if python != sys.executable:
         os.execv(python, [python, os.path.abspath(__file__), *words])

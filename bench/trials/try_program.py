@@ -31,6 +31,9 @@ SCRIPTS: list[tuple[str, ...]] = [
     ("trials/soak.py", "12", "1"),
     ("trials/soak.py", "12", "2"),
     ("trials/try_flips.py", "5000", "100"),
+    ("trials/try_package.py",),
+    ("trials/try_first_look.py",),
+    ("trials/try_proxy.py",),
 ]
 NOT_RUN = 3
 

@@ -18,6 +18,12 @@ PENDING_MOVE = "900000000000492006"
 CTV3 = "900000000000497000"
 # A map of the house's own, of which no release has the concept.
 HOUSE_MAP = str(sctid(4712, "00"))
+# What the gateway prefers: British English, and where that says nothing that of the United States.
+LANGUAGES = GB + "," + US
+CTV3_SYSTEM = "http://read.info/ctv3"
+HOUSE_SYSTEM = "urn:oid:1.2.3"
+MAPS = ((CTV3, CTV3_SYSTEM), (HOUSE_MAP, HOUSE_SYSTEM))
+WORDS = ("--languages", LANGUAGES, *(word for one in MAPS for word in ("--map", "%s=%s" % one)))
 TEXT_DEFINITION = "900000000000550004"
 DEFINITION = "A break of bones of the wrist."
 FIXED = "id effectiveTime active moduleId refsetId referencedComponentId"

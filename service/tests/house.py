@@ -209,33 +209,6 @@ class House:
         self.folder.cleanup()
 
 
-class Shared:
-    """The houses that the tests share which leave them as they are: one whose store keeps no
-    members, and one of whole packages."""
-
-    one: House | None = None
-    whole: House | None = None
-
-    @classmethod
-    def get(cls) -> House:
-        if cls.one is None:
-            cls.one = House(is_recorded=True)
-        return cls.one
-
-    @classmethod
-    def get_whole(cls, words: Sequence[str]) -> House:
-        if cls.whole is None:
-            cls.whole = House(layout=3, is_whole=True, words=words)
-        return cls.whole
-
-    @classmethod
-    def end(cls) -> None:
-        for house in (cls.one, cls.whole):
-            if house:
-                house.end()
-        cls.one = cls.whole = None
-
-
 def begun_hub(
     hub: str, program: str, store: str, releases: str, *sockets: str
 ) -> "subprocess.Popen[str]":

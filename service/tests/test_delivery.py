@@ -4,7 +4,6 @@ other sites' pages, beside others, and when the gateway ends."""
 import asyncio
 import gzip
 import time
-import unittest
 from pathlib import Path
 from tempfile import TemporaryDirectory
 from typing import Any
@@ -12,29 +11,23 @@ from typing import Any
 from sctd_service.gateway import limits
 from sctd_service.gateway.fhir.outputs import dumped, written
 
-from .house import POST, SCT, SECONDS, Gateway, House, Shared, close_all
+from .asked import Asked
+from .house import POST, SCT, SECONDS, Gateway, House, close_all
 
+GATEWAY_WORDS = ("--cors", "https://forms.example.org")
 METADATA = "/fhir/metadata"
-SITE, OTHER = "https://forms.example.org", "https://other.example.org"
+SITE, OTHER = GATEWAY_WORDS[1], "https://other.example.org"
 # How long what was sent may take until the gateway has read it.
 READ_SECONDS = 0.5
 
 
-class Delivery(unittest.TestCase):
-    house: House
-
-    @classmethod
-    def setUpClass(cls) -> None:
-        cls.house = House(words=("--cors", SITE))
-        cls.addClassCleanup(cls.house.end)
-
-    def setUp(self) -> None:
-        self.gateway = self.house.gateway
+class TestDelivery(Asked):
+    of = "own_house"
 
     def test_compressed(self) -> None:
         plain = self.gateway.send("GET", METADATA)
-        self.assertGreater(len(plain.body), limits.PACKED_BYTES)
-        self.assertNotIn("content-encoding", plain.headers)
+        assert len(plain.body) > limits.PACKED_BYTES
+        assert "content-encoding" not in plain.headers
         for takes, is_packed in (
             ("gzip", True),
             ("br, gzip;q=0.5", True),
@@ -46,11 +39,11 @@ class Delivery(unittest.TestCase):
         ):
             answer = self.gateway.send("GET", METADATA, headers={"Accept-Encoding": takes})
             packed = answer.headers.get("content-encoding") == "gzip"
-            self.assertEqual(packed, is_packed, takes)
+            assert packed == is_packed, takes
             body = gzip.decompress(answer.body) if packed else answer.body
-            self.assertEqual(body, plain.body)
+            assert body == plain.body
         small = self.gateway.send("GET", "/live", headers={"Accept-Encoding": "gzip"})
-        self.assertNotIn("content-encoding", small.headers)
+        assert "content-encoding" not in small.headers
 
     def test_kept(self) -> None:
         """An answer has the name of its pin and address. Below a pin it holds for good."""
@@ -62,37 +55,37 @@ class Delivery(unittest.TestCase):
             ("/pin/2" + METADATA, "private, max-age=31536000, immutable"),
         ):
             first = self.gateway.send("GET", target)
-            self.assertEqual((first.status, first.headers["cache-control"]), (200, lasting))
+            assert (first.status, first.headers["cache-control"]) == (200, lasting)
             tag = first.headers["etag"]
             for known in (tag, 'W/"x", ' + tag, tag.removeprefix("W/")):
                 again = self.gateway.send("GET", target, headers={"If-None-Match": known})
-                self.assertEqual((again.status, again.body), (304, b""))
-                self.assertEqual(again.headers["etag"], tag)
+                assert (again.status, again.body) == (304, b"")
+                assert again.headers["etag"] == tag
             other = self.gateway.send("GET", target, headers={"If-None-Match": 'W/"x"'})
-            self.assertEqual(other.status, 200)
+            assert other.status == 200
             tags.add(tag)
-        self.assertEqual(len(tags), 4)
+        assert len(tags) == 4
         for target in ("/fhir/nothing", "/pin/1/fhir/CodeSystem/$lookup", "/?q=1105007", "/health"):
             answer = self.gateway.send("GET", target)
-            self.assertEqual(answer.headers["cache-control"], "private, no-store", target)
-            self.assertNotIn("etag", answer.headers, target)
+            assert answer.headers["cache-control"] == "private, no-store", target
+            assert "etag" not in answer.headers, target
 
-    def test_pages_of_other_sites(self) -> None:
+    def test_pages_of_other_sites(self, house: House) -> None:
         asks = {"Origin": SITE, "Access-Control-Request-Method": "POST"}
         preflight = self.gateway.send("OPTIONS", METADATA, headers=asks)
-        self.assertEqual((preflight.status, preflight.body), (204, b""))
-        self.assertIn("POST", preflight.headers["access-control-allow-methods"])
-        self.assertIn("Content-Type", preflight.headers["access-control-allow-headers"])
+        assert (preflight.status, preflight.body) == (204, b"")
+        assert "POST" in preflight.headers["access-control-allow-methods"]
+        assert "Content-Type" in preflight.headers["access-control-allow-headers"]
         for target in (METADATA, "/fhir/nothing"):
             answer = self.gateway.send("GET", target, headers={"Origin": SITE})
-            self.assertEqual(answer.headers["access-control-allow-origin"], SITE, target)
-            self.assertEqual(answer.headers["cross-origin-resource-policy"], "cross-origin")
+            assert answer.headers["access-control-allow-origin"] == SITE, target
+            assert answer.headers["cross-origin-resource-policy"] == "cross-origin"
         for origin in (OTHER, "null", SITE + ".evil.example"):
             answer = self.gateway.send("GET", METADATA, headers={"Origin": origin})
-            self.assertNotIn("access-control-allow-origin", answer.headers, origin)
-            self.assertEqual(answer.headers["cross-origin-resource-policy"], "same-origin")
-        alone = Shared.get().gateway.send("GET", METADATA, headers={"Origin": SITE})
-        self.assertNotIn("access-control-allow-origin", alone.headers)
+            assert "access-control-allow-origin" not in answer.headers, origin
+            assert answer.headers["cross-origin-resource-policy"] == "same-origin"
+        alone = house.gateway.send("GET", METADATA, headers={"Origin": SITE})
+        assert "access-control-allow-origin" not in alone.headers
 
     def test_slow_bodies_make_room(self) -> None:
         """Where bodies that come slowly have all places, others are answered all the same."""
@@ -103,7 +96,7 @@ class Delivery(unittest.TestCase):
                 slow.append(self.gateway.connect())
                 slow[-1].sendall(head)
             time.sleep(READ_SECONDS)
-            self.assertEqual(self.gateway.send("GET", "/live").status, 200)
+            assert self.gateway.send("GET", "/live").status == 200
         finally:
             close_all(slow)
 
@@ -111,7 +104,7 @@ class Delivery(unittest.TestCase):
         """What has come is answered, and nothing comes any more."""
         with TemporaryDirectory() as folder:
             gateway = Gateway(self.house.questions, Path(folder))
-            self.assertEqual(gateway.send("GET", METADATA).status, 200)
+            assert gateway.send("GET", METADATA).status == 200
             client, idle = gateway.connect(), gateway.connect()
             code = self.house.codes["wrist"]
             target = "/fhir/CodeSystem/$lookup?system=%s&code=%s" % (SCT, code)
@@ -119,26 +112,26 @@ class Delivery(unittest.TestCase):
                 client.sendall(b"GET %s HTTP/1.1\r\nHost: x\r\n\r\n" % target.encode())
                 time.sleep(READ_SECONDS)
                 gateway.process.terminate()
-                self.assertEqual(idle.recv(1), b"")
-                self.assertIsNone(gateway.process.poll())
+                assert idle.recv(1) == b""
+                assert gateway.process.poll() is None
             got = b""
             while part := client.recv(1 << 16):
                 got += part
-            self.assertTrue(got.startswith(b"HTTP/1.1 200 "), got[:40])
-            self.assertIn(b"Connection: close\r\n", got)
-            self.assertEqual(gateway.process.wait(SECONDS), 0)
+            assert got.startswith(b"HTTP/1.1 200 "), got[:40]
+            assert b"Connection: close\r\n" in got
+            assert gateway.process.wait(SECONDS) == 0
             close_all((client, idle))
             gateway.stop()
 
 
-class Parts(unittest.TestCase):
+class TestParts:
     def test_long_lists_are_written_in_parts(self) -> None:
         """Others have their turn meanwhile, and what is written is the same."""
-        contains: list[Any] = [{"code": str(one), "display": "\u00e9\"x"} for one in range(1000)]
+        contains: list[Any] = [{"code": str(one), "display": '\u00e9"x'} for one in range(1000)]
         resource = {"resourceType": "ValueSet", "expansion": {"total": 1000, "contains": contains}}
         found, turns = asyncio.run(self.written_beside(resource))
-        self.assertEqual(found, dumped(resource))
-        self.assertGreaterEqual(turns, len(contains) // limits.SLICE_CONCEPTS)
+        assert found == dumped(resource)
+        assert turns >= len(contains) // limits.SLICE_CONCEPTS
 
     async def written_beside(self, resource: dict[str, Any]) -> tuple[bytes, int]:
         """What is written, and how many turns another task had meanwhile."""

@@ -3,7 +3,6 @@ them alike. h11 alone takes more of them, in its own way."""
 
 import asyncio
 import random
-import unittest
 
 from sctd_service.gateway.http import Bad, Client, Left, Request
 
@@ -97,11 +96,11 @@ async def read(head: bytes, length: int) -> tuple[Request, bool] | None:
     return request, client.stays
 
 
-class Heads(unittest.TestCase):
+class TestHeads:
     def test_they_are_read_as_a_strict_reader_reads_them(self) -> None:
         taken, refused = asyncio.run(self.compared())
-        self.assertGreater(taken, AT_LEAST)
-        self.assertGreater(refused, AT_LEAST)
+        assert taken > AT_LEAST
+        assert refused > AT_LEAST
 
     async def compared(self) -> tuple[int, int]:
         chance, taken, refused = random.Random(SEED), 0, 0
@@ -119,16 +118,16 @@ class Heads(unittest.TestCase):
 
     def alike(self, head: bytes, found: tuple[Request, bool] | None, wanted: Head | None) -> None:
         if found is None or wanted is None:
-            self.assertEqual((found, wanted), (None, None), head)
+            assert (found, wanted) == (None, None), head
             return
         request, stays = found
-        self.assertEqual(
-            (request.method, request.target, stays),
-            (wanted.method, wanted.target, wanted.stays),
-            head,
-        )
-        self.assertEqual(len(request.body), max(wanted.length, 0), head)
+        assert (request.method, request.target, stays) == (
+            wanted.method,
+            wanted.target,
+            wanted.stays,
+        ), head
+        assert len(request.body) == max(wanted.length, 0), head
         headers = {name: ", ".join(values) for name, values in wanted.headers.items()}
         if "transfer-encoding" in headers:  # h11 writes it in small letters.
             headers["transfer-encoding"] = headers["transfer-encoding"].lower()
-        self.assertEqual(request.headers, headers, head)
+        assert request.headers == headers, head

@@ -9,13 +9,14 @@ import socket
 import subprocess
 import sys
 import tempfile
-import unittest
 from pathlib import Path
 
+import pytest
 from sctd_service.gateway.languages import DIALECTS
 from sctd_service.gateway.pool import Pool
 from sctd_service.gateway.store import View
 
+from .asked import Asked
 from .demo_releases import RELEASES
 from .house import SCT, SECONDS, SERVICE, Gateway, House, issue, told, version
 
@@ -23,17 +24,12 @@ LOOKUP = "CodeSystem/$lookup"
 MEMORY_KB = 200_000
 
 
-class Hub(unittest.TestCase):
-    house: House
+class TestHub(Asked):
+    of = "own_house"
 
-    @classmethod
-    def setUpClass(cls) -> None:
-        cls.house = House()
-        cls.addClassCleanup(cls.house.end)
-
-    def setUp(self) -> None:
-        self.gateway = self.house.gateway
-        self.wrist = {"system": SCT, "code": self.house.codes["wrist"]}
+    @property
+    def wrist(self) -> dict[str, str]:
+        return {"system": SCT, "code": self.codes["wrist"]}
 
     def another_store(self, *releases: str) -> None:
         self.house.stop_hub()
@@ -55,49 +51,50 @@ class Hub(unittest.TestCase):
                 return found
 
     def test_1_hub_that_is_started_again(self) -> None:
-        self.assertEqual(self.gateway.fhir("metadata")[0], 200)
+        assert self.gateway.fhir("metadata")[0] == 200
         self.house.stop_hub()
         answer = self.gateway.send("GET", "/fhir/metadata")
-        self.assertEqual(
-            (answer.status, answer.headers["retry-after"], issue(answer.json())),
-            (503, "5", "transient"),
+        assert (answer.status, answer.headers["retry-after"], issue(answer.json())) == (
+            503,
+            "5",
+            "transient",
         )
-        self.assertNotIn(self.house.folder.name, answer.text)
-        self.assertEqual(self.gateway.send("GET", "/health").status, 503)
+        assert self.house.folder.name not in answer.text
+        assert self.gateway.send("GET", "/health").status == 503
         self.house.start_hub()
-        self.assertEqual(self.gateway.fhir("metadata")[0], 200)
+        assert self.gateway.fhir("metadata")[0] == 200
         self.house.stop_hub()
         self.house.start_hub()  # The gateway's connections are of the hub before.
-        self.assertEqual(self.gateway.fhir("metadata")[0], 200)
+        assert self.gateway.fhir("metadata")[0] == 200
 
     def test_2_program_that_is_killed(self) -> None:
         assert self.house.hub
         with open("/proc/%d/task/%d/children" % (self.house.hub.pid, self.house.hub.pid)) as file:
             os.kill(int(file.read().split()[0]), signal.SIGKILL)
-        self.assertEqual(self.house.hub.wait(SECONDS), 1)
-        self.assertEqual(self.gateway.send("GET", "/fhir/metadata").status, 503)
+        assert self.house.hub.wait(SECONDS) == 1
+        assert self.gateway.send("GET", "/fhir/metadata").status == 503
         self.house.stop_hub()
         self.house.start_hub()
-        self.assertEqual(self.gateway.fhir("metadata")[0], 200)
+        assert self.gateway.fhir("metadata")[0] == 200
 
     def test_3_another_store(self) -> None:
         words = {**self.wrist, "version": version("20180101")}
         top = "%s?fhir_vs=isa/%s" % (SCT, self.house.codes["finding"])
-        self.assertEqual(self.gateway.fhir(LOOKUP, "/pin/1/fhir/", **words)[0], 200)
-        self.assertEqual(self.gateway.fhir("ValueSet/$expand", url=top)[0], 200)
+        assert self.gateway.fhir(LOOKUP, "/pin/1/fhir/", **words)[0] == 200
+        assert self.gateway.fhir("ValueSet/$expand", url=top)[0] == 200
         # Its first import is another one: nothing that is remembered holds.
         self.another_store("d2")
-        self.assertEqual(self.gateway.fhir(LOOKUP, "/pin/1/fhir/", **words)[0], 404)
-        self.assertEqual(self.gateway.fhir("ValueSet/$expand", url=top)[0], 404)
-        self.assertEqual(
-            self.gateway.send("GET", "/fhir/metadata").headers["x-sctd-receipt"],
-            "RECEIPT 1: OK 1 18 20210131",
+        assert self.gateway.fhir(LOOKUP, "/pin/1/fhir/", **words)[0] == 404
+        assert self.gateway.fhir("ValueSet/$expand", url=top)[0] == 404
+        assert (
+            self.gateway.send("GET", "/fhir/metadata").headers["x-sctd-receipt"]
+            == "RECEIPT 1: OK 1 18 20210131"
         )
         self.another_store()
-        self.assertEqual(self.gateway.fhir(LOOKUP, "/pin/1/fhir/", **words)[0], 404)
-        self.assertEqual(self.gateway.fhir(LOOKUP, **self.wrist)[0], 404)
-        self.assertEqual(self.gateway.fhir("metadata", mode="terminology")[0], 200)
-        self.assertEqual(self.gateway.send("GET", "/?q=1105007").status, 200)
+        assert self.gateway.fhir(LOOKUP, "/pin/1/fhir/", **words)[0] == 404
+        assert self.gateway.fhir(LOOKUP, **self.wrist)[0] == 404
+        assert self.gateway.fhir("metadata", mode="terminology")[0] == 200
+        assert self.gateway.send("GET", "/?q=1105007").status == 200
 
     def test_4_subtree_of_another_store(self) -> None:
         url = "%s?fhir_vs=isa/%s" % (version("20210131"), self.house.codes["limb"])
@@ -108,35 +105,31 @@ class Hub(unittest.TestCase):
             self.another_store(*releases)
             said = self.gateway.fhir("ValueSet/$expand", "/pin/2/fhir/", url=url)[1]["expansion"]
             found = {one["code"] for one in said["contains"]}
-            self.assertEqual(found, {self.house.codes[name] for name in names}, releases)
+            assert found == {self.house.codes[name] for name in names}, releases
         self.another_store()
 
     def test_5_imports_while_it_runs(self) -> None:
         for name, day in RELEASES.items():
-            self.assertTrue(self.send("IMPORT " + name)[0].startswith("OK "))
+            assert self.send("IMPORT " + name)[0].startswith("OK ")
             if name == "d2":  # Of the new release at once, though the gateway knows the one before.
-                self.assertEqual(
-                    self.gateway.fhir(LOOKUP, version=version(day), **self.wrist)[0], 200
-                )
-            self.assertEqual(
-                told(self.gateway.fhir(LOOKUP, **self.wrist)[1], "version"), [version(day)]
-            )
+                assert self.gateway.fhir(LOOKUP, version=version(day), **self.wrist)[0] == 200
+            assert told(self.gateway.fhir(LOOKUP, **self.wrist)[1], "version") == [version(day)]
         said = self.gateway.fhir(LOOKUP, "/pin/2/fhir/", **self.wrist)[1]
-        self.assertEqual(told(said, "version"), [version("20210131")])
+        assert told(said, "version") == [version("20210131")]
 
     def test_6_refusal_that_an_import_ends(self) -> None:
         """A code that isn't there yet is there at once when its release is imported."""
         self.another_store("d1")
         carpal = {"system": SCT, "code": self.house.codes["carpal"]}
-        self.assertEqual(self.gateway.fhir(LOOKUP, **carpal)[0], 404)
-        self.assertEqual(self.send("IMPORT d2"), ["OK 2 18 0"])
-        self.assertEqual(self.gateway.fhir(LOOKUP, **carpal)[0], 200)
+        assert self.gateway.fhir(LOOKUP, **carpal)[0] == 404
+        assert self.send("IMPORT d2") == ["OK 2 18 0"]
+        assert self.gateway.fhir(LOOKUP, **carpal)[0] == 200
 
     def test_7_another_store_while_nothing_is_connected(self) -> None:
         """What was said by the socket of another hub isn't remembered, though nothing saw it
         end."""
         found = asyncio.run(self.of_two_stores())
-        self.assertEqual(found, [True, False])
+        assert found == [True, False]
 
     async def of_two_stores(self) -> list[bool]:
         pool, found = Pool(self.house.questions), []
@@ -148,26 +141,26 @@ class Hub(unittest.TestCase):
         return found
 
     def test_8_its_log_and_its_memory(self) -> None:
-        self.assertIsNone(self.gateway.process.poll())
+        assert self.gateway.process.poll() is None
         with open("/proc/%d/status" % self.gateway.process.pid) as file:
             peak = re.search(r"VmHWM:\s+(\d+)", file.read())
         assert peak
-        self.assertLess(int(peak[1]), MEMORY_KB)
-        self.assertEqual(self.gateway.told(), "")
+        assert int(peak[1]) < MEMORY_KB
+        assert self.gateway.told() == ""
 
     def test_9_end(self) -> None:
         """SIGTERM ends it with status 0 and without a word, whoever is connected."""
         clients = [self.gateway.connect() for _ in range(3)]
         clients[1].sendall(b"GET /fhir/metadata HTTP/1.1\r\nHost: x\r\n\r\n")
-        self.assertTrue(clients[1].recv(100).startswith(b"HTTP/1.1 200 "))
+        assert clients[1].recv(100).startswith(b"HTTP/1.1 200 ")
         clients[2].sendall(b"GET /fhir")
-        self.assertEqual(self.gateway.stop(), 0)
-        self.assertEqual([client.recv(1 << 20)[-1:] for client in clients[::2]], [b"", b""])
-        self.assertEqual(self.gateway.told(), "")
-        self.assertFalse(os.path.exists(self.gateway.socket))
+        assert self.gateway.stop() == 0
+        assert [client.recv(1 << 20)[-1:] for client in clients[::2]] == [b"", b""]
+        assert self.gateway.told() == ""
+        assert not os.path.exists(self.gateway.socket)
 
 
-class Start(unittest.TestCase):
+class TestStart:
     def start(self, *words: str) -> "subprocess.CompletedProcess[str]":
         return subprocess.run(
             [sys.executable, "-m", "sctd_service.gateway", *words],
@@ -177,17 +170,20 @@ class Start(unittest.TestCase):
             timeout=SECONDS,
         )
 
-    def test_words_that_are_refused(self) -> None:
-        for words in (
+    @pytest.mark.parametrize(
+        "words",
+        (
             ("--socket", "/nowhere"),
             ("--edition", "900000000000207008"),
             ("--socket", "/nowhere", "--edition", "900000000000207009"),
             ("--socket", "/nowhere", "--edition", "900000000000207008", "--listen", "x"),
             ("--socket", "/nowhere", "--edition", "900000000000207008", "--listen", "8080"),
             ("--socket", "/nowhere", "--edition", "900000000000207008", "--listen", ":8080"),
-        ):
-            done = self.start(*words)
-            self.assertEqual((done.returncode, done.stdout), (2, ""), words)
+        ),
+    )
+    def test_words_that_are_refused(self, words: tuple[str, ...]) -> None:
+        done = self.start(*words)
+        assert (done.returncode, done.stdout) == (2, ""), words
 
     def test_languages_and_maps_that_are_refused(self) -> None:
         whole = ("--socket", "/nowhere", "--edition", "900000000000207008")
@@ -206,23 +202,23 @@ class Start(unittest.TestCase):
             twice,
         ):
             done = self.start(*whole, *words)
-            self.assertEqual((done.returncode, done.stdout), (2, ""), words)
+            assert (done.returncode, done.stdout) == (2, ""), words
 
     def test_end_where_the_socket_is_removed_already(self) -> None:
         with tempfile.TemporaryDirectory() as folder:
             gateway = Gateway("/nowhere", Path(folder))
             os.unlink(gateway.socket)
-            self.assertEqual((gateway.stop(), gateway.told()), (0, ""))
+            assert (gateway.stop(), gateway.told()) == (0, "")
 
     def test_end_where_another_listens_by_then(self) -> None:
         with tempfile.TemporaryDirectory() as one, tempfile.TemporaryDirectory() as other:
             gateway = Gateway("/nowhere", Path(one))
             os.unlink(gateway.socket)
             later = Gateway("/nowhere", Path(other), gateway.socket)
-            self.assertEqual(gateway.stop(), 0)
-            self.assertEqual(later.send("GET", "/page.css").status, 200)
-            self.assertEqual(later.stop(), 0)
-            self.assertFalse(os.path.exists(later.socket))
+            assert gateway.stop() == 0
+            assert later.send("GET", "/page.css").status == 200
+            assert later.stop() == 0
+            assert not os.path.exists(later.socket)
 
     def test_places_that_are_taken(self) -> None:
         with socket.create_server(("127.0.0.1", 0)) as taken:
@@ -231,9 +227,9 @@ class Start(unittest.TestCase):
                 done = self.start(
                     "--socket", "/nowhere", "--edition", "900000000000207008", "--listen", listen
                 )
-                self.assertEqual((done.returncode, done.stdout), (1, ""), listen)
-                self.assertIn("sctd-gateway: %s: " % listen, done.stderr)
-        self.assertTrue(os.path.exists("/dev/null"))
+                assert (done.returncode, done.stdout) == (1, ""), listen
+                assert "sctd-gateway: %s: " % listen in done.stderr
+        assert os.path.exists("/dev/null")
 
     def test_socket_of_a_program_that_takes_no_more_connections(self) -> None:
         """It stays, and isn't waited for."""
@@ -249,6 +245,6 @@ class Start(unittest.TestCase):
             done = self.start(
                 "--socket", "/nowhere", "--edition", "900000000000207008", "--listen", listen
             )
-            self.assertEqual((done.returncode, done.stdout), (1, ""))
-            self.assertIn("another program listens", done.stderr)
-            self.assertTrue(os.path.exists(listen))
+            assert (done.returncode, done.stdout) == (1, "")
+            assert "another program listens" in done.stderr
+            assert os.path.exists(listen)

@@ -2,11 +2,12 @@
 
 import socket
 import time
-import unittest
 from typing import Any
 
+import pytest
 from sctd_service.gateway import limits
 
+from .asked import Asked
 from .demo_releases import Maker
 from .house import SCT, House, close_all, issue, until
 
@@ -20,44 +21,45 @@ REMEMBERED = 8
 LATE_SECONDS = 6.0
 
 
-class LargeAnswers(unittest.TestCase):
-    house: House
-    codes: dict[str, str]
+@pytest.fixture(scope="module")
+def large_house(own_house: House) -> House:
+    """A house with a release of long terms and many concepts, whose codes it has."""
+    house = own_house
+    maker = Maker()
+    # Other identifiers than those of the releases before.
+    maker.items = {kind: 10_000_000 for kind in maker.items}
+    for name, count, letter in (
+        ("large", MANY, "x"),
+        ("too large", TOO_MANY, "x"),
+        ("quotes", REMEMBERED, '"'),
+    ):
+        code = maker.concept(name, DAY, "Concept with long terms")
+        for number in range(count):
+            maker.term(code, DAY, "%d %s" % (number, letter * TERM_LETTERS))
+    maker.concept("page", DAY, "Page of concepts")
+    for number in range(limits.PAGE_CONCEPTS):
+        # Two terms of each, so that as many begin alike as a filter may find.
+        terms = ("Of the page %d" % number, "Of the page, the %d" % number)
+        maker.concept("of page %d" % number, DAY, *terms, parents=("page",))
+    maker.concept("walk", DAY, "Walk of concepts")
+    for number in range(limits.WALK_CONCEPTS):
+        maker.concept("of walk %d" % number, DAY, "Of the walk %d" % number, parents=("walk",))
+    maker.write(house.releases / "large")
+    house.codes = maker.codes
+    house.stop_hub()
+    house.run(
+        "import",
+        "--quiet",
+        "--store",
+        house.store,
+        str(house.releases / "large" / "d3"),
+    )
+    house.start_hub()
+    return house
 
-    @classmethod
-    def setUpClass(cls) -> None:
-        cls.house = House()
-        cls.addClassCleanup(cls.house.end)
-        maker = Maker()
-        # Other identifiers than those of the releases before.
-        maker.items = {kind: 10_000_000 for kind in maker.items}
-        for name, count, letter in (
-            ("large", MANY, "x"),
-            ("too large", TOO_MANY, "x"),
-            ("quotes", REMEMBERED, '"'),
-        ):
-            code = maker.concept(name, DAY, "Concept with long terms")
-            for number in range(count):
-                maker.term(code, DAY, "%d %s" % (number, letter * TERM_LETTERS))
-        maker.concept("page", DAY, "Page of concepts")
-        for number in range(limits.PAGE_CONCEPTS):
-            # Two terms of each, so that as many begin alike as a filter may find.
-            terms = ("Of the page %d" % number, "Of the page, the %d" % number)
-            maker.concept("of page %d" % number, DAY, *terms, parents=("page",))
-        maker.concept("walk", DAY, "Walk of concepts")
-        for number in range(limits.WALK_CONCEPTS):
-            maker.concept("of walk %d" % number, DAY, "Of the walk %d" % number, parents=("walk",))
-        maker.write(cls.house.releases / "large")
-        cls.codes = maker.codes
-        cls.house.stop_hub()
-        cls.house.run(
-            "import",
-            "--quiet",
-            "--store",
-            cls.house.store,
-            str(cls.house.releases / "large" / "d3"),
-        )
-        cls.house.start_hub()
+
+class TestLargeAnswers(Asked):
+    of = "large_house"
 
     def lookup(self, name: str) -> tuple[int, dict[str, Any]]:
         return self.house.gateway.fhir("CodeSystem/$lookup", system=SCT, code=self.codes[name])
@@ -72,33 +74,33 @@ class LargeAnswers(unittest.TestCase):
         return answer.status == 503 and issue(answer.json()) == "throttled"
 
     def test_answer_above_the_limit(self) -> None:
-        self.assertEqual(self.lookup("large")[0], 200)
+        assert self.lookup("large")[0] == 200
         status, said = self.lookup("too large")
-        self.assertEqual((status, issue(said)), (422, "too-costly"))
+        assert (status, issue(said)) == (422, "too-costly")
         target = "/fhir/CodeSystem/$lookup?system=%s&code=%s" % (SCT, self.codes["too large"])
-        self.assertEqual(self.house.gateway.send("GET", target).headers.get("x-sctd-pin"), "4")
+        assert self.house.gateway.send("GET", target).headers.get("x-sctd-pin") == "4"
 
     def test_more_concepts_than_a_page(self) -> None:
         status, said = self.expand("page")
-        self.assertEqual((status, issue(said)), (422, "too-costly"))
+        assert (status, issue(said)) == (422, "too-costly")
         status, said = self.expand("page", count=limits.PAGE_CONCEPTS, offset=1)
-        self.assertEqual(len(said["expansion"]["contains"]), limits.PAGE_CONCEPTS)
-        self.assertEqual(said["expansion"]["total"], limits.PAGE_CONCEPTS + 1)
+        assert len(said["expansion"]["contains"]) == limits.PAGE_CONCEPTS
+        assert said["expansion"]["total"] == limits.PAGE_CONCEPTS + 1
 
     def test_more_concepts_than_a_walk(self) -> None:
         status, said = self.expand("walk", count=10)
-        self.assertEqual((status, issue(said)), (422, "too-costly"))
+        assert (status, issue(said)) == (422, "too-costly")
         status, said = self.expand("walk", filter="of the walk 1999", count=20)
-        self.assertEqual((status, said["expansion"]["total"]), (200, 11))
+        assert (status, said["expansion"]["total"]) == (200, 11)
 
     def test_more_terms_than_a_filter(self) -> None:
         status, said = self.expand("page", filter="of the page", count=1)
-        self.assertEqual((status, said["expansion"]["total"]), (200, limits.PAGE_CONCEPTS))
+        assert (status, said["expansion"]["total"]) == (200, limits.PAGE_CONCEPTS)
         status, said = self.expand("walk", filter="of the page", count=1)
-        self.assertEqual((status, said["expansion"]["total"]), (200, 0))
+        assert (status, said["expansion"]["total"]) == (200, 0)
         for name in ("walk", ""):
             status, said = self.expand(name, filter="of the walk")
-            self.assertEqual((status, issue(said)), (422, "too-costly"))
+            assert (status, issue(said)) == (422, "too-costly")
 
     def test_answers_that_nobody_takes(self) -> None:
         """Many answers that wait to be taken are refused from some number on, small ones never.
@@ -114,8 +116,8 @@ class LargeAnswers(unittest.TestCase):
             client.connect(gateway.socket)
             client.sendall(b"GET %s HTTP/1.1\r\nHost: x\r\n\r\n" % target.encode())
             clients.append(client)
-        self.assertTrue(until(lambda: self.is_throttled(target), limits.TAKE_SECONDS))
-        self.assertEqual(gateway.send("GET", "/health").status, 200)
+        assert until(lambda: self.is_throttled(target), limits.TAKE_SECONDS)
+        assert gateway.send("GET", "/health").status == 200
         wait = began + limits.TAKE_SECONDS + LATE_SECONDS - time.monotonic()
-        self.assertTrue(until(lambda: gateway.send("GET", target).status == 200, wait))
+        assert until(lambda: gateway.send("GET", target).status == 200, wait)
         close_all(clients)

@@ -2,11 +2,12 @@
 
 import socket
 import time
-import unittest
 
+import pytest
 from sctd_service.gateway import limits
 
-from .house import Shared, until
+from .asked import Asked
+from .house import until
 
 # How much later than its limit something may end on a busy machine.
 LATE_SECONDS = 6.0
@@ -34,19 +35,19 @@ LISTED = {
 }
 
 
-class Limits(unittest.TestCase):
-    def test_they_are_those_of_the_guide(self) -> None:
-        for name, value in LISTED.items():
-            self.assertEqual(getattr(limits, name), value, name)
+class TestLimits(Asked):
+    @pytest.mark.parametrize("name, value", LISTED.items())
+    def test_they_are_those_of_the_guide(self, name: str, value: int) -> None:
+        assert getattr(limits, name) == value, name
 
     def test_heads_and_bodies_up_to_their_limits(self) -> None:
-        gateway = Shared.get().gateway
+        gateway = self.gateway
         room = limits.HEAD_BYTES - len(GET) - len(b"A: \r\nConnection: close\r\n\r\n")
         for more, status in ((0, 200), (1, 431)):
             got = gateway.raw(
                 GET + b"A: " + b"b" * (room + more) + b"\r\nConnection: close\r\n\r\n"
             )
-            self.assertEqual(got.split(b" ")[1], b"%d" % status)
+            assert got.split(b" ")[1] == b"%d" % status
         for length, status in ((limits.BODY_BYTES, 400), (limits.BODY_BYTES + 1, 413)):
             answer = gateway.send(
                 "POST",
@@ -54,11 +55,11 @@ class Limits(unittest.TestCase):
                 b" " * length,
                 {"Content-Type": "application/json"},
             )
-            self.assertEqual(answer.status, status)
+            assert answer.status == status
 
     def test_answers_that_are_not_taken(self) -> None:
         """A client that asks and doesn't read loses its connection; what it left isn't kept."""
-        gateway = Shared.get().gateway
+        gateway = self.gateway
         with socket.socket(socket.AF_UNIX) as client:
             client.setsockopt(socket.SOL_SOCKET, socket.SO_RCVBUF, 4096)
             client.connect(gateway.socket)
@@ -71,10 +72,10 @@ class Limits(unittest.TestCase):
             except TimeoutError:
                 pass  # It takes no more, since nothing of what it said is read.
             except OSError:
-                self.fail("it has ended after %d answers" % asked)
+                pytest.fail("it has ended after %d answers" % asked)
             client.setblocking(False)
-            self.assertTrue(until(lambda: is_ended(client), limits.TAKE_SECONDS + LATE_SECONDS))
-            self.assertGreater(time.monotonic() - began, limits.TAKE_SECONDS - 0.5)
+            assert until(lambda: is_ended(client), limits.TAKE_SECONDS + LATE_SECONDS)
+            assert time.monotonic() - began > limits.TAKE_SECONDS - 0.5
 
 
 def is_ended(client: socket.socket) -> bool:

@@ -1,7 +1,8 @@
 """Lines that the gateway would never make: none of them is sent, and what a hub says is read
 strictly."""
 
-import unittest
+import pytest
+
 
 from sctd_service.gateway import hub
 from sctd_service.gateway.hub import HubRefused, encoded, refusal
@@ -11,11 +12,9 @@ from sctd_service.snomed import CASE_INSENSITIVE, INITIAL_CASE_INSENSITIVE, Desc
 CASE_SENSITIVE = "900000000000017005"
 
 
-class Lines(unittest.TestCase):
+class TestLines:
     def test_what_cannot_be_sent(self) -> None:
-        self.assertEqual(
-            encoded(["PIN", "SEARCH 20200101 - 5 a b"]), b"PIN\nSEARCH 20200101 - 5 a b\n"
-        )
+        assert encoded(["PIN", "SEARCH 20200101 - 5 a b"]) == b"PIN\nSEARCH 20200101 - 5 a b\n"
         for line in (
             "",
             "a\nb",
@@ -27,13 +26,15 @@ class Lines(unittest.TestCase):
             "x" * 5_000,
             "\u4e2d" * 2_000,
         ):
-            with self.assertRaises(ValueError):
+            with pytest.raises(ValueError):
                 encoded(["PIN", line])
 
-    def test_what_is_no_line_of_a_reply(self) -> None:
-        for line in (b"", b"row 1", b"ROWS 1", b"OKAY", b"ERRO 1", b"HTTP/1.1 200 OK"):
-            with self.assertRaises(NotAReply):
-                list(Replies().feed(b"ROW a\n" + line + b"\n"))
+    @pytest.mark.parametrize(
+        "line", (b"", b"row 1", b"ROWS 1", b"OKAY", b"ERRO 1", b"HTTP/1.1 200 OK")
+    )
+    def test_what_is_no_line_of_a_reply(self, line: bytes) -> None:
+        with pytest.raises(NotAReply):
+            list(Replies().feed(b"ROW a\n" + line + b"\n"))
 
     def test_replies_that_come_in_parts(self) -> None:
         """However they are cut, they are the same."""
@@ -44,7 +45,7 @@ class Lines(unittest.TestCase):
             replies = Replies()
             parts = [data[start : start + size] for start in range(0, len(data), size)]
             found = [reply.decode() for part in parts for reply in replies.feed(part)]
-            self.assertEqual((found, replies.rest), (wanted, b""), size)
+            assert (found, replies.rest) == (wanted, b""), size
 
     def test_refusals(self) -> None:
         for line, number in (
@@ -54,19 +55,22 @@ class Lines(unittest.TestCase):
         ):
             found = refusal(line)
             assert isinstance(found, HubRefused)
-            self.assertEqual(found.number, number)
-        self.assertIsInstance(refusal("ERR 41 Session"), hub.HubGone)
+            assert found.number == number
+        assert isinstance(refusal("ERR 41 Session"), hub.HubGone)
 
 
-class Displays(unittest.TestCase):
-    def test_case_counts_as_the_description_says(self) -> None:
-        for case, text, valid in (
+class TestDisplays:
+    @pytest.mark.parametrize(
+        "case, text, valid",
+        (
             (CASE_SENSITIVE, "pH of Urine", True),
             (CASE_SENSITIVE, "PH of Urine", False),
             (INITIAL_CASE_INSENSITIVE, "PH of Urine", True),
             (INITIAL_CASE_INSENSITIVE, "pH of urine", False),
             (CASE_INSENSITIVE, "PH OF URINE", True),
             (CASE_INSENSITIVE, "pH of urin", False),
-        ):
-            row = Description("1", "20200101", "1", "2", "3", "en", "4", "pH of Urine", case)
-            self.assertEqual(is_display(text, [row]), valid, (case, text))
+        ),
+    )
+    def test_case_counts_as_the_description_says(self, case: str, text: str, valid: bool) -> None:
+        row = Description("1", "20200101", "1", "2", "3", "en", "4", "pH of Urine", case)
+        assert is_display(text, [row]) == valid, (case, text)

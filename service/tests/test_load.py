@@ -2,12 +2,12 @@
 
 import socket
 import time
-import unittest
 from contextlib import suppress
 
 from sctd_service.gateway import limits
 
-from .house import SCT, Answer, Json, Shared, close_all, issue, told, together, until, version
+from .asked import Asked
+from .house import SCT, Answer, Json, close_all, issue, told, together, until, version
 
 CLIENTS = 200
 # More than the gateway takes.
@@ -17,12 +17,8 @@ SLOW_CLIENTS = 300
 BESIDE_SECONDS = 1.5
 
 
-class Load(unittest.TestCase):
+class TestLoad(Asked):
     asked = 0
-
-    def setUp(self) -> None:
-        self.house = Shared.get()
-        self.gateway, self.codes = self.house.gateway, self.house.codes
 
     def test_many_clients(self) -> None:
         names = {
@@ -40,7 +36,7 @@ class Load(unittest.TestCase):
                     return {"status": status, "said": said}
             return {}
 
-        self.assertEqual([one for one in together(CLIENTS, ask) if one != {}], [])
+        assert [one for one in together(CLIENTS, ask) if one != {}] == []
 
     def test_slow_clients_block_nobody(self) -> None:
         slow = [self.gateway.connect() for _ in range(SLOW_CLIENTS)]
@@ -51,14 +47,14 @@ class Load(unittest.TestCase):
             for one in slow[:20]:
                 one.sendall(b"y")
             asked = time.monotonic()
-            self.assertEqual(self.gateway.send("GET", "/health").status, 200)
-            self.assertLess(time.monotonic() - asked, BESIDE_SECONDS)
+            assert self.gateway.send("GET", "/health").status == 200
+            assert time.monotonic() - asked < BESIDE_SECONDS
             time.sleep(0.2)
         close_all(slow)
 
     def test_more_connections_than_places(self) -> None:
         many = [self.gateway.connect() for _ in range(CONNECTIONS)]
-        self.assertEqual(self.gateway.send("GET", "/health").status, 200)
+        assert self.gateway.send("GET", "/health").status == 200
         close_all(many)
 
     def test_places_that_are_all_in_use(self) -> None:
@@ -75,9 +71,9 @@ class Load(unittest.TestCase):
             return answers[-1].status == 503
 
         with self.house.stopped_program():
-            self.assertTrue(until(is_refused, limits.SCTD_SECONDS - 2))
-        self.assertEqual(issue(answers[-1].json()), "throttled")
-        self.assertIn("retry-after", answers[-1].headers)
+            assert until(is_refused, limits.SCTD_SECONDS - 2)
+        assert issue(answers[-1].json()) == "throttled"
+        assert "retry-after" in answers[-1].headers
         for one in many:
             with suppress(ConnectionError):  # It has made room.
                 one.recv(1)
@@ -101,4 +97,4 @@ class Load(unittest.TestCase):
             client.connect(self.gateway.socket)
             for _ in range(50):
                 client.sendall(b"GET %s HTTP/1.1\r\nHost: x\r\n\r\n" % target.encode())
-            self.assertEqual(self.gateway.send("GET", "/health").status, 200)
+            assert self.gateway.send("GET", "/health").status == 200

@@ -3,15 +3,15 @@
 import asyncio
 import os
 import re
-import unittest
 from collections.abc import Sequence
 from types import SimpleNamespace
 from typing import Any, cast
 from urllib.parse import urlencode
 
+import pytest
 from make_release import sctid
 from sctd_service.gateway import languages, limits, refsets
-from sctd_service.gateway.hub import HubGone, TooCostly
+from sctd_service.gateway.hub import HubGone
 from sctd_service.gateway.page_history import Names
 from sctd_service.gateway.page_members import memberships, refset_entries
 from sctd_service.gateway.pool import Member, Session
@@ -20,35 +20,29 @@ from sctd_service.snomed import RefsetMember
 from sctd_service.gateway.store import View, called_of, members_of
 
 from . import demo_members as demo
+from .asked import Asked
 from .demo_releases import SAME_AS
-from .house import SCT, House, Json, Shared, issue, parts_of, properties, told, version
+from .house import SCT, House, Json, issue, parts_of, properties, told, version
 
 LOOKUP, EXPAND = "CodeSystem/$lookup", "ValueSet/$expand"
 TRANSLATE = "ConceptMap/$translate"
-# What the house prefers: British English, and where that says nothing that of the United States.
-LANGUAGES = demo.GB + "," + demo.US
-CTV3_SYSTEM = "http://read.info/ctv3"
-HOUSE_SYSTEM = "urn:oid:1.2.3"
-MAPS = ((demo.CTV3, CTV3_SYSTEM), (demo.HOUSE_MAP, HOUSE_SYSTEM))
-WORDS = ("--languages", LANGUAGES, *(word for one in MAPS for word in ("--map", "%s=%s" % one)))
 US_TAG, GB_TAG = "en-x-sctlang-90000000-00005090-07", "en-x-sctlang-90000000-00005080-04"
 CONTEXT = "http://snomed.info/fhir/StructureDefinition/designation-use-context"
 # The reference set, how it has a description, and as what.
 Context = tuple[str, str, str]
+TOO_MANY = "more than [0-9]+ "
 FSN, SYNONYM = "900000000000003001", "900000000000013009"
 
 
-class Whole(unittest.TestCase):
+class Whole(Asked):
     """A store of layout 3 with whole packages."""
 
-    def setUp(self) -> None:
-        self.house = Shared.get_whole(WORDS)
-        self.codes = self.house.codes
+    of = "whole_house"
 
     def lookup(self, name: str, **words: Any) -> Json:
         code = self.codes[name]
         status, said = self.house.gateway.fhir(LOOKUP, system=SCT, code=code, **words)
-        self.assertEqual(status, 200, said)
+        assert status == 200, said
         return said
 
     def display(self, name: str, **words: Any) -> str:
@@ -61,7 +55,7 @@ class Whole(unittest.TestCase):
 
     def expanded(self, name: str, **words: Any) -> Json:
         status, said = self.refset(name, **words)
-        self.assertEqual(status, 200, said)
+        assert status == 200, said
         found: Json = said["expansion"]
         return found
 
@@ -72,17 +66,18 @@ class Whole(unittest.TestCase):
         return [one["code"] for one in self.expanded("set", **words).get("contains", [])]
 
 
-class Displays(Whole):
+class TestDisplays(Whole):
     def test_languages_of_the_house(self) -> None:
-        self.assertEqual(self.display("anaemia"), "Anaemia")
+        assert self.display("anaemia") == "Anaemia"
         # The first language has no term for it, the second has one.
-        self.assertEqual(self.display("wrist", date="2018-01-01"), "Wrist fracture")
+        assert self.display("wrist", date="2018-01-01") == "Wrist fracture"
         # Neither has one: the fully specified name.
         name = "Paracetamol 500 mg oral tablet (clinical drug)"
-        self.assertEqual(self.display("drug"), name)
+        assert self.display("drug") == name
 
-    def test_language_asked_for(self) -> None:
-        for tag, display in (
+    @pytest.mark.parametrize(
+        "tag, display",
+        (
             ("en-US", "Anemia"),
             ("EN-us", "Anemia"),
             ("en-GB", "Anaemia"),
@@ -94,24 +89,30 @@ class Displays(Whole):
             ("de-DE", "An\u00e4mie"),
             ("fr", "Anemia (disorder)"),
             ("en-AU", "Anemia (disorder)"),  # Its reference set isn't there.
-        ):
-            self.assertEqual(self.display("anaemia", displayLanguage=tag), display, tag)
+        ),
+    )
+    def test_language_asked_for(self, tag: Any, display: str) -> None:
+        assert self.display("anaemia", displayLanguage=tag) == display, tag
 
-    def test_only_the_language_asked_for(self) -> None:
-        for tag in ("en-GB", "fr"):
-            display = self.display("wrist", date="2018-01-01", displayLanguage=tag)
-            self.assertEqual(display, "Fracture of wrist (disorder)", tag)
+    @pytest.mark.parametrize("tag", ("en-GB", "fr"))
+    def test_only_the_language_asked_for(self, tag: str) -> None:
+        display = self.display("wrist", date="2018-01-01", displayLanguage=tag)
+        assert display == "Fracture of wrist (disorder)", tag
 
-    def test_preferred_on_the_day(self) -> None:
-        for date, display in (
+    @pytest.mark.parametrize(
+        "date, display",
+        (
             ("2017-07-30", "Broken wrist"),
             ("2017-07-31", "Wrist fracture"),
             ("2018-07-10", "Wrist fracture"),  # Another one is acceptable for some days.
-        ):
-            self.assertEqual(self.display("wrist", date=date), display, date)
+        ),
+    )
+    def test_preferred_on_the_day(self, date: str, display: str) -> None:
+        assert self.display("wrist", date=date) == display, date
 
-    def test_wrong_tags(self) -> None:
-        for tag in (
+    @pytest.mark.parametrize(
+        "tag",
+        (
             "en-x-sctlang-",
             "en-x-sctlang-12",
             "en-x-sctlang-90000000-00005090-08",
@@ -122,11 +123,13 @@ class Displays(Whole):
             "900000000000509007",
             "en, de",
             "",
-        ):
-            status, said = self.house.gateway.fhir(
-                LOOKUP, system=SCT, code=self.codes["wrist"], displayLanguage=tag
-            )
-            self.assertEqual((status, issue(said)), (400, "invalid"), tag)
+        ),
+    )
+    def test_wrong_tags(self, tag: str) -> None:
+        status, said = self.house.gateway.fhir(
+            LOOKUP, system=SCT, code=self.codes["wrist"], displayLanguage=tag
+        )
+        assert (status, issue(said)) == (400, "invalid"), tag
 
     def test_where_else_a_concept_is_shown(self) -> None:
         url = "%s?fhir_vs=isa/%s" % (SCT, self.codes["anaemia"])
@@ -134,23 +137,24 @@ class Displays(Whole):
         cases: list[tuple[dict[str, str], str]] = [({}, "Anaemia")]
         for words, display in [*cases, ({"displayLanguage": "en-US"}, "Anemia")]:
             said = fhir(EXPAND, url=url, **words)[1]["expansion"]["contains"]
-            self.assertEqual([one["display"] for one in said], [display])
+            assert [one["display"] for one in said] == [display]
             said = fhir("CodeSystem/$validate-code", url=SCT, code=code, **words)[1]
-            self.assertEqual(told(said, "display"), [display])
+            assert told(said, "display") == [display]
 
     def test_a_definition_is_no_name(self) -> None:
         words = {"url": SCT, "code": self.codes["wrist"], "display": demo.DEFINITION}
         said = self.house.gateway.fhir("CodeSystem/$validate-code", **words)[1]
-        self.assertEqual(told(said, "result"), [False])
+        assert told(said, "result") == [False]
         found = self.house.gateway.fhir(EXPAND, url=SCT + "?fhir_vs", filter="a break of bones")
-        self.assertEqual(found[1]["expansion"]["total"], 0)
-        self.assertEqual(self.house.gateway.send("GET", "/suggest?text=a+break").json(), [])
-        self.assertIn("No term begins", self.house.gateway.send("GET", "/?q=A+break").text)
+        assert found[1]["expansion"]["total"] == 0
+        assert self.gateway.send("GET", "/suggest?text=a+break").text == "[]"
+        assert "No term begins" in self.house.gateway.send("GET", "/?q=A+break").text
 
 
-class Tags(unittest.TestCase):
-    def test_what_a_tag_means(self) -> None:
-        for tag, house, code, refsets_of in (
+class TestTags:
+    @pytest.mark.parametrize(
+        "tag, house, code, refsets_of",
+        (
             ("en", (), "en", (demo.US, demo.GB)),
             ("en", (demo.GB,), "en", (demo.GB,)),
             ("en", (demo.GERMAN,), "en", (demo.US, demo.GB)),
@@ -162,23 +166,25 @@ class Tags(unittest.TestCase):
             ("it", (demo.US,), "it", ()),
             ("es-419", (), "es", ("450828004",)),
             ("es-MX", (), "es", ("448879004",)),
-        ):
-            found = languages.language_of(tag, house)
-            self.assertEqual((found.code, found.refsets), (code, refsets_of), tag)
+        ),
+    )
+    def test_what_a_tag_means(self, tag: str, house: Any, code: str, refsets_of: Any) -> None:
+        found = languages.language_of(tag, house)
+        assert (found.code, found.refsets) == (code, refsets_of), tag
 
     def test_a_tag_of_each_reference_set(self) -> None:
         known = {*languages.DIALECTS.values(), *sum(languages.LANGUAGES.values(), ())}
         other = str(sctid(4711, "00"))
         for refset in (*known, other):
             tag = languages.tag_of(refset)
-            self.assertEqual(languages.language_of(tag, ()).refsets, (refset,), tag)
-        self.assertEqual(languages.tag_of(demo.GB), "en-GB")
-        self.assertEqual(languages.tag_of(demo.GERMAN), "de-x-sctlang-72213000-4")
-        with self.assertRaises(Problem):
+            assert languages.language_of(tag, ()).refsets == (refset,), tag
+        assert languages.tag_of(demo.GB) == "en-GB"
+        assert languages.tag_of(demo.GERMAN) == "de-x-sctlang-72213000-4"
+        with pytest.raises(Problem):
             languages.language_of("de_CH", ())
 
 
-class Designations(Whole):
+class TestDesignations(Whole):
     def contexts(self, said: Json) -> dict[str, list[Context]]:
         """Of each term the reference sets that have it, how, and as what."""
         found: dict[str, list[Context]] = {}
@@ -197,36 +203,34 @@ class Designations(Whole):
             "Anaemia": [(gb, preferred, SYNONYM)],
             "An\u00e4mie": [],
         }
-        self.assertEqual(self.contexts(self.lookup("anaemia", date="2018-01-01")), wanted)
+        assert self.contexts(self.lookup("anaemia", date="2018-01-01")) == wanted
         wanted["Anemia"].pop(0)
-        self.assertEqual(self.contexts(self.lookup("anaemia", date="2019-01-31")), wanted)
+        assert self.contexts(self.lookup("anaemia", date="2019-01-31")) == wanted
 
     def test_of_the_language_asked_for(self) -> None:
         found = self.contexts(self.lookup("anaemia", displayLanguage="de"))
-        self.assertEqual(found["An\u00e4mie"], [(demo.GERMAN, demo.PREFERRED, SYNONYM)])
-        self.assertEqual(found["Anemia (disorder)"], [])
+        assert found["An\u00e4mie"] == [(demo.GERMAN, demo.PREFERRED, SYNONYM)]
+        assert found["Anemia (disorder)"] == []
 
     def test_uses(self) -> None:
-        found = {
-            one["value"]: one["use"] for one in parts_of(self.lookup("wrist"), "designation")
+        found = {one["value"]: one["use"] for one in parts_of(self.lookup("wrist"), "designation")}
+        assert found[demo.DEFINITION] == {
+            "system": SCT,
+            "code": demo.TEXT_DEFINITION,
+            "display": "Definition",
         }
-        self.assertEqual(
-            found[demo.DEFINITION],
-            {"system": SCT, "code": demo.TEXT_DEFINITION, "display": "Definition"},
-        )
-        self.assertEqual(found["Wrist fracture"]["display"], "Synonym")
+        assert found["Wrist fracture"]["display"] == "Synonym"
 
     def test_of_an_expansion(self) -> None:
         url = "%s?fhir_vs=isa/%s" % (SCT, self.codes["anaemia"])
         said = self.house.gateway.fhir(EXPAND, url=url, includeDesignations="true")[1]
         designations = said["expansion"]["contains"][0]["designation"]
         found = {one["value"]: one for one in designations}
-        self.assertEqual(
-            [context(one) for one in found["Anaemia"]["extension"]],
-            [(demo.GB, demo.PREFERRED, SYNONYM)],
-        )
-        self.assertEqual(found["Anaemia"]["use"]["code"], SYNONYM)
-        self.assertNotIn("extension", found["An\u00e4mie"])
+        assert [context(one) for one in found["Anaemia"]["extension"]] == [
+            (demo.GB, demo.PREFERRED, SYNONYM)
+        ]
+        assert found["Anaemia"]["use"]["code"] == SYNONYM
+        assert "extension" not in found["An\u00e4mie"]
 
 
 def context(extension: Json) -> Context:
@@ -236,9 +240,10 @@ def context(extension: Json) -> Context:
     return parts["context"]["code"], parts["role"]["code"], parts["type"]["code"]
 
 
-class Reasons(Whole):
-    def test_why_a_concept_was_retired(self) -> None:
-        for name, date, reasons in (
+class TestReasons(Whole):
+    @pytest.mark.parametrize(
+        "name, date, reasons",
+        (
             ("wrist", "2021-01-30", []),
             ("wrist", "2021-01-31", [demo.AMBIGUOUS]),
             ("wrist", "2022-07-30", [demo.AMBIGUOUS]),
@@ -246,77 +251,79 @@ class Reasons(Whole):
             ("radius", "2022-07-31", [demo.DUPLICATE, demo.AMBIGUOUS]),
             ("lost", "2022-07-31", []),
             ("carpal", "2022-07-31", [demo.PENDING_MOVE, demo.AMBIGUOUS]),
-        ):
-            found = properties(self.lookup(name, date=date)).get("inactivationIndicator", [])
-            self.assertEqual(found, reasons, (name, date))
+        ),
+    )
+    def test_why_a_concept_was_retired(self, name: str, date: str, reasons: Any) -> None:
+        found = properties(self.lookup(name, date=date)).get("inactivationIndicator", [])
+        assert found == reasons, (name, date)
 
     def test_where_it_is_asked_for(self) -> None:
         found = properties(self.lookup("wrist", property=["inactivationIndicator"]))
-        self.assertEqual(found, {"inactivationIndicator": [demo.DUPLICATE]})
+        assert found == {"inactivationIndicator": [demo.DUPLICATE]}
         found = properties(self.lookup("wrist", property=["inactive"]))
-        self.assertEqual(found, {"inactive": [True]})
+        assert found == {"inactive": [True]}
 
 
-class Refsets(Whole):
-    def test_concepts_on_a_day(self) -> None:
-        for day, names in (
+class TestRefsets(Whole):
+    @pytest.mark.parametrize(
+        "day, names",
+        (
             ("20170730", ("wrist",)),
             ("20170731", ("wrist", "limb")),
             ("20200131", ("limb",)),
             ("20210130", ("limb", "radius")),
             ("20210131", ("wrist", "limb", "radius")),
             ("20220731", ("wrist", "limb", "radius", "absent")),
-        ):
-            system = {"system_version": SCT + "|" + version(day)}
-            said = self.expanded("set", **system)
-            found = [one["code"] for one in said["contains"]]
-            self.assertEqual((found, said["total"]), (self.named(*names), len(names)), day)
+        ),
+    )
+    def test_concepts_on_a_day(self, day: str, names: Any) -> None:
+        system = {"system_version": SCT + "|" + version(day)}
+        said = self.expanded("set", **system)
+        found = [one["code"] for one in said["contains"]]
+        assert (found, said["total"]) == (self.named(*names), len(names)), day
 
     def test_version_of_the_url(self) -> None:
         url = "%s?fhir_vs=refset/%s" % (version("20200131"), self.codes["set"])
         said = self.house.gateway.fhir(EXPAND, url=url)[1]["expansion"]
-        self.assertEqual([one["code"] for one in said["contains"]], self.named("limb"))
+        assert [one["code"] for one in said["contains"]] == self.named("limb")
 
     def test_entries(self) -> None:
         said = self.expanded("set")["contains"]
         found = {one["code"]: (one["display"], one.get("inactive", False)) for one in said}
-        self.assertEqual(
-            found,
-            {
-                self.codes["wrist"]: ("Wrist fracture", True),
-                self.codes["limb"]: ("Fracture of bone of upper limb (disorder)", False),
-                self.codes["radius"]: ("Fracture of distal end of radius (disorder)", True),
-                self.codes["absent"]: (self.codes["absent"], False),
-            },
-        )
+        assert found == {
+            self.codes["wrist"]: ("Wrist fracture", True),
+            self.codes["limb"]: ("Fracture of bone of upper limb (disorder)", False),
+            self.codes["radius"]: ("Fracture of distal end of radius (disorder)", True),
+            self.codes["absent"]: (self.codes["absent"], False),
+        }
 
     def test_pages(self) -> None:
         whole = self.in_set()
         pages = [self.in_set(offset=at, count=1) for at in range(5)]
-        self.assertEqual(pages, [[one] for one in whole] + [[]])
+        assert pages == [[one] for one in whole] + [[]]
         said = self.expanded("set", count=0)
-        self.assertEqual((said.get("contains"), said["total"]), (None, 4))
+        assert (said.get("contains"), said["total"]) == (None, 4)
 
     def test_active_only(self) -> None:
         said = self.expanded("set", activeOnly="true")
         found = [one["code"] for one in said["contains"]]
-        self.assertEqual((found, said["total"]), (self.named("limb"), 1))
+        assert (found, said["total"]) == (self.named("limb"), 1)
 
     def test_filter(self) -> None:
-        self.assertEqual(self.in_set(filter="fracture of wrist"), self.named("wrist"))
-        self.assertEqual(self.in_set(filter="fracture of carpal"), [])
+        assert self.in_set(filter="fracture of wrist") == self.named("wrist")
+        assert self.in_set(filter="fracture of carpal") == []
         # Before it was remembered, of a day that nobody asked of.
         words = {"system_version": SCT + "|" + version("20200202"), "filter": "fracture of"}
-        self.assertEqual(self.in_set(**words), self.named("limb"))
+        assert self.in_set(**words) == self.named("limb")
 
     def test_that_all_have_left(self) -> None:
-        self.assertEqual(self.expanded("left")["total"], 0)
+        assert self.expanded("left")["total"] == 0
         before = {"system_version": SCT + "|" + version("20180101")}
-        self.assertEqual(self.expanded("left", **before)["total"], 1)
+        assert self.expanded("left", **before)["total"] == 1
         # Before the first member there was none.
         url = "%s?fhir_vs=refset/%s" % (version("20150131"), demo.INDICATORS)
         said = self.house.gateway.fhir(EXPAND, url=url)[1]
-        self.assertEqual(said["expansion"]["total"], 0)
+        assert said["expansion"]["total"] == 0
 
     def test_that_are_not_kept(self) -> None:
         for code, status, why in (
@@ -337,7 +344,7 @@ class Refsets(Whole):
                 ),
             ):
                 got, said = self.house.gateway.fhir(path, **words)
-                self.assertEqual((got, issue(said)), (status, why), (path, code))
+                assert (got, issue(said)) == (status, why), (path, code)
 
     def test_validate_code(self) -> None:
         url = "%s?fhir_vs=refset/%s" % (SCT, self.codes["set"])
@@ -355,9 +362,9 @@ class Refsets(Whole):
                 code=self.codes[name],
                 systemVersion=version(day),
             )[1]
-            self.assertEqual(told(said, "result"), [valid], (name, day))
+            assert told(said, "result") == [valid], (name, day)
             if name == "carpal":
-                self.assertIn("in the reference set", told(said, "message")[0])
+                assert "in the reference set" in told(said, "message")[0]
 
     def test_which_there_are(self) -> None:
         for day, names in (
@@ -367,7 +374,7 @@ class Refsets(Whole):
             url = version(day) + "?fhir_vs=refset"
             said = self.house.gateway.fhir(EXPAND, url=url)[1]["expansion"]
             found = [one["code"] for one in said["contains"]]
-            self.assertEqual((found, said["total"]), (self.named(*names), len(names)), day)
+            assert (found, said["total"]) == (self.named(*names), len(names)), day
         for name, valid in (("set", True), ("never", False), ("wrist", False)):
             said = self.house.gateway.fhir(
                 "ValueSet/$validate-code",
@@ -375,50 +382,53 @@ class Refsets(Whole):
                 system=SCT,
                 code=self.codes[name],
             )[1]
-            self.assertEqual(told(said, "result"), [valid], name)
+            assert told(said, "result") == [valid], name
         said = self.house.gateway.fhir(EXPAND, url=SCT + "?fhir_vs=refset", filter="wrists of")[1]
-        self.assertEqual(said["expansion"]["contains"][0]["code"], self.codes["set"])
+        assert said["expansion"]["contains"][0]["code"] == self.codes["set"]
 
 
-class Maps(Whole):
+class TestMaps(Whole):
     def ask(self, name: str, refset: str = demo.CTV3, **words: Any) -> tuple[int, Json]:
         url = "%s?fhir_cm=%s" % (SCT, refset)
         code = self.codes[name]
         return self.house.gateway.fhir(TRANSLATE, url=url, system=SCT, code=code, **words)
 
-    def test_targets_on_a_day(self) -> None:
-        for name, date, targets in (
+    @pytest.mark.parametrize(
+        "name, date, targets",
+        (
             ("wrist", "2022-07-31", ["S23.."]),
             ("limb", "2019-01-30", ["X1"]),
             ("limb", "2019-01-31", ["X1", "X2"]),
             ("limb", "2020-01-31", ["X3", "X2"]),
-        ):
-            status, said = self.ask(name, date=date)
-            self.assertEqual((status, told(said, "result")), (200, [True]), name)
-            found = parts_of(said, "match")
-            concepts = [{"system": CTV3_SYSTEM, "code": target} for target in targets]
-            self.assertEqual([one["concept"] for one in found], concepts, (name, date))
-            self.assertEqual({one["equivalence"] for one in found}, {"relatedto"})
-            self.assertEqual({one["source"] for one in found}, {SCT + "?fhir_cm=" + demo.CTV3})
+        ),
+    )
+    def test_targets_on_a_day(self, name: str, date: str, targets: Any) -> None:
+        status, said = self.ask(name, date=date)
+        assert (status, told(said, "result")) == (200, [True]), name
+        found = parts_of(said, "match")
+        concepts = [{"system": demo.CTV3_SYSTEM, "code": target} for target in targets]
+        assert [one["concept"] for one in found] == concepts, (name, date)
+        assert {one["equivalence"] for one in found} == {"relatedto"}
+        assert {one["source"] for one in found} == {SCT + "?fhir_cm=" + demo.CTV3}
 
-    def test_without_a_target(self) -> None:
-        for name in ("drug", "radius"):
-            status, said = self.ask(name)
-            self.assertEqual((status, told(said, "result")), (200, [False]), name)
-            self.assertEqual(parts_of(said, "match"), [])
-            self.assertIn("no target", told(said, "message")[0])
+    @pytest.mark.parametrize("name", ("drug", "radius"))
+    def test_without_a_target(self, name: str) -> None:
+        status, said = self.ask(name)
+        assert (status, told(said, "result")) == (200, [False]), name
+        assert parts_of(said, "match") == []
+        assert "no target" in told(said, "message")[0]
 
     def test_system_of_the_targets(self) -> None:
-        self.assertEqual(self.ask("wrist", targetsystem=CTV3_SYSTEM)[0], 200)
+        assert self.ask("wrist", targetsystem=demo.CTV3_SYSTEM)[0] == 200
         for system in (SCT, "http://hl7.org/fhir/sid/icd-10"):
-            self.assertEqual(self.ask("wrist", targetsystem=system)[0], 404, system)
+            assert self.ask("wrist", targetsystem=system)[0] == 404, system
 
     def test_map_of_the_house(self) -> None:
         """It says that this is one, where the store has no concept of it."""
         said = self.ask("limb", demo.HOUSE_MAP)[1]
         found = [one["concept"] for one in parts_of(said, "match")]
-        self.assertEqual(found, [{"system": HOUSE_SYSTEM, "code": "H1"}])
-        self.assertEqual(self.ask("limb", str(sctid(4711, "00")))[0], 404)
+        assert found == [{"system": demo.HOUSE_SYSTEM, "code": "H1"}]
+        assert self.ask("limb", str(sctid(4711, "00")))[0] == 404
 
     def test_what_is_no_simple_map(self) -> None:
         for refset, status in (
@@ -428,34 +438,34 @@ class Maps(Whole):
             (demo.SIMPLE_MAP, 422),
             ("1105008", 404),
         ):
-            self.assertEqual(self.ask("limb", refset)[0], status, refset)
-        self.assertEqual(self.ask("limb", reverse="true")[0], 422)
+            assert self.ask("limb", refset)[0] == status, refset
+        assert self.ask("limb", reverse="true")[0] == 422
 
     def test_names_of_what_took_the_place(self) -> None:
         said = self.ask("wrist", "900000000000526001")[1]
         found = parts_of(said, "match")[0]["concept"]
-        self.assertEqual(found["code"], self.codes["radius"])
-        self.assertEqual(found["display"], "Fracture of distal end of radius (disorder)")
+        assert found["code"] == self.codes["radius"]
+        assert found["display"] == "Fracture of distal end of radius (disorder)"
 
 
-class Capabilities(Whole):
+class TestCapabilities(Whole):
     def test_what_is_new(self) -> None:
         said = self.house.gateway.fhir("metadata", mode="terminology")[1]
         for one in said["codeSystem"][0]["version"]:
-            self.assertEqual(one["language"], ["en-GB", "en-US"])
-            self.assertIn("inactivationIndicator", one["property"])
+            assert one["language"] == ["en-GB", "en-US"]
+            assert "inactivationIndicator" in one["property"]
         said = self.house.gateway.fhir("metadata")[1]
         found = {one["type"]: one["operation"][0] for one in said["rest"][0]["resource"]}
-        self.assertIn("fhir_vs=refset/CODE", found["ValueSet"]["documentation"])
-        self.assertIn("a simple map", found["ConceptMap"]["documentation"])
-        self.assertNotIn("documentation", found["CodeSystem"])
+        assert "fhir_vs=refset/CODE" in found["ValueSet"]["documentation"]
+        assert "a simple map" in found["ConceptMap"]["documentation"]
+        assert "documentation" not in found["CodeSystem"]
 
 
-class Page(Whole):
+class TestPage(Whole):
     def page(self, name: str, **words: str) -> str:
         target = "/?" + urlencode({"q": self.codes[name], **words})
         answer = self.house.gateway.send("GET", target)
-        self.assertEqual(answer.status, 200)
+        assert answer.status == 200
         return answer.text
 
     def row(self, text: str, title: str) -> list[list[str]]:
@@ -472,45 +482,41 @@ class Page(Whole):
     def test_preferred_terms(self) -> None:
         text = self.page("anaemia", date="2018-01-01")
         gb, us = "Anaemia " + demo.GB_NAME, "Anemia " + demo.US_NAME
-        self.assertEqual(self.row(text, "Preferred term"), [[gb, us], [gb, us]])
-        self.assertIn("in short \u201c<bdi>Anaemia</bdi>\u201d", text)
+        assert self.row(text, "Preferred term") == [[gb, us], [gb, us]]
+        assert "in short \u201c<bdi>Anaemia</bdi>\u201d" in text
         text = self.page("wrist", date="2016-01-01")
         us = " " + demo.US_NAME
-        self.assertEqual(
-            self.row(text, "Preferred term"),
-            [["Broken wrist%s only then" % us], ["Wrist fracture%s not then" % us]],
-        )
-        self.assertEqual(self.row(self.page("drug"), "Preferred term"), [])
+        assert self.row(text, "Preferred term") == [
+            ["Broken wrist%s only then" % us],
+            ["Wrist fracture%s not then" % us],
+        ]
+        assert self.row(self.page("drug"), "Preferred term") == []
 
     def test_definition(self) -> None:
         text = self.page("wrist")
         shown = demo.DEFINITION
-        self.assertEqual(self.row(text, "Text definition"), [[shown], [shown]])
-        self.assertNotIn(shown, self.row(text, "Synonyms")[0])
-        self.assertIn("Text definition added: <bdi>%s</bdi>" % shown, text)
+        assert self.row(text, "Text definition") == [[shown], [shown]]
+        assert shown not in self.row(text, "Synonyms")[0]
+        assert "Text definition added: <bdi>%s</bdi>" % shown in text
 
     def test_why_retired(self) -> None:
         text = self.page("wrist", date="2021-06-01")
         for reason in ("Ambiguous", "Duplicate"):
-            self.assertIn(
-                "(since <time datetime=\"2021-01-31\">31 January 2021</time>: "
-                "<bdi>%s component</bdi>)" % reason,
-                text,
+            assert (
+                '(since <time datetime="2021-01-31">31 January 2021</time>: '
+                "<bdi>%s component</bdi>)" % reason in text
             )
-        self.assertEqual(
-            self.row(text, "Why retired"),
-            [
-                ["Ambiguous component %s only then" % demo.AMBIGUOUS],
-                ["Duplicate component %s not then" % demo.DUPLICATE],
-            ],
-        )
+        assert self.row(text, "Why retired") == [
+            ["Ambiguous component %s only then" % demo.AMBIGUOUS],
+            ["Duplicate component %s not then" % demo.DUPLICATE],
+        ]
         changed = " changed: <bdi>%s component</bdi> \u2192 <bdi>%s component</bdi>"
-        self.assertIn(demo.INDICATORS_NAME + changed % ("Ambiguous", "Duplicate"), text)
+        assert demo.INDICATORS_NAME + changed % ("Ambiguous", "Duplicate") in text
         for active in ("limb", "carpal"):
-            self.assertEqual(self.row(self.page(active), "Why retired"), [], active)
-        self.assertIn(demo.INDICATORS_NAME, self.page("carpal"))
+            assert self.row(self.page(active), "Why retired") == [], active
+        assert demo.INDICATORS_NAME in self.page("carpal")
         two = ": <bdi>Duplicate component</bdi>, <bdi>Ambiguous component</bdi>)"
-        self.assertIn(two, self.page("radius"))
+        assert two in self.page("radius")
 
     def test_reference_sets(self) -> None:
         name = "Wrists of the house %s " % self.codes["set"]
@@ -521,23 +527,22 @@ class Page(Whole):
             demo.INDICATORS_NAME,
             demo.INDICATORS,
         )
-        self.assertEqual(then, [name + "since 31 January 2015 only then", ctv3])
-        self.assertEqual(
-            sorted(now),
-            sorted([name + "since 31 January 2021 not then", indicators + " not then", ctv3]),
+        assert then == [name + "since 31 January 2015 only then", ctv3]
+        assert sorted(now) == sorted(
+            [name + "since 31 January 2021 not then", indicators + " not then", ctv3]
         )
         # On the days between it wasn't in the set; the history has each of them.
         between = self.row(self.page("wrist", date="2020-01-31"), "Reference sets")[0]
-        self.assertEqual(between, [ctv3])
+        assert between == [ctv3]
         for part in ("added", "withdrawn"):
-            self.assertIn("Reference set %s: <bdi>Wrists of the house</bdi>" % part, text)
+            assert "Reference set %s: <bdi>Wrists of the house</bdi>" % part in text
         limb = self.row(self.page("limb"), "Reference sets")[0]
-        self.assertIn(name + "since 31 July 2017 since 31 July 2017", limb)
+        assert name + "since 31 July 2017 since 31 July 2017" in limb
         odd = "Odd map &lt;b&gt;bold&lt;/b&gt; %s since 31 January 2015" % self.codes["odd"]
-        self.assertIn(odd + ": Y1 \u00b7 ask &lt;i&gt;them&lt;/i&gt;", limb)
+        assert odd + ": Y1 \u00b7 ask &lt;i&gt;them&lt;/i&gt;" in limb
 
 
-class AsBefore(unittest.TestCase):
+class TestAsBefore:
     """Stores that keep no members, asked with all that is new."""
 
     def compared(self, house: House) -> None:
@@ -545,11 +550,11 @@ class AsBefore(unittest.TestCase):
         for tag in ((), ("en-GB",), (US_TAG,)):
             said = fhir(LOOKUP, system=SCT, code=codes["wrist"], displayLanguage=[*tag])[1]
             name = "Fracture of wrist joint region (disorder)"
-            self.assertEqual(told(said, "display"), [name])
-            self.assertNotIn("inactivationIndicator", properties(said))
-            self.assertFalse(any("extension" in one for one in said["parameter"]))
+            assert told(said, "display") == [name]
+            assert "inactivationIndicator" not in properties(said)
+            assert not any("extension" in one for one in said["parameter"])
         said = fhir(LOOKUP, system=SCT, code=codes["wrist"], displayLanguage="de")[1]
-        self.assertEqual(told(said, "display"), ["Handgelenksfraktur"])
+        assert told(said, "display") == ["Handgelenksfraktur"]
         asked: tuple[tuple[str, dict[str, str]], ...] = (
             (EXPAND, {}),
             (EXPAND, {"filter": "fracture"}),
@@ -558,29 +563,29 @@ class AsBefore(unittest.TestCase):
         for what in ("refset", "refset/" + codes["wrist"]):
             for path, words in asked:
                 status, said = fhir(path, url=SCT + "?fhir_vs=" + what, **words)
-                self.assertEqual((status, issue(said)), (422, "not-supported"), (path, what))
+                assert (status, issue(said)) == (422, "not-supported"), (path, what)
         url = "%s?fhir_cm=%s" % (SCT, demo.CTV3)
         words = {"url": url, "system": SCT, "code": codes["wrist"]}
-        self.assertIn(fhir(TRANSLATE, **words)[0], (404, 422))
+        assert fhir(TRANSLATE, **words)[0] in (404, 422)
         text = house.gateway.send("GET", "/?q=" + codes["wrist"]).text
         for title in ("Preferred term", "Text definition", "Why retired", "Reference sets"):
-            self.assertNotIn(">%s<" % title, text)
-        self.assertNotIn("in short", text)
+            assert ">%s<" % title not in text
+        assert "in short" not in text
 
-    def test_layouts_and_packages_without_members(self) -> None:
-        for layout, is_whole in ((2, True), (2, False), (3, False)):
-            house = House(layout=layout, is_whole=is_whole, words=WORDS)
-            try:
-                self.compared(house)
-            finally:
-                house.end()
+    @pytest.mark.parametrize("layout, is_whole", [(2, True), (2, False), (3, False)])
+    def test_layouts_and_packages_without_members(
+        self, layout: int, is_whole: bool, request: pytest.FixtureRequest
+    ) -> None:
+        house = House(layout=layout, is_whole=is_whole, words=demo.WORDS)
+        request.addfinalizer(house.end)
+        self.compared(house)
 
 
-class AnotherStore(unittest.TestCase):
-    def test_reference_sets_of_another_store(self) -> None:
+class TestAnotherStore:
+    def test_reference_sets_of_another_store(self, request: pytest.FixtureRequest) -> None:
         """Its first import is another one: nothing that is remembered of a set holds."""
-        house = House(layout=3, is_whole=True, words=WORDS)
-        self.addCleanup(house.end)
+        house = House(layout=3, is_whole=True, words=demo.WORDS)
+        request.addfinalizer(house.end)
         url = "%s?fhir_vs=refset/%s" % (version("20210131"), house.codes["set"])
         for releases, names in (
             (("d1", "d2"), ("wrist", "limb", "radius")),
@@ -592,10 +597,10 @@ class AnotherStore(unittest.TestCase):
             house.start_hub()
             said = house.gateway.fhir(EXPAND, "/pin/2/fhir/", url=url)[1]["expansion"]
             found = {one["code"] for one in said["contains"]}
-            self.assertEqual(found, {house.codes[name] for name in names}, releases)
+            assert found == {house.codes[name] for name in names}, releases
 
 
-class Rows(unittest.TestCase):
+class TestRows:
     """What a hub says is read strictly."""
 
     DESCRIPTION = "ROW 5012010\t20150131\t1\t2\t3\ten\t%s\tTerm\t4" % SYNONYM
@@ -604,21 +609,21 @@ class Rows(unittest.TestCase):
     def test_members(self) -> None:
         for further in ((), ("",), ("", "x"), (demo.PREFERRED,)):
             line = "\t".join((self.MEMBER, *further))
-            self.assertEqual(members_of((line, "END 1"))[0].further, further)
-        with self.assertRaises(HubGone):
+            assert members_of((line, "END 1"))[0].further == further
+        with pytest.raises(HubGone):
             members_of(("ROW a\t20150131\t1\t2\t3", "END 1"))
 
     def test_called(self) -> None:
         one = self.MEMBER + "\t" + demo.ACCEPTABLE
         other = self.MEMBER + "\t" + demo.PREFERRED
         found = called_of((self.DESCRIPTION, one, other, self.DESCRIPTION, one, "END 5"))
-        self.assertEqual(
-            [said for _, said in found],
-            [(demo.ACCEPTABLE, demo.PREFERRED), (demo.ACCEPTABLE,)],
-        )
-        self.assertEqual([bool(one.is_preferred_term) for one in found], [True, False])
+        assert [said for _, said in found] == [
+            (demo.ACCEPTABLE, demo.PREFERRED),
+            (demo.ACCEPTABLE,),
+        ]
+        assert [bool(one.is_preferred_term) for one in found] == [True, False]
         for lines in ((one, "END 1"), ("ROW 5012010\t20150131", "END 1")):
-            with self.assertRaises(HubGone):
+            with pytest.raises(HubGone):
                 called_of(lines)
 
 
@@ -664,35 +669,38 @@ def member(component: str, time: str = "20150131", active: str = "1") -> RefsetM
     return RefsetMember("m", time, active, "1", "2", component, ())
 
 
-class LargeSets(unittest.TestCase):
+class TestLargeSets:
     def test_all_pages(self) -> None:
         for count, pages in ((0, 1), (999, 1), (1000, 2), (2500, 3), (limits.REFSET_MEMBERS, 201)):
             view = ManyMembers(count)
             found = asyncio.run(refsets.components_of(view, "2", "20200101"))
-            self.assertEqual((len(found), len(set(found))), (count, count))
-            self.assertEqual(len(view.asked), pages)
-        with self.assertRaises(TooCostly):
+            assert (len(found), len(set(found))) == (count, count)
+            assert len(view.asked) == pages
+        with pytest.raises(Problem, match=TOO_MANY) as refused:
             view = ManyMembers(limits.REFSET_MEMBERS + 1)
             asyncio.run(refsets.components_of(view, "2", "20200101"))
+        assert refused.value.code == "too-costly"
 
     def test_of_which_it_is_asked_whether_they_are_active(self) -> None:
         view = ManyMembers(limits.WALK_CONCEPTS)
         found = asyncio.run(refsets.active_codes_of(view, "2", "20200101"))
-        self.assertEqual(len(found), limits.WALK_CONCEPTS // 10)
-        with self.assertRaises(TooCostly):
+        assert len(found) == limits.WALK_CONCEPTS // 10
+        with pytest.raises(Problem, match=TOO_MANY) as refused:
             view = ManyMembers(limits.WALK_CONCEPTS + 1)
             asyncio.run(refsets.active_codes_of(view, "2", "20200101"))
+        assert refused.value.code == "too-costly"
 
     def test_among_how_many_there_are(self) -> None:
         view = ManyMembers(limits.REFSET_CHOICE)
         found = asyncio.run(refsets.with_members(view, "20200101"))
-        self.assertEqual(len(found), limits.REFSET_CHOICE)
-        with self.assertRaises(TooCostly):
+        assert len(found) == limits.REFSET_CHOICE
+        with pytest.raises(Problem, match=TOO_MANY) as refused:
             view = ManyMembers(limits.REFSET_CHOICE + 1)
             asyncio.run(refsets.with_members(view, "20200101"))
+        assert refused.value.code == "too-costly"
 
 
-class Memberships(unittest.TestCase):
+class TestMemberships:
     def test_since_when(self) -> None:
         days = ("20150131", "20160131", "20170131", "20180131")
         for actives, day, since in (
@@ -705,19 +713,19 @@ class Memberships(unittest.TestCase):
         ):
             versions = [member("7", time, active) for time, active in zip(days, actives)]
             found = memberships([versions], "7", day)
-            self.assertEqual([one.since for one in found], [since] if since else [], actives)
+            assert [one.since for one in found] == ([since] if since else []), actives
         # A member that is about another concept from then on.
         versions = [member("7"), member("8", "20160131"), member("7", "20170131")]
         for day, since in (("20150131", "20150131"), ("20160131", ""), ("20170131", "20170131")):
             found = memberships([versions], "7", day)
-            self.assertEqual([one.since for one in found], [since] if since else [], day)
+            assert [one.since for one in found] == ([since] if since else []), day
 
     def test_more_than_are_told(self) -> None:
         rows = [[member("7")] for _ in range(limits.TOLD_MEMBERS + 3)]
         entries = refset_entries(memberships(rows, "7", "20200101"), Names({}, {}))
-        self.assertEqual(len(entries), 1)
-        self.assertIn("and 3 more", "".join(entries.values()))
+        assert len(entries) == 1
+        assert "and 3 more" in "".join(entries.values())
         rows = [[member("7")._replace(refset=str(one))] for one in range(limits.TOLD_REFSETS + 1)]
         entries = refset_entries(memberships(rows, "7", "20200101"), Names({}, {}))
-        self.assertEqual(len(entries), limits.TOLD_REFSETS + 1)
-        self.assertIn("and others", entries["more"])
+        assert len(entries) == limits.TOLD_REFSETS + 1
+        assert "and others" in entries["more"]

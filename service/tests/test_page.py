@@ -3,10 +3,10 @@
 import asyncio
 import json
 import re
-import unittest
 from collections.abc import Iterable, Sequence
 from urllib.parse import urlencode
 
+import pytest
 from make_release import sctid
 from sctd_service.gateway import limits
 from sctd_service.gateway.page_history import Names, changes
@@ -14,8 +14,8 @@ from sctd_service.gateway.page_record import replacements
 from sctd_service.snomed import IS_A, Association, Concept, Language, Relationship
 from sctd_service.gateway.store import ANY, AnyRow, View
 
+from .asked import Asked
 from .demo_releases import REPLACED_BY
-from .house import Shared
 
 
 class Chain(View):
@@ -47,18 +47,14 @@ class Chain(View):
 FOREIGN = re.compile(r"<script(?! src=\"page.js\" defer>)|<img|</textarea><s|onfocus='|<b>bold")
 
 
-class Page(unittest.TestCase):
-    def setUp(self) -> None:
-        self.house = Shared.get()
-        self.codes = self.house.codes
-
+class TestPage(Asked):
     def page(self, base: str = "/", **words: str) -> tuple[int, str]:
         answer = self.house.gateway.send("GET", base + "?" + urlencode(words))
         return answer.status, answer.text
 
     def test_record(self) -> None:
         status, text = self.page(q=self.codes["wrist"], date="2018-01-01")
-        self.assertEqual(status, 200)
+        assert status == 200
         for part in (
             "Fracture of wrist (disorder)",
             "31 January 2021",
@@ -73,23 +69,23 @@ class Page(unittest.TestCase):
             "only then",
             "not then",
         ):
-            self.assertIn(part, text)
+            assert part in text
         # What took its place was retired too, which leads one step further.
-        self.assertIn(self.codes["radius2"], text)
+        assert self.codes["radius2"] in text
 
     def test_a_replacement_that_is_no_concept(self) -> None:
         status, text = self.page(q=self.codes["lost"])
         found = re.search(r"Same as</b>: <a href=[^>]*><bdi>([0-9]+)</bdi>", text)
         assert found, (status, text)
-        self.assertEqual((status, found[1][-3:-1]), (200, "01"))
+        assert (status, found[1][-3:-1]) == (200, "01")
 
     def test_a_replacement_that_the_store_does_not_have(self) -> None:
         text = self.page(q=self.codes["lost"])[1]
         entries = re.findall(r"<li><b>(Replaced by|Same as)</b>: (.*?)</li>", text)
-        self.assertEqual(sorted(name for name, _ in entries), ["Replaced by", "Same as"])
+        assert sorted(name for name, _ in entries) == ["Replaced by", "Same as"]
         for _, entry in entries:
-            self.assertIn("not in the store", entry)
-            self.assertNotIn("inactive<", entry)
+            assert "not in the store" in entry
+            assert "inactive<" not in entry
 
     def test_many_steps_to_what_took_its_place(self) -> None:
         """A list that isn't whole says so."""
@@ -97,8 +93,8 @@ class Page(unittest.TestCase):
         for count, is_whole in ((most, True), (most + 1, False)):
             chain = [str(sctid(9_000 + number, "00")) for number in range(count + 1)]
             html = asyncio.run(replacements(Chain(chain), chain[0], "20200101"))
-            self.assertEqual(html.count("Replaced by"), most)
-            self.assertEqual("isn\u2019t whole" not in html, is_whole, count)
+            assert html.count("Replaced by") == most
+            assert ("isn\u2019t whole" not in html) == is_whole, count
 
     def test_a_component_that_names_another_concept_from_then_on(self) -> None:
         """A version may have another target, or another type, and stay active."""
@@ -116,37 +112,37 @@ class Page(unittest.TestCase):
         ]
         for before, after, told in cases:
             found = [re.sub(r"</?bdi>", "", one) for one in changes(before, after, names)]
-            self.assertEqual(found, told, after)
+            assert found == told, after
 
-    def test_day_before_and_day_of(self) -> None:
-        for date, status in (("2021-01-30", "active"), ("2021-01-31", "inactive")):
-            text = self.page(q=self.codes["wrist"], date=date)[1]
-            self.assertIn(
-                "on %s: %s. http://snomed.info/sct/900000000000207008/version/%s;"
-                % (date, status, date.replace("-", "")),
-                text,
-            )
+    @pytest.mark.parametrize("date, status", (("2021-01-30", "active"), ("2021-01-31", "inactive")))
+    def test_day_before_and_day_of(self, date: str, status: str) -> None:
+        text = self.page(q=self.codes["wrist"], date=date)[1]
+        assert (
+            "on %s: %s. http://snomed.info/sct/900000000000207008/version/%s;"
+            % (date, status, date.replace("-", ""))
+            in text
+        )
 
     def test_the_address_that_stays(self) -> None:
         text = self.page(q=self.codes["wrist"], date="2018-01-01")[1]
         found = re.search(r'<a href="(pin/3/\?q=[^"]*)">This page for good, at pin 3</a>', text)
         assert found
-        self.assertEqual(
-            found[1], "pin/3/?q=%s&amp;date=2018-01-01&amp;other=2022-07-31" % self.codes["wrist"]
+        assert (
+            found[1] == "pin/3/?q=%s&amp;date=2018-01-01&amp;other=2022-07-31" % self.codes["wrist"]
         )
         again = self.page("/pin/3/", q=self.codes["wrist"], date="2018-01-01", other="2022-07-31")[
             1
         ]
         for part in ("Fracture of wrist (disorder)", "pin 3; RECEIPT 3: OK 3 5 20220731"):
-            self.assertIn(part, again)
+            assert part in again
 
     def test_an_earlier_pin(self) -> None:
         # The history is asked for without a day: what is remembered of it is of one pin.
-        self.assertIn("31 January 2021", self.page(q=self.codes["wrist"])[1])
+        assert "31 January 2021" in self.page(q=self.codes["wrist"])[1]
         text = self.page("/pin/1/", q=self.codes["wrist"])[1]
-        self.assertIn("RECEIPT 1: OK 1 ", text)
-        self.assertNotIn("was inactive", text)
-        self.assertNotIn("31 January 2021", text)
+        assert "RECEIPT 1: OK 1 " in text
+        assert "was inactive" not in text
+        assert "31 January 2021" not in text
 
     def test_values_and_definition(self) -> None:
         text = self.page(q=self.codes["drug"], date="2019-12-31")[1]
@@ -157,7 +153,7 @@ class Page(unittest.TestCase):
             "Has strength value withdrawn: <bdi>500</bdi>",
             "Has strength value added: <bdi>500.10</bdi>",
         ):
-            self.assertIn(part, text)
+            assert part in text
 
     def test_nothing_is_markup_that_came_as_text(self) -> None:
         texts = [
@@ -167,46 +163,46 @@ class Page(unittest.TestCase):
             self.page(q="Hostile")[1],
             self.page(q="1", date='"><script>')[1],
             self.page(q="<b>bold")[1],
-            self.page(q="{{content}}")[1],
+            self.page(q="{{content}} {content} {0.__class__}")[1],
             self.house.gateway.send("GET", "/<script>alert(1)</script>").text,
         ]
         for text in texts:
-            self.assertEqual(FOREIGN.findall(text), [])
-            self.assertNotIn("\u202e", text)
-            self.assertNotIn("\u200b", text)
-        self.assertIn("&lt;script&gt;alert(1)", texts[0])
-        self.assertIn("\u2039U+202E\u203a", texts[0])
+            assert FOREIGN.findall(text) == []
+            assert "\u202e" not in text
+            assert "\u200b" not in text
+        assert "&lt;script&gt;alert(1)" in texts[0]
+        assert "\u2039U+202E\u203a" in texts[0]
 
     def test_date_after_the_latest_release(self) -> None:
         limb = self.codes["limb"]
-        self.assertIn("isn\u2019t known to it", self.page(q=limb, date="2025-01-01")[1])
-        self.assertNotIn("isn\u2019t known to it", self.page(q=limb, date="2022-07-31")[1])
-        self.assertIn(
-            'href="pin/3/?q=%s&amp;date=2025-01-01&amp;' % limb,
-            self.page(q=limb, date="2025-01-01")[1],
+        assert "isn\u2019t known to it" in self.page(q=limb, date="2025-01-01")[1]
+        assert "isn\u2019t known to it" not in self.page(q=limb, date="2022-07-31")[1]
+        assert (
+            'href="pin/3/?q=%s&amp;date=2025-01-01&amp;' % limb
+            in self.page(q=limb, date="2025-01-01")[1]
         )
 
     def test_a_refusal_tells_its_pin(self) -> None:
         send = self.house.gateway.send
         for target in ("/?q=1&date=2018-02-31", "/suggest?text=", "/suggest?text=a&date=x"):
             answer = send("GET", target)
-            self.assertEqual((answer.status, answer.headers.get("x-sctd-pin")), (400, "3"), target)
+            assert (answer.status, answer.headers.get("x-sctd-pin")) == (400, "3"), target
         headers = send("GET", "/pin/2/?q=1&date=x").headers
-        self.assertEqual(
-            (headers.get("x-sctd-pin"), headers.get("x-sctd-receipt")),
-            ("2", "RECEIPT 2: OK 2 18 20210131"),
+        assert (headers.get("x-sctd-pin"), headers.get("x-sctd-receipt")) == (
+            "2",
+            "RECEIPT 2: OK 2 18 20210131",
         )
 
     def test_two_dates_of_one_day(self) -> None:
         text = self.page(q=self.codes["wrist"], date="2018-01-01", other="2018-01-01")[1]
-        self.assertIn(">the same day<", text)
+        assert ">the same day<" in text
 
     def test_search_and_suggest(self) -> None:
-        self.assertIn("5 terms begin", self.page(q="FRACTURE", date="2021-06-01")[1])
-        self.assertIn("No term begins", self.page(q="nothing such")[1])
+        assert "5 terms begin" in self.page(q="FRACTURE", date="2021-06-01")[1]
+        assert "No term begins" in self.page(q="nothing such")[1]
         said = self.house.gateway.send("GET", "/suggest?text=fract&date=2021-06-01")
         found = {one["code"]: one["active"] for one in json.loads(said.body)}
-        self.assertEqual((found[self.codes["wrist"]], found[self.codes["limb"]]), (False, True))
+        assert (found[self.codes["wrist"]], found[self.codes["limb"]]) == (False, True)
 
     def test_wrong_words(self) -> None:
         for words, status in (
@@ -219,7 +215,7 @@ class Page(unittest.TestCase):
             ({"q": "1105007", "date": "20180101"}, 400),
             ({"q": "1105007", "dat": "2018-01-01"}, 400),
         ):
-            self.assertEqual(self.page(**words)[0], status, words)
+            assert self.page(**words)[0] == status, words
         for target in (
             "/?q=1&q=2",
             "/?q=%ff",
@@ -227,14 +223,14 @@ class Page(unittest.TestCase):
             "/suggest?text=a%0ab",
             "/suggest?text=a&date=x",
         ):
-            self.assertEqual(self.house.gateway.send("GET", target).status, 400, target)
-        self.assertEqual(self.house.gateway.send("GET", "/health").json()["pin"], 3)
+            assert self.house.gateway.send("GET", target).status == 400, target
+        assert self.house.gateway.send("GET", "/health").json()["pin"] == 3
 
     def test_labels_and_headings(self) -> None:
         text = self.page(q=self.codes["wrist"], date="2018-01-01")[1]
         fields = set(re.findall(r'<(?:input|textarea)[^>]* id="(\w+)"', text))
-        self.assertEqual(fields, set(re.findall(r'<label for="(\w+)"', text)))
-        self.assertEqual(len(re.findall("<h1>", text)), 1)
-        self.assertEqual(re.findall(r"<h([1-6])>", text)[0], "1")
-        self.assertIn('<html lang="en">', text)
-        self.assertEqual(re.findall(r" style=| on[a-z]+=\"|<style", text), [])
+        assert fields == set(re.findall(r'<label for="(\w+)"', text))
+        assert len(re.findall("<h1>", text)) == 1
+        assert re.findall(r"<h([1-6])>", text)[0] == "1"
+        assert '<html lang="en">' in text
+        assert re.findall(r" style=| on[a-z]+=\"|<style", text) == []

@@ -2,11 +2,10 @@
 formed."""
 
 import re
-import unittest
 
 from sctd_service.snomed import is_concept_id, is_day
 
-from .house import Shared
+from .asked import Asked
 
 DAY, CODE, COUNT = "(?P<day>[0-9]{8})", "(?P<code>[1-9][0-9]{5,17})", "[0-9]{1,4}"
 AFTER, AT = "(?:-|[1-9][0-9]{5,17})", "AT [0-9]{1,10} "
@@ -37,18 +36,18 @@ LINES = [
 ]
 
 
-class Recorded(unittest.TestCase):
+class TestRecorded(Asked):
     def test_only_questions_were_sent(self) -> None:
-        recorder = Shared.get().recorder
+        recorder = self.house.recorder
         assert recorder
         lines = [line.decode() for line in recorder.lines]
         for line in lines:
             found = [match for match in (one.fullmatch(line) for one in LINES) if match]
-            self.assertEqual(len(found), 1, line)
+            assert len(found) == 1, line
             words = found[0].groupdict()
-            self.assertTrue(is_concept_id(words.get("code", "138875005")), line)
-            self.assertTrue(is_concept_id(words.get("refset", "138875005")), line)
-            self.assertTrue(is_day(words.get("day", "20000101")), line)
+            assert is_concept_id(words.get("code", "138875005")), line
+            assert is_concept_id(words.get("refset", "138875005")), line
+            assert is_day(words.get("day", "20000101")), line
         # Each kind of question was among them, so the tests before these were run.
         for one in LINES:
-            self.assertTrue(any(map(one.fullmatch, lines)), one.pattern)
+            assert any(map(one.fullmatch, lines)), one.pattern

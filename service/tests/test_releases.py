@@ -1,6 +1,5 @@
 """The comparison with a release's own files."""
 
-import unittest
 
 from .compare_releases import compared
 from .house import program_and_hub
@@ -26,15 +25,15 @@ PACKAGE_AT_LEAST = {
 }
 
 
-class Releases(unittest.TestCase):
+class TestReleases:
     def test_answers_are_those_of_the_packages_files(self) -> None:
         counts = compared(*program_and_hub(), ROWS, DAYS, SEED, is_package=True)
         for what, least in PACKAGE_AT_LEAST.items():
-            self.assertGreaterEqual(counts[what], least, counts)
+            assert counts[what] >= least, counts
 
     def test_answers_are_those_of_the_files(self) -> None:
         counts = compared(*program_and_hub(), ROWS, DAYS, SEED)
         for what, least in AT_LEAST.items():
-            self.assertGreaterEqual(counts[what], least, counts)
+            assert counts[what] >= least, counts
         subsumptions = [count for what, count in counts.items() if what.startswith("$subsumes")]
-        self.assertGreaterEqual(sum(subsumptions), SUBSUMPTIONS)
+        assert sum(subsumptions) >= SUBSUMPTIONS

@@ -8,22 +8,21 @@ import io
 import json
 import re
 import tempfile
-import unittest
 
+import pytest
 from sctd_service.gateway import http, limits
 from sctd_service.gateway.app import App
 from sctd_service.gateway.fhir.versions import Edition
 from sctd_service.gateway.pool import Pool
 
-from .house import EDITION, FHIR_JSON, POST, SCT, Shared, issue, told
+from .asked import Asked
+from .house import EDITION, FHIR_JSON, POST, SCT, issue, told
 
 LOOKUP = "/fhir/CodeSystem/$lookup"
 GET = b"GET /health HTTP/1.1\r\nHost: x\r\n"
 GET_PAGE = http.Request("GET", "/", {}, b"", lambda: False)
 CHUNKED = GET + b"Transfer-Encoding: chunked\r\n\r\n"
-CODING = (
-    b'{"name":"coding","valueCoding":{"system":"http://snomed.info/sct","code":"138875005"%s}'
-)
+CODING = b'{"name":"coding","valueCoding":{"system":"http://snomed.info/sct","code":"138875005"%s}'
 PARAMETERS = json.dumps(
     {
         "resourceType": "Parameters",
@@ -111,8 +110,11 @@ class Faulty(App):
         raise ValueError("a fault")
 
 
-class Turns(unittest.IsolatedAsyncioTestCase):
-    async def test_a_client_between_many_requests_of_another(self) -> None:
+class TestTurns:
+    def test_a_client_between_many_requests_of_another(self) -> None:
+        asyncio.run(self.beside_many())
+
+    async def beside_many(self) -> None:
         count, answered = 1000, []
 
         async def answer(request: http.Request) -> http.Response:
@@ -128,16 +130,19 @@ class Turns(unittest.IsolatedAsyncioTestCase):
                 await many[0].readuntil(b"\r\n\r\n")
                 other[1].write(b"GET /other HTTP/1.1\r\nHost: x\r\n\r\n")
                 await other[0].readuntil(b"\r\n\r\n")
-                self.assertLess(answered.index("/other"), count // 2)
+                assert answered.index("/other") < count // 2
                 await server.stop()
                 for _, writer in (many, other):
                     writer.close()
 
-    async def test_a_client_that_leaves_while_it_waits(self) -> None:
+    def test_a_client_that_leaves_while_it_waits(self) -> None:
+        asyncio.run(self.left())
+
+    async def left(self) -> None:
         app = App(Pool("/nowhere"), Edition(EDITION))
         # Where nothing has to be waited for, who sends no more is answered.
         ended = GET_PAGE._replace(has_left=lambda: True)
-        self.assertEqual((await app.answer(ended)).status, 503)
+        assert (await app.answer(ended)).status == 503
         for _ in range(limits.WALKS):
             await app.walks.acquire()
         left, stays = (
@@ -146,49 +151,51 @@ class Turns(unittest.IsolatedAsyncioTestCase):
         )
         await asyncio.sleep(0.1)
         app.walks.release()
-        with self.assertRaises(http.Left):
+        with pytest.raises(http.Left):
             await left
-        self.assertEqual((await stays).status, 503)
+        assert (await stays).status == 503
 
-    async def test_a_log_that_is_full(self) -> None:
+    def test_a_log_that_is_full(self) -> None:
         """What can't be logged is answered nevertheless."""
+        asyncio.run(self.answered_without_a_log())
+
+    async def answered_without_a_log(self) -> None:
         app = Faulty(Pool("/nowhere"), Edition(EDITION))
         with contextlib.redirect_stderr(NoRoom()):
             answer = await app.answer(GET_PAGE)
             http.log(GET_PAGE, answer, 0.0)
-        self.assertEqual(answer.status, 500)
+        assert answer.status == 500
         with contextlib.redirect_stderr(io.StringIO()) as told:
             await app.answer(GET_PAGE)
-        self.assertIn("ValueError: a fault", told.getvalue())
+        assert "ValueError: a fault" in told.getvalue()
 
 
-class Requests(unittest.TestCase):
-    def setUp(self) -> None:
-        self.gateway = Shared.get().gateway
-
-    def test_unknown_parameters(self) -> None:
-        for one in ("verison", "system-version", "<b>", "x" * 3000, "_summary", "Code"):
-            status, said = self.gateway.fhir(
-                "CodeSystem/$lookup", system=SCT, code="138875005", **{one: "1"}
-            )
-            self.assertEqual((status, issue(said)), (400, "not-supported"), one)
+class TestRequests(Asked):
+    @pytest.mark.parametrize(
+        "one", ("verison", "system-version", "<b>", "x" * 3000, "_summary", "Code")
+    )
+    def test_unknown_parameters(self, one: str) -> None:
+        status, said = self.gateway.fhir(
+            "CodeSystem/$lookup", system=SCT, code="138875005", **{one: "1"}
+        )
+        assert (status, issue(said)) == (400, "not-supported"), one
 
     def test_twice(self) -> None:
         status, _ = self.gateway.fhir(
             "CodeSystem/$lookup", system=SCT, code=["138875005", "138875005"]
         )
-        self.assertEqual(status, 400)
+        assert status == 400
 
     def test_too_many_parameters(self) -> None:
         answer = self.gateway.send(
             "GET", LOOKUP + "?" + "&".join("property=a%d" % n for n in range(61))
         )
-        self.assertEqual(answer.status, 400)
+        assert answer.status == 400
         part = {"name": "property", "valueString": "a"}
-        self.assertEqual(self.gateway.posted("CodeSystem/$lookup", *[part] * 61)[0], 400)
+        assert self.gateway.posted("CodeSystem/$lookup", *[part] * 61)[0] == 400
 
     def test_query_that_is_not_utf_8(self) -> None:
-        self.assertEqual(self.gateway.send("GET", LOOKUP + "?code=%ff").status, 400)
+        assert self.gateway.send("GET", LOOKUP + "?code=%ff").status == 400
 
     def test_paths(self) -> None:
         for path in (
@@ -200,7 +207,7 @@ class Requests(unittest.TestCase):
             "ValueSet",
             "CodeSystem/other",
         ):
-            self.assertEqual(self.gateway.fhir(path)[0], 404, path)
+            assert self.gateway.fhir(path)[0] == 404, path
         for target in (
             "/nothing",
             "//",
@@ -216,25 +223,25 @@ class Requests(unittest.TestCase):
             "/%70in/1/health",
             "/fhir%2Fmetadata",
         ):
-            self.assertEqual(self.gateway.send("GET", target).status, 404, target)
+            assert self.gateway.send("GET", target).status == 404, target
 
-    def test_addresses_with_a_host(self) -> None:
+    @pytest.mark.parametrize(
+        "address", (b"http://x/pin/1/health", b"HTTPS://user@x:80/pin/1/health")
+    )
+    def test_addresses_with_a_host(self, address: bytes) -> None:
         """What stands before the path is passed over, as HTTP has it."""
-        for address in (b"http://x/pin/1/health", b"HTTPS://user@x:80/pin/1/health"):
-            end = b" HTTP/1.1\r\nHost: x\r\nConnection: close\r\n\r\n"
-            got = self.gateway.raw(b"GET " + address + end)
-            self.assertTrue(got.startswith(b"HTTP/1.1 200 "), got[:40])
-            self.assertIn(b'"pin":1,', got)
+        end = b" HTTP/1.1\r\nHost: x\r\nConnection: close\r\n\r\n"
+        got = self.gateway.raw(b"GET " + address + end)
+        assert got.startswith(b"HTTP/1.1 200 "), got[:40]
+        assert b'"pin":1,' in got
 
     def test_methods(self) -> None:
         for method in ("PUT", "DELETE", "PATCH", "OPTIONS", "TRACE", "BREW"):
             answer = self.gateway.send(method, "/fhir/metadata", headers={"Content-Length": "0"})
-            self.assertEqual(
-                (answer.status, answer.headers["allow"]), (405, "GET, HEAD, POST"), method
-            )
+            assert (answer.status, answer.headers["allow"]) == (405, "GET, HEAD, POST"), method
         for target in ("/fhir/metadata", "/", "/health", "/page.css"):
             answer = self.gateway.send("POST", target, b"{}")
-            self.assertEqual((answer.status, answer.headers["allow"]), (405, "GET, HEAD"), target)
+            assert (answer.status, answer.headers["allow"]) == (405, "GET, HEAD"), target
 
     def test_formats(self) -> None:
         for kind, status in (
@@ -247,8 +254,9 @@ class Requests(unittest.TestCase):
             ("text/html, */*;q=0.000", 406),
             ("application/fhir+json;q=0.001", 200),
         ):
-            self.assertEqual(
-                self.gateway.send("GET", "/fhir/metadata", headers={"Accept": kind}).status, status
+            assert (
+                self.gateway.send("GET", "/fhir/metadata", headers={"Accept": kind}).status
+                == status
             )
         for kind, status in (
             ("xml", 406),
@@ -257,10 +265,10 @@ class Requests(unittest.TestCase):
             ("application/fhir json", 200),
             ("json", 200),
         ):
-            self.assertEqual(self.gateway.fhir("metadata", _format=kind)[0], status, kind)
+            assert self.gateway.fhir("metadata", _format=kind)[0] == status, kind
         answer = self.gateway.send("GET", "/fhir/metadata?_format=xml")
-        self.assertEqual(issue(answer.json()), "not-supported")
-        self.assertEqual(self.gateway.fhir("metadata", _format=["json", "xml"])[0], 400)
+        assert issue(answer.json()) == "not-supported"
+        assert self.gateway.fhir("metadata", _format=["json", "xml"])[0] == 400
 
     def test_bodies(self) -> None:
         head = b'{"resourceType":"Parameters","parameter":['
@@ -300,7 +308,7 @@ class Requests(unittest.TestCase):
             (PARAMETERS, 200),
         ):
             answer = self.gateway.send("POST", LOOKUP, body, {"Content-Type": FHIR_JSON})
-            self.assertEqual(answer.status, status, body[:80])
+            assert answer.status == status, body[:80]
 
     def test_kinds_of_bodies(self) -> None:
         for kind, status in (
@@ -311,31 +319,31 @@ class Requests(unittest.TestCase):
             ("Application/FHIR+JSON", 200),
         ):
             answer = self.gateway.send("POST", LOOKUP, PARAMETERS, {"Content-Type": kind})
-            self.assertEqual(answer.status, status, kind)
+            assert answer.status == status, kind
         packed = {"Content-Type": FHIR_JSON, "Content-Encoding": "gzip"}
-        self.assertEqual(self.gateway.send("POST", LOOKUP, PARAMETERS, packed).status, 415)
+        assert self.gateway.send("POST", LOOKUP, PARAMETERS, packed).status == 415
 
     def test_body_of_a_megabyte(self) -> None:
         answer = self.gateway.send(
             "POST", LOOKUP, b" " * (1 << 20), {"Content-Type": "application/json"}
         )
-        self.assertEqual((answer.status, issue(answer.json())), (413, "too-long"))
-        self.assertEqual(self.gateway.send("GET", "/health").status, 200)
+        assert (answer.status, issue(answer.json())) == (413, "too-long")
+        assert self.gateway.send("GET", "/health").status == 200
 
-    def test_heads(self) -> None:
-        for data, status in HEADS + ENDS:
-            with self.subTest(data=data[:90]):
-                self.refused(data, status)
+    @pytest.mark.parametrize("data, status", HEADS + ENDS)
+    def test_heads(self, data: bytes, status: int) -> None:
+        self.refused(data, status)
 
     def refused(self, data: bytes, status: int) -> None:
         """The request is refused once, and the connection ends."""
         got = self.gateway.raw(data)
-        self.assertEqual(got.split(b" ")[1:2], [b"%d" % status])
-        self.assertIn(b"Connection: close", got)
-        self.assertEqual(got.count(b"\r\nContent-Type: "), 1)
+        assert got.split(b" ")[1:2] == [b"%d" % status]
+        assert b"Connection: close" in got
+        assert got.count(b"\r\nContent-Type: ") == 1
 
-    def test_chunks_that_are_refused(self) -> None:
-        for body, status in (
+    @pytest.mark.parametrize(
+        "body, status",
+        (
             (b"-1\r\n\r\n", 400),
             (b"\r\n\r\n", 400),
             (b"g\r\n\r\n", 400),
@@ -347,9 +355,10 @@ class Requests(unittest.TestCase):
             (b"fffffffffffffffffffffff\r\n\r\n", 400),
             (b"1\r\na\r\n" * 1001 + b"0\r\n\r\n", 413),
             (b"10001\r\n" + b"a" * 0x10001 + b"\r\n0\r\n\r\n", 413),
-        ):
-            with self.subTest(body=body[:90]):
-                self.refused(CHUNKED + body, status)
+        ),
+    )
+    def test_chunks_that_are_refused(self, body: bytes, status: int) -> None:
+        self.refused(CHUNKED + body, status)
 
     def test_chunks(self) -> None:
         parts = b"".join(
@@ -357,24 +366,23 @@ class Requests(unittest.TestCase):
             for at in range(0, len(PARAMETERS), 50)
         )
         got = self.gateway.raw(
-            POST + b"Transfer-Encoding: chunked\r\n\r\n"
+            POST
+            + b"Transfer-Encoding: chunked\r\n\r\n"
             + parts
             + b"0\r\n\r\n"
             + GET
             + b"Connection: close\r\n\r\n"
         )
-        self.assertEqual(got.count(b"HTTP/1.1 200"), 2)
+        assert got.count(b"HTTP/1.1 200") == 2
 
     def test_two_requests_at_once_on_one_connection(self) -> None:
         got = self.gateway.raw(GET + b"\r\n" + GET + b"Connection: close\r\n\r\n")
-        self.assertEqual(got.count(b"HTTP/1.1 200"), 2)
+        assert got.count(b"HTTP/1.1 200") == 2
 
     def test_body_and_the_next_request_in_one_piece(self) -> None:
-        post = (
-            POST + b"Content-Length: %d\r\n\r\n" % len(PARAMETERS)
-        ) + PARAMETERS
+        post = (POST + b"Content-Length: %d\r\n\r\n" % len(PARAMETERS)) + PARAMETERS
         got = self.gateway.raw(post + post + GET + b"Connection: close\r\n\r\n")
-        self.assertEqual(got.count(b"HTTP/1.1 200"), 3)
+        assert got.count(b"HTTP/1.1 200") == 3
 
     def test_a_request_letter_by_letter(self) -> None:
         data = GET + b"Connection: close\r\nContent-Length: 3\r\n\r\nabc"
@@ -384,40 +392,42 @@ class Requests(unittest.TestCase):
             got = b""
             while part := connection.recv(1 << 16):
                 got += part
-        self.assertTrue(got.startswith(b"HTTP/1.1 200 OK\r\n"), got)
+        assert got.startswith(b"HTTP/1.1 200 OK\r\n"), got
 
     def test_another_protocol_is_passed_over(self) -> None:
         upgrade = (
             GET + b"Connection: Upgrade, HTTP2-Settings\r\nUpgrade: h2c\r\nHTTP2-Settings: \r\n\r\n"
         )
         got = self.gateway.raw(upgrade + GET + b"Connection: close\r\n\r\n")
-        self.assertEqual(got.count(b"HTTP/1.1 200"), 2)
+        assert got.count(b"HTTP/1.1 200") == 2
 
     def test_http_1_0(self) -> None:
         got = self.gateway.raw(b"GET /health HTTP/1.0\r\n\r\n")
-        self.assertTrue(got.startswith(b"HTTP/1.1 200 OK\r\n") and b"Connection: close" in got, got)
+        assert got.startswith(b"HTTP/1.1 200 OK\r\n") and b"Connection: close" in got, got
 
     def test_head(self) -> None:
         got = self.gateway.raw(b"HEAD /health HTTP/1.1\r\nHost: x\r\nConnection: close\r\n\r\n")
-        self.assertTrue(got.startswith(b"HTTP/1.1 200") and got.endswith(b"\r\n\r\n"), got)
-        self.assertNotIn(b"Content-Length: 0", got)
+        assert got.startswith(b"HTTP/1.1 200") and got.endswith(b"\r\n\r\n"), got
+        assert b"Content-Length: 0" not in got
         # A refusal of the request itself has no body either.
         got = self.gateway.raw(b"HEAD /health HTTP/1.1\r\nHost: x\r\nContent-Length: 99999\r\n\r\n")
-        self.assertTrue(got.startswith(b"HTTP/1.1 413 ") and got.endswith(b"\r\n\r\n"), got)
+        assert got.startswith(b"HTTP/1.1 413 ") and got.endswith(b"\r\n\r\n"), got
 
     def test_expect_100(self) -> None:
         head = (
-            POST + b"Expect: 100-continue\r\nConnection: close\r\nContent-Length: %d\r\n\r\n"
+            POST
+            + b"Expect: 100-continue\r\nConnection: close\r\nContent-Length: %d\r\n\r\n"
             % len(PARAMETERS)
         )
         with self.gateway.connect() as connection:
             connection.sendall(head)
-            self.assertEqual(connection.recv(1 << 16), b"HTTP/1.1 100 Continue\r\n\r\n")
+            assert connection.recv(1 << 16) == b"HTTP/1.1 100 Continue\r\n\r\n"
             connection.sendall(PARAMETERS)
-            self.assertTrue(connection.recv(1 << 16).startswith(b"HTTP/1.1 200 OK\r\n"))
+            assert connection.recv(1 << 16).startswith(b"HTTP/1.1 200 OK\r\n")
 
-    def test_safe_headers(self) -> None:
-        for target in (
+    @pytest.mark.parametrize(
+        "target",
+        (
             "/",
             "/fhir/metadata",
             "/page.js",
@@ -425,39 +435,43 @@ class Requests(unittest.TestCase):
             "/nothing",
             "/health",
             "/fhir/x",
-        ):
-            headers = self.gateway.send("GET", target).headers
-            self.assertIn("default-src 'none'", headers["content-security-policy"])
-            self.assertNotIn("unsafe", headers["content-security-policy"])
-            self.assertEqual(headers["x-content-type-options"], "nosniff")
-            lasting = "no-cache" if target == "/fhir/metadata" else "no-store"
-            self.assertEqual(headers["cache-control"], "private, " + lasting)
+        ),
+    )
+    def test_safe_headers(self, target: str) -> None:
+        headers = self.gateway.send("GET", target).headers
+        assert "default-src 'none'" in headers["content-security-policy"]
+        assert "unsafe" not in headers["content-security-policy"]
+        assert headers["x-content-type-options"] == "nosniff"
+        lasting = "no-cache" if target == "/fhir/metadata" else "no-store"
+        assert headers["cache-control"] == "private, " + lasting
 
-    def test_each_answer_has_its_date(self) -> None:
-        for request, status in (
+    @pytest.mark.parametrize(
+        "sent, status",
+        (
             (GET + b"Connection: close\r\n\r\n", 200),
             (b"GET /nothing HTTP/1.0\r\n\r\n", 404),
             (b"POST /health HTTP/1.0\r\nContent-Length: 0\r\n\r\n", 405),
             (b"nonsense\r\n\r\n", 400),
             (GET + b"A: " + b"b" * 20_000 + b"\r\n\r\n", 431),
-        ):
-            head = self.gateway.raw(request).partition(b"\r\n\r\n")[0].decode()
-            dates = re.findall(r"^Date: (.*)\r$", head, re.M)
-            self.assertEqual((head.split(" ")[1], len(dates)), (str(status), 1), head)
-            # As RFC 9110 has it: `Sun, 06 Nov 1994 08:49:37 GMT`.
-            made = datetime.datetime.strptime(dates[0], "%a, %d %b %Y %H:%M:%S GMT")
-            now = datetime.datetime.now(datetime.timezone.utc).replace(tzinfo=None)
-            self.assertLess(abs((now - made).total_seconds()), LATE_SECONDS)
+        ),
+    )
+    def test_each_answer_has_its_date(self, sent: bytes, status: int) -> None:
+        head = self.gateway.raw(sent).partition(b"\r\n\r\n")[0].decode()
+        dates = re.findall(r"^Date: (.*)\r$", head, re.M)
+        assert (head.split(" ")[1], len(dates)) == (str(status), 1), head
+        # As RFC 9110 has it: `Sun, 06 Nov 1994 08:49:37 GMT`.
+        made = datetime.datetime.strptime(dates[0], "%a, %d %b %Y %H:%M:%S GMT")
+        now = datetime.datetime.now(datetime.timezone.utc).replace(tzinfo=None)
+        assert abs((now - made).total_seconds()) < LATE_SECONDS
 
     def test_head_is_answered_like_get(self) -> None:
         get, head = (self.gateway.send(method, "/fhir/metadata") for method in ("GET", "HEAD"))
-        self.assertEqual(
-            (head.status, head.headers["content-length"], head.body), (200, str(len(get.body)), b"")
+        assert (head.status, head.headers["content-length"], head.body) == (
+            200,
+            str(len(get.body)),
+            b"",
         )
-        self.assertEqual(
-            told(
-                self.gateway.posted("CodeSystem/$lookup", *json.loads(PARAMETERS)["parameter"])[1],
-                "name",
-            ),
-            ["SNOMED CT"],
-        )
+        assert told(
+            self.gateway.posted("CodeSystem/$lookup", *json.loads(PARAMETERS)["parameter"])[1],
+            "name",
+        ) == ["SNOMED CT"]

@@ -5,9 +5,9 @@ import socket
 import tempfile
 import threading
 import time
-import unittest
 from pathlib import Path
 
+import pytest
 from sctd_service.gateway import limits
 
 from .house import Gateway, issue, together
@@ -73,28 +73,28 @@ class FalseHub:
             one.close()
 
 
-class SilentHub(unittest.TestCase):
+class TestSilentHub:
     def test_each_is_told_in_time(self) -> None:
         for found in together(len(CASES) + len(WATCH_CASES), self.one):
-            self.assertEqual(found, "")
+            assert found == ""
 
-    def test_health_of_a_hub_that_hangs(self) -> None:
+    @pytest.mark.parametrize("imports", (b"", b"OK 1\n"))
+    def test_health_of_a_hub_that_hangs(self, imports: bytes) -> None:
         """It is told as JSON in time, and that the gateway runs at once."""
-        for imports in (b"", b"OK 1\n"):
-            with tempfile.TemporaryDirectory() as folder:
-                hub = FalseHub(folder + "/hub", b"", imports)
-                gateway = Gateway(folder + "/hub", Path(folder))
-                try:
-                    began = time.monotonic()
-                    live = gateway.send("GET", "/live")
-                    self.assertEqual((live.status, live.json()), (200, {"live": True}))
-                    self.assertLess(time.monotonic() - began, limits.HEALTH_SECONDS)
-                    health = gateway.send("GET", "/health")
-                    self.assertEqual((health.status, [*health.json()]), (503, ["problem"]))
-                    self.assertLess(time.monotonic() - began, 2 * limits.HEALTH_SECONDS)
-                finally:
-                    gateway.stop()
-                    hub.stop()
+        with tempfile.TemporaryDirectory() as folder:
+            hub = FalseHub(folder + "/hub", b"", imports)
+            gateway = Gateway(folder + "/hub", Path(folder))
+            try:
+                began = time.monotonic()
+                live = gateway.send("GET", "/live")
+                assert (live.status, live.json()) == (200, {"live": True})
+                assert time.monotonic() - began < limits.HEALTH_SECONDS
+                health = gateway.send("GET", "/health")
+                assert (health.status, [*health.json()]) == (503, ["problem"])
+                assert time.monotonic() - began < 2 * limits.HEALTH_SECONDS
+            finally:
+                gateway.stop()
+                hub.stop()
 
     def test_rows_without_end(self) -> None:
         """A hub that says more than an answer may be made of costs that answer alone."""
@@ -104,9 +104,9 @@ class SilentHub(unittest.TestCase):
             gateway = Gateway(folder + "/hub", Path(folder))
             try:
                 answer = gateway.send("GET", "/fhir/metadata")
-                self.assertEqual((answer.status, issue(answer.json())), (422, "too-costly"))
-                self.assertEqual(gateway.send("GET", "/page.css").status, 200)
-                self.assertEqual(gateway.told(), "")
+                assert (answer.status, issue(answer.json())) == (422, "too-costly")
+                assert gateway.send("GET", "/page.css").status == 200
+                assert gateway.told() == ""
             finally:
                 gateway.stop()
                 hub.stop()

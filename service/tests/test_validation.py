@@ -1,24 +1,21 @@
 """$validate-code of the code system and of value sets, and $subsumes."""
 
-import unittest
 from typing import Any
 
+import pytest
 from sctd_service.gateway import limits
 
-from .house import SCT, Json, Shared, issue, told, version
+from .asked import Asked
+from .house import SCT, Json, issue, told, version
 
 
-class Validate(unittest.TestCase):
-    def setUp(self) -> None:
-        self.house = Shared.get()
-        self.codes = self.house.codes
-
+class TestValidate(Asked):
     def code(self, code: str, **words: Any) -> Json:
         code = self.codes.get(code, code)
         status, said = self.house.gateway.fhir(
             "CodeSystem/$validate-code", url=SCT, code=code, **words
         )
-        self.assertEqual(status, 200, said)
+        assert status == 200, said
         return said
 
     def member(self, top: str, code: str, **words: Any) -> Json:
@@ -36,26 +33,26 @@ class Validate(unittest.TestCase):
 
     def test_code(self) -> None:
         said = self.code("wrist")
-        self.assertEqual((told(said, "result"), told(said, "inactive")), ([True], [True]))
-        self.assertEqual(told(self.code("1105008"), "result"), [False])
-        self.assertEqual(told(self.code("wrist", date="2014-01-01"), "result"), [False])
+        assert (told(said, "result"), told(said, "inactive")) == ([True], [True])
+        assert told(self.code("1105008"), "result") == [False]
+        assert told(self.code("wrist", date="2014-01-01"), "result") == [False]
 
-    def test_display_then_and_now(self) -> None:
-        for day, valid in (("20170101", True), ("20180101", False)):
-            said = self.code("wrist", display="Broken wrist", version=version(day))
-            self.assertEqual(told(said, "result"), [valid], day)
+    @pytest.mark.parametrize("day, valid", (("20170101", True), ("20180101", False)))
+    def test_display_then_and_now(self, day: str, valid: bool) -> None:
+        said = self.code("wrist", display="Broken wrist", version=version(day))
+        assert told(said, "result") == [valid], day
 
     def test_display_ignores_case_where_the_term_does(self) -> None:
-        self.assertEqual(told(self.code("wrist", display="WRIST fracture"), "result"), [True])
+        assert told(self.code("wrist", display="WRIST fracture"), "result") == [True]
 
-    def test_display_of_a_language(self) -> None:
-        for language, valid in (("de", True), ("en", False)):
-            said = self.code("wrist", display="Handgelenksfraktur", displayLanguage=language)
-            self.assertEqual(told(said, "result"), [valid], language)
+    @pytest.mark.parametrize("language, valid", (("de", True), ("en", False)))
+    def test_display_of_a_language(self, language: str, valid: bool) -> None:
+        said = self.code("wrist", display="Handgelenksfraktur", displayLanguage=language)
+        assert told(said, "result") == [valid], language
 
     def test_display_without_a_code(self) -> None:
         status, _ = self.house.gateway.fhir("CodeSystem/$validate-code", url=SCT, display="x")
-        self.assertEqual(status, 400)
+        assert status == 400
 
     def test_concept_with_several_codings(self) -> None:
         limb, unknown = {"system": SCT, "code": self.codes["limb"]}, {"system": SCT, "code": "999"}
@@ -69,38 +66,41 @@ class Validate(unittest.TestCase):
             ((unknown, other), False),
         ):
             status, said = self.concept(*codings)
-            self.assertEqual((status, told(said, "result")), (200, [valid]), codings)
+            assert (status, told(said, "result")) == (200, [valid]), codings
 
     def test_concept_with_a_version_of_another_code_system(self) -> None:
         limb = {"system": SCT, "code": self.codes["limb"]}
         other = {"system": "http://hl7.org/fhir/sid/icd-10", "code": "S52", "version": "2019"}
         for codings, valid in (((other, limb), True), ((limb, other), True), ((other,), False)):
             status, said = self.concept(*codings)
-            self.assertEqual((status, told(said, "result")), (200, [valid]), codings)
+            assert (status, told(said, "result")) == (200, [valid]), codings
 
     def test_concept_without_codings(self) -> None:
-        self.assertEqual(self.concept()[0], 400)
+        assert self.concept()[0] == 400
 
     def test_concept_with_many_codings(self) -> None:
         unknown = {"system": SCT, "code": "999"}
         for count, status in ((limits.CODINGS, 200), (limits.CODINGS + 1, 400)):
-            self.assertEqual(self.concept(*[unknown] * count)[0], status, count)
+            assert self.concept(*[unknown] * count)[0] == status, count
 
     def test_other_code_system(self) -> None:
         status, _ = self.house.gateway.fhir(
             "CodeSystem/$validate-code", url="http://loinc.org", code="1-8"
         )
-        self.assertEqual(status, 404)
+        assert status == 404
 
-    def test_member_by_date(self) -> None:
-        for day, valid in (
+    @pytest.mark.parametrize(
+        "day, valid",
+        (
             ("20190130", False),
             ("20190131", True),
             ("20210130", True),
             ("20210131", False),
-        ):
-            said = self.member("limb", "wrist", systemVersion=version(day))
-            self.assertEqual(told(said, "result"), [valid], day)
+        ),
+    )
+    def test_member_by_date(self, day: str, valid: bool) -> None:
+        said = self.member("limb", "wrist", systemVersion=version(day))
+        assert told(said, "result") == [valid], day
 
     def test_member_of_another_code_system(self) -> None:
         """It isn't in the value set, however it is named."""
@@ -111,8 +111,8 @@ class Validate(unittest.TestCase):
             self.house.gateway.fhir(path, url=url, **other),
             self.house.gateway.posted(path, *parts),
         ):
-            self.assertEqual((status, told(said, "result")), (200, [False]), said)
-            self.assertEqual(told(said, "message"), ["no code is one of " + SCT])
+            assert (status, told(said, "result")) == (200, [False]), said
+            assert told(said, "message") == ["no code is one of " + SCT]
 
     def test_member_of_the_reference_sets(self) -> None:
         """Of which this store has none."""
@@ -123,30 +123,24 @@ class Validate(unittest.TestCase):
                 system=SCT,
                 code=self.codes["wrist"],
             )
-            self.assertEqual((status, issue(said)), (422, "not-supported"), what)
+            assert (status, issue(said)) == (422, "not-supported"), what
 
     def test_member_of_its_own(self) -> None:
-        self.assertEqual(told(self.member("limb", "limb"), "result"), [True])
+        assert told(self.member("limb", "limb"), "result") == [True]
 
     def test_member_of_what_is_not_there(self) -> None:
         said = self.member("radius", "wrist", systemVersion=version("20190131"))
-        self.assertEqual(said["resourceType"], "OperationOutcome")
+        assert said["resourceType"] == "OperationOutcome"
 
     def test_member_of_the_version_of_the_value_set(self) -> None:
         url = "%s?fhir_vs=isa/%s" % (version("20190131"), self.codes["limb"])
         said = self.house.gateway.fhir(
             "ValueSet/$validate-code", url=url, system=SCT, code=self.codes["wrist"]
         )[1]
-        self.assertEqual(
-            (told(said, "result"), told(said, "version")), ([True], [version("20190131")])
-        )
+        assert (told(said, "result"), told(said, "version")) == ([True], [version("20190131")])
 
 
-class Subsumes(unittest.TestCase):
-    def setUp(self) -> None:
-        self.house = Shared.get()
-        self.codes = self.house.codes
-
+class TestSubsumes(Asked):
     def outcome(self, first: str, second: str, **words: Any) -> list[str]:
         said = self.house.gateway.fhir(
             "CodeSystem/$subsumes",
@@ -157,24 +151,29 @@ class Subsumes(unittest.TestCase):
         )[1]
         return told(said, "outcome")
 
-    def test_outcomes(self) -> None:
-        for first, second, outcome in (
+    @pytest.mark.parametrize(
+        "first, second, outcome",
+        (
             ("finding", "radius2", "subsumes"),
             ("radius2", "finding", "subsumed-by"),
             ("drug", "wrist", "not-subsumed"),
             ("wrist", "wrist", "equivalent"),
-        ):
-            self.assertEqual(self.outcome(first, second), [outcome])
+        ),
+    )
+    def test_outcomes(self, first: str, second: str, outcome: str) -> None:
+        assert self.outcome(first, second) == [outcome]
 
-    def test_by_date(self) -> None:
-        for day, outcome in (("20190130", "not-subsumed"), ("20190131", "subsumes")):
-            self.assertEqual(self.outcome("limb", "wrist", version=version(day)), [outcome])
+    @pytest.mark.parametrize(
+        "day, outcome", (("20190130", "not-subsumed"), ("20190131", "subsumes"))
+    )
+    def test_by_date(self, day: str, outcome: str) -> None:
+        assert self.outcome("limb", "wrist", version=version(day)) == [outcome]
 
     def test_unknown(self) -> None:
         status, _ = self.house.gateway.fhir(
             "CodeSystem/$subsumes", system=SCT, codeA="1", codeB="138875005"
         )
-        self.assertEqual(status, 404)
+        assert status == 404
 
     def test_date_is_no_parameter_of_it(self) -> None:
         status, _ = self.house.gateway.fhir(
@@ -184,7 +183,7 @@ class Subsumes(unittest.TestCase):
             codeB="138875005",
             date="2018-01-01",
         )
-        self.assertEqual(status, 400)
+        assert status == 400
 
     def test_codings_of_different_dates(self) -> None:
         codings = [
@@ -194,4 +193,4 @@ class Subsumes(unittest.TestCase):
             }
             for name, day in (("codingA", "20180101"), ("codingB", "20190101"))
         ]
-        self.assertEqual(self.house.gateway.posted("CodeSystem/$subsumes", *codings)[0], 400)
+        assert self.house.gateway.posted("CodeSystem/$subsumes", *codings)[0] == 400

@@ -1,27 +1,25 @@
 """ValueSet/$expand, and ConceptMap/$translate."""
 
-import unittest
 from typing import Any
 
+import pytest
+
+from .asked import Asked
 from . import demo_releases as demo
-from .house import SCT, Json, Shared, issue, parts_of, told, version
+from .house import SCT, Json, issue, parts_of, told, version
 
 # The days of the rows of the first two releases.
 FIRST_DAYS = ("20150131", "20170731", "20180705", "20180720", "20180731", "20190131")
 SECOND_DAYS = ("20200131", "20200731", "20210131")
 
 
-class Expand(unittest.TestCase):
-    def setUp(self) -> None:
-        self.house = Shared.get()
-        self.codes = self.house.codes
-
+class TestExpand(Asked):
     def ask(self, what: str, **words: Any) -> tuple[int, Json]:
         return self.house.gateway.fhir("ValueSet/$expand", url=SCT + "?fhir_vs" + what, **words)
 
     def expanded(self, what: str = "", **words: Any) -> tuple[list[str], Json]:
         status, said = self.ask(what, **words)
-        self.assertEqual(status, 200, said)
+        assert status == 200, said
         expansion: Json = said["expansion"]
         return [one["code"] for one in expansion.get("contains", [])], expansion
 
@@ -31,66 +29,68 @@ class Expand(unittest.TestCase):
     def test_isa(self) -> None:
         found, said = self.expanded(self.isa("limb"))
         names = ("limb", "radius", "carpal", "radius2")
-        self.assertEqual(found, sorted((self.codes[name] for name in names), key=int))
-        self.assertEqual(said["total"], 4)
+        assert found == sorted((self.codes[name] for name in names), key=int)
+        assert said["total"] == 4
         inactive = [one["code"] for one in said["contains"] if one.get("inactive")]
-        self.assertEqual(inactive, [self.codes["radius"]])
+        assert inactive == [self.codes["radius"]]
 
     def test_isa_in_the_version_of_the_url(self) -> None:
         url = "%s?fhir_vs=isa/%s" % (version("20190131"), self.codes["limb"])
         said = self.house.gateway.fhir("ValueSet/$expand", url=url)[1]["expansion"]
-        self.assertEqual(
-            {one["code"] for one in said["contains"]}, {self.codes["limb"], self.codes["wrist"]}
-        )
-        self.assertIn(
-            {"name": "version", "valueUri": "%s|%s" % (SCT, version("20190131"))}, said["parameter"]
-        )
+        assert {one["code"] for one in said["contains"]} == {
+            self.codes["limb"],
+            self.codes["wrist"],
+        }
+        assert {"name": "version", "valueUri": "%s|%s" % (SCT, version("20190131"))} in said[
+            "parameter"
+        ]
 
     def test_system_version(self) -> None:
         found = self.expanded(self.isa("limb"), system_version=SCT + "|" + version("20180101"))[0]
-        self.assertEqual(found, [self.codes["limb"]])
+        assert found == [self.codes["limb"]]
         for text, status in (
             ("http://loinc.org|2.5", 404),
             (version("20180101"), 400),
             (SCT + "|", 400),
         ):
-            self.assertEqual(self.ask(self.isa("limb"), system_version=text)[0], status, text)
+            assert self.ask(self.isa("limb"), system_version=text)[0] == status, text
 
     def test_active_only_and_pages(self) -> None:
         whole = self.expanded(self.isa("limb"), activeOnly="true")[0]
-        self.assertEqual(len(whole), 3)
+        assert len(whole) == 3
         pages = [
             self.expanded(self.isa("limb"), activeOnly="true", offset=at, count=1)[0]
             for at in range(4)
         ]
-        self.assertEqual(pages, [[one] for one in whole] + [[]])
+        assert pages == [[one] for one in whole] + [[]]
 
     def test_count_0(self) -> None:
         found, said = self.expanded(self.isa("limb"), count=0)
-        self.assertEqual((found, said["total"]), ([], 4))
+        assert (found, said["total"]) == ([], 4)
 
     def test_filter(self) -> None:
         found = self.expanded(self.isa("injury"), filter="FRACTURE of d", activeOnly="true")[0]
-        self.assertEqual(found, [self.codes["radius2"]])
-        self.assertEqual(self.expanded(self.isa("drug"), filter="fracture")[0], [])
-        self.assertEqual(self.expanded("", filter="fracture of wrist j")[0], [self.codes["wrist"]])
+        assert found == [self.codes["radius2"]]
+        assert self.expanded(self.isa("drug"), filter="fracture")[0] == []
+        assert self.expanded("", filter="fracture of wrist j")[0] == [self.codes["wrist"]]
 
     def test_designations(self) -> None:
         said = self.expanded(
             "", filter="handgelenk", includeDesignations="true", displayLanguage="de"
         )[1]
         one = said["contains"][0]
-        self.assertEqual(one["display"], "Handgelenksfraktur")
-        self.assertEqual(
-            {term["value"] for term in one["designation"]},
-            {"Handgelenksfraktur", "Wrist fracture", "Fracture of wrist joint region (disorder)"},
-        )
+        assert one["display"] == "Handgelenksfraktur"
+        assert {term["value"] for term in one["designation"]} == {
+            "Handgelenksfraktur",
+            "Wrist fracture",
+            "Fracture of wrist joint region (disorder)",
+        }
 
     def test_all(self) -> None:
         found, said = self.expanded("", count=5)
-        self.assertEqual((len(found), "total" in said), (5, False))
-        self.assertEqual(self.expanded("", count=5, offset=3)[0][:2], found[3:])
-        self.assertEqual(set(self.expanded("")[0]), set(self.codes.values()))
+        assert (len(found), "total" in said) == (5, False)
+        assert self.expanded("", count=5, offset=3)[0][:2] == found[3:]
+        assert set(self.expanded("")[0]) == set(self.codes.values())
 
     def test_again_at_the_pin(self) -> None:
         url = SCT + "?fhir_vs" + self.isa("limb")
@@ -100,7 +100,7 @@ class Expand(unittest.TestCase):
         ]
         for one in answers:
             del one["expansion"]["timestamp"]
-        self.assertEqual(answers[0], answers[1])
+        assert answers[0] == answers[1]
 
     def test_what_is_refused(self) -> None:
         cases: tuple[tuple[str, dict[str, str], int], ...] = (
@@ -126,24 +126,20 @@ class Expand(unittest.TestCase):
         )
         for what, words, status in cases:
             got, said = self.ask(what, **words)
-            self.assertEqual(
-                (got, said["resourceType"]), (status, "OperationOutcome"), (what, words)
-            )
+            assert (got, said["resourceType"]) == (status, "OperationOutcome"), (what, words)
         fhir = self.house.gateway.fhir
-        self.assertEqual(fhir("ValueSet/$expand", url="http://hl7.org/fhir/ValueSet/x")[0], 404)
-        self.assertEqual(fhir("ValueSet/$expand", url="http://snomed.info/sctx?fhir_vs")[0], 404)
-        self.assertEqual(fhir("ValueSet/$expand")[0], 400)
+        assert fhir("ValueSet/$expand", url="http://hl7.org/fhir/ValueSet/x")[0] == 404
+        assert fhir("ValueSet/$expand", url="http://snomed.info/sctx?fhir_vs")[0] == 404
+        assert fhir("ValueSet/$expand")[0] == 400
 
-    def test_filter_that_no_line_of_the_hub_can_split(self) -> None:
-        for text in ("%", "a b  c", "\u00e9\u4e2d\U0001f600" * 60, "PIN 1", "x" * 200):
-            self.assertEqual(self.ask("", filter=text)[0], 200, text)
+    @pytest.mark.parametrize(
+        "text", ("%", "a b  c", "\u00e9\u4e2d\U0001f600" * 60, "PIN 1", "x" * 200)
+    )
+    def test_filter_that_no_line_of_the_hub_can_split(self, text: str) -> None:
+        assert self.ask("", filter=text)[0] == 200, text
 
 
-class Translate(unittest.TestCase):
-    def setUp(self) -> None:
-        self.house = Shared.get()
-        self.codes = self.house.codes
-
+class TestTranslate(Asked):
     def ask(self, refset: str, code: str = "wrist", **words: Any) -> tuple[int, Json]:
         return self.house.gateway.fhir(
             "ConceptMap/$translate",
@@ -155,46 +151,44 @@ class Translate(unittest.TestCase):
 
     def test_replaced_by(self) -> None:
         found = parts_of(self.ask("900000000000526001")[1], "match")
-        self.assertEqual(
-            [
-                (one["equivalence"], one["concept"]["code"], one["concept"]["display"])
-                for one in found
-            ],
-            [("equivalent", self.codes["radius"], "Fracture of distal end of radius (disorder)")],
-        )
+        assert [
+            (one["equivalence"], one["concept"]["code"], one["concept"]["display"]) for one in found
+        ] == [("equivalent", self.codes["radius"], "Fracture of distal end of radius (disorder)")]
 
     def test_possibly(self) -> None:
         found = parts_of(self.ask("900000000000523009")[1], "match")
-        self.assertEqual(
-            {(one["equivalence"], one["concept"]["code"]) for one in found},
-            {("inexact", self.codes["radius"]), ("inexact", self.codes["carpal"])},
-        )
+        assert {(one["equivalence"], one["concept"]["code"]) for one in found} == {
+            ("inexact", self.codes["radius"]),
+            ("inexact", self.codes["carpal"]),
+        }
 
     def test_same_as(self) -> None:
         found = parts_of(self.ask("900000000000527005", "radius")[1], "match")
-        self.assertEqual(
-            [(one["equivalence"], one["concept"]["code"]) for one in found],
-            [("equal", self.codes["radius2"])],
-        )
+        assert [(one["equivalence"], one["concept"]["code"]) for one in found] == [
+            ("equal", self.codes["radius2"])
+        ]
 
-    def test_what_each_association_says(self) -> None:
-        """As the definitions of the reference sets and of ConceptMapEquivalence have it."""
-        for refset, target, equivalence in (
+    @pytest.mark.parametrize(
+        "refset, target, equivalence",
+        (
             (demo.WAS_A, "injury", "wider"),
             (demo.SIMILAR_TO, "limb", "relatedto"),
             (demo.ALTERNATIVE, "limb", "inexact"),
             (demo.POSSIBLY_REPLACED_BY, "limb", "inexact"),
             (demo.PARTIALLY_EQUIVALENT_TO, "limb", "inexact"),
-        ):
-            said = self.ask(refset, "vague")[1]
-            self.assertEqual(told(said, "result"), [True], refset)
-            self.assertEqual(self.matches(said), [(equivalence, self.codes[target])], refset)
+        ),
+    )
+    def test_what_each_association_says(self, refset: Any, target: str, equivalence: str) -> None:
+        """As the definitions of the reference sets and of ConceptMapEquivalence have it."""
+        said = self.ask(refset, "vague")[1]
+        assert told(said, "result") == [True], refset
+        assert self.matches(said) == [(equivalence, self.codes[target])], refset
 
     def test_a_namespace_is_no_translation(self) -> None:
         said = self.ask(demo.MOVED_TO, "vague")[1]
-        self.assertEqual(told(said, "result"), [False])
-        self.assertIn("namespace", told(said, "message")[0])
-        self.assertEqual(self.matches(said), [("disjoint", self.codes["namespace"])])
+        assert told(said, "result") == [False]
+        assert "namespace" in told(said, "message")[0]
+        assert self.matches(said) == [("disjoint", self.codes["namespace"])]
 
     def matches(self, said: Json) -> list[tuple[str, str]]:
         found = parts_of(said, "match")
@@ -202,28 +196,23 @@ class Translate(unittest.TestCase):
 
     def test_before(self) -> None:
         said = self.ask("900000000000526001", version=version("20210130"))[1]
-        self.assertEqual((told(said, "result"), parts_of(said, "match")), ([False], []))
+        assert (told(said, "result"), parts_of(said, "match")) == ([False], [])
 
     def test_what_is_refused(self) -> None:
-        self.assertEqual(self.ask("900000000000207008")[0], 404)
-        self.assertEqual(self.ask("900000000000526001", reverse="true")[0], 422)
-        self.assertEqual(self.ask("900000000000526001", targetsystem="http://loinc.org")[0], 404)
-        self.assertEqual(self.ask("900000000000526001", date="2010-01-01")[0], 404)
+        assert self.ask("900000000000207008")[0] == 404
+        assert self.ask("900000000000526001", reverse="true")[0] == 422
+        assert self.ask("900000000000526001", targetsystem="http://loinc.org")[0] == 404
+        assert self.ask("900000000000526001", date="2010-01-01")[0] == 404
         status, _ = self.house.gateway.fhir(
             "ConceptMap/$translate", url=SCT, system=SCT, code="138875005"
         )
-        self.assertEqual(status, 404)
+        assert status == 404
 
 
-class Metadata(unittest.TestCase):
-    def setUp(self) -> None:
-        self.house = Shared.get()
-
+class TestMetadata(Asked):
     def test_capability_statement(self) -> None:
         said = self.house.gateway.fhir("metadata")[1]
-        self.assertEqual(
-            (said["resourceType"], said["fhirVersion"]), ("CapabilityStatement", "4.0.1")
-        )
+        assert (said["resourceType"], said["fhirVersion"]) == ("CapabilityStatement", "4.0.1")
         offered = {
             "%s/$%s" % (resource["type"], operation["name"])
             for resource in said["rest"][0]["resource"]
@@ -231,40 +220,36 @@ class Metadata(unittest.TestCase):
         }
         for path in offered:
             status, answer = self.house.gateway.fhir(path)
-            self.assertEqual((status, issue(answer)), (400, "required"), path)
-        self.assertEqual(len(offered), 6)
+            assert (status, issue(answer)) == (400, "required"), path
+        assert len(offered) == 6
 
     def test_terminology_capabilities(self) -> None:
         said = self.house.gateway.fhir("metadata", mode="terminology")[1]
-        self.assertEqual(said["resourceType"], "TerminologyCapabilities")
+        assert said["resourceType"] == "TerminologyCapabilities"
         versions = said["codeSystem"][0]["version"]
-        self.assertEqual(
-            [one["code"] for one in versions],
-            [version(day) for day in (*FIRST_DAYS, *SECOND_DAYS, "20220731")],
-        )
-        self.assertEqual(
-            [one["code"] for one in versions if one["isDefault"]], [version("20220731")]
-        )
-        self.assertIn({"name": "filter"}, said["expansion"]["parameter"])
+        assert [one["code"] for one in versions] == [
+            version(day) for day in (*FIRST_DAYS, *SECOND_DAYS, "20220731")
+        ]
+        assert [one["code"] for one in versions if one["isDefault"]] == [version("20220731")]
+        assert {"name": "filter"} in said["expansion"]["parameter"]
         # (test_display_of_a_language of test_validation.py has a term of German.)
-        self.assertEqual(said["validateCode"], {"translations": True})
+        assert said["validateCode"] == {"translations": True}
         # Neither $closure nor a search of value sets by a code is answered.
-        self.assertEqual(said.keys() & {"closure", "codeSearch"}, set())
+        assert said.keys() & {"closure", "codeSearch"} == set()
         said = self.house.gateway.fhir("metadata", base="/pin/2/fhir/", mode="terminology")[1]
-        self.assertEqual(
-            [one["code"] for one in said["codeSystem"][0]["version"]],
-            [version(day) for day in (*FIRST_DAYS, *SECOND_DAYS)],
-        )
+        assert [one["code"] for one in said["codeSystem"][0]["version"]] == [
+            version(day) for day in (*FIRST_DAYS, *SECOND_DAYS)
+        ]
 
     def test_modes(self) -> None:
         fhir = self.house.gateway.fhir
-        self.assertEqual(fhir("metadata", mode="full")[0], 200)
-        self.assertEqual(fhir("metadata", mode="x")[0], 400)
+        assert fhir("metadata", mode="full")[0] == 200
+        assert fhir("metadata", mode="x")[0] == 400
 
     def test_code_system(self) -> None:
         fhir = self.house.gateway.fhir
-        self.assertEqual(fhir("CodeSystem", url=SCT)[1]["total"], 1)
-        self.assertEqual(fhir("CodeSystem")[1]["entry"][0]["resource"]["url"], SCT)
-        self.assertEqual(fhir("CodeSystem", url="http://loinc.org")[1]["total"], 0)
-        self.assertEqual(fhir("CodeSystem/sct")[1]["content"], "not-present")
-        self.assertEqual(fhir("CodeSystem/sct", "/pin/1/fhir/")[1]["version"], version("20190131"))
+        assert fhir("CodeSystem", url=SCT)[1]["total"] == 1
+        assert fhir("CodeSystem")[1]["entry"][0]["resource"]["url"] == SCT
+        assert fhir("CodeSystem", url="http://loinc.org")[1]["total"] == 0
+        assert fhir("CodeSystem/sct")[1]["content"] == "not-present"
+        assert fhir("CodeSystem/sct", "/pin/1/fhir/")[1]["version"] == version("20190131")

@@ -1,21 +1,21 @@
 """The limits of the times that clients have, each met for real and all at once."""
 
 import time
-import unittest
 
 from sctd_service.gateway import limits
 
-from .house import POST, Shared, close_all
+from .asked import Asked
+from .house import POST, close_all
 
 # How much later than its limit something may end on a busy machine.
 LATE_SECONDS = 6.0
 GET = b"GET /health HTTP/1.1\r\nHost: x\r\n"
 
 
-class Waits(unittest.TestCase):
+class TestWaits(Asked):
     def test_waits(self) -> None:
         """Half a head, half a body, and nothing: each ends in its time and not before."""
-        gateway = Shared.get().gateway
+        gateway = self.gateway
         cases = [
             (GET[:30], limits.HEAD_SECONDS, b"HTTP/1.1 408 "),
             (POST + b"Content-Length: 9\r\n\r\nabc", limits.BODY_SECONDS, b"HTTP/1.1 408 "),
@@ -37,6 +37,6 @@ class Waits(unittest.TestCase):
             while part := client.recv(1 << 16):
                 got += part
             took = time.monotonic() - began
-            self.assertTrue(got.startswith(start) and (start or not got), (data, got))
-            self.assertTrue(seconds - 0.5 < took < seconds + LATE_SECONDS, (data, took))
+            assert got.startswith(start) and (start or not got), (data, got)
+            assert seconds - 0.5 < took < seconds + LATE_SECONDS, (data, took)
         close_all(clients)

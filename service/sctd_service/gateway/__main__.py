@@ -5,8 +5,9 @@
 It asks through a socket of the hub and listens on 127.0.0.1:8080, or where `--listen`
 says. It prints `OK ready` once it does. `--languages` has the SCTIDs of the language reference sets
 whose preferred terms are shown, such as 900000000000509007,900000000000508004, the most wanted
-first; without it fully specified names are. TLS, users and the log of who asked what are those of
-the house's own proxy in front of it.
+first; without it fully specified names are. Options may also stand in the table `[gateway]` of the
+file of `--config`. TLS, users and the log of who asked what are those of the house's own proxy in
+front of it.
 """
 
 import argparse
@@ -15,7 +16,7 @@ import re
 import signal
 import sys
 
-from .. import sockets
+from .. import settings, sockets
 from ..snomed import distinct, is_concept_id
 from . import http, limits
 from .app import App, refused_request
@@ -29,42 +30,25 @@ ORIGIN = re.compile(r"https?://[A-Za-z0-9.\[\]:-]+\Z", re.ASCII)
 
 def options() -> argparse.Namespace:
     words = argparse.ArgumentParser(
-        prog="sctd-gateway", description="sctd as FHIR R4 over HTTP, and a page for people."
-    )
+        prog="sctd-gateway", description="sctd as FHIR R4 over HTTP, and a page for people.")
     words.add_argument("--socket", required=True, help="the hub's socket")
     words.add_argument(
-        "--edition", required=True, help="the module of the edition that the store holds"
-    )
+        "--edition", required=True, help="the module of the edition that the store holds")
     words.add_argument(
-        "--listen", default="127.0.0.1:8080", help="HOST:PORT, or the path of a socket"
-    )
+        "--listen", default="127.0.0.1:8080", help="HOST:PORT, or the path of a socket")
     words.add_argument(
-        "--languages",
-        type=refsets_of,
-        default=(),
-        metavar="SCTID,..",
-        help="the language reference sets whose preferred terms are shown, the most wanted first",
-    )
+        "--languages", type=refsets_of, default=(), metavar="SCTID,..",
+        help="the language reference sets whose preferred terms are shown, the most wanted first")
     words.add_argument(
-        "--map",
-        type=map_of,
-        action="append",
-        default=[],
-        metavar="SCTID=URI",
-        help="the code system to which the simple map of this reference set leads",
-    )
+        "--map", type=map_of, action="append", default=[], metavar="SCTID=URI",
+        help="the code system to which the simple map of this reference set leads")
     words.add_argument(
-        "--cors",
-        type=origin_of,
-        action="append",
-        default=[],
-        metavar="ORIGIN",
-        help="a site whose pages may read answers, such as https://forms.example.org, or *",
-    )
+        "--cors", type=origin_of, action="append", default=[], metavar="ORIGIN",
+        help="a site whose pages may read answers, such as https://forms.example.org, or *")
     words.add_argument(
         "--log", action="store_true", help="a line of each request to standard error"
     )
-    found = words.parse_args()
+    found = settings.parsed(words, "gateway", sys.argv[1:])
     if not is_concept_id(found.edition):
         words.error("the edition is the SCTID of a module, such as 900000000000207008")
     if len(dict(found.map)) < len(found.map):
@@ -104,14 +88,13 @@ async def listening(server: http.Server, place: str) -> asyncio.Server:
         return await asyncio.start_unix_server(server.connected, place, backlog=limits.BACKLOG)
     host, _, port = place.rpartition(":")
     return await asyncio.start_server(
-        server.connected, host.strip("[]"), int(port), backlog=limits.BACKLOG
-    )
+        server.connected, host.strip("[]"), int(port), backlog=limits.BACKLOG)
 
 
 async def serve(found: argparse.Namespace) -> int:
     edition = Edition(found.edition, found.languages, dict(found.map))
     app = App(Pool(found.socket), edition, found.cors)
-    server = http.Server(app.answer, refused_request, log=found.log)
+    server = http.Server(app.answer, refused_request, [app.count, *[http.log] * found.log])
     try:
         listens = await listening(server, found.listen)
     except OSError as error:

@@ -2,48 +2,49 @@
 `/pin/N`, as the first N imports left the store."""
 
 import asyncio
+import contextlib
 import json
 import re
 import traceback
 from collections.abc import AsyncIterator, Awaitable, Sequence
-from contextlib import asynccontextmanager
 from pathlib import Path
 from urllib.parse import parse_qsl, unquote
 
 from .. import VERSION
 from ..logs import tell
-from . import delivery, http, limits, page
+from . import delivery, http, limits, metrics, page
 from .fhir import OPERATIONS, Operation
 from .fhir.inputs import Given, Query, posted
 from .fhir.outputs import dumped, written
 from .fhir.request import Request
 from .fhir.versions import Edition
-from .hub import OUT_OF_MEMORY, HubGone, HubRefused, TooCostly
-from .pool import NoSuchPin, Pool
+from .hub import OUT_OF_MEMORY, HubGone, HubRefused, Reply
+from .pool import Pool
 from .problems import Json, Problem, invalid, missing, not_found, too_costly
 from .store import View
 
 Headers = tuple[tuple[str, str], ...]
 JSON, FHIR, HTML = (
     "%s; charset=utf-8" % kind
-    for kind in ("application/json", "application/fhir+json", "text/html")
-)
+    for kind in ("application/json", "application/fhir+json", "text/html"))
 POLICY = (
     "default-src 'none'; script-src 'self'; style-src 'self'; connect-src 'self'; "
     "img-src data:; form-action 'self'; base-uri 'none'; frame-ancestors 'none'"
 )
 SAFE: Headers = (
-    ("Cache-Control", "private, no-store"),
-    ("Content-Security-Policy", POLICY),
-    ("Cross-Origin-Resource-Policy", "same-origin"),
-    ("Referrer-Policy", "no-referrer"),
-    ("X-Content-Type-Options", "nosniff"),
-)
+    ("Cache-Control", "private, no-store"), ("Content-Security-Policy", POLICY),
+    ("Cross-Origin-Resource-Policy", "same-origin"), ("Referrer-Policy", "no-referrer"),
+    ("X-Content-Type-Options", "nosniff"))
+FOLDER = Path(__file__).parent
 FILES = {"/page.css": "text/css; charset=utf-8", "/page.js": "text/javascript; charset=utf-8"}
 # The pages, and the words that each of them knows.
 PAGES = {"/": page.WORDS, "/suggest": ("text", "date")}
-# What a proxy and a monitor ask: whether the gateway runs, and whether the store can be asked.
-LIVE, HEALTH = "/live", "/health"
+# What a proxy and a monitor ask: whether the gateway runs, whether the store can be asked, and how
+# often what was done.
+LIVE, HEALTH, METRICS = "/live", "/health", "/metrics"
+PATHS = {*FILES, *PAGES, LIVE, HEALTH, METRICS}
+# As what a request is counted that is for none of these, and one that couldn't be read.
+OTHER, UNREAD = "other", "unread"
 READS = ("GET", "HEAD")
 METHODS = (*READS, "POST")
 PATH = re.compile(r"(?:/pin/([0-9]{1,10}))?(/[^?#]*)\Z", re.ASCII | re.DOTALL)
@@ -52,17 +53,10 @@ ENCODED_SLASH = re.compile("%2f", re.I)
 FHIR_PATH = re.compile(r"(/pin/[0-9]+)?/fhir(/|\?|\Z)", re.ASCII)
 FHIR_BASE = "/fhir/"
 # How answers may be asked for, all of which are FHIR's JSON.
-ACCEPTED = {
-    "*/*",
-    "application/*",
-    "json",
-    "text/json",
-    "application/json",
-    "application/fhir+json",
-}
+BODIES = ("application/json", "application/fhir+json")
+ACCEPTED = {"*/*", "application/*", "json", "text/json", *BODIES}
 # What a client says that it doesn't take.
 UNWANTED = re.compile(r";[ \t]*q=0(\.0*)?[ \t]*(;|\Z)", re.I)
-BODIES = ("application/json", "application/fhir+json")
 # What FHIR calls a request that isn't one.
 ISSUES = {
     408: "timeout",
@@ -82,10 +76,10 @@ class App:
 
     def __init__(self, pool: Pool, edition: Edition, origins: Sequence[str] = ()) -> None:
         self.pool, self.edition, self.origins = pool, edition, origins
-        self.walks = asyncio.Semaphore(limits.WALKS)
+        self.walks, self.metrics = asyncio.Semaphore(limits.WALKS), metrics.Metrics()
         self.files = {
-            path: http.Response(200, kind, file_of(path), SAFE) for path, kind in FILES.items()
-        }
+            path: http.Response(200, kind, (FOLDER / path[1:]).read_bytes(), SAFE)
+            for path, kind in FILES.items()}
 
     async def answer(self, request: http.Request) -> http.Response:
         """An answer whatever happens, within the time that there is for one."""
@@ -95,7 +89,7 @@ class App:
         except http.Left:
             raise
         except Exception as error:
-            response = refusal(problem_of(error), is_fhir(request.target))
+            response = refusal(problem_of(error), bool(FHIR_PATH.match(request.target)))
         return await delivery.packed(request, delivery.shared(request, response, self.origins))
 
     async def of_one_pin(self, request: http.Request) -> http.Response:
@@ -121,7 +115,7 @@ class App:
         if path.startswith(FHIR_BASE) or path + "/" == FHIR_BASE:
             given = pairs_of(words)
             return await self.fhir(request, pin, path.removeprefix(FHIR_BASE), given)
-        if path not in self.files and path not in PAGES and path not in (LIVE, HEALTH):
+        if path not in PATHS:
             raise not_found("there is no such page")
         if request.method == "POST":
             raise Problem(405, "not-supported", "a page is asked for by GET", READS)
@@ -131,28 +125,25 @@ class App:
             return http.Response(200, JSON, dumped({"live": True}), SAFE)
         if path == HEALTH:
             return await self.health(pin)
+        if path == METRICS:
+            return await self.monitored()
         return await self.page(request, pin, path, pairs_of(words))
 
-    @asynccontextmanager
-    async def view(
-        self, request: http.Request, pin: int | None, is_walk: bool
-    ) -> AsyncIterator[View]:
+    @contextlib.asynccontextmanager
+    async def view(self, request: http.Request, pin: int | None,
+                   is_walk: bool) -> AsyncIterator[View]:
         """The store as a request sees it. No place is given to a walk whose client has left while
         it waited for one."""
-        if is_walk:
-            waits = self.walks.locked()
-            async with self.walks:
+        async with contextlib.AsyncExitStack() as places:
+            if is_walk:
+                waits = self.walks.locked()
+                await places.enter_async_context(self.walks)
                 if waits and request.has_left():
                     raise http.Left
-                async with self.pool.session(pin) as session:
-                    yield View(session)
-        else:
-            async with self.pool.session(pin) as session:
-                yield View(session)
+            yield View(await places.enter_async_context(self.pool.session(pin)))
 
-    async def fhir(
-        self, request: http.Request, pin: int | None, path: str, given: list[Given]
-    ) -> http.Response:
+    async def fhir(self, request: http.Request, pin: int | None, path: str,
+                   given: list[Given]) -> http.Response:
         operation = OPERATIONS.get(path)
         if operation is None:
             raise Problem(404, "not-supported", "%.80r isn't answered here; see metadata" % path)
@@ -165,7 +156,9 @@ class App:
             asked += posted(request.body)
         query = Query(asked, operation.parameters)
         async with self.view(request, pin, operation.is_walk) as view:
-            tag = None if request.method == "POST" else self.tag_of(request, view)
+            # All that the answer follows from.
+            whence = (VERSION, str(self.edition), view.receipt, str(view.pin), request.target)
+            tag = None if request.method == "POST" else delivery.tag_of(whence)
             if tag and delivery.is_known(request, tag):
                 return http.Response(304, "", b"", delivery.kept(SAFE, tag, pin is not None))
             response = await told_of(view, True, self.operated(operation, view, query))
@@ -174,19 +167,12 @@ class App:
         kept = delivery.kept(response.headers, tag, pin is not None)
         return response._replace(headers=kept)
 
-    def tag_of(self, request: http.Request, view: View) -> str:
-        """What names an answer: all that it follows from."""
-        return delivery.tag_of(
-            (VERSION, str(self.edition), view.receipt, str(view.pin), request.target)
-        )
-
     async def operated(self, operation: Operation, view: View, query: Query) -> http.Response:
         resource = await operation.answer(Request(self.edition, view, query))
         return http.Response(200, FHIR, await written(resource), SAFE)
 
-    async def page(
-        self, request: http.Request, pin: int | None, path: str, given: list[Given]
-    ) -> http.Response:
+    async def page(self, request: http.Request, pin: int | None, path: str,
+                   given: list[Given]) -> http.Response:
         words = dict(given)
         if len(words) < len(given) or not words.keys() <= set(PAGES[path]):
             raise invalid("a word of the address isn't known, or stands twice")
@@ -198,7 +184,7 @@ class App:
         try:
             async with asyncio.timeout(limits.HEALTH_SECONDS), self.pool.opened(pin) as session:
                 view, is_damaged = View(session), await session.is_damaged()
-        except (HubGone, HubRefused, TimeoutError, NoSuchPin) as error:
+        except (HubGone, HubRefused, TimeoutError, Problem) as error:
             problem = problem_of(error)
             return health_of(problem.status, {"problem": problem.text})
         state = {"pin": view.pin, "latest": view.latest}
@@ -206,9 +192,24 @@ class App:
             return health_of(503, {**state, "problem": "the store is damaged"})
         return health_of(200, state)
 
-    async def shown(
-        self, view: View, path: str, words: dict[str, str], is_pinned: bool
-    ) -> http.Response:
+    async def monitored(self) -> http.Response:
+        """What a monitor counts. Of a hub that doesn't answer in time there is nothing."""
+        told: Reply = ()
+        view = None
+        with contextlib.suppress(HubGone, HubRefused, TimeoutError):
+            async with asyncio.timeout(limits.HEALTH_SECONDS):
+                told = await self.pool.asked("METRICS")
+                async with self.pool.opened(None) as session:
+                    view = View(session)
+        return http.Response(200, metrics.KIND, self.metrics.text(view, told), SAFE)
+
+    def count(self, request: http.Request | None, response: http.Response, seconds: float) -> None:
+        """Counts an answer."""
+        operation = operation_of(request.target) if request else UNREAD
+        self.metrics.answered(operation, response.status, seconds)
+
+    async def shown(self, view: View, path: str, words: dict[str, str],
+                    is_pinned: bool) -> http.Response:
         """One of the pages."""
         if path == "/suggest":
             text, date = words.get("text", "").strip(), words.get("date", "")
@@ -220,8 +221,12 @@ class App:
 
 
 def health_of(status: int, state: Json) -> http.Response:
-    retry = (("Retry-After", str(limits.RETRY_SECONDS)),) if status == 503 else ()
-    return http.Response(status, JSON, dumped(state), SAFE + retry)
+    return http.Response(status, JSON, dumped(state), safe(status))
+
+
+def safe(status: int) -> Headers:
+    """The headers of an answer with this status."""
+    return (*SAFE, ("Retry-After", str(limits.RETRY_SECONDS))) if status == 503 else SAFE
 
 
 async def told_of(view: View, fhir: bool, answer: Awaitable[http.Response]) -> http.Response:
@@ -229,20 +234,21 @@ async def told_of(view: View, fhir: bool, answer: Awaitable[http.Response]) -> h
     try:
         response = await answer
         if len(response.body) > limits.ANSWER_BYTES:
-            raise TooCostly(
+            raise too_costly(
                 "the answer would have more than %d bytes: ask for fewer concepts"
                 % limits.ANSWER_BYTES
             )
     except Problem as problem:
         response = refusal(problem, fhir)
-    except TooCostly as error:
-        response = refusal(too_costly(str(error)), fhir)
     pin = (("X-Sctd-Pin", str(view.pin)), ("X-Sctd-Receipt", view.receipt))
     return response._replace(headers=response.headers + pin)
 
 
-def is_fhir(target: str) -> bool:
-    return bool(FHIR_PATH.match(target))
+def operation_of(target: str) -> str:
+    """What a request is counted as: an operation, a page, or one of all others."""
+    found = PATH.match(target.partition("?")[0])
+    path = unquote(found[2]).removeprefix(FHIR_BASE) if found else ""
+    return path if path in OPERATIONS or path in PATHS else OTHER
 
 
 def pairs_of(words: str) -> list[Given]:
@@ -272,19 +278,11 @@ def check_body(request: http.Request) -> None:
         raise missing("the body is missing")
 
 
-def file_of(path: str) -> bytes:
-    return (Path(__file__).parent / path.removeprefix("/")).read_bytes()
-
-
 def problem_of(error: Exception) -> Problem:
     """What a client is told of an error. A fault of the gateway or of `sctd` goes to standard
     error."""
     if isinstance(error, Problem):
         return error
-    if isinstance(error, NoSuchPin):
-        return not_found("there aren't so many imports")
-    if isinstance(error, TooCostly):
-        return too_costly(str(error))
     if isinstance(error, (HubGone, TimeoutError)):
         why = str(error) or "it is busy, perhaps with an import"
         return Problem(503, "transient", "the terminology can't be asked at the moment: %s" % why)
@@ -296,9 +294,7 @@ def problem_of(error: Exception) -> Problem:
 
 
 def refusal(problem: Problem, fhir: bool) -> http.Response:
-    headers = SAFE
-    if problem.status == 503:
-        headers += (("Retry-After", str(limits.RETRY_SECONDS)),)
+    headers = safe(problem.status)
     if problem.methods:
         headers += (("Allow", ", ".join(problem.methods)),)
     if fhir:

@@ -13,8 +13,7 @@ from .http import Request, Response
 Headers = tuple[tuple[str, str], ...]
 # What a client says that it takes or doesn't take.
 PACKED = re.compile(
-    r"(?:^|,)[ \t]*(?:gzip|x-gzip|\*)[ \t]*(?:;[ \t]*q=([0-9.]+)[ \t]*)?(?=,|$)", re.I
-)
+    r"(?:^|,)[ \t]*(?:gzip|x-gzip|\*)[ \t]*(?:;[ \t]*q=([0-9.]+)[ \t]*)?(?=,|$)", re.I)
 # How hard the compressor tries, of nine.
 PACKED_LEVEL = 2
 # An answer below a pin is the same for good.
@@ -77,15 +76,11 @@ def shared(request: Request, response: Response, origins: Sequence[str]) -> Resp
     headers = (*response.headers, ("Vary", "Origin"))
     if origin and (origin in origins or "*" in origins):
         headers = replaced(
-            headers,
-            ("Cross-Origin-Resource-Policy", "cross-origin"),
-            ("Access-Control-Allow-Origin", origin),
-            ("Access-Control-Expose-Headers", PAGES_READ),
-        )
+            headers, ("Cross-Origin-Resource-Policy", "cross-origin"),
+            ("Access-Control-Allow-Origin", origin), ("Access-Control-Expose-Headers", PAGES_READ))
         if request.method == "OPTIONS":
             headers += (
                 ("Access-Control-Allow-Methods", PAGES_METHODS),
                 ("Access-Control-Allow-Headers", PAGES_SEND),
-                ("Access-Control-Max-Age", str(PREFLIGHT_SECONDS)),
-            )
+                ("Access-Control-Max-Age", str(PREFLIGHT_SECONDS)))
     return response._replace(headers=headers)

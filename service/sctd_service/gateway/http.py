@@ -9,7 +9,7 @@ next request has been awaited longest makes room, also where a part of that has 
 import asyncio
 import re
 import time
-from collections.abc import Awaitable, Callable, Iterable
+from collections.abc import Awaitable, Callable, Iterable, Sequence
 from email.utils import formatdate
 from http import HTTPStatus
 from typing import NamedTuple
@@ -33,8 +33,7 @@ TARGET = re.compile(rb"(?:https?://[^/?#\x00-\x20\x7f-\xff]+)?(/[\x21-\x7e]*)\Z"
 HEAD = re.compile(rb"(?:[\x21-\x7e][\t\x20-\x7e]*\r\n)+\r\n\Z")
 # Headers that say where a request ends, or whose it is, and so may stand there once.
 SINGLE = re.compile(
-    rb"^(host|content-length|transfer-encoding|content-type|expect)[ \t]*:", re.I | re.M
-)
+    rb"^(host|content-length|transfer-encoding|content-type|expect)[ \t]*:", re.I | re.M)
 # The length as it came: h11 reads one that is told twice, such as `3, 3`, as told once.
 LENGTH = re.compile(rb"^content-length:[ \t]*[0-9]{1,12}[ \t]*\r$", re.I | re.M)
 
@@ -71,6 +70,8 @@ class Left(Exception):
 
 Answer = Callable[[Request], Awaitable[Response]]
 Refusal = Callable[[int, str], Response]
+# Is told of each answer: to which request, if that could be read, and how long it took.
+Observer = Callable[[Request | None, Response, float], None]
 
 
 def check_head(head: bytes) -> None:
@@ -195,8 +196,7 @@ class Client:
     async def send(self, response: Response, stays: bool, with_body: bool) -> None:
         lines = [
             "HTTP/1.1 %d %s" % (response.status, HTTPStatus(response.status).phrase),
-            "Date: " + formatdate(usegmt=True),
-        ]
+            "Date: " + formatdate(usegmt=True)]
         if response.status not in WITHOUT_BODY:
             lines += ["Content-Type: " + response.kind, "Content-Length: %d" % len(response.body)]
         lines += ["%s: %s" % header for header in response.headers]
@@ -225,8 +225,9 @@ class Client:
 class Server:
     """Answers clients. `waiting` are those whose next request isn't whole, the longest first."""
 
-    def __init__(self, answer: Answer, refusal: Refusal, log: bool = False) -> None:
-        self.answer, self.refusal, self.log = answer, refusal, log
+    def __init__(self, answer: Answer, refusal: Refusal,
+                 observers: Sequence[Observer] = ()) -> None:
+        self.answer, self.refusal, self.observers = answer, refusal, observers
         self.waiting: dict[Client, None] = {}
         self.open: dict[Client, asyncio.Task[None] | None] = {}
         self.untaken, self.is_ending = 0, False
@@ -241,7 +242,9 @@ class Server:
             oldest.writer.transport.abort()
         try:
             if len(self.open) > limits.CONNECTIONS:
-                await client.send(self.refusal(503, "too many connections"), False, True)
+                refused = self.refusal(503, "too many connections")
+                self.observe(None, refused, 0.0)
+                await client.send(refused, False, True)
             else:
                 while await self.turn(client):
                     pass
@@ -267,29 +270,32 @@ class Server:
             self.waiting.pop(client, None)
             self.waiting[client] = None
             request = await client.request(head)
+            began = time.monotonic()
             self.waiting.pop(client, None)
             response = await self.answer(request)
             stays = client.stays and not self.is_ending
         except Bad as bad:
             response, stays = self.refusal(bad.status, bad.text), False
         self.waiting.pop(client, None)
+        if self.untaken + len(response.body) > limits.UNTAKEN_BYTES:
+            response = self.refusal(503, "too many answers wait to be taken")
+        self.observe(request, response, time.monotonic() - began)
         await self.send(client, response, stays, with_body)
-        if self.log:
-            log(request, response, time.monotonic() - began)
         if not stays:
             await client.linger()
         return stays
 
     async def send(self, client: Client, response: Response, stays: bool, with_body: bool) -> None:
-        """Sends an answer, and none where too much waits to be taken already."""
-        if self.untaken + len(response.body) > limits.UNTAKEN_BYTES:
-            response = self.refusal(503, "too many answers wait to be taken")
-        size = len(response.body)
-        self.untaken += size
+        """Sends an answer, which waits to be taken meanwhile."""
+        self.untaken += len(response.body)
         try:
             await client.send(response, stays, with_body)
         finally:
-            self.untaken -= size
+            self.untaken -= len(response.body)
+
+    def observe(self, request: Request | None, response: Response, seconds: float) -> None:
+        for observer in self.observers:
+            observer(request, response, seconds)
 
     async def stop(self) -> None:
         """Ends all connections, those from which a request has come once it is answered."""
@@ -328,6 +334,5 @@ def log(request: Request | None, response: Response, seconds: float) -> None:
     """A line of a request to standard error. The words of the query aren't told."""
     method, target = (request.method, request.target) if request else ("-", "-")
     tell(
-        "%s %.200s %d %d bytes %.1f ms"
-        % (method, target.partition("?")[0], response.status, len(response.body), seconds * 1e3)
-    )
+        "%s %.200s %d %d bytes %.1f ms" % (
+            method, target.partition("?")[0], response.status, len(response.body), seconds * 1e3))

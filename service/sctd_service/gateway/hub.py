@@ -7,6 +7,7 @@ from collections.abc import Sequence
 from ..protocol import READ_BYTES, NotAReply, Replies
 from ..sockets import Identity
 from . import limits
+from .problems import too_costly
 
 # The lines of one reply, the last of which is `OK`, `END` or `ERR` with their numbers.
 Reply = tuple[str, ...]
@@ -36,16 +37,11 @@ class HubRefused(Exception):
         self.number = int(words[1]) if len(words) > 1 and words[1].isdecimal() else None
 
 
-class TooCostly(Exception):
-    """An answer would take more than the limits allow."""
-
-
 class Connection:
     """One connection, which keeps no pin. `whole` is false while replies are outstanding."""
 
-    def __init__(
-        self, reader: asyncio.StreamReader, writer: asyncio.StreamWriter, identity: Identity
-    ) -> None:
+    def __init__(self, reader: asyncio.StreamReader, writer: asyncio.StreamWriter,
+                 identity: Identity) -> None:
         self.reader, self.writer, self.identity = reader, writer, identity
         self.whole, self.fresh = True, True
         self.received = 0
@@ -92,7 +88,7 @@ class Connection:
             raise EOFError("the hub sends a line without an end")
         self.received += len(data)
         if self.received > limits.REPLIES_BYTES:
-            raise TooCostly("the answer is made of more than %d bytes" % limits.REPLIES_BYTES)
+            raise too_costly("the answer is made of more than %d bytes" % limits.REPLIES_BYTES)
         return data
 
 

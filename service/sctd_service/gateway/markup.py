@@ -1,49 +1,30 @@
-"""The only place that makes markup. Each text that it is given is escaped."""
+"""The pages' markup, of which MarkupSafe escapes each text that isn't markup itself."""
 
+import calendar
 import re
 import unicodedata
-from html import escape
 from urllib.parse import urlencode
+
+from markupsafe import Markup
 
 from ..snomed import with_hyphens
 
-MONTHS = (
-    "January",
-    "February",
-    "March",
-    "April",
-    "May",
-    "June",
-    "July",
-    "August",
-    "September",
-    "October",
-    "November",
-    "December",
-)
 NOT_PLAIN = re.compile("[^\x20-\x7e]")
 # Controls, formats such as those that turn a text around, line ends, halves of characters, and
 # characters that nobody has assigned.
 UNSEEN = ("Cc", "Cf", "Zl", "Zp", "Cs", "Co", "Cn")
 
 
-class Html(str):
-    """Markup. Any other text is escaped."""
+def joined(*parts: str) -> Markup:
+    return Markup().join(part if isinstance(part, Markup) else visible(part) for part in parts)
 
 
-def joined(*parts: str) -> Html:
-    return Html(
-        "".join(part if isinstance(part, Html) else escape(visible(part)) for part in parts)
-    )
-
-
-def tag(name: str, *inner: str, **attributes: str) -> Html:
+def tag(name: str, *inner: str, **attributes: str) -> Markup:
     """An element. `class_` and `for_` are the attributes `class` and `for`."""
-    words = "".join(
-        ' %s="%s"' % (key.strip("_").replace("_", "-"), escape(value))
-        for key, value in attributes.items()
-    )
-    return Html("<%s%s>%s</%s>" % (name, words, joined(*inner), name))
+    words = Markup().join(
+        Markup(' %s="%s"') % (key.strip("_").replace("_", "-"), value)
+        for key, value in attributes.items())
+    return Markup("<%s%s>%s</%s>") % (name, words, joined(*inner), name)
 
 
 def visible(text: str) -> str:
@@ -56,24 +37,24 @@ def shown(found: re.Match[str]) -> str:
     return "\u2039U+%04X\u203a" % ord(found[0]) if is_unseen else found[0]
 
 
-def term(text: str, language: str = "") -> Html:
+def term(text: str, language: str = "") -> Markup:
     """A text of the store, which may be written from right to left."""
     return tag("bdi", text, lang=language) if language else tag("bdi", text)
 
 
-def aside(*inner: str) -> Html:
+def aside(*inner: str) -> Markup:
     return tag("span", *inner, class_="aside")
 
 
-def verdict(*inner: str) -> Html:
+def verdict(*inner: str) -> Markup:
     return tag("p", *inner, class_="verdict")
 
 
 def spoken(day: str) -> str:
-    return "%d %s %s" % (int(day[6:]), MONTHS[int(day[4:6]) - 1], day[:4])
+    return "%d %s %s" % (int(day[6:]), calendar.month_name[int(day[4:6])], day[:4])
 
 
-def time(day: str) -> Html:
+def time(day: str) -> Markup:
     return tag("time", spoken(day), datetime=with_hyphens(day))
 
 

@@ -4,20 +4,20 @@ Everything is made on the server, so the page works without a script.
 """
 
 import re
-from html import escape
 from pathlib import Path
 from typing import NamedTuple
 
+from markupsafe import Markup
+
 from . import limits
 from .fhir.versions import Edition
-from .markup import Html, address, aside, joined, tag, term, time, verdict
+from .markup import address, aside, joined, tag, term, time, verdict
 from .page_record import Question, record
 from ..snomed import distinct, is_concept_id, is_day, names_of, with_hyphens
 from .problems import invalid
 from .store import FIRST, SEARCHED, View
 
-FRAME = (Path(__file__).parent / "page.html").read_text("utf-8")
-PLACE = re.compile(r"\{\{(\w+)\}\}")
+FRAME = Markup((Path(__file__).parent / "page.html").read_text("utf-8"))
 DIGITS = re.compile(r"[0-9]{4,20}\Z", re.ASCII)
 WITH_HYPHENS = re.compile(r"[0-9]{4}-[0-9]{2}-[0-9]{2}\Z", re.ASCII)
 WORDS = ("q", "date", "other")
@@ -49,7 +49,7 @@ def day_of(text: str, latest: str) -> str:
 async def answer(edition: Edition, view: View, form: Form, is_pinned: bool) -> bytes:
     date, other = (day_of(text, view.latest) for text in (form.date, form.other))
     if not view.latest:
-        content: Html = verdict("The store holds no release.")
+        content: Markup = verdict("The store holds no release.")
     elif not form.q:
         content = verdict("Type a code or the first letters of a term.")
     elif not DIGITS.match(form.q):
@@ -58,12 +58,11 @@ async def answer(edition: Edition, view: View, form: Form, is_pinned: bool) -> b
         content = await record(view, Question(edition, form.q, date, other, is_pinned))
     else:
         content = verdict(
-            "This isn\u2019t a concept\u2019s code: its check digit or its kind is wrong."
-        )
+            "This isn\u2019t a concept\u2019s code: its check digit or its kind is wrong.")
     return framed(content, form, view)
 
 
-async def results(view: View, form: Form, day: str) -> Html:
+async def results(view: View, form: Form, day: str) -> Markup:
     """The terms that begin with what was typed."""
     if not SEARCHED.match(form.q):
         return verdict("A term\u2019s beginning has 1 to %d characters." % limits.FILTER_CHARACTERS)
@@ -75,15 +74,11 @@ async def results(view: View, form: Form, day: str) -> Html:
     for row in sorted(found, key=lambda row: (len(row.term), row.term)):
         if row.concept in concepts:
             link = tag(
-                "a",
-                term(row.term),
-                href=address(q=row.concept, date=with_hyphens(day), other=form.other),
-            )
+                "a", term(row.term),
+                href=address(q=row.concept, date=with_hyphens(day), other=form.other))
             inactive = (
-                []
-                if concepts[row.concept].is_active
-                else [" ", tag("span", "inactive", class_="inactive")]
-            )
+                [] if concepts[row.concept].is_active
+                else [" ", tag("span", "inactive", class_="inactive")])
             entries.append(tag("li", link, " ", aside(row.concept), *inactive))
     said = counted(len(found), len(searched) < limits.RESULT_TERMS)
     head = verdict(said, " with \u201c", term(form.q), "\u201d on ", time(day), ".")
@@ -108,9 +103,7 @@ async def suggestions(view: View, text: str, date: str) -> list[dict[str, str | 
     concepts = await view.concepts([row.concept for row in found], day)
     return [
         {"code": row.concept, "term": row.term, "active": concept.is_active}
-        for row, concept in zip(found, concepts)
-        if concept
-    ]
+        for row, concept in zip(found, concepts) if concept]
 
 
 def refused(text: str) -> bytes:
@@ -118,14 +111,9 @@ def refused(text: str) -> bytes:
     return framed(content, Form(), None)
 
 
-def framed(content: Html, form: Form, view: View | None) -> bytes:
+def framed(content: Markup, form: Form, view: View | None) -> bytes:
     state = ""
     if view is not None:
         latest = time(view.latest) if view.latest else "no date"
         state = joined("Pin %d. The store\u2019s latest release is of " % view.pin, latest, ".")
-    fills = {
-        "content": content,
-        "state": state,
-        **{name: escape(text) for name, text in form._asdict().items()},
-    }
-    return PLACE.sub(lambda found: fills[found[1]], FRAME).encode()
+    return FRAME.format(content=content, state=state, **form._asdict()).encode()

@@ -3,19 +3,12 @@
 from collections.abc import Iterable, Mapping
 from typing import NamedTuple
 
-from .markup import Html, joined, tag, term, time
+from markupsafe import Markup
+
+from .markup import joined, tag, term, time
 from ..snomed import (
-    DEFINED,
-    FULLY_SPECIFIED_NAME,
-    IS_A,
-    TEXT_DEFINITION,
-    Association,
-    Concept,
-    Description,
-    RefsetMember,
-    Relationship,
-    is_concept_id,
-)
+    DEFINED, FULLY_SPECIFIED_NAME, IS_A, TEXT_DEFINITION, Association, Concept, Description,
+    RefsetMember, Relationship, is_concept_id)
 from .store import AnyRow, Versions, View
 
 ARROW = " \u2192 "
@@ -54,10 +47,10 @@ async def history(
     timeline: Iterable[Versions],
     marks: Mapping[str, str],
     refsets: Mapping[str, str],
-) -> Html:
+) -> Markup:
     """The changes by day, oldest first, with the days that are marked among them."""
     names = Names(await view.names(other_codes(timeline), view.latest), refsets)
-    events: dict[str, list[Html]] = {day: [tag("em", said)] for day, said in marks.items()}
+    events: dict[str, list[Markup]] = {day: [tag("em", said)] for day, said in marks.items()}
     for versions in timeline:
         before: AnyRow | None = None
         for row in versions:
@@ -66,9 +59,7 @@ async def history(
     # A row that changed nothing that is told, such as its module, makes no entry.
     entries = [
         tag("li", time(day), tag("ul", *(tag("li", said) for said in events[day])))
-        for day in sorted(events)
-        if events[day]
-    ]
+        for day in sorted(events) if events[day]]
     return tag("ol", *entries, class_="timeline")
 
 
@@ -115,7 +106,7 @@ def said_by(row: AnyRow | None, names: Names) -> Said | None:
     return Said(what, row.target, names.of(row.target))
 
 
-def changes(before: AnyRow | None, row: AnyRow, names: Names) -> list[Html]:
+def changes(before: AnyRow | None, row: AnyRow, names: Names) -> list[Markup]:
     """What a row changed against the one before it, in words."""
     if isinstance(row, Concept):
         return concept_changes(before, row)
@@ -133,7 +124,7 @@ def changes(before: AnyRow | None, row: AnyRow, names: Names) -> list[Html]:
     return found
 
 
-def concept_changes(before: AnyRow | None, row: Concept) -> list[Html]:
+def concept_changes(before: AnyRow | None, row: Concept) -> list[Markup]:
     found = []
     if before is None or before.active != row.active:
         found.append(tag("b", "Concept ", "active" if row.is_active else "inactive"))

@@ -4,8 +4,10 @@ import itertools
 from collections.abc import Iterable
 from typing import NamedTuple
 
+from markupsafe import Markup
+
 from . import limits
-from .markup import Html, aside, joined, tag, term, time
+from .markup import aside, joined, tag, term, time
 from .page_history import Names
 from ..snomed import RefsetMember
 from .store import Versions
@@ -39,9 +41,9 @@ def since(versions: Versions, code: str, day: str) -> Membership | None:
     return found
 
 
-def refset_entries(members: Iterable[Membership], names: Names) -> dict[str, Html]:
+def refset_entries(members: Iterable[Membership], names: Names) -> dict[str, Markup]:
     """Each reference set once, with its members."""
-    found: dict[str, Html] = {}
+    found: dict[str, Markup] = {}
     for refset, some in itertools.groupby(members, key=lambda one: one.row.refset):
         if len(found) == limits.TOLD_REFSETS:
             found["more"] = aside("and others")
@@ -56,6 +58,6 @@ def refset_entries(members: Iterable[Membership], names: Names) -> dict[str, Htm
     return found
 
 
-def entry(one: Membership, names: Names) -> Html:
+def entry(one: Membership, names: Names) -> Markup:
     said = [": ", tag("strong", names.of_further(one.row.further))] if any(one.row.further) else []
     return joined("since ", time(one.since), *said)

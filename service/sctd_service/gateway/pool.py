@@ -10,6 +10,7 @@ then on.
 """
 
 import asyncio
+import math
 import re
 from collections import OrderedDict
 from collections.abc import AsyncIterator, Callable, Sequence
@@ -20,48 +21,16 @@ from .. import sockets
 from ..protocol import NotAReply, Replies
 from . import limits
 from .hub import Connection, HubGone, Reply, refusal
+from .problems import not_found
 
 DAMAGED = " Damaged"
 STATUS = re.compile(
-    r"OK [0-9]{1,10} [0-9]{1,10} [0-9]{1,10} (?:[0-9]{1,10}|-)(?:%s)?\Z" % DAMAGED, re.ASCII
-)
+    r"OK [0-9]{1,10} [0-9]{1,10} [0-9]{1,10} (?:[0-9]{1,10}|-)(?:%s)?\Z" % DAMAGED, re.ASCII)
 IMPORTS = re.compile(rb"OK ([0-9]{1,10})\n\Z")
 RECEIPT = re.compile(r"OK [0-9]{1,10} [0-9]{1,10} (?:[0-9]{8}|-)\Z", re.ASCII)
 DATE = re.compile(r"DATE ([0-9]{8})\Z", re.ASCII)
-# Roughly what Python takes for an entry of the memory, for a line, and for a letter.
+# Of an entry of the memory, of a line, and of a letter.
 ENTRY_BYTES, LINE_BYTES, LETTER_BYTES = 400, 80, 2
-
-
-class NoSuchPin(Exception):
-    """There aren't so many imports."""
-
-
-class Memory:
-    """The replies that were used last, up to a number of bytes."""
-
-    def __init__(self, room: int) -> None:
-        self.room, self.used = room, 0
-        self.kept: OrderedDict[tuple[int, str], tuple[Reply, int]] = OrderedDict()
-
-    def get(self, pin: int, line: str) -> Reply | None:
-        found = self.kept.get((pin, line))
-        if found is None:
-            return None
-        self.kept.move_to_end((pin, line))
-        return found[0]
-
-    def put(self, pin: int, line: str, reply: Reply) -> None:
-        size = ENTRY_BYTES + sum(LINE_BYTES + LETTER_BYTES * len(part) for part in reply)
-        if size > min(self.room, limits.REMEMBERED_BYTES) or (pin, line) in self.kept:
-            return
-        self.kept[pin, line] = (reply, size)
-        self.used += size
-        while self.used > self.room:
-            self.used -= self.kept.popitem(last=False)[1][1]
-
-    def clear(self) -> None:
-        self.kept.clear()
-        self.used = 0
 
 
 class Member(NamedTuple):
@@ -73,35 +42,32 @@ class Member(NamedTuple):
 
 Members = tuple[Member, ...]
 Codes = tuple[str, ...]
-# The pin of a value set, its day, and its top or its reference set.
-SetKey = tuple[int, str, str]
-Kept = TypeVar("Kept", Members, Codes)
+# A pin with a line; or with a day, and the top or the reference set of a value set.
+Key = tuple[int, str] | tuple[int, str, str]
+Kept = TypeVar("Kept", Reply, Members, Codes)
 
 
-class Sets(Generic[Kept]):
-    """The value sets that were used last: so many, with so many concepts together."""
+class Recent(Generic[Kept]):
+    """What was used last: so many values, of so much size together."""
 
-    def __init__(self, sets: int, concepts: int) -> None:
-        self.sets, self.concepts = sets, concepts
-        self.kept: OrderedDict[SetKey, Kept] = OrderedDict()
+    def __init__(self, most: float, room: int) -> None:
+        self.most, self.room, self.used = most, room, 0
+        self.kept: OrderedDict[Key, tuple[Kept, int]] = OrderedDict()
 
-    def get(self, key: SetKey) -> Kept | None:
+    def get(self, key: Key) -> Kept | None:
+        found = self.kept.get(key)
+        if found is None:
+            return None
+        self.kept.move_to_end(key)
+        return found[0]
+
+    def put(self, key: Key, value: Kept, size: int) -> None:
         if key in self.kept:
-            self.kept.move_to_end(key)
-        return self.kept.get(key)
-
-    def put(self, key: SetKey, found: Kept) -> None:
-        self.kept[key] = found
-        while len(self.kept) > self.sets or sum(map(len, self.kept.values())) > self.concepts:
-            self.kept.popitem(last=False)
-
-
-def no_subtrees() -> Sets[Members]:
-    return Sets(limits.SUBTREES, limits.SUBTREE_CONCEPTS)
-
-
-def no_refsets() -> Sets[Codes]:
-    return Sets(limits.REFSETS, limits.REFSET_CONCEPTS)
+            return
+        self.kept[key] = (value, size)
+        self.used += size
+        while len(self.kept) > self.most or self.used > self.room:
+            self.used -= self.kept.popitem(last=False)[1][1]
 
 
 class Watch(asyncio.Protocol):
@@ -153,22 +119,22 @@ class Watch(asyncio.Protocol):
 class Pool:
     """The connections to the hub, and what it has said."""
 
-    def __init__(self, socket: str, memory: int = limits.MEMORY_BYTES) -> None:
+    def __init__(self, socket: str) -> None:
         self.socket = socket
         self.places = asyncio.Semaphore(limits.HUB_CONNECTIONS)
         self.idle: list[Connection] = []
         self.beginning = asyncio.Lock()
-        self.watch: Watch | None = None
-        self.memory, self.subtrees, self.refsets = Memory(memory), no_subtrees(), no_refsets()
+        self.forget()
 
     def is_of_this_hub(self, connection: Connection) -> bool:
         return self.watch is not None and connection.identity == self.watch.identity
 
     def forget(self) -> None:
         """What comes next may be told of another store."""
-        self.watch = None
-        self.memory.clear()
-        self.subtrees, self.refsets = no_subtrees(), no_refsets()
+        self.watch: Watch | None = None
+        self.memory: Recent[Reply] = Recent(math.inf, limits.MEMORY_BYTES)
+        self.subtrees: Recent[Members] = Recent(limits.SUBTREES, limits.SUBTREE_CONCEPTS)
+        self.refsets: Recent[Codes] = Recent(limits.REFSETS, limits.REFSET_CONCEPTS)
         for connection in self.idle:
             connection.close()
         self.idle.clear()
@@ -228,12 +194,20 @@ class Pool:
         """The same without waiting for a place."""
         watch = await self.watched()
         if pin is not None and pin > watch.imports:
-            raise NoSuchPin
+            raise not_found("there aren't so many imports")
         connection = await self.connection(watch)
         try:
             session = Session(self, connection, watch.imports if pin is None else pin)
             await session.begin()
             yield session
+        finally:
+            self.give_back(connection)
+
+    async def asked(self, line: str) -> Reply:
+        """The hub's own reply to a line, which isn't as of any pin."""
+        connection = await self.connection(await self.watched())
+        try:
+            return (await connection.ask([line]))[0]
         finally:
             self.give_back(connection)
 
@@ -271,7 +245,7 @@ class Session:
     def remembered(self, lines: Sequence[str]) -> list[Reply | None]:
         """The reply to each line that is remembered."""
         remembers = self.pool.is_of_this_hub(self.connection)
-        return [self.pool.memory.get(self.pin, line) if remembers else None for line in lines]
+        return [self.pool.memory.get((self.pin, line)) if remembers else None for line in lines]
 
     async def ask(self, lines: Sequence[str], keep: bool = True) -> list[Reply]:
         """The reply to each line, those that are remembered without asking."""
@@ -281,19 +255,25 @@ class Session:
             told = await self.connection.ask(["AT %d %s" % (self.pin, line) for line in missing])
             if keep and self.pool.is_of_this_hub(self.connection):
                 for line, reply in zip(missing, told):
-                    self.pool.memory.put(self.pin, line, reply)
+                    if (size := size_of(reply)) <= limits.REMEMBERED_BYTES:
+                        self.pool.memory.put((self.pin, line), reply, size)
             new = iter(told)
             known = [next(new) if reply is None else reply for reply in known]
         return [reply for reply in known if reply is not None]
 
-    def remembered_set(self, sets: Sets[Kept], day: str, code: str) -> Kept | None:
+    def remembered_set(self, sets: Recent[Kept], day: str, code: str) -> Kept | None:
         if not self.pool.is_of_this_hub(self.connection):
             return None
         return sets.get((self.pin, day, code))
 
-    def remember_set(self, sets: Sets[Kept], day: str, code: str, found: Kept) -> None:
+    def remember_set(self, sets: Recent[Kept], day: str, code: str, found: Kept) -> None:
         if self.pool.is_of_this_hub(self.connection):
-            sets.put((self.pin, day, code), found)
+            sets.put((self.pin, day, code), found, len(found))
+
+
+def size_of(reply: Reply) -> int:
+    """Roughly what Python takes for a reply that is remembered."""
+    return ENTRY_BYTES + sum(LINE_BYTES + LETTER_BYTES * len(line) for line in reply)
 
 
 def days_of(reply: Reply) -> list[str]:

@@ -1,5 +1,6 @@
 """A request that isn't answered, as the program of a client and a person are told."""
 
+from functools import partial
 from typing import Any
 
 Json = dict[str, Any]
@@ -9,9 +10,7 @@ class Problem(Exception):
     """An HTTP status, an issue type of FHIR, and a text for people. With 405 it says by which
     methods there is an answer."""
 
-    def __init__(
-        self, status: int, code: str, text: str, methods: tuple[str, ...] = ()
-    ) -> None:
+    def __init__(self, status: int, code: str, text: str, methods: tuple[str, ...] = ()) -> None:
         super().__init__(text)
         self.status, self.code, self.text, self.methods = status, code, text, methods
 
@@ -20,34 +19,14 @@ class Problem(Exception):
             "resourceType": "OperationOutcome",
             "issue": [
                 {
-                    "severity": "error",
-                    "code": self.code,
-                    "diagnostics": self.text,
-                    "details": {"text": self.text},
-                }
-            ],
-        }
+                    "severity": "error", "code": self.code, "diagnostics": self.text,
+                    "details": {"text": self.text}}]}
 
 
-def invalid(text: str) -> Problem:
-    return Problem(400, "invalid", text)
-
-
-def missing(text: str) -> Problem:
-    return Problem(400, "required", text)
-
-
-def conflict(text: str) -> Problem:
-    return Problem(400, "conflict", text)
-
-
-def not_found(text: str) -> Problem:
-    return Problem(404, "not-found", text)
-
-
-def too_costly(text: str) -> Problem:
-    return Problem(422, "too-costly", text)
-
-
-def not_supported(text: str) -> Problem:
-    return Problem(422, "not-supported", text)
+# The usual ones, of which only the text is to be said.
+invalid = partial(Problem, 400, "invalid")
+missing = partial(Problem, 400, "required")
+conflict = partial(Problem, 400, "conflict")
+not_found = partial(Problem, 404, "not-found")
+too_costly = partial(Problem, 422, "too-costly")
+not_supported = partial(Problem, 422, "not-supported")

@@ -4,8 +4,8 @@ reference sets there are."""
 from collections.abc import Sequence
 
 from . import limits
-from .hub import TooCostly
 from .pool import Codes
+from .problems import too_costly
 from ..snomed import REFERENCE_SET, distinct, is_id_of_concept
 from .store import FIRST, View
 
@@ -33,10 +33,9 @@ async def components_of(view: View, refset: str, day: str) -> list[str]:
         found += distinct(row.component for row in page)
         count += len(page)
         if count > limits.REFSET_MEMBERS:
-            raise TooCostly(
-                "the reference set %s has more than %d members: ask with a filter"
-                % (refset, limits.REFSET_MEMBERS)
-            )
+            raise too_costly(
+                "the reference set %s has more than %d members: ask with a filter" % (
+                    refset, limits.REFSET_MEMBERS))
         if len(page) < limits.QUESTION_ROWS:
             return found
         after = found[-1]
@@ -50,7 +49,7 @@ async def active_codes_of(view: View, refset: str, day: str) -> Codes:
         return known
     codes = await codes_of(view, refset, day)
     if len(codes) > limits.WALK_CONCEPTS:
-        raise TooCostly(
+        raise too_costly(
             "of more than %d concepts it isn't asked which are active: ask without activeOnly"
             % limits.WALK_CONCEPTS
         )
@@ -74,7 +73,7 @@ async def with_members(view: View, day: str) -> list[str]:
     kept apart, and aren't among them."""
     below = await view.descendants(REFERENCE_SET, day)
     if len(below) > limits.REFSET_CHOICE:
-        raise TooCostly("there are more than %d reference sets" % limits.REFSET_CHOICE)
+        raise too_costly("there are more than %d reference sets" % limits.REFSET_CHOICE)
     return await view.have_values(below, day)
 
 

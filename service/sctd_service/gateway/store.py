@@ -8,23 +8,12 @@ from collections.abc import Iterable, Sequence
 from typing import TypeVar
 
 from . import limits
-from .hub import HubGone, Reply, TooCostly
+from .hub import HubGone, Reply
 from .pool import Member, Members, Session
+from .problems import too_costly
 from ..snomed import (
-    Association,
-    Called,
-    Concept,
-    Description,
-    Facts,
-    Language,
-    RefsetMember,
-    Relationship,
-    distinct,
-    display_of,
-    is_concept_id,
-    names_of,
-    preferred_term,
-)
+    Association, Called, Concept, Description, Facts, Language, RefsetMember, Relationship,
+    distinct, display_of, is_concept_id, names_of, preferred_term)
 
 Row = TypeVar("Row", Concept, Description, Relationship, Association)
 # A row of any kind, and all versions of one component, oldest first.
@@ -35,8 +24,7 @@ Versions = Sequence[AnyRow]
 FIRST = "-"
 # What may be looked for: no control character, line end or half of a character.
 SEARCHED = re.compile(
-    "[^\x00-\x1f\x7f-\x9f\u2028\u2029\ud800-\udfff]{1,%d}\\Z" % limits.FILTER_CHARACTERS
-)
+    "[^\x00-\x1f\x7f-\x9f\u2028\u2029\ud800-\udfff]{1,%d}\\Z" % limits.FILTER_CHARACTERS)
 # The identifier of a member, where that of any other row but an association has digits alone.
 MEMBER_ID = re.compile(r"[0-9a-f]{8}(-[0-9a-f]{4}){3}-[0-9a-f]{12}\Z", re.ASCII)
 # The columns that each member has.
@@ -94,33 +82,15 @@ class View:
     """The store as one request sees it: as the first `pin` imports left it."""
 
     def __init__(self, session: Session) -> None:
-        self.session = session
-
-    @property
-    def pin(self) -> int:
-        return self.session.pin
-
-    @property
-    def days(self) -> Sequence[str]:
-        """The days that there are rows of, ascending."""
-        return self.session.days
-
-    @property
-    def latest(self) -> str:
-        """The latest day of a row, or nothing where there is no row."""
-        return self.days[-1] if self.days else ""
-
-    @property
-    def receipt(self) -> str:
-        """That of the last import that is seen, as a report cites it."""
-        return self.session.receipt
+        # `latest` is the latest day of a row, or nothing where there is no row.
+        self.session, self.pin, self.receipt = session, session.pin, session.receipt
+        self.days, self.latest = session.days, session.days[-1] if session.days else ""
 
     async def ask(self, lines: Sequence[str], keep: bool = True) -> list[Reply]:
         return await self.session.ask(lines, keep)
 
-    async def facts(
-        self, code: str, day: str, language: Language = ANY, with_members: bool = False
-    ) -> Facts | None:
+    async def facts(self, code: str, day: str, language: Language = ANY,
+                    with_members: bool = False) -> Facts | None:
         """All that is said of a concept; None where it isn't there on that day."""
         if not is_concept_id(code):
             return None
@@ -132,17 +102,13 @@ class View:
         if not found:
             return None
         return Facts(
-            found[0],
-            rows(Description, descriptions),
-            rows(Relationship, relationships),
+            found[0], rows(Description, descriptions), rows(Relationship, relationships),
             rows(Relationship, values),
             dict(zip(language.refsets, map(called_of, others[with_members:]))),
-            members_of(others[0]) if with_members else [],
-        )
+            members_of(others[0]) if with_members else [])
 
-    async def concepts(
-        self, codes: Sequence[str], day: str, keep: bool = True
-    ) -> list[Concept | None]:
+    async def concepts(self, codes: Sequence[str], day: str,
+                       keep: bool = True) -> list[Concept | None]:
         concepts: list[Concept | None] = []
         for start in range(0, len(codes), limits.HUB_BATCH):
             some = codes[start : start + limits.HUB_BATCH]
@@ -164,9 +130,8 @@ class View:
         replies = await self.ask([called(code, day, refset) for code in codes])
         return [called_of(reply) for reply in replies]
 
-    async def names(
-        self, codes: Iterable[str], day: str, language: Language = ANY
-    ) -> dict[str, str]:
+    async def names(self, codes: Iterable[str], day: str,
+                    language: Language = ANY) -> dict[str, str]:
         """What each of the codes is called. One that is no concept's is called by itself."""
         codes = distinct(codes)
         left = [code for code in codes if is_concept_id(code)]
@@ -189,9 +154,8 @@ class View:
         replies = await self.ask(["ABOUT M %s %s" % (code, day) for code in codes])
         return [members_of(reply) for reply in replies]
 
-    async def values(
-        self, refset: str, day: str, after: str, keep: bool = True
-    ) -> list[RefsetMember]:
+    async def values(self, refset: str, day: str, after: str,
+                     keep: bool = True) -> list[RefsetMember]:
         """Active members of a reference set by what they refer to, from the first behind `after`
         on: with the last of so many all that refer to the same."""
         line = "VALUES %s %s %s %d" % (refset, day, after, limits.QUESTION_ROWS)
@@ -243,10 +207,9 @@ class View:
                 shortest[row.concept] = min(shortest.get(row.concept, len(row.term)), len(row.term))
             count += len(page)
             if count > limits.FILTER_TERMS:
-                raise TooCostly(
-                    "more than %d terms begin with %.60r: give more letters"
-                    % (limits.FILTER_TERMS, text)
-                )
+                raise too_costly(
+                    "more than %d terms begin with %.60r: give more letters" % (
+                        limits.FILTER_TERMS, text))
             if len(page) < limits.QUESTION_ROWS:
                 return sorted(shortest, key=lambda code: (shortest[code], int(code)))
             after = page[-1].id
@@ -259,15 +222,14 @@ class View:
     async def first_concepts(self, day: str, count: int, active_only: bool) -> list[Member]:
         """The first so many concepts by id."""
         if count > limits.WALK_CONCEPTS:
-            raise TooCostly("of all concepts the first %d can be listed" % limits.WALK_CONCEPTS)
+            raise too_costly("of all concepts the first %d can be listed" % limits.WALK_CONCEPTS)
         found: list[Member] = []
         after = FIRST
         while len(found) < count:
             line = "PAGE C %s %s %d" % (day, after, limits.QUESTION_ROWS)
             page = rows(Concept, (await self.ask([line]))[0])
             found += [
-                Member(row.id, row.is_active) for row in page if row.is_active or not active_only
-            ]
+                Member(row.id, row.is_active) for row in page if row.is_active or not active_only]
             if len(page) < limits.QUESTION_ROWS:
                 break
             after = page[-1].id
@@ -297,10 +259,9 @@ class View:
             return known
         codes = {top, *await self.descendants(top, day)}
         if len(codes) > limits.WALK_CONCEPTS:
-            raise TooCostly(
-                "there are more than %d concepts below %s: ask with a filter"
-                % (limits.WALK_CONCEPTS, top)
-            )
+            raise too_costly(
+                "there are more than %d concepts below %s: ask with a filter" % (
+                    limits.WALK_CONCEPTS, top))
         found = tuple(await self.members(sorted(codes, key=int), day, keep=False))
         self.session.remember_set(self.session.pool.subtrees, day, top, found)
         return found
@@ -310,10 +271,8 @@ class View:
         that were said first before others of their kind."""
         told = await self.ask(["TIMELINE %s %s" % (kind, code) for kind in ABOUT], keep=False)
         about = [
-            versions
-            for kind, reply in zip(ABOUT, told)
-            for versions in sorted(by_component(rows_about(kind, reply)), key=first_said)
-        ]
+            versions for kind, reply in zip(ABOUT, told)
+            for versions in sorted(by_component(rows_about(kind, reply)), key=first_said)]
         return [await self.versions(code), *about]
 
 

@@ -1,8 +1,8 @@
-#!/usr/bin/env python3
 """Lets many programs ask one `sctd serve` over Unix sockets.
 
 sctd-hub --program SCTD --store FILE --releases DIR [--socket PATH]
          [--questions PATH [--group NAME]] [--merge-above N] [--connections-a-user N]
+         [--make-store] [--config FILE]
 
 The hub starts `sctd serve` and listens on the sockets, of which there has to be one. Each
 connection is a session of its own: a client sends lines without the session's number, such as
@@ -16,6 +16,7 @@ is its owner's alone, too, or with `--group` that group's.
 The program answers one line after the other, and is sent the next ones meanwhile, at most 32 of a
 client. An import or a DIGEST goes alone and keeps the others waiting. `WATCH` is answered `OK` and
 the number of imports, and the client is told so again with each import, before that is answered.
+`METRICS` is answered with what a monitor counts, each line of Prometheus' text as a row.
 `BACKUP PATH`, on the socket of `--socket`, copies the store while questions are answered. When more
 than N segments stand (100 if not said), the hub merges in short steps between the clients' lines;
 where the store is full, an import waits for a merge.
@@ -34,7 +35,12 @@ says (250 if it isn't said), and one that says nothing for ten minutes is closed
 
 PATH may name the socket that an earlier hub left behind, which is replaced. Anything else that
 stands there, such as a file or the socket of a program that runs, stays, and the hub ends with
-status 1. Standard library alone.
+status 1.
+
+Before the program opens FILE, its pages are dropped from memory, since after a failed write Linux
+may keep there what the disk doesn't have. With `--make-store` a first start makes the store, in
+layout 3: where there is no FILE, and nothing but folders is beside it. Options may also stand in
+the table `[hub]` of the file of `--config`. Standard library alone.
 """
 
 import argparse
@@ -49,8 +55,9 @@ import socket
 import sys
 from typing import Any, Optional
 
-from .. import sockets
+from .. import settings, sockets
 from ..logs import log, tell
+from . import opening
 from .clients import Client, Hub
 from .program import Ended, Program
 from .store import MOST_SEGMENTS, Store
@@ -83,8 +90,8 @@ def is_clear(path: str) -> bool:
 class Listener:
     """A socket of the hub's, with its rights: its owner's alone, or also a group's."""
 
-    def __init__(self, path: str, group: Optional[int]) -> None:
-        self.path = path
+    def __init__(self, path: str, may_change: bool, group: Optional[int] = None) -> None:
+        self.path, self.may_change = path, may_change
         self.socket = socket.socket(socket.AF_UNIX)
         before = os.umask(0o177)
         try:
@@ -101,13 +108,6 @@ class Listener:
         sockets.remove(self.path, self.identity)
 
 
-async def listen(hub: Hub, listeners: list[tuple[Listener, bool]]) -> list[asyncio.Server]:
-    return [
-        await hub.loop.create_unix_server(
-            functools.partial(Client, hub, may_change), sock=listener.socket, backlog=BACKLOG)
-        for listener, may_change in listeners]
-
-
 async def end_duties(duties: list["asyncio.Task[None]"]) -> None:
     """Ends what the hub does beside its clients, and tells what failed of it."""
     for duty in duties:
@@ -117,11 +117,14 @@ async def end_duties(duties: list["asyncio.Task[None]"]) -> None:
             tell("hub: %r" % fault)
 
 
-async def serve_clients(hub: Hub, listeners: list[tuple[Listener, bool]]) -> int:
+async def serve_clients(hub: Hub, listeners: list[Listener]) -> int:
     """Serves all clients, and answers the status to end with."""
     for number in (signal.SIGTERM, signal.SIGINT):
         asyncio.get_running_loop().add_signal_handler(number, hub.end, 0)
-    servers = await listen(hub, listeners)
+    servers = [
+        await hub.loop.create_unix_server(
+            functools.partial(Client, hub, one.may_change), sock=one.socket, backlog=BACKLOG)
+        for one in listeners]
     duties = [asyncio.create_task(duty) for duty in (hub.follow(), hub.merge(), hub.look())]
     print("OK ready", flush=True)
     tell_systemd()
@@ -131,7 +134,7 @@ async def serve_clients(hub: Hub, listeners: list[tuple[Listener, bool]]) -> int
     hub.end(1)
     if hub.program.exited.done():
         tell("hub: the program has ended")
-    for server, (listener, _) in zip(servers, listeners):
+    for server, listener in zip(servers, listeners):
         server.close()
         listener.remove()
     await hub.stop()
@@ -146,6 +149,9 @@ async def serve(options: argparse.Namespace) -> int:
     paths = [path for path in (options.socket, options.questions) if path]
     if not all(is_clear(path) for path in paths):
         return 1
+    if options.make_store:
+        opening.make(options.program, options.store)
+    opening.drop_pages(options.store)
     program = await Program.start(
         [options.program, "serve", "--store", options.store, "--releases", options.releases])
     try:
@@ -157,22 +163,14 @@ async def serve(options: argparse.Namespace) -> int:
         # Another hub may have begun to listen while the store was opened.
         if not all(is_clear(path) for path in paths):
             return 1
-        imports = int(status.split(b" ")[1])
-        store = Store(program, imports, options.store, options.program, options.merge_above)
+        store = Store(program, status, options.store, options.program, options.merge_above)
         hub = Hub(program, store, options.connections_a_user)
-        return await serve_clients(hub, listeners_of(options))
+        listeners = [Listener(options.socket, True)] if options.socket else []
+        if options.questions:
+            listeners.append(Listener(options.questions, False, options.group))
+        return await serve_clients(hub, listeners)
     finally:
         await program.stop()
-
-
-def listeners_of(options: argparse.Namespace) -> list[tuple[Listener, bool]]:
-    """The sockets, and whether the store may be changed on each."""
-    found = []
-    if options.socket:
-        found.append((Listener(options.socket, None), True))
-    if options.questions:
-        found.append((Listener(options.questions, options.group), False))
-    return found
 
 
 def group_of(name: str) -> int:
@@ -197,17 +195,22 @@ def connections_of(text: str) -> int:
 
 
 def options_of(words: list[str]) -> argparse.Namespace:
-    parser = argparse.ArgumentParser(description="Many clients for one store.")
-    for name in ("program", "store", "releases"):
-        parser.add_argument("--" + name, required=True)
-    parser.add_argument("--socket", help="takes every line; its owner's alone")
-    parser.add_argument("--questions", help="only answers questions")
-    parser.add_argument("--group", type=group_of, help="who may ask on the socket of --questions")
+    parser = argparse.ArgumentParser(prog="sctd-hub", description="Many clients for one store.")
+    parser.add_argument("--program", required=True, metavar="SCTD", help="the program sctd")
+    parser.add_argument("--store", required=True, metavar="FILE", help="the file of the store")
+    parser.add_argument("--releases", required=True, metavar="DIR",
+                        help="the folder that holds a folder for each unpacked release")
+    parser.add_argument("--socket", metavar="PATH", help="takes every line; its owner's alone")
+    parser.add_argument("--questions", metavar="PATH", help="only answers questions")
+    parser.add_argument("--group", type=group_of, metavar="NAME",
+                        help="who may ask on the socket of --questions")
     parser.add_argument("--merge-above", type=segments_of, default=100, metavar="N",
                         help="how many segments may stand until the hub merges")
     parser.add_argument("--connections-a-user", type=connections_of, default=MOST_A_USER,
                         metavar="N", help="how many a user may have on the socket of --questions")
-    options = parser.parse_args(words)
+    parser.add_argument("--make-store", action="store_true",
+                        help="makes the store if its folder has nothing but folders")
+    options = settings.parsed(parser, "hub", words)
     if not options.socket and not options.questions:
         parser.error("--socket or --questions has to be given")
     if options.socket == options.questions:
@@ -225,6 +228,9 @@ def main() -> int:
         resource.setrlimit(resource.RLIMIT_NOFILE, (most_files, most_files))
     try:
         return asyncio.run(serve(options))
+    except opening.NoStore as why:
+        print("hub: %s: %s" % (options.store, why), file=sys.stderr)
+        return 1
     except OSError as why:
         print("hub: %s" % why, file=sys.stderr)
         return 1

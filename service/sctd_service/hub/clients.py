@@ -31,6 +31,8 @@ IDLE_SECONDS, IDLE_SECONDS_IF_FULL = 600, 10
 FEW_SESSIONS = 100
 # How often that is looked at, and whether the store's file is still there.
 LOOK_SECONDS = 2
+# For how long what is counted is told as it was made.
+METRICS_SECONDS = 0.1
 PEER = struct.Struct("3i")
 
 
@@ -162,6 +164,8 @@ class Client(asyncio.Protocol):
             self.watches = True
             self.hub.watchers[self] = None
             self.send(self.hub.store.imports_told())
+        elif sort is Sort.METRICS:
+            self.send(self.hub.metrics_told())
         else:
             self.is_busy = True
             self.hub.begin(self.carried_out(sort, line))
@@ -207,6 +211,8 @@ class Hub:
         # The clients that haven't read their replies, longest first; those told of imports.
         self.unread: dict[Client, None] = {}
         self.watchers: dict[Client, None] = {}
+        # The reply to METRICS, and when it was made.
+        self.metrics, self.metrics_made = b"", -METRICS_SECONDS
         self.tasks: set["asyncio.Task[None]"] = set()
         self.ended: "asyncio.Future[int]" = self.loop.create_future()
         store.on_import = self.tell_watchers
@@ -269,6 +275,27 @@ class Hub:
         if sort is Sort.CHANGE:
             return await self.store.change(client.session, line, client.user)
         return await self.program.ask(client.session, line, client.user, alone=True)
+
+    def metrics_told(self) -> bytes:
+        """What METRICS is answered, which isn't made each time, so that many cost as little."""
+        now = self.loop.time()
+        if now - self.metrics_made >= METRICS_SECONDS:
+            self.metrics, self.metrics_made = self.counted(), now
+        return self.metrics
+
+    def counted(self) -> bytes:
+        """What is counted, each line as a row. The program isn't asked for it."""
+        store = self.store
+        now = (
+            ("pin", "Imports, which are the pin of a question without one.", store.imports),
+            ("rows", "Rows of the store.", int(store.state[2])),
+            ("segments", "Segments of the store.", int(store.state[3])),
+            ("bytes", "Bytes of the store's file.", store.size()),
+            ("damaged", "Whether somebody was told that the store is damaged.",
+             int(bool(self.program.damaged_at))),
+            ("connections", "Connections of clients.", len(self.clients)))
+        rows = self.program.metrics.text(now).encode().splitlines()
+        return b"".join((*(b"ROW %s\n" % row for row in rows), b"END %d\n" % len(rows)))
 
     def tell_watchers(self) -> None:
         """Tells of an import, before it is answered."""

@@ -4,18 +4,20 @@ what of them goes into the log."""
 import enum
 from collections import deque
 
-from ..protocol import QUESTIONS
+from ..protocol import CHANGES, QUESTIONS
 
 # The program's limit, for a line with the number of its session.
 LINE_LIMIT = 4096
 # A question that reads each row of the store.
 DIGEST = b"DIGEST"
 # Lines that the hub carries out itself.
-BACKUP, WATCH = b"BACKUP", b"WATCH"
+BACKUP, WATCH, METRICS = b"BACKUP", b"WATCH", b"METRICS"
+# What a line is counted as, by its word.
+KINDS = {word: word.decode() for word in QUESTIONS | CHANGES | {BACKUP}}
+OTHER = "other"
 # What the hub itself answers. The program's refusals have a number where these have a word.
 TOO_LONG = b"ERR 40 Long\n"
 NOT_A_QUESTION = b"ERR hub NotAQuestion\n"
-
 
 
 class Sort(enum.Enum):
@@ -28,6 +30,7 @@ class Sort(enum.Enum):
     CHANGE = enum.auto()
     BACKUP = enum.auto()
     WATCH = enum.auto()
+    METRICS = enum.auto()
     REFUSED = enum.auto()
     LONG = enum.auto()
 
@@ -41,6 +44,12 @@ def first_word(line: bytes) -> bytes:
     return without_cr(line).partition(b" ")[0]
 
 
+def kind_of(line: bytes) -> str:
+    """What a line is counted as, which begins with its session: the question where AT is before."""
+    words = (*line.split(None, 4), b"", b"", b"", b"")
+    return KINDS.get(words[3] if words[1] == b"AT" else words[1], OTHER)
+
+
 # A line without its LF, and what is done with it. Of one that is too long nothing is kept.
 Line = tuple[Sort, bytes]
 
@@ -50,8 +59,8 @@ def sort_of(line: bytes, may_change: bool) -> Sort:
     word = first_word(line)
     if word in QUESTIONS:
         return Sort.SLOW if without_cr(line).endswith(DIGEST) else Sort.QUESTION
-    if word == WATCH:
-        return Sort.WATCH
+    if word in (WATCH, METRICS):
+        return Sort.WATCH if word == WATCH else Sort.METRICS
     if not may_change:
         return Sort.REFUSED
     return Sort.BACKUP if word == BACKUP else Sort.CHANGE

@@ -16,6 +16,7 @@ from typing import Optional, Protocol, cast
 from ..logs import log, tell
 from ..protocol import DAMAGED, DISK_FAULT, REFUSED, NotAReply, Replies
 from .lines import shown
+from .metrics import Metrics
 
 # The session of the hub's own lines.
 HUB_SESSION = 0
@@ -79,7 +80,7 @@ class Program(asyncio.SubprocessProtocol):
     """The program that serves the store."""
 
     def __init__(self) -> None:
-        self.replies = Replies()
+        self.replies, self.metrics = Replies(), Metrics()
         self.on_their_way: deque[tuple[Asker, bytes]] = deque()
         self.waiting: deque[Asker] = deque()
         # Whether the line that is on its way goes alone.
@@ -184,6 +185,8 @@ class Program(asyncio.SubprocessProtocol):
         """Notes how long a line took, and what its reply says of the disk."""
         now = time.monotonic()
         took, self.began = now - self.began, now
+        if self.is_open:
+            self.metrics.took(line, took)
         if took > SLOW_SECONDS:
             log("%.1f s for %s of %s" % (took, without_session(line), asker.user))
         at = reply.rfind(b"\n", 0, -1) + 1

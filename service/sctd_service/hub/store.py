@@ -33,16 +33,18 @@ class Refused(Exception):
 
 class Store:
     """What is done with the store one after the other: changes, merges of the hub's own, copies.
-    `imports` is how many imports it has, and `on_import` is called before one is answered."""
+    `state` is what STATUS was answered last, `imports` how many imports there are, and `on_import`
+    is called before one is answered."""
 
-    def __init__(self, program: Program, imports: int, path: str, command: str,
+    def __init__(self, program: Program, status: bytes, path: str, command: str,
                  merge_above: int) -> None:
         self.program, self.path, self.command = program, path, command
-        self.imports = imports
+        self.state = status.split()
+        self.imports = int(self.state[1])
         self.on_import: Callable[[], None] = lambda: None
         self.merge_above = merge_above
         # Which file the path has named since the program opened it.
-        self.identity = identity_of(os.stat(path))
+        self.file = os.stat(path)
         # Held by a line that may change the store, and while the store is copied.
         self.changes = asyncio.Lock()
         # Held from before an import, while there is room made for it, to its reply.
@@ -83,6 +85,7 @@ class Store:
     def note_reply(self, session: int, line: bytes, reply: bytes) -> None:
         """Notes what a line has changed, and logs its reply."""
         word, is_refused = first_word(line), reply.startswith(REFUSED)
+        self.program.metrics.changed(line, reply)
         if word in LOGGED or (word in LOGGED_REFUSED and is_refused):
             log("%s: %s" % (shown(without_cr(line)), shown(reply)))
         if word == IMPORT and not is_refused:
@@ -110,16 +113,24 @@ class Store:
         reply = (await self.program.ask(HUB_SESSION, b"STATUS"))[:-1]
         if reply.startswith(REFUSED):
             raise Refused("STATUS was answered %s" % shown(reply))
-        return reply.split(b" ")
+        self.state = reply.split(b" ")
+        return self.state
 
     def imports_told(self) -> bytes:
         """What WATCH is answered, and told again with each import."""
         return b"OK %d\n" % self.imports
 
+    def size(self) -> int:
+        """The bytes of the store's file, or of the one that has its name."""
+        try:
+            return os.stat(self.path).st_size
+        except OSError:
+            return 0
+
     def is_replaced(self) -> bool:
         """Whether another file has the store's name, or none."""
         try:
-            return identity_of(os.stat(self.path)) != self.identity
+            return not os.path.samestat(os.stat(self.path), self.file)
         except OSError:
             return True
 
@@ -170,6 +181,7 @@ class Store:
         except Refused as failed:
             reply = b"ERR hub Backup " + str(failed).encode("utf-8", "backslashreplace")
         log("%s: %s" % (shown(BACKUP + b" " + name), shown(reply)))
+        self.program.metrics.changed(BACKUP, reply)
         return reply + b"\n"
 
     async def copied(self, name: bytes) -> bytes:
@@ -177,7 +189,7 @@ class Store:
         path = path_of(name)
         async with self.changes:
             wanted = (await self.status())[:4]
-            self.copying = Copying(self.path, self.identity, path)
+            self.copying = Copying(self.path, self.file, path)
             try:
                 made = await asyncio.to_thread(self.copying.copy)
             finally:
@@ -221,14 +233,6 @@ def path_of(name: bytes) -> str:
     return path
 
 
-# A file system, and the number of a file in it.
-Identity = tuple[int, int]
-
-
-def identity_of(found: os.stat_result) -> Identity:
-    return found.st_dev, found.st_ino
-
-
 class NewFile:
     """A file that is made under a path where there is none. Until it is closed, no other file can
     have its identity."""
@@ -236,7 +240,7 @@ class NewFile:
     def __init__(self, path: str) -> None:
         self.path = path
         self.file = open(os.open(path, os.O_WRONLY | os.O_CREAT | os.O_EXCL, 0o600), "wb")
-        self.identity = identity_of(os.fstat(self.file.fileno()))
+        self.made = os.fstat(self.file.fileno())
 
     def sync(self) -> None:
         """Makes sure that the file and its name are on the disk, and nowhere else."""
@@ -249,7 +253,7 @@ class NewFile:
     def remove(self) -> None:
         """Removes it, if the path still leads to it, and otherwise tells that it isn't removed."""
         with contextlib.suppress(FileNotFoundError):
-            if identity_of(os.lstat(self.path)) == self.identity:
+            if os.path.samestat(os.lstat(self.path), self.made):
                 os.unlink(self.path)
                 return
         tell("hub: %s: not removed: the file was replaced or removed" % self.path)
@@ -263,8 +267,8 @@ class NewFile:
 class Copying:
     """A copy of the store's file that is being made. It is made in a thread of its own."""
 
-    def __init__(self, source: str, identity: Identity, path: str) -> None:
-        self.source, self.identity, self.path = source, identity, path
+    def __init__(self, source: str, stat: os.stat_result, path: str) -> None:
+        self.source, self.stat, self.path = source, stat, path
         self.is_stopped = threading.Event()
 
     def copy(self) -> NewFile:
@@ -284,7 +288,7 @@ class Copying:
     def fill(self, made: NewFile) -> None:
         """Copies the store's file into the new one."""
         with open(self.source, "rb") as source:
-            if identity_of(os.fstat(source.fileno())) != self.identity:
+            if not os.path.samestat(os.fstat(source.fileno()), self.stat):
                 raise Refused("the store's file was replaced")
             while part := source.read(COPY_SIZE):
                 self.go_on()

@@ -43,12 +43,8 @@ def head(request: Request) -> Json:
     view = request.view
     description = "SNOMED CT of any day, read only; pin %d, %s" % (view.pin, view.receipt)
     return {
-        "status": "active",
-        "date": with_hyphens(view.latest or NO_DAY),
-        "kind": "instance",
-        "software": {"name": "sctd-gateway"},
-        "implementation": {"description": description},
-    }
+        "status": "active", "date": with_hyphens(view.latest or NO_DAY), "kind": "instance",
+        "software": {"name": "sctd-gateway"}, "implementation": {"description": description}}
 
 
 def capability_statement(request: Request) -> Json:
@@ -72,9 +68,7 @@ def resource_capabilities(kind: str, names: tuple[str, ...]) -> Json:
         "type": kind,
         "operation": [
             {"name": name, "definition": "%s%s-%s" % (DEFINITIONS, kind, name), **said}
-            for name in names
-        ],
-    }
+            for name in names]}
     if kind == "CodeSystem":
         found["interaction"] = [{"code": "read"}, {"code": "search-type"}]
         found["searchParam"] = [{"name": "url", "type": "uri"}]
@@ -87,14 +81,9 @@ def terminology_capabilities(request: Request) -> Json:
     languages = {"language": tags} if tags else {}
     versions = [
         {
-            "code": request.edition.version(day),
-            "isDefault": day == latest,
-            "compositional": False,
-            **languages,
-            "property": lookup.PROPERTIES,
-        }
-        for day in request.view.days
-    ]
+            "code": request.edition.version(day), "isDefault": day == latest,
+            "compositional": False, **languages, "property": lookup.PROPERTIES}
+        for day in request.view.days]
     system: Json = {"uri": SCT, "subsumption": True}
     if versions:
         system["version"] = versions
@@ -134,16 +123,7 @@ def code_system(request: Request) -> Json:
     latest = request.view.latest
     version = {"version": request.edition.version(latest)} if latest else {}
     return {
-        "resourceType": "CodeSystem",
-        "id": CODE_SYSTEM_ID,
-        "url": SCT,
-        **version,
-        "name": "SNOMED_CT",
-        "title": "SNOMED CT, served by sctd",
-        "status": "active",
-        "caseSensitive": False,
-        "hierarchyMeaning": "is-a",
-        "compositional": True,
-        "versionNeeded": False,
-        "content": "not-present",
-    }
+        "resourceType": "CodeSystem", "id": CODE_SYSTEM_ID, "url": SCT, **version,
+        "name": "SNOMED_CT", "title": "SNOMED CT, served by sctd", "status": "active",
+        "caseSensitive": False, "hierarchyMeaning": "is-a", "compositional": True,
+        "versionNeeded": False, "content": "not-present"}

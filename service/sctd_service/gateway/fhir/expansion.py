@@ -49,15 +49,11 @@ async def expand(request: Request) -> Json:
     found, total = await members(request, value_set, moment, wanted)
     if wanted.count is None and len(found) > limits.PAGE_CONCEPTS:
         raise too_costly(
-            "there are more than %d concepts: ask with count and offset" % limits.PAGE_CONCEPTS
-        )
+            "there are more than %d concepts: ask with count and offset" % limits.PAGE_CONCEPTS)
     entries = await entries_of(request, found, moment, wanted)
     return {
-        "resourceType": "ValueSet",
-        "url": value_set.url,
-        "status": "active",
-        "expansion": expansion(request, value_set, moment, wanted, entries, total),
-    }
+        "resourceType": "ValueSet", "url": value_set.url, "status": "active",
+        "expansion": expansion(request, value_set, moment, wanted, entries, total)}
 
 
 def system_versions(query: Query) -> list[str]:
@@ -86,18 +82,12 @@ def wanted_of(request: Request) -> Wanted:
     if count is not None and count > limits.PAGE_CONCEPTS:
         raise too_costly("count may be %d at most" % limits.PAGE_CONCEPTS)
     return Wanted(
-        text,
-        query.flag("activeOnly"),
-        query.number("offset") or 0,
-        count,
-        request.language(),
-        query.flag("includeDesignations"),
-    )
+        text, query.flag("activeOnly"), query.number("offset") or 0, count, request.language(),
+        query.flag("includeDesignations"))
 
 
-async def members(
-    request: Request, value_set: ValueSet, moment: Moment, wanted: Wanted
-) -> tuple[Sequence[Member], int | None]:
+async def members(request: Request, value_set: ValueSet, moment: Moment,
+                  wanted: Wanted) -> tuple[Sequence[Member], int | None]:
     """A page of the members, and how many there are where that is known."""
     view = request.view
     if value_set.sort is Sort.WITHIN:
@@ -121,9 +111,8 @@ async def members(
     return found[wanted.offset : wanted.offset + wanted.most], len(found)
 
 
-async def members_of_refset(
-    request: Request, refset: str, moment: Moment, wanted: Wanted
-) -> tuple[Sequence[Member], int]:
+async def members_of_refset(request: Request, refset: str, moment: Moment,
+                            wanted: Wanted) -> tuple[Sequence[Member], int]:
     """A page of a reference set, of whose other concepts nothing has to be known. A code that the
     store has no concept of is told as the reference set has it."""
     choose = refsets.active_codes_of if wanted.active_only else refsets.codes_of
@@ -135,9 +124,8 @@ async def members_of_refset(
     return [there.get(code, Member(code, True)) for code in page], len(codes)
 
 
-async def entries_of(
-    request: Request, found: Sequence[Member], moment: Moment, wanted: Wanted
-) -> list[Json]:
+async def entries_of(request: Request, found: Sequence[Member], moment: Moment,
+                     wanted: Wanted) -> list[Json]:
     """The concepts of a page, as an expansion has them. Other requests have their turn between its
     slices."""
     entries: list[Json] = []
@@ -148,9 +136,8 @@ async def entries_of(
     return entries
 
 
-async def slice_of_entries(
-    request: Request, found: Sequence[Member], moment: Moment, wanted: Wanted
-) -> list[Json]:
+async def slice_of_entries(request: Request, found: Sequence[Member], moment: Moment,
+                           wanted: Wanted) -> list[Json]:
     codes, view = [member.code for member in found], request.view
     displays = await view.names(codes, moment.day, wanted.language)
     entries = [entry(member, displays[member.code]) for member in found]
@@ -183,17 +170,13 @@ def expansion(
     named = " ".join(map(str, (value_set.url, view.pin, moment.day, *astuple(wanted))))
     shown = [
         parameter("version", valueUri="%s|%s" % (SCT, moment.version)),
-        parameter("sctd-pin", valueInteger=view.pin),
-    ]
+        parameter("sctd-pin", valueInteger=view.pin)]
     if wanted.filter is not None:
         shown.append(parameter("filter", valueString=wanted.filter))
     now = datetime.datetime.now(datetime.timezone.utc)
     found: Json = {
         "identifier": "urn:uuid:%s" % uuid.uuid5(uuid.NAMESPACE_URL, named),
-        "timestamp": now.isoformat(timespec="seconds"),
-        "offset": wanted.offset,
-        "parameter": shown,
-    }
+        "timestamp": now.isoformat(timespec="seconds"), "offset": wanted.offset, "parameter": shown}
     if total is not None:
         found["total"] = total
     if entries:  # FHIR has no empty lists.

@@ -101,8 +101,7 @@ class Query:
     def codings(self, names: CodeNames) -> list[Coding]:
         """The codes that are meant: a code with its system, or a coding, or those of a concept."""
         forms = [
-            name for name in (names.code, names.coding, "codeableConcept") if name in self.given
-        ]
+            name for name in (names.code, names.coding, "codeableConcept") if name in self.given]
         if len(forms) > 1:
             raise conflict("%s and %s are two ways to name the code" % (forms[0], forms[1]))
         if forms == [names.code]:

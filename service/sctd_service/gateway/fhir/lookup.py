@@ -17,15 +17,8 @@ INACTIVATION = "inactivationIndicator"
 NORMAL_FORM = "normalFormTerse"
 # Those that have a name. An attribute is the property of its code.
 PROPERTIES = (
-    "inactive",
-    "sufficientlyDefined",
-    "moduleId",
-    "effectiveTime",
-    INACTIVATION,
-    "parent",
-    CHILD,
-    NORMAL_FORM,
-)
+    "inactive", "sufficientlyDefined", "moduleId", "effectiveTime", INACTIVATION, "parent", CHILD,
+    NORMAL_FORM)
 
 
 async def lookup(request: Request) -> Json:
@@ -40,8 +33,7 @@ async def lookup(request: Request) -> Json:
     parts = [
         parameter("name", valueString="SNOMED CT"),
         parameter("version", valueString=moment.version),
-        parameter("display", valueString=facts.display(language)),
-    ]
+        parameter("display", valueString=facts.display(language))]
     if is_wanted(DESIGNATION, wanted):
         found = designations(facts.descriptions, facts.called)
         parts += [designation_parts(one) for one in found]
@@ -57,14 +49,10 @@ def is_wanted(name: str, wanted: set[str]) -> bool:
 def designation_parts(one: Json) -> Json:
     said = {"extension": one["extension"]} if "extension" in one else {}
     return parameter(
-        DESIGNATION,
-        **said,
+        DESIGNATION, **said,
         part=[
             parameter("language", valueCode=one["language"]),
-            parameter("use", valueCoding=one["use"]),
-            parameter("value", valueString=one["value"]),
-        ],
-    )
+            parameter("use", valueCoding=one["use"]), parameter("value", valueString=one["value"])])
 
 
 def properties(facts: Facts, children: Iterable[str], wanted: set[str]) -> list[Json]:
@@ -73,23 +61,19 @@ def properties(facts: Facts, children: Iterable[str], wanted: set[str]) -> list[
         ("inactive", {"valueBoolean": not facts.concept.is_active}),
         ("sufficientlyDefined", {"valueBoolean": facts.concept.definition_status == DEFINED}),
         ("moduleId", {"valueCode": facts.concept.module}),
-        ("effectiveTime", {"valueString": facts.concept.time}),
-    ]
+        ("effectiveTime", {"valueString": facts.concept.time})]
     found += [(INACTIVATION, {"valueCode": code}) for code in facts.reasons]
     found += [("parent", {"valueCode": code}) for code in facts.parents]
     found += [(CHILD, {"valueCode": code}) for code in children]
     found += [
-        (row.type, {"valueCode": row.target}) for row in facts.relationships if row.type != IS_A
-    ]
+        (row.type, {"valueCode": row.target}) for row in facts.relationships if row.type != IS_A]
     found += [(row.type, concrete(row.target)) for row in facts.values]
     if NORMAL_FORM in wanted and facts.parents:
         found.append((NORMAL_FORM, {"valueString": normal_form(facts)}))
     unique = {(code, str(value)): (code, value) for code, value in found}
     return [
         parameter("property", part=[parameter("code", valueCode=code), parameter("value", **value)])
-        for code, value in unique.values()
-        if is_wanted(code, wanted)
-    ]
+        for code, value in unique.values() if is_wanted(code, wanted)]
 
 
 def normal_form(facts: Facts) -> str:

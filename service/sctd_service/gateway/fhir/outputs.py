@@ -10,14 +10,7 @@ from typing import Any
 from .. import limits
 from ..problems import Json
 from ...snomed import (
-    ACCEPTABLE,
-    FULLY_SPECIFIED_NAME,
-    PREFERRED,
-    SYNONYM,
-    TEXT_DEFINITION,
-    Called,
-    Description,
-)
+    ACCEPTABLE, FULLY_SPECIFIED_NAME, PREFERRED, SYNONYM, TEXT_DEFINITION, Called, Description)
 from .inputs import SCT
 
 USES = {
@@ -83,17 +76,15 @@ def concrete(value: str) -> Json:
     return {"valueString": value[1:-1] if is_quoted else value}
 
 
-def designations(
-    descriptions: Iterable[Description], called: Mapping[str, Iterable[Called]]
-) -> list[Json]:
+def designations(descriptions: Iterable[Description], called: Mapping[str,
+                 Iterable[Called]]) -> list[Json]:
     """The terms, each with what the language reference sets say of it."""
     contexts: dict[str, list[Json]] = {}
     for refset, found in called.items():
         for description, said in found:
             roles = [role for role in ROLES if role in said]
             contexts.setdefault(description.id, []).extend(
-                context(refset, role, description.type) for role in roles
-            )
+                context(refset, role, description.type) for role in roles)
     return [designation(row, contexts.get(row.id, [])) for row in descriptions]
 
 
@@ -105,13 +96,10 @@ def designation(row: Description, contexts: list[Json]) -> Json:
 def context(refset: str, role: str, kind: str) -> Json:
     parts = {
         "context": {"system": SCT, "code": refset},
-        "role": {"system": SCT, "code": role, "display": ROLES[role]},
-        "type": use_of(kind),
-    }
+        "role": {"system": SCT, "code": role, "display": ROLES[role]}, "type": use_of(kind)}
     return {
         "url": CONTEXT,
-        "extension": [{"url": name, "valueCoding": one} for name, one in parts.items()],
-    }
+        "extension": [{"url": name, "valueCoding": one} for name, one in parts.items()]}
 
 
 def use_of(code: str) -> Json:

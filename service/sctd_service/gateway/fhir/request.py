@@ -27,9 +27,8 @@ class Request(NamedTuple):
         house = self.edition.languages
         return Language("", house) if tag is None else language_of(tag, house)
 
-    async def facts(
-        self, code: str, moment: Moment, language: Language, with_members: bool
-    ) -> Facts:
+    async def facts(self, code: str, moment: Moment, language: Language,
+                    with_members: bool) -> Facts:
         """What is said of a code that has to be there."""
         found = await self.view.facts(code, moment.day, language, with_members)
         if found is None:

@@ -19,8 +19,7 @@ OUTCOMES = {
 async def subsumes(request: Request) -> Json:
     query, view = request.query, request.view
     first, second = (
-        query.coding(CodeNames(code="code" + letter, coding="coding" + letter)) for letter in "AB"
-    )
+        query.coding(CodeNames(code="code" + letter, coding="coding" + letter)) for letter in "AB")
     moment = request.moment(first.version, second.version, query.text("version"))
     for coding in (first, second):
         await request.must_have(coding.code, moment)

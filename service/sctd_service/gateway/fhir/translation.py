@@ -87,8 +87,7 @@ async def replaced(request: Request, asked: Asked) -> Json:
     version = asked.moment.version
     concepts = [
         {"system": SCT, "version": version, "code": target, "display": names[target]}
-        for target in targets
-    ]
+        for target in targets]
     return translated(asked, used.equivalence, concepts, why_not(used, bool(targets)))
 
 
@@ -135,9 +134,8 @@ def map_of(url: str) -> tuple[str, str]:
 
 def not_a_map(url: str) -> Problem:
     return not_found(
-        "the map %.100r isn't known: %s?%s a simple map, or one of %s"
-        % (url, SCT, FORM, ", ".join(MAPS))
-    )
+        "the map %.100r isn't known: %s?%s a simple map, or one of %s" % (
+            url, SCT, FORM, ", ".join(MAPS)))
 
 
 def translated(asked: Asked, equivalence: str, concepts: Sequence[Json], why: str) -> Json:
@@ -151,7 +149,4 @@ def match(url: str, equivalence: str, concept: Json) -> Json:
         "match",
         part=[
             parameter("equivalence", valueCode=equivalence),
-            parameter("concept", valueCoding=concept),
-            parameter("source", valueUri=url),
-        ],
-    )
+            parameter("concept", valueCoding=concept), parameter("source", valueUri=url)])

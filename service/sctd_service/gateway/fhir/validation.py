@@ -12,8 +12,7 @@ from .versions import Moment
 OF_A_CODE = "code version display coding codeableConcept date displayLanguage"
 CODE_PARAMETERS = frozenset(("url " + OF_A_CODE).split())
 MEMBER_PARAMETERS = frozenset(
-    ("url system systemVersion " + OF_A_CODE).replace(" version", "").split()
-)
+    ("url system systemVersion " + OF_A_CODE).replace(" version", "").split())
 
 # What a code isn't that is outside a value set.
 OUTSIDE = {
@@ -40,9 +39,7 @@ async def validated(request: Request, names: CodeNames, value_set: ValueSet | No
     answer = parameters(
         [
             parameter("result", valueBoolean=False),
-            parameter("message", valueString="no code is one of %s" % SCT),
-        ]
-    )
+            parameter("message", valueString="no code is one of %s" % SCT)])
     for coding in query.codings(names):
         # The version of another code system's coding is none of SNOMED CT.
         is_own = coding.system == SCT
@@ -58,15 +55,12 @@ async def validated(request: Request, names: CodeNames, value_set: ValueSet | No
     return answer
 
 
-async def checked(
-    request: Request, coding: Coding, moment: Moment, value_set: ValueSet | None
-) -> tuple[str, list[Json]]:
+async def checked(request: Request, coding: Coding, moment: Moment,
+                  value_set: ValueSet | None) -> tuple[str, list[Json]]:
     """What is wrong with a code, or nothing, and what there is to say of it."""
     parts = [
-        parameter("code", valueCode=coding.code),
-        parameter("system", valueUri=SCT),
-        parameter("version", valueString=moment.version),
-    ]
+        parameter("code", valueCode=coding.code), parameter("system", valueUri=SCT),
+        parameter("version", valueString=moment.version)]
     codes = [coding.code] if is_concept_id(coding.code) else []
     among = await inside(request, value_set, codes, moment) if value_set else set(codes)
     language = request.language()
@@ -76,8 +70,7 @@ async def checked(
     terms = [row for row in facts.descriptions if language.code in ("", row.language)]
     parts += [
         parameter("display", valueString=facts.display(language)),
-        parameter("inactive", valueBoolean=not facts.concept.is_active),
-    ]
+        parameter("inactive", valueBoolean=not facts.concept.is_active)]
     if value_set and coding.code not in among:
         return "the code isn't %s on that day" % (OUTSIDE[value_set.sort] % value_set.code), parts
     if coding.display and not is_display(coding.display, terms):

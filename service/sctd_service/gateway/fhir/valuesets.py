@@ -49,8 +49,7 @@ def value_set_of(url: str) -> ValueSet:
     if what.startswith(ECL):
         raise not_supported("there is no ECL here")
     raise invalid(
-        "the value set %.100r isn't of the form %s?fhir_vs=isa/CODE or refset/CODE" % (url, SCT)
-    )
+        "the value set %.100r isn't of the form %s?fhir_vs=isa/CODE or refset/CODE" % (url, SCT))
 
 
 def is_of_snomed(base: str) -> bool:
@@ -58,9 +57,8 @@ def is_of_snomed(base: str) -> bool:
     return base == SCT or base.startswith(SCT + "/")
 
 
-async def inside(
-    request: Request, value_set: ValueSet, codes: Sequence[str], moment: Moment
-) -> set[str]:
+async def inside(request: Request, value_set: ValueSet, codes: Sequence[str],
+                 moment: Moment) -> set[str]:
     """Those of the concepts that are in the value set, which has to be there."""
     view, day = request.view, moment.day
     if value_set.sort is Sort.WITHIN:
@@ -99,5 +97,4 @@ async def refsets_there(request: Request, moment: Moment) -> list[str]:
 
 def no_refsets() -> Problem:
     return not_supported(
-        "the store has no reference set with members on that day below %s" % REFERENCE_SET
-    )
+        "the store has no reference set with members on that day below %s" % REFERENCE_SET)

@@ -49,22 +49,19 @@ class Edition(NamedTuple):
         found = VERSION.match(version)
         if not found:
             raise invalid(
-                "the version %.100r isn't of the form %s" % (version, self.version("YYYYMMDD"))
-            )
+                "the version %.100r isn't of the form %s" % (version, self.version("YYYYMMDD")))
         module, day = found.groups()
         if module is not None and module != self.module:
             raise not_found(
-                "the edition %.20s isn't in this store, which has %s" % (module, self.module)
-            )
+                "the edition %.20s isn't in this store, which has %s" % (module, self.module))
         if day is None:
             return None
         if not is_day(day):
             raise invalid("%.20s isn't a day of the calendar" % day)
         if day > latest:
             raise not_found(
-                "version %s isn't in this store, whose latest is %s"
-                % (day, latest or "none, since it is empty")
-            )
+                "version %s isn't in this store, whose latest is %s" % (
+                    day, latest or "none, since it is empty"))
         return str(day)
 
     def moment(self, view: View, versions: Iterable[str | None], date: str | None = None) -> Moment:
@@ -90,6 +87,5 @@ def day_of_record(date: str) -> str:
     day = "".join(found.groups()[:3]) if found else ""
     if not is_day(day):
         raise invalid(
-            "date must be a day of the calendar as YYYY-MM-DD, since an answer is of one day"
-        )
+            "date must be a day of the calendar as YYYY-MM-DD, since an answer is of one day")
     return day

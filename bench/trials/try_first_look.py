@@ -1,0 +1,282 @@
+#!/usr/bin/env python3
+"""Takes a first look, as `./try` offers it in a new clone, and does what it says.
+
+try_first_look.py [--build] PROGRAM
+
+PROGRAM is the built `sctd`, which stands in for the one that ./try builds without a proof; with
+`--build` that is built, which takes minutes, and its time is printed. The page, the FHIR request
+and the line that ./try prints are tried as they are printed, the page also by Chromium where there
+is one. It has to say that the program isn't proved, to end with all that it started at Ctrl-C, to
+keep its store for the next time, to take another port where the usual one is taken, and to name
+what is missing. The status is 1 where something isn't as it has to be, and 3 where the kit or what
+the gateway imports is missing here. Standard library alone.
+"""
+
+from __future__ import annotations
+
+import contextlib
+import os
+import re
+import select
+import shutil
+import signal
+import socket
+import subprocess
+import sys
+import tempfile
+import time
+from collections.abc import Iterator, Sequence
+from pathlib import Path
+from typing import NamedTuple
+
+import chromium
+from operators_harness import Wrong, same
+
+ROOT = Path(__file__).resolve().parents[2]
+sys.path += [str(ROOT / "packaging"), str(ROOT / "bench")]
+import built  # noqa: E402
+import first_look  # noqa: E402
+from needs import MODULES  # noqa: E402
+from unproved import kit_folder  # noqa: E402
+
+NOT_RUN = 3
+# How long the first look may take to be there: with a build, and without one.
+BUILD_SECONDS, SECONDS = 1800, 120
+# What of this tree ./try needs; of crates/ what the program is built from.
+TAKEN = ("try", "packaging", "service", "examples", "docs/package", "bench/unproved.py",
+         "crates.txt")
+PAGE = re.compile(r"^The page: +(http://127\.0\.0\.1:(\d+)/\S+)$", re.M)
+FHIR = re.compile(r"^FHIR: +(.*)$", re.M)
+LINE = re.compile(r"^A line to ask: +(.*)$", re.M)
+VERSION = re.compile(r"\((\S.* --version)\)$", re.M)
+WANTED_FHIR = '"name":"display","valueString":"Street"'
+WANTED_LINE = "ROW 1000004\t20200131\t1\t900000000000207008\t900000000000074008\nEND 1\n"
+WANTED_PAGE = "SNOMED CT 1000004 |Street (environment)| on 2020-06-30: active"
+NOT_PROVED = "NOT PROVED"
+
+
+class Told(NamedTuple):
+    """What ./try prints: the address of the page and its port, commands, and all of it."""
+
+    page: str
+    port: int
+    fhir: str
+    line: str
+    version: str
+    text: str
+
+
+def told_in(text: str) -> Told:
+    found = [pattern.search(text) for pattern in (PAGE, FHIR, LINE, VERSION)]
+    page, fhir, line, version = found
+    if not (page and fhir and line and version):
+        raise Wrong("what it prints lacks something: %r" % text)
+    return Told(page[1], int(page[2]), fhir[1], line[1], version[1], text)
+
+
+def shell(command: str) -> str:
+    done = subprocess.run(["bash", "-c", command], stdin=subprocess.DEVNULL, capture_output=True,
+                          timeout=SECONDS, check=False)
+    return done.stdout.decode("utf-8", "backslashreplace")
+
+
+def make_clone(place: Path) -> Path:
+    """A copy of what of this tree ./try needs."""
+    clone, kept_out = place / "a clone", shutil.ignore_patterns("__pycache__", ".*", "out")
+    for name in TAKEN:
+        source, to = ROOT / name, clone / name
+        to.parent.mkdir(parents=True, exist_ok=True)
+        if source.is_dir():
+            shutil.copytree(source, to, ignore=kept_out)
+        else:
+            shutil.copy(source, to)
+    for crate in (ROOT / "crates").iterdir():
+        for part in ("src", "specs", "proofs"):
+            if (crate / part).is_dir():
+                shutil.copytree(crate / part, clone / "crates" / crate.name / part)
+    return clone
+
+
+def put_program(clone: Path, program: str) -> None:
+    """Puts the program where ./try would have built it."""
+    home = clone / "out" / "try"
+    home.mkdir(parents=True)
+    shutil.copy(program, home / built.CRATE)
+    digest = built.digest_of_sources(kit_folder())
+    (home / built.SOURCES).write_text(digest, encoding="ascii")
+
+
+class Look:
+    """A first look that is running."""
+
+    def __init__(self, clone: Path, *words: str, **around: str) -> None:
+        self.process = subprocess.Popen(
+            [str(clone / "try"), *words], cwd="/", env=os.environ | around,
+            stdin=subprocess.DEVNULL, stdout=subprocess.PIPE, stderr=subprocess.STDOUT,
+            start_new_session=True)
+        assert self.process.stdout
+        self.output, self.text = self.process.stdout, ""
+
+    def read_until(self, part: str, seconds: float) -> None:
+        """Reads what it prints until this is there, or its output ends."""
+        end = time.monotonic() + seconds
+        while part not in self.text:
+            if not select.select([self.output], [], [], max(end - time.monotonic(), 0))[0]:
+                raise Wrong("nothing more within %d seconds: %r" % (seconds, self.text))
+            data = os.read(self.output.fileno(), 1 << 16)
+            if not data:
+                return
+            self.text += data.decode("utf-8", "backslashreplace")
+
+    def told(self, seconds: float) -> Told:
+        self.read_until("Ctrl-C ends all.\n", seconds)
+        return told_in(self.text)
+
+    def interrupt(self) -> int:
+        """Its status after Ctrl-C."""
+        self.process.send_signal(signal.SIGINT)
+        return self.process.wait(SECONDS)
+
+
+@contextlib.contextmanager
+def looking(clone: Path, *words: str, **around: str) -> Iterator[Look]:
+    look = Look(clone, *words, **around)
+    try:
+        yield look
+    finally:
+        # (Where it was right it has ended by now.)
+        if look.process.poll() is None:
+            look.process.terminate()
+            look.process.wait(SECONDS)
+        look.output.close()
+
+
+def is_open(port: int) -> bool:
+    with socket.socket() as trial:
+        return trial.connect_ex((first_look.HOST, port)) == 0
+
+
+def asks(told: Told) -> None:
+    """The three lines, as they are printed."""
+    same("the line to ask", shell(told.line), WANTED_LINE)
+    answer = shell(told.fhir)
+    same("whether FHIR answers %r" % answer[:300], WANTED_FHIR in answer, True)
+    page = shell("curl -s '%s'" % told.page)
+    same("whether the page has the record", WANTED_PAGE in page, True)
+    version = shell(told.version)
+    same("whether the version says so: %r" % version, version.strip().endswith(NOT_PROVED), True)
+
+
+def by_chromium(told: Told) -> None:
+    path = chromium.found()
+    if path is None:
+        print("skipped: there is no Chromium", flush=True)
+        return
+    browser = chromium.Browser(path)
+    try:
+        browser.open(told.page)
+        shown = str(browser.value("document.body.innerText"))
+    finally:
+        browser.close()
+    parts = ["Street", "Way", "retired"]
+    same("what the page doesn't show", [part for part in parts if part not in shown], [])
+
+
+def first(clone: Path, is_built: bool) -> None:
+    """The first time."""
+    begun = time.monotonic()
+    with looking(clone) as look:
+        told = look.told(BUILD_SECONDS if is_built else SECONDS)
+        print("the first time: %.0f s" % (time.monotonic() - begun), flush=True)
+        same("whether it says so", NOT_PROVED in told.text, True)
+        asks(told)
+        by_chromium(told)
+        again = told.line.replace("GET C 1000004 20200630", "IMPORT package/Full")
+        imported = shell(again.replace("/questions.sock", "/sctd.sock"))
+        same("an import of one's own", imported, "OK 2 0 34\n")
+        same("the status after Ctrl-C", look.interrupt(), 0)
+        same("whether the page is still there", is_open(told.port), False)
+        sockets = re.findall(r"\S+/questions.sock", told.line)
+        same("sockets that are left", [path for path in sockets if os.path.exists(path)], [])
+
+
+@contextlib.contextmanager
+def usual_port_taken() -> Iterator[None]:
+    with socket.socket() as taken:
+        taken.setsockopt(socket.SOL_SOCKET, socket.SO_REUSEADDR, 1)
+        with contextlib.suppress(OSError):  # Another program has taken it.
+            taken.bind((first_look.HOST, first_look.PORT))
+            taken.listen()
+        yield
+
+
+def second(clone: Path) -> None:
+    """The second time, with the usual port taken. The store is that of the first time."""
+    with usual_port_taken():
+        begun = time.monotonic()
+        with looking(clone) as look:
+            told = look.told(SECONDS)
+            print("the second time: %.1f s" % (time.monotonic() - begun), flush=True)
+            same("whether it is another port", told.port != first_look.PORT, True)
+            asks(told)
+            status = shell(told.line.replace("GET C 1000004 20200630", "STATUS"))
+            same("the store", status, "OK 2 34 1 -\n")
+            look.process.terminate()
+            same("the status after SIGTERM", look.process.wait(SECONDS), 0)
+
+
+def what_is_missing(clone: Path, place: Path) -> None:
+    """What this machine would lack is named, with the command that installs it."""
+    hiding = place / "hiding"
+    hiding.mkdir()
+    for module in MODULES:
+        (hiding / (module + ".py")).write_text("raise ImportError\n", encoding="ascii")
+    bare = place / "bin"
+    bare.mkdir()
+    for name in ("sh", "dirname", "git"):
+        (bare / name).symlink_to(shutil.which(name) or "/nowhere")
+    # (A Python that stands on the path alone finds its own library.)
+    (bare / "python3").write_text("#!/bin/sh\nexec %s \"$@\"\n" % sys.executable, encoding="utf-8")
+    (bare / "python3").chmod(0o755)
+    with looking(clone, PATH=str(bare), PYTHONPATH=str(hiding)) as look:
+        look.read_until("\0", SECONDS)
+        same("the status without a kit and modules", look.process.wait(SECONDS), 1)
+        packages = " ".join(MODULES.values())
+        for part in ("sudo apt-get install %s\n" % packages, "export PATH=", "README.md says"):
+            same("whether it says %r: %r" % (part, look.text), part in look.text, True)
+
+
+def tried(program: str, is_built: bool, place: Path) -> None:
+    clone = make_clone(place)
+    if not is_built:
+        put_program(clone, program)
+    first(clone, is_built)
+    second(clone)
+    what_is_missing(clone, place)
+
+
+def main(words: Sequence[str]) -> int:
+    is_built = words[:1] == ["--build"]
+    words = words[1:] if is_built else words
+    if len(words) != 1:
+        print((__doc__ or "").strip(), file=sys.stderr)
+        return 2
+    try:
+        first_look.look_for_all()
+    except first_look.Failed as why:
+        print("not run: %s" % str(why).replace("\n", " "))
+        return NOT_RUN
+    if shutil.which("curl") is None:
+        print("not run: there is no curl")
+        return NOT_RUN
+    try:
+        with tempfile.TemporaryDirectory(prefix="sctd-look-") as place:
+            tried(os.path.abspath(words[0]), is_built, Path(place))
+    except (Wrong, chromium.Failed, subprocess.TimeoutExpired) as why:
+        print("WRONG: %s" % why)
+        return 1
+    return 0
+
+
+if __name__ == "__main__":
+    sys.exit(main(sys.argv[1:]))

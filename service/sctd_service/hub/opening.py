@@ -1,0 +1,59 @@
+"""What is done with the store's file before the program opens it.
+
+A first start may make the store. It is made only where its folder has nothing but folders, and a
+note is left there: so a store that was removed, or a name that was mistyped, doesn't become an
+empty store, which would answer that no code exists. And the file's pages are dropped from memory:
+after a write or a sync has failed, Linux may keep there what the disk doesn't have.
+"""
+
+import os
+import subprocess
+import time
+from pathlib import Path
+
+from ..logs import tell
+
+# The layout that a new store has: with checksums, and for whole packages.
+LAYOUT = "3"
+# The note that is left beside the store. While it is there, no store is made.
+NOTE = "first-start"
+NOTED = "%s: %s\nWhile this file is here, no start makes a store in this folder.\n"
+
+
+class NoStore(Exception):
+    """Why there is no store, and none is made."""
+
+
+def make(program: str, store: str) -> None:
+    """Makes the store if this is the first start."""
+    folder = Path(store).absolute().parent
+    if not os.path.lexists(store):
+        beside = [entry.name for entry in os.scandir(folder) if not entry.is_dir()]
+        if beside:
+            raise NoStore("there is no such file, and no store is made beside %s" % min(beside))
+        done = subprocess.run([program, "init", "--layout", LAYOUT, "--store", store],
+                              stdin=subprocess.DEVNULL, stdout=subprocess.PIPE, check=False)
+        if done.returncode:
+            raise NoStore("it can't be made: %s" % done.stdout.decode().strip())
+        tell("hub: %s: a new store" % store)
+    leave_note(folder / NOTE, os.path.basename(store))
+
+
+def leave_note(note: Path, name: str) -> None:
+    if not note.exists():
+        now = time.strftime("%Y-%m-%dT%H:%M:%SZ", time.gmtime())
+        note.write_text(NOTED % (now, name), encoding="utf-8")
+
+
+def drop_pages(store: str) -> None:
+    """Drops what memory has of the store's file, so that the program reads it from the disk. Why a
+    file can't be opened is the program's to say."""
+    try:
+        file = os.open(store, os.O_WRONLY | os.O_CLOEXEC | os.O_NONBLOCK)
+    except OSError:
+        return
+    try:
+        os.fdatasync(file)
+        os.posix_fadvise(file, 0, 0, os.POSIX_FADV_DONTNEED)
+    finally:
+        os.close(file)
