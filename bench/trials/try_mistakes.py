@@ -226,8 +226,8 @@ def try_lacking(tries: Tries) -> None:
     write(stray, COLUMNS)
     got = tries.run(["import", "--quiet", "--store", "named", "releases/lacking/Full"])
     wanted = OUT_OF_PLACE % ("terminology/" + CONCEPTS)
-    wanted += "a release has it in Terminology or Refset/Content\n"
-    for kind in ("Description", "Relationship"):
+    wanted += "a release has it in Terminology or a folder of Refset\n"
+    for kind in ("Description", "Relationship", "Refset"):
         wanted += "sctd: warning: a Full file of concepts was taken, and no %s file\n" % kind
     tries.check("what a Full release lacks", got[0] == 0 and got[2] == wanted, got)
 
