@@ -331,11 +331,13 @@ def runs_of_script(program: Program, folder: Path, releases: Path,
     """The runs of the demonstration's lines, and of its questions on the store that it leaves."""
     empty, full = folder / "empty", folder / "full"
     program.done(["init", "--store", str(empty)], folder)
-    script = Runs(program, folder, Served(CHANGES + QUESTIONS, releases, files, empty))
+    script = Runs(program, folder, Served(CHANGES + QUESTIONS, releases, files, empty,
+                                          keeps_all=True))
     shutil.copyfile(empty, folder / "store")
     script.serve(folder, CHANGES)
     (folder / "store").rename(full)
-    return [script, Runs(program, folder, Served(QUESTIONS, releases, files, full, CHANGES))]
+    asked = Served(QUESTIONS, releases, files, full, CHANGES, keeps_all=True)
+    return [script, Runs(program, folder, asked)]
 
 
 def runs_of_session(program: Program, folder: Path, count: int, seed: int) -> list[Runs]:
