@@ -8,13 +8,14 @@ edits of must-fail/; those of edits/ are tried before a commit by try_edits.py, 
 record edits/tried: a line for each edit that was refused, with a checksum of its file and one of
 its grounds, the texts on which that rests (grounds.py says which they are). Here a crate that has
 edits in edits/ has to have this record, with a line for each of them as it stands and of its
-grounds as they stand, made with the version of the kit that is on the path; and no line may name
-what is no edit. What isn't so is said in a line of its own on standard error, with the names of the
-edits, and the status is 1 then.
+grounds as they stand; and no line may name what is no edit. What isn't so is said in a line of its
+own on standard error, with the names of the edits, and the status is 1 then.
 
-(Lines from before 2026-11-29 say nothing of the grounds. They count as long as their crate's own
-sources stay, and where the record has a checksum of the crates below, as long as that stays; how
-many there are is said.) Nothing is built. Standard library alone.
+How many lines were made with another version of the kit than the one on the path is said, and is no
+fault: a new kit proves the crates anew, and nobody can try all edits on that day. (Lines from
+before 2026-11-29 say nothing of the grounds. They count as long as their crate's own sources stay,
+and where the record has a checksum of the crates below, as long as that stays; how many there are
+is said.) Nothing is built. Standard library alone.
 """
 
 from __future__ import annotations
@@ -26,7 +27,10 @@ from collections.abc import Iterator
 
 from edits import EDITS, ENDING, FOLDERS, RECORD, TOP, Edit, Misfit, Record
 from edits import all_edits, edits_of, folder_of, record_of, texts_with
-from grounds import Stale, why_stale
+from grounds import Stale, kit_version, why_stale
+
+# Why a line doesn't count.
+FAULTS = [why for why in Stale if why is not Stale.OTHER_KIT]
 
 
 def faults_of_edits(edits: list[Edit]) -> Iterator[str]:
@@ -64,7 +68,7 @@ def faults_of_record(crate: str, edits: list[Edit]) -> Iterator[str]:
         yield f"there is no {RECORD} that says which of its edits were refused"
         return
     stale = [(edit, why_stale(record, edit)) for edit in edits]
-    for why in Stale:
+    for why in FAULTS:
         named = [edit.name for edit, found in stale if found is why
                  and (why is not Stale.NO_LINE or edit.folder == EDITS)]
         if named:
@@ -78,11 +82,18 @@ def count_old(record: Record | None) -> int:
     return sum(not line.grounds for line in record.lines.values()) if record else 0
 
 
+def count_of_other_kit(record: Record | None) -> int:
+    """How many lines of a record were made with another version of the kit."""
+    if record is None or record.kit == kit_version():
+        return 0
+    return sum(bool(line.grounds) for line in record.lines.values())
+
+
 def main(words: list[str]) -> int:
     if words:
         print((__doc__ or "").strip(), file=sys.stderr)
         return 2
-    count, wrong, older = 0, 0, 0
+    count, wrong, older, other = 0, 0, 0, 0
     for crate in sorted(os.listdir(os.path.join(TOP, "crates"))):
         edits = all_edits(crate)
         stale = [f"{fault}: run python3 bench/faults/try_edits.py {crate}"
@@ -92,7 +103,9 @@ def main(words: list[str]) -> int:
             print(f"{crate}: {fault}", file=sys.stderr)
         count += len(edits)
         older += count_old(record_of(crate))
+        other += count_of_other_kit(record_of(crate))
     print(f"{older} lines say nothing of the grounds of their edits", file=sys.stderr)
+    print(f"{other} lines are of another version of the kit", file=sys.stderr)
     print(f"{count} edits, {wrong} not so", file=sys.stderr)
     return 1 if wrong or not count else 0
 

@@ -320,9 +320,9 @@ def why_stale(record: Record, edit: Edit) -> Stale | None:
         sources, below = whole(edit.crate)
         stands = record.sources == sources and record.below in (None, below)
         return None if stands else Stale.OTHER_CRATE
-    if record.kit != kit_version():
-        return Stale.OTHER_KIT
-    return None if line.grounds == tree().checksum(edit) else Stale.OTHER_GROUNDS
+    if line.grounds != tree().checksum(edit):
+        return Stale.OTHER_GROUNDS
+    return None if record.kit == kit_version() else Stale.OTHER_KIT
 
 
 # ---- other commits
