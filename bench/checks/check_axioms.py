@@ -19,7 +19,7 @@ import sys
 from collections.abc import Sequence
 from typing import NamedTuple
 
-from check_edits import TOP, read
+from edits import TOP, read
 
 CRATE = "sctd"
 DOCUMENT = os.path.join("docs", "PROMISES.md")

@@ -23,7 +23,7 @@ import re
 import sys
 from collections.abc import Iterator
 
-from check_edits import read
+from edits import read
 
 ROOT = os.path.dirname(os.path.dirname(os.path.dirname(os.path.abspath(__file__))))
 QUOTED = re.compile(r"`([^`]+)`")

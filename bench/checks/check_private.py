@@ -27,7 +27,7 @@ import sys
 from collections.abc import Callable, Collection, Iterable, Iterator, Sequence
 from typing import NamedTuple, Optional, Union
 
-from check_edits import read
+from edits import read
 
 ROOT = os.path.dirname(os.path.dirname(os.path.dirname(os.path.abspath(__file__))))
 
@@ -116,6 +116,8 @@ class Module:
         self.crate, self.name, self.path = crate, name, path
         self.imports: list[Import] = []
         self.words: list[Word] = []
+        # The lines of no word, such as how tightly an operator binds.
+        self.rest: list[str] = []
         self.passed: dict[str, str] = {}
         self.passed_names: dict[str, tuple[str, str]] = {}
         begun = 0
@@ -143,6 +145,8 @@ class Module:
             key = (self.crate, self.name, found["name"])
             text = without_comments("\n".join(lines))
             self.words.append(Word(key, found["sort"], text, number))
+        else:
+            self.rest += lines
 
 
 def names_in(text: str) -> Iterator[list[str]]:
@@ -165,6 +169,9 @@ class Item:
     def __init__(self, sort: str, name: str, is_open: bool) -> None:
         self.sort, self.name, self.is_open = sort, name, is_open
         self.head, self.is_test, self.is_inline = "", False, False
+        # Its text in its file, and where that begins, where the body of a function does, and where
+        # it ends.
+        self.text, self.begin, self.body, self.end = "", 0, 0, 0
         # The head of each clause, and its term.
         self.clauses: list[tuple[str, str]] = []
         self.items: list[Item] = []
@@ -246,13 +253,14 @@ class Reader:
     def item(self) -> Optional[Item]:
         """The next item, with what stands before its first word."""
         is_test = is_open = False
+        begin = self.at
         while True:
             token = self.token()
             if token == "#":
-                begin = self.at
+                at = self.at
                 self.until("[")
                 self.skip_group()
-                found = re.match(r"\[(cfg\()?test", self.text[begin: self.at])
+                found = re.match(r"\[(cfg\()?test", self.text[at: self.at])
                 is_test = is_test or found is not None
             elif token == "pub":
                 is_open = self.peek() != "("
@@ -263,6 +271,7 @@ class Reader:
         item = self.item_of(token, is_open)
         if item:
             item.is_test = is_test
+            item.begin, item.end, item.text = begin, self.at, self.text[begin: self.at]
         return item
 
     def item_of(self, sort: str, is_open: bool) -> Optional[Item]:
@@ -348,6 +357,7 @@ class Reader:
             kind = self.token()
             name = self.until("{")
             item.clauses.append((kind + " " + name.strip(), self.term()))
+        item.body = self.at
         if self.peek() == "{":
             self.skip_group()
         else:
@@ -536,6 +546,22 @@ class Project:
                 scope[name] = word.key
         return scope
 
+    def scope_at(self, module: Module) -> Scope:
+        """What names mean in a module of specs/."""
+        if module not in self.scopes:
+            self.scopes[module] = self.scope_of(module.imports, module.words)
+        return self.scopes[module]
+
+    def scope_within(self, module: RustModule, holders: Sequence[Item]) -> Scope:
+        """What names mean in clauses that stand in these items of a module of Rattle."""
+        lines = module.ghost_uses + [i.head for h in holders for i in h.items
+                                     if i.sort == "ghost use"]
+        above = module.above
+        while above and above.path == module.path:
+            lines = above.ghost_uses + lines
+            above = above.above
+        return self.scope_of(filter(None, map(Import.of, lines)))
+
     def cited(self, text: str, scope: Scope, hidden: Collection[str] = ()) -> Iterator[Node]:
         """The nodes that a term names, in a scope."""
         for parts in names_in(text):
@@ -603,13 +629,7 @@ class Project:
                     holders: Sequence[Item], by: str, hidden: Collection[str] = (),
                     is_member: bool = False) -> None:
         """Reaches what clauses cite, which stand in these items of a module."""
-        lines = module.ghost_uses + [i.head for h in holders for i in h.items
-                                     if i.sort == "ghost use"]
-        above = module.above
-        while above and above.path == module.path:
-            lines = above.ghost_uses + lines
-            above = above.above
-        scope = self.scope_of(filter(None, map(Import.of, lines)))
+        scope = self.scope_within(module, holders)
         for name, text in clauses:
             said = "%s · %s" % (by, name)
             for node in self.cited(text, scope, hidden):
@@ -677,9 +697,7 @@ class Project:
             self.follow_type(node)
             return
         module = self.crates[node[0]].specs[node[1]]
-        if module not in self.scopes:
-            self.scopes[module] = self.scope_of(module.imports, module.words)
-        for cited in self.cited(self.words[node].text, self.scopes[module]):
+        for cited in self.cited(self.words[node].text, self.scope_at(module)):
             if (isinstance(cited, OfType) or cited[:2] != node[:2]
                     or self.words[cited].line < self.words[node].line):
                 self.reach(cited, node)

@@ -24,7 +24,7 @@ import sys
 from collections.abc import Collection, Iterator, Sequence
 from typing import NamedTuple, Optional
 
-from check_edits import read
+from edits import read
 
 ROOT = os.path.dirname(os.path.dirname(os.path.dirname(os.path.abspath(__file__))))
 DOCUMENT = "docs/PROMISES.md"

@@ -24,7 +24,7 @@ import sys
 from typing import Any, Dict, Iterable, Iterator, List, NamedTuple, Optional, Set, Tuple
 
 import check_private
-from check_edits import read
+from edits import read
 from check_private import Item, OfType, Project, RustModule
 
 ROOT = check_private.ROOT

@@ -28,7 +28,7 @@ from typing import Callable
 TOP = Path(__file__).resolve().parents[2]
 sys.path += [str(TOP / "bench"), str(TOP / "bench" / "checks")]
 from always_refused import SWITCH, Tests, add_switch, body_of, build, is_program  # noqa: E402
-from check_edits import FOLDERS, Change, Edit, edits_of  # noqa: E402
+from edits import FOLDERS, Change, Edit, edits_of  # noqa: E402
 from unproved import Builder, kit_folder  # noqa: E402
 
 BY = "layer_cases,store_cases,program_cases,history_cases,test_program"

@@ -3,10 +3,11 @@
 
 try_edits.py [--jobs N] [--must-fail] [--anew] [--logs FOLDER] CRATE[/EDIT]..
 try_edits.py [--jobs N] [--must-fail] [--anew] [--logs FOLDER] --all
+try_edits.py --regroup CRATE..|--all
 
 CRATE stands for the edits of its edits/, with --must-fail for those of its must-fail/ too, and
-CRATE/EDIT for one edit of either folder; --all stands for every crate that has edits. An edit is refused where the prover names a goal of the
-function that it changes, or of a closure of it, which isn't proved any more. That a function calls
+CRATE/EDIT for one edit of either folder; --all stands for every crate that has edits. An edit is
+refused where the prover names a goal of the function that it changes, or of a closure of it, which isn't proved any more. That a function calls
 another one that isn't proved is no reason, nor that a statement wasn't admitted, nor that a proof
 file names what the edit took away. (Where a function has answers in proofs/, a change that means
 the same as before may be refused too, since they no longer fit.) No proof reads the body of another
@@ -19,10 +20,14 @@ control is lost, and the crate fails.
 
 A line for each edit says why it was refused. The last line counts the edits and those that were
 not; the status is 1 where there are any. An edit that was refused gets a line in the crate's record
-edits/tried, which check_edits.py compares with the crate. It isn't tried again as long as it, the
-crate's src/, specs/ and proofs/, and specs/ and traits of the crates below stay as they are, but
-with --anew: so an edit that is new, or that comes from must-fail/, is tried alone. With --anew the
-lines of the edits that are tried go first, and where a control is lost all that the run has added.
+edits/tried, which check_edits.py compares with the crate. It isn't tried again as long as it, what
+its refusal rests on (grounds.py says what that is) and the kit's version stay as they are, but with
+--anew: so an edit that is new, or that comes from must-fail/, is tried alone. With --anew the lines
+of the edits that are tried go first, and where a control is lost all that the run has added.
+
+With --regroup nothing is tried. A line from before 2026-11-29, which says nothing of what its edit
+rests on, is completed where that is the same now as in the commit that first had the line; how many
+are left is printed for each crate.
 
 A crate has to be proved and its work kept, as `rt check` leaves it in out/. N checks go on at once,
 of whichever crates have one to make: 1 where none is given. What each check printed is written to
@@ -51,9 +56,11 @@ from importlib.machinery import SourceFileLoader
 from typing import Any
 
 sys.path.append(os.path.join(os.path.dirname(os.path.dirname(os.path.abspath(__file__))), "checks"))
-import check_edits  # noqa: E402
-from check_edits import EDITS, FOLDERS, MUST_FAIL, TOP, Change, Edit  # noqa: E402
-from check_edits import Misfit, Record, read, texts_with  # noqa: E402
+import edits as editing  # noqa: E402
+import grounds  # noqa: E402
+from check_edits import faults_of_edits  # noqa: E402
+from edits import EDITS, MUST_FAIL, TOP, Change, Edit, Line  # noqa: E402
+from edits import Misfit, Record, read, texts_with  # noqa: E402
 
 # The statement that does nothing, and in how many functions it is tried before the edits.
 PLANTED = " let planted = 0u8; let _ = planted;"
@@ -564,8 +571,8 @@ def try_edits(trial: Trial, edits: list[Edit]) -> Iterator[Verdict]:
 
 def edits_asked(crate: str, wanted: set[str], has_must_fail: bool) -> list[Edit]:
     """The edits of a crate that are asked for: those with these names, or all of the folders."""
-    every = [edit for folder in FOLDERS for edit in check_edits.edits_of(crate, folder)]
-    faults = list(check_edits.faults_of_edits(every))
+    every = editing.all_edits(crate)
+    faults = list(faults_of_edits(every))
     unknown = wanted - {edit.name for edit in every}
     if faults or unknown:
         sys.exit("\n".join([*faults, *(f"{crate} has no edit {it}" for it in sorted(unknown))]))
@@ -574,34 +581,28 @@ def edits_asked(crate: str, wanted: set[str], has_must_fail: bool) -> list[Edit]
     return [edit for edit in every if edit.folder == EDITS or has_must_fail]
 
 
-def stands_on(crate: str) -> tuple[str, str]:
-    """The checksums of a crate's sources, and of what they rest on in the crates below it."""
-    return check_edits.checksum_of_sources(crate), check_edits.checksum_below(crate)
-
-
 class Refusals:
-    """The edits of a crate that were refused with its sources and the crates below as they stand,
-    as its record has them. What is there of others, or of an edit that has changed, goes."""
+    """The edits of a crate that were refused, as its record has them. What is there of edits whose
+    grounds are others now, or of an edit that has changed, goes."""
 
     def __init__(self, crate: str, forgotten: list[Edit]) -> None:
-        every = [edit for folder in FOLDERS for edit in check_edits.edits_of(crate, folder)]
-        self.crate, self.stands_on = crate, stands_on(crate)
-        self.checksums = {edit.name: check_edits.checksum_of(edit) for edit in every}
-        self.has_folder = any(edit.folder == EDITS for edit in every)
-        record = check_edits.record_of(crate)
-        if record is None or (record.sources, record.below) != self.stands_on:
-            record = Record("", *self.stands_on, {})
-        names = self.checksums.keys() - {edit.name for edit in forgotten}
-        self.day, self.added = record.day, dict[str, str]()
-        self.found = {name: checksum for name, checksum in record.edits.items()
-                      if name in names and checksum == self.checksums[name]}
+        self.crate, self.edits = crate, {edit.name: edit for edit in editing.all_edits(crate)}
+        self.has_folder = any(edit.folder == EDITS for edit in self.edits.values())
+        nothing = Record("", grounds.kit_version(), *grounds.whole(crate), {})
+        self.record = editing.record_of(crate) or nothing
+        names = self.edits.keys() - {edit.name for edit in forgotten}
+        self.added: dict[str, Line] = {}
+        self.found = {name: line for name, line in self.record.lines.items() if name in names
+                      and grounds.why_stale(self.record, self.edits[name]) is None}
         self.write()
 
     def has(self, edit: Edit) -> bool:
-        return edit.name in self.found
+        """Whether an edit was refused, on what is below it too."""
+        line = self.found.get(edit.name)
+        return line is not None and bool(line.grounds or self.record.below)
 
     def add(self, edit: Edit) -> None:
-        self.added[edit.name] = self.checksums[edit.name]
+        self.added[edit.name] = line_of(edit)
         self.write()
 
     def take_back(self) -> None:
@@ -610,16 +611,41 @@ class Refusals:
         self.write()
 
     def are_of_sources(self) -> bool:
-        return self.stands_on == stands_on(self.crate)
+        """Whether the crate is as it was before, and what the refusals rest on."""
+        edits = [self.edits[name] for name in self.added]
+        before = grounds.whole(self.crate), [line_of(edit) for edit in edits]
+        forget_sources()
+        return before == (grounds.whole(self.crate), [line_of(edit) for edit in edits])
+
+    def regroup(self) -> int:
+        """Gives the lines that have none a checksum of their grounds, if these are known, and
+        returns how many are left without."""
+        for name in self.found:
+            self.found[name] = grounds.regrouped(self.record, self.edits[name])
+        self.write()
+        return sum(not line.grounds for line in self.found.values())
 
     def write(self) -> None:
         """Writes the record, or removes it where it has no line, or the crate no edits/."""
-        day = datetime.date.today().isoformat() if self.added else self.day
+        day = datetime.date.today().isoformat() if self.added else self.record.day
         lines = self.found | self.added
+        old = (self.record.sources, self.record.below)
         if lines and self.has_folder:
-            check_edits.write_record(self.crate, Record(day, *self.stands_on, lines))
+            record = Record(day, grounds.kit_version(), *old, lines)
+            editing.write_record(self.crate, record)
         else:
-            check_edits.remove_record(self.crate)
+            editing.remove_record(self.crate)
+
+
+def line_of(edit: Edit) -> Line:
+    """The line of an edit that is refused as the sources stand."""
+    return Line(editing.checksum_of(edit), grounds.tree().checksum(edit))
+
+
+def forget_sources() -> None:
+    """Lets the sources be read anew."""
+    grounds.tree.cache_clear()
+    grounds.whole.cache_clear()
 
 
 def try_crate(trial: Trial, edits: list[Edit], kept: Refusals) -> list[str]:
@@ -656,7 +682,8 @@ def try_rest(checks: Checks, crate: Any, edits: list[Edit], is_anew: bool) -> li
     kept = Refusals(crate.name, edits if is_anew else [])
     left = [edit for edit in edits if not kept.has(edit)]
     if len(left) < len(edits):
-        print(f"{crate.name}: {len(edits) - len(left)} edits were refused before, by {kept.day}")
+        count, day = len(edits) - len(left), kept.record.day
+        print(f"{crate.name}: {count} edits were refused before, by {day}")
     if not left:
         return []
     if not os.path.isdir(os.path.join(crate.folder, KEPT)):
@@ -687,6 +714,7 @@ def arguments() -> argparse.Namespace:
     asked.add_argument("--must-fail", action="store_true", help=f"those of {MUST_FAIL}/ too")
     asked.add_argument("--anew", action="store_true", help="those that were refused before too")
     asked.add_argument("--logs", metavar="FOLDER")
+    asked.add_argument("--regroup", action="store_true", help="only find what records rest on")
     asked.add_argument("--all", action="store_true", help="every crate that has edits")
     asked.add_argument("names", nargs="*", metavar="CRATE[/EDIT]")
     given = asked.parse_args()
@@ -697,7 +725,7 @@ def arguments() -> argparse.Namespace:
     return given
 
 
-def asked_for(given: argparse.Namespace, crates: dict[str, Any]) -> dict[str, list[Edit]]:
+def asked_for(given: argparse.Namespace, crates: Iterable[str]) -> dict[str, list[Edit]]:
     """The edits that are asked for, by their crates."""
     names = list(crates) if given.all else given.names
     found = {}
@@ -709,9 +737,20 @@ def asked_for(given: argparse.Namespace, crates: dict[str, Any]) -> dict[str, li
     return {name: edits for name, edits in found.items() if edits}
 
 
+def regroup(crates: list[str]) -> int:
+    """Gives the lines of these crates' records the checksums of their grounds, and says how many
+    are left without."""
+    left = {crate: Refusals(crate, []).regroup() for crate in crates}
+    for crate, count in left.items():
+        print(f"{crate}: {count} lines without grounds")
+    return 0
+
+
 def main() -> int:
     given = arguments()
     os.chdir(TOP)
+    if given.regroup:
+        return regroup(list(asked_for(given, grounds.tree().crates)))
     rt = kit()
     rt.rtlib.guarded()
     crates = crates_of(rt)

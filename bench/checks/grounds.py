@@ -1,0 +1,441 @@
+#!/usr/bin/env python3
+"""Says what a refusal of an edit rests on: its grounds.
+
+grounds.py [CRATE[/EDIT] ..]
+grounds.py --between OLD NEW
+
+Whether a changed body of a function meets its contract is decided by these texts, which are the
+edit's grounds: that of the function; the contracts of the functions that it calls; the declarations
+of the types, traits and constants that these name, with their ghost members and what is implemented
+for the types; and the definitions of specs/ which all of these cite, in the crate and in the crates
+below it. Proofs, comments, blank space and the bodies of other functions are no grounds. An edit
+that changes anything but bodies of functions has the whole crate as its grounds: its src/, specs/
+and proofs/, and the specs/ and traits of the crates below.
+
+What a name is said of is found as check_private.py finds it, by the lines `use` and `ghost use`. A
+method is taken by its name alone, where its type or trait is among the grounds: so more may be
+taken than the function calls, and never less. A call without a name, such as `?`, `for` or a
+comparison, is one of a trait that isn't of this repository: of these all methods are taken that the
+types among the grounds have. What std and other crates of the kit say goes with the kit's version.
+
+A checksum is made of the texts, of their places and of what each name in them is said of. Without
+words a line is printed for each edit, with the checksum of its file and that of its grounds; for
+the edits that are named the grounds themselves. With --between a line for each crate counts its
+edits in commit NEW, those of them that stood in OLD as they are and whose grounds have changed
+since, and those that the checksums of whole crates say have. Nothing is built. Standard library
+alone.
+"""
+
+from __future__ import annotations
+
+import enum
+import functools
+import hashlib
+import io
+import os
+import re
+import shutil
+import subprocess
+import sys
+import tarfile
+import tempfile
+from collections.abc import Iterable, Iterator
+from typing import NamedTuple, Union
+
+import edits
+from check_private import RUST_PATH, Item, Key, Node, OfType, Project, Reader, RustModule
+from check_private import names_in, parts_of_impl
+from edits import TOP, Edit, Line, Record, folder_of, read
+
+# What can be among the grounds: a word of specs/, or an item of Rattle, of a function its contract.
+Ground = Union[Key, Item]
+
+# A text between quotes, also of several lines.
+WRITTEN = re.compile(Reader.TEXT.pattern, re.S)
+TEXT = Reader.TEXT.pattern.replace(r"\1", r"\2")
+LAYOUT = re.compile(rf"({TEXT})|(?:\s|//[^\n]*|/\*.*?\*/)+", re.S)
+NAME = re.compile(r"[A-Za-z_]\w*")
+# What Rattle makes of a crate's declarations, as modules beside those of specs/.
+MADE = ("declared", "contracts")
+
+
+class Place(NamedTuple):
+    """Where an item stands: its module, and the impl or trait around it."""
+
+    module: RustModule
+    holder: Item | None
+
+
+def plain(text: str) -> str:
+    """A text of Rattle without comments, and with single spaces."""
+    return LAYOUT.sub(lambda found: found[1] or " ", text).strip()
+
+
+def without_body(item: Item) -> str:
+    """The text of an item, of a function without its body, of an impl or a trait its head alone."""
+    if item.sort == "fn":
+        return item.text[: item.body - item.begin]
+    return item.head if item.sort in ("impl", "trait") else item.text
+
+
+class Tree(Project):
+    """The sources of all crates, and what each text in them cites."""
+
+    def __init__(self) -> None:
+        super().__init__()
+        self.places: dict[Item, Place] = {}
+        # The functions that have a body, by the files in which they stand.
+        self.functions: dict[str, list[Item]] = {}
+        for crate in self.crates.values():
+            for module in crate.root.all():
+                self.take_places(module)
+        self.made_for: dict[Item, list[Item]] = {}
+        for module, impl in self.impls:
+            for item in self.made_of(module, impl):
+                self.made_for.setdefault(item, []).append(impl)
+        self.cited_by: dict[Ground, list[Ground]] = {}
+        self.lines: dict[Ground, str] = {}
+
+    def reach_public(self) -> None:
+        """Nothing: what a public contract reaches is no matter here."""
+
+    def take_places(self, module: RustModule) -> None:
+        for item in module.items:
+            held = item.items if item.sort in ("impl", "trait") else []
+            self.places[item] = Place(module, None)
+            self.places.update(dict.fromkeys(held, Place(module, item)))
+            functions = [it for it in [item, *held] if it.sort == "fn"]
+            self.functions.setdefault(module.path, []).extend(functions)
+
+    def made_of(self, module: RustModule, impl: Item) -> set[Item]:
+        """The types of ours for which an impl is made, or else the trait, or what that names."""
+        trait, made = parts_of_impl(impl.head)
+        texts = (made.split("<")[0], made, trait.split("<")[0], trait)
+        found = (set(self.types_in(module, text)) for text in texts)
+        return next(filter(None, found), set())
+
+    # ---- what a text cites
+
+    def node_at(self, path: str, name: str) -> Node | None:
+        """What a name of a module is, as before; a constant's too, and what a contract is of."""
+        found = super().node_at(path, name)
+        parts = path.split(".")
+        if found or len(parts) < 4 or parts[3] not in MADE or parts[1] not in self.crates:
+            return found
+        inside = [part for part in [*parts[4:], name] if not part.startswith("The")]
+        crate = self.crates[parts[1]]
+        return self.type_at(crate, inside) or self.type_at(crate, inside[:-1])
+
+    def items_in(self, module: RustModule, text: str) -> Iterator[Item]:
+        """The items that a text of Rattle names."""
+        for path in RUST_PATH.findall(WRITTEN.sub(" ", text)):
+            found = self.resolve(module, path.split("::"))
+            if isinstance(found, Item):
+                yield found
+
+    def in_terms(self, place: Place, terms: Iterable[str]) -> Iterator[Ground]:
+        """What the terms of clauses cite."""
+        holders = [place.holder] if place.holder else []
+        scope = self.scope_within(place.module, holders)
+        for term in terms:
+            yield from map(ground_of, self.cited(term, scope))
+            for parts in names_in(term):
+                if parts[0] not in scope and NAME.fullmatch(parts[0]):
+                    yield from self.items_in(place.module, parts[0])
+
+    def citations(self, ground: Ground) -> list[Ground]:
+        """What a ground cites itself, in its order."""
+        if ground not in self.cited_by:
+            found = self.in_item(ground) if isinstance(ground, Item) else self.in_word(ground)
+            self.cited_by[ground] = list(found)
+        return self.cited_by[ground]
+
+    def in_word(self, key: Key) -> Iterator[Ground]:
+        module = self.crates[key[0]].specs[key[1]]
+        for word in self.words_at(key):
+            yield from map(ground_of, self.cited(word, self.scope_at(module)))
+
+    def words_at(self, key: Key) -> list[str]:
+        """The texts of a word, and what its module says of no word."""
+        module = self.crates[key[0]].specs[key[1]]
+        return [word.text for word in module.words if word.key == key] + module.rest
+
+    def in_item(self, item: Item) -> Iterator[Ground]:
+        place = self.places[item]
+        members = [it for it in item.items if it.sort != "fn"]
+        for text in [item.head, *(it.head for it in members if it.sort != "ghost use")]:
+            yield from self.items_in(place.module, plain(text))
+        holder = item if item.sort in ("impl", "trait") else place.holder
+        clauses = [clause for it in [item, *members] for clause in it.clauses]
+        yield from self.in_terms(Place(place.module, holder), (term for _, term in clauses))
+        if place.holder:
+            yield place.holder
+
+    # ---- the grounds of functions
+
+    def grounds(self, functions: Iterable[Item]) -> set[Ground]:
+        """What the refusal of other bodies of these functions rests on, besides their texts."""
+        found: set[Ground] = set()
+        names: set[str] = set()
+        left: list[Ground] = []
+        for function in functions:
+            names.update(NAME.findall(plain(function.text)))
+            left += [function, *self.named_in(function)]
+        while left:
+            ground = left.pop()
+            if ground not in found:
+                found.add(ground)
+                left += self.citations(ground)
+                left += self.members(ground, names) if isinstance(ground, Item) else ()
+        return found
+
+    def named_in(self, function: Item) -> Iterator[Item]:
+        """The items that a function names, and the traits whose methods it can call on types that
+        aren't ours."""
+        module, text = self.places[function].module, plain(function.text)
+        yield from self.items_in(module, text)
+        names = set(NAME.findall(text))
+        for name in sorted({*module.named, *module.used}):
+            for item in self.items_in(module, name):
+                if item.sort == "trait" and names & {it.name for it in item.items}:
+                    yield item
+
+    def members(self, item: Item, names: set[str]) -> Iterator[Item]:
+        """What is implemented for a type or a trait, and those of its methods that may be
+        called."""
+        if item.sort == "trait":
+            yield from (it for it in item.items if it.sort == "fn" and it.name in names)
+        for impl in self.made_for.get(item, ()):
+            yield impl
+            every = self.is_of_foreign_trait(impl)
+            for method in impl.items:
+                if method.sort == "fn" and (every or method.name in names):
+                    yield method
+
+    def is_of_foreign_trait(self, impl: Item) -> bool:
+        trait = parts_of_impl(impl.head)[0].split("<")[0]
+        own = any(it.sort == "trait" for it in self.types_in(self.places[impl].module, trait))
+        return bool(trait) and not own
+
+    def functions_of(self, edit: Edit) -> list[Item]:
+        """The functions whose bodies an edit changes; none where it changes anything else."""
+        found = [self.function_of(edit.crate, change) for change in edit.changes]
+        known = [item for item in found if item]
+        return known if len(known) == len(found) else []
+
+    def function_of(self, crate: str, change: edits.Change) -> Item | None:
+        """The function in whose body a text is changed."""
+        path = os.path.join(folder_of(crate), change.path)
+        at = read(path).find(change.old) if os.path.isfile(path) else -1
+        end = at + len(change.old)
+        around = (it for it in self.functions.get(path, []) if it.body <= at and end <= it.end)
+        return next(around, None) if at >= 0 else None
+
+    # ---- checksums
+
+    def label(self, ground: Ground) -> str:
+        """The name of a ground, with its place."""
+        if not isinstance(ground, Item):
+            return "%s.specs.%s.%s" % ground
+        module, holder = self.places[ground]
+        around = plain(holder.head) if holder else ""
+        own = plain(ground.head) if ground.sort == "impl" else ground.name
+        path = os.path.relpath(module.path, os.path.join(TOP, "crates")) if module.path else ""
+        return " ".join(filter(None, [path, module.name, around, ground.sort, own]))
+
+    def text(self, ground: Ground) -> str:
+        """The text of a ground: of an impl or a trait without its functions."""
+        if not isinstance(ground, Item):
+            lines = "\n".join(self.words_at(ground)).split("\n")
+            return "\n".join(line.rstrip() for line in lines if line.strip())
+        members = [it for it in ground.items if it.sort not in ("fn", "ghost use")]
+        is_held = ground.sort in ("impl", "trait")
+        parts = [without_body(ground), *(it.text for it in members if is_held)]
+        return plain(" ; ".join(parts))
+
+    def line(self, ground: Ground) -> str:
+        """A line for a ground: its name, a checksum of its text, and what that cites."""
+        if ground not in self.lines:
+            cited = " ".join(self.label(it) for it in self.citations(ground))
+            said = hashlib.sha256(f"{self.text(ground)}\n{cited}".encode()).hexdigest()
+            self.lines[ground] = f"{self.label(ground)}: {said}\n"
+        return self.lines[ground]
+
+    def checksum(self, edit: Edit) -> str:
+        """The checksum of an edit's grounds."""
+        functions = self.functions_of(edit)
+        if not functions:
+            return hashlib.sha256("".join(whole(edit.crate)).encode()).hexdigest()
+        lines = sorted(map(self.line, self.grounds(functions)))
+        for function in functions:
+            named = " ".join(map(self.label, self.named_in(function)))
+            lines += [plain(function.text), named]
+        return hashlib.sha256("\n".join(lines).encode()).hexdigest()
+
+
+def ground_of(node: Node) -> Ground:
+    return node.item if isinstance(node, OfType) else node
+
+
+@functools.lru_cache(maxsize=None)
+def whole(crate: str) -> tuple[str, str]:
+    """The checksums of a crate's sources, and of what they rest on in the crates below it."""
+    return edits.checksum_of_sources(crate), edits.checksum_below(crate)
+
+
+@functools.lru_cache(maxsize=None)
+def kit_version() -> str:
+    """The version of the kit that is on the path."""
+    run = subprocess.run(["rt", "version"], capture_output=True, text=True, check=True)
+    return run.stdout.strip()
+
+
+@functools.lru_cache(maxsize=None)
+def tree() -> Tree:
+    """The sources as they stood when they were first asked for."""
+    return Tree()
+
+
+# ---- what a record says of them
+
+
+class Stale(enum.Enum):
+    """Why an edit isn't known to be refused as the sources stand."""
+
+    NO_LINE = f"no line in {edits.RECORD}"
+    CHANGED = "changed since it was tried"
+    OTHER_KIT = "tried with another version of the kit"
+    OTHER_GROUNDS = "what its refusal rests on has changed since it was tried"
+    OTHER_CRATE = "its crate or specs/ or a trait below have changed since it was tried"
+
+
+def why_stale(record: Record, edit: Edit) -> Stale | None:
+    """Why a record doesn't say that an edit is refused as the sources stand; None where it does."""
+    line = record.lines.get(edit.name)
+    if line is None:
+        return Stale.NO_LINE
+    if line.edit != edits.checksum_of(edit):
+        return Stale.CHANGED
+    if line.grounds is None:
+        sources, below = whole(edit.crate)
+        stands = record.sources == sources and record.below in (None, below)
+        return None if stands else Stale.OTHER_CRATE
+    if line.grounds != tree().checksum(edit):
+        return Stale.OTHER_GROUNDS
+    return None if record.kit == kit_version() else Stale.OTHER_KIT
+
+
+# ---- other commits
+
+
+class Sums(NamedTuple):
+    """The checksums of an edit's file, of its grounds, and of the whole crate with what is
+    below."""
+
+    edit: str
+    grounds: str
+    whole: str
+
+
+def sums() -> dict[str, Sums]:
+    """The checksums of each edit as the sources stand."""
+    return {str(edit): Sums(edits.checksum_of(edit), tree().checksum(edit), ".".join(whole(crate)))
+            for crate in tree().crates for edit in edits.all_edits(crate)}
+
+
+@functools.lru_cache(maxsize=None)
+def sums_at(commit: str) -> dict[str, Sums]:
+    """The same of a commit, as these scripts find them there."""
+    with tempfile.TemporaryDirectory(prefix="grounds-") as folder:
+        archive = output("git", "-C", TOP, "archive", commit, "crates", "crates.txt")
+        with tarfile.open(fileobj=io.BytesIO(archive)) as files:
+            files.extractall(folder)
+        scripts = os.path.join(folder, "bench", "checks")
+        shutil.copytree(os.path.dirname(os.path.abspath(__file__)), scripts)
+        lines = output(sys.executable, os.path.join(scripts, os.path.basename(__file__)))
+    named = (line.split() for line in lines.decode().splitlines())
+    return {name: Sums(*found) for name, *found in named}
+
+
+def output(*words: str) -> bytes:
+    return subprocess.run(words, stdout=subprocess.PIPE, check=True).stdout
+
+
+def commit_of(crate: str, edit: str, record: Record) -> str | None:
+    """The first commit in which a record of these sources has its line for this edit."""
+    path = f"crates/{crate}/{edits.RECORD}"
+    found = None
+    for commit in output("git", "-C", TOP, "log", "--format=%H", "--", path).decode().split():
+        before = record_at(commit, path)
+        same = before and before.sources == record.sources and before.below == record.below
+        if before and same and before.lines.get(edit) == record.lines[edit]:
+            found = commit
+        elif found:
+            break
+    return found
+
+
+@functools.lru_cache(maxsize=None)
+def record_at(commit: str, path: str) -> Record | None:
+    """The record at a path in a commit."""
+    run = subprocess.run(["git", "-C", TOP, "show", f"{commit}:{path}"],
+                         capture_output=True, text=True, check=False)
+    return edits.record_in(run.stdout)
+
+
+def regrouped(record: Record, edit: Edit) -> Line:
+    """An edit's line with a checksum of its grounds, if they are now what they were in the commit
+    that has the line, and otherwise as it is."""
+    line = record.lines[edit.name]
+    commit = None if line.grounds else commit_of(edit.crate, edit.name, record)
+    before = sums_at(commit).get(str(edit)) if commit else None
+    now = tree().checksum(edit)
+    return Line(line.edit, now) if before and before[:2] == (line.edit, now) else line
+
+
+# ---- what is printed
+
+
+def print_between(old: str, new: str) -> None:
+    """A line for each crate: its edits in a commit, and those that are stale since another one."""
+    before, after = sums_at(old), sums_at(new)
+    print(f"{'crate':16} {'edits':>6} {'by grounds':>10} {'by crate':>10}")
+    total = [0, 0, 0]
+    for crate in sorted({name.partition("/")[0] for name in after}):
+        named = [it for it in after if it.startswith(f"{crate}/")]
+        pairs = [(before[it], after[it]) for it in named if it in before]
+        same = [(one, other) for one, other in pairs if one.edit == other.edit]
+        counts = [len(same), sum(one.grounds != other.grounds for one, other in same),
+                  sum(one.whole != other.whole for one, other in same)]
+        total = [one + other for one, other in zip(total, counts)]
+        print(f"{crate:16} {counts[0]:6} {counts[1]:10} {counts[2]:10}")
+    print(f"{'all':16} {total[0]:6} {total[1]:10} {total[2]:10}")
+
+
+def print_grounds(name: str) -> None:
+    """The grounds of an edit, each with a checksum of its text and of what that cites."""
+    crate, _, wanted = name.partition("/")
+    for edit in edits.all_edits(crate):
+        if wanted in ("", edit.name):
+            functions = tree().functions_of(edit)
+            print(f"{edit}: {'' if functions else 'the whole crate'}")
+            for line in sorted(map(tree().line, tree().grounds(functions))):
+                print(f"  {line}", end="")
+
+
+def main(words: list[str]) -> int:
+    if words[:1] == ["--between"] and len(words) == 3:
+        print_between(*words[1:])
+        return 0
+    if any(word.startswith("-") for word in words):
+        print((__doc__ or "").strip(), file=sys.stderr)
+        return 2
+    for name in words:
+        print_grounds(name)
+    for name, found in {} if words else sums().items():
+        print(name, *found)
+    return 0
+
+
+if __name__ == "__main__":
+    sys.exit(main(sys.argv[1:]))
