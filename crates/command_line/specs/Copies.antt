@@ -16,7 +16,7 @@ use Rattle.history_store.specs.declared.refusal.Refusal.TheVariants as store
 use Rattle.line_server.specs.declared.refusal.LineRefusal.{LineRefusal}
 use Rattle.line_server.specs.declared.refusal.LineRefusal.TheVariants.{PinRange, Store}
 use Rattle.line_server.specs.ReplyValue.{Answer, Done as AllDone}
-use Rattle.command_line.specs.Disks.{IsRemoved}
+use Rattle.command_line.specs.Hosts.{HostView, IsRemoved}
 use Rattle.command_line.specs.Endings.{Report, Tells}
 
 -- the refusal for a store that couldn't be copied
@@ -70,21 +70,19 @@ pub record IsCopied {D : Type 0} (view : D → DiskView) (imports : Option ℕ) 
       (view target_left).failures
 
 -- a copy is kept, and what was made for one that failed is removed
-abbrev pub IsKept : {D : Type 0} → (removes retains : D → Type 0) → Result DirectoryValue CopyFault
-    → D → Option D → Type 0
-IsKept removes retains (Ok copy) made left = left ≡ Some made
-IsKept removes retains (Err e) made left = IsRemoved removes retains made left
+abbrev pub IsKept : {D : Type 0} → HostView D → Result DirectoryValue CopyFault → D → Option D
+    → Type 0
+IsKept host (Ok copy) made left = left ≡ Some made
+IsKept host (Err e) made left = IsRemoved host made left
 
 -- A copy was made of the store on one disk onto another one, or the result says why not. The
 -- result was written, and each disk was left in its state after that, except one that was made
 -- for a copy that failed.
-pub record IsCopyMade {D : Type 0} (view : D → DiskView) (removes retains : D → Type 0)
-    (imports : Option ℕ) (layout : Option Layout) (source target : D) (left made : Option D)
-    (report : Report) : Type 0 where
+pub record IsCopyMade {D : Type 0} (host : HostView D) (view : D → DiskView) (imports : Option ℕ)
+    (layout : Option Layout) (source after target : D) (made : Option D) (report : Report)
+    : Type 0 where
   pub result : Result DirectoryValue CopyFault
-  pub source_left : D
   pub target_left : D
-  pub copied : IsCopied view imports layout result source source_left target target_left
+  pub copied : IsCopied view imports layout result source after target target_left
   pub told : Tells report (copy_told result)
-  pub left_so : left ≡ Some source_left
-  pub made_so : IsKept removes retains result target_left made
+  pub made_so : IsKept host result target_left made

@@ -95,13 +95,11 @@ pub(crate) struct Figures {
 /// Prints a store's figures, and the length of its file.
 pub(crate) fn tell_figures<E: Write>(
     store: &str,
-    figures: Option<Figures>,
+    figures: Figures,
     size: Option<u64>,
     faults: &mut E,
 ) {
-    if let Some(figures) = figures {
-        let _ = write_figures(store, figures, size, faults);
-    }
+    let _ = write_figures(store, figures, size, faults);
 }
 
 /// Writes the figures as a line.
