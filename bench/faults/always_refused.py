@@ -316,10 +316,10 @@ CALLS = [
          "program_cases", "questions"),
     Call("line_server", "serve", "serving.rt", "pub fn serve<", "Err(ServeFault::OutOfMemory)",
          "program_cases", "pieces play no part"),
-    Call("command_line", "FolderSource::release", "folders.rt", "fn release(", SOURCE,
+    Call("command_line", "FolderSource::release", "folder_source.rt", "fn release(", SOURCE,
          "program_cases", "a file keeps what was imported"),
     Call("command_line", "run", "running.rt", "pub fn run<",
-         "(fail(ServeFault::OutOfMemory, faults), None)", "program_cases", "statuses"),
+         "(fail(ServeFault::OutOfMemory, faults), None, None)", "program_cases", "statuses"),
 ]
 
 
