@@ -35,7 +35,7 @@ use std::io::{Read, Write};
 /// Carries out a command line, whose first word is the program's name, and returns the exit status:
 /// 0 if it was done; 1 if it was refused, or a stream or memory failed; 2 if the words are no
 /// command. Also returns the disk of the task, as it was left, and the disk that was made for a
-/// copy.
+/// copy. `asked` counts how often the host was asked for one.
 pub fn run<H: Host, I: Read, O: Write, E: Write>(
     host: &H,
     asked: &mut H::Asked,
