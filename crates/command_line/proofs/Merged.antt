@@ -1,19 +1,23 @@
 -- What calls of a merge leave of a store.
-use Rattle.std.proofs.Common.{◌≡◌, ◌≢◌, ◌↔◌, ℕ, ◌+◌, List, [], ◌∷◌, ◌++◌, length, true, false, slice_set, min, take, Option, Some, None, Result, Ok, Err, refl, ap, sym, subst, ◌∙◌, arith, inl, ◌<◌, ◌≤◌, ◌-◌}
-use Rattle.std.specs.Prelude.{unwrap_or, option_map, IfErr, OnOk}
+use Rattle.std.proofs.Common.{◌≡◌, ◌⊎◌, ℕ, ◌+◌, List, [], ◌∷◌, ◌++◌, length, true, false, slice_set, min, Option, Some, None, Result, Ok, Err, refl, ap, sym, subst, ◌∙◌, arith, inl, ◌<◌, ◌≤◌, ◌-◌}
+use Rattle.std.specs.Prelude.{unwrap_or, option_map, OnOk}
 use Rattle.std.proofs.lemmas.Bool.{false≢true}
 use Rattle.std.proofs.lemmas.Option.{slice_get_within}
 use Rattle.std.proofs.lemmas.List.{length-set}
 use Rattle.std.proofs.lemmas.List.Edits.{length-remove}
-use Rattle.disk_model.specs.View.{DiskView, AtMost, Calls, Stays}
+use Rattle.disk_model.specs.View.{DiskView}
 use Rattle.history_store.specs.declared.refusal.Refusal.{Refusal}
 use Rattle.history_store.specs.declared.refusal.Refusal.TheVariants as store
 use Rattle.history_store.specs.Catalog.{Catalog, Merge as CatalogMerge}
 use Rattle.history_store.specs.Merging.{IsBegun, IsStepped, IsPublished, GoesOn, IsFinished}
 use Rattle.history_store.specs.Answers.{IsRefusedFor}
-use Rattle.history_store.specs.MergeAnswers.{IsNotBegun, IsNotStepped, IsNotPublished, IsNotTrimmed}
-use Rattle.history_store.specs.StoreValue.{StoreValue}
-use Rattle.command_line.specs.Merging.{MergeCall, Begin, Step, Publish, Trim, refusal_of, IsMergeCall, IsDue, AreMade, IsHalt, IsMergedTo, rows_left, segments_of}
+use Rattle.history_store.specs.Crashes.{IsCrashSafe}
+use Rattle.history_store.specs.MergeAnswers.{IsBeginningOf, IsPublishingOf, IsTrimmingOf, IsNotBegun, IsNotStepped, IsNotPublished, IsNotTrimmed}
+use Rattle.history_store.specs.StoreValue.{StoreValue, IsAcknowledged}
+use Rattle.store_image.specs.Images.{RepresentsAs}
+use Rattle.directory.specs.Listings.{next_layout}
+use Rattle.store_life.proofs.Made.{begin_made, step_made, publish_made, trim_made}
+use Rattle.command_line.specs.Merging.{MergeCall, Begin, Step, Publish, Trim, refusal_of, HasAnswer, UsesDisk, IsMergeCall, IsDue, AreMade, IsHalt, IsMergedTo, rows_left, segments_of}
 use Rattle.command_line.specs.Private.{IsAtRest, IsMerging, HasMerged, HaveMerged, IsStopped, Goes, Progresses}
 
 -- ---- why a call that was due is refused
@@ -81,7 +85,7 @@ module _ {D : Type 0} (view : D → DiskView) where
   begun_goes : (left : ℕ) (old new : StoreValue D) → Made (Begin (Ok left)) old new → (segments_of new ≡ segments_of old) × IsMerging new
   begun_goes left old new m =
       let a = m.answer in
-      (begun_same old.catalog new.catalog left a.0, a.1.open_still, (_, ap (λ (c : Catalog). c.merge) a.0.next_is))
+      (begun_same old.catalog new.catalog left a.0, (a.1.open_still, (_, ap (λ (c : Catalog). c.merge) a.0.next_is)))
 
   step_goes : (left : ℕ) (old new : StoreValue D) → Made (Step (Ok left)) old new → (segments_of new ≡ segments_of old) × IsMerging new × (rows_left new ≡ rows_left old - 100000)
   step_goes left old new m =
@@ -155,6 +159,38 @@ module _ {D : Type 0} (view : D → DiskView) where
 
   -- ---- each call
 
+  pub begin_call : (result : Result ℕ Refusal) (old new : StoreValue D) → IsBeginningOf result old new → new.disk ≡ old.disk → (old.needs_reopen ≡ true → new ≡ old)
+      → ((view old.disk).is_honest → new.needs_reopen ≡ false → IsAcknowledged view new) → Made (Begin result) old new
+  begin_call result old new answer disk closed acknowledged = record {
+    answer = answer;
+    disk = disk;
+    life = begin_made view result old new answer disk closed acknowledged;
+  }
+
+  pub step_call : (result : Result ℕ Refusal) (old new : StoreValue D) → HasAnswer view (Step result) old new → UsesDisk view (Step result) old new
+      → IsCrashSafe view (RepresentsAs old.catalog.layout old.history) old new → Made (Step result) old new
+  step_call result old new answer disk crash = record {
+    answer = answer;
+    disk = disk;
+    life = step_made view result 100000 old new answer.0 crash disk.2.honesty;
+  }
+
+  pub publish_call : (result : Result (Unit {0}) Refusal) (old new : StoreValue D) → IsPublishingOf result old new → UsesDisk view (Publish result) old new → new.history ≡ old.history
+      → IsCrashSafe view (λ c. RepresentsAs old.catalog.layout old.history c ⊎ RepresentsAs (next_layout old.catalog.layout) old.history c) old new → Made (Publish result) old new
+  publish_call result old new answer disk history crash = record {
+    answer = answer;
+    disk = disk;
+    life = publish_made view old new history crash disk.1.honesty;
+  }
+
+  pub trim_call : (result : Result ℕ Refusal) (old new : StoreValue D) → IsTrimmingOf result old new → UsesDisk view (Trim result) old new
+      → IsCrashSafe view (RepresentsAs old.catalog.layout old.history) old new → Made (Trim result) old new
+  trim_call result old new answer disk crash = record {
+    answer = answer;
+    disk = disk;
+    life = trim_made view result old new answer crash disk.1.honesty;
+  }
+
   pub begun : (old new : StoreValue D) (left : ℕ) → Made (Begin (Ok left)) old new → Progresses view (Ok tt) old new × (segments_of new ≡ segments_of old) × IsMerging new
   begun old new left made =
       let goes = begun_goes left old new made in
@@ -177,10 +213,9 @@ module _ {D : Type 0} (view : D → DiskView) where
   pub publish_goes : (old new : StoreValue D) (result : Result (Unit {0}) Refusal) → HasMerged old → Made (Publish result) old new
       → Progresses view result old new × OnOk result ((segments_of new + 1 ≡ segments_of old) × IsAtRest new)
   publish_goes old new (Ok done) all made =
-      let a = made.answer in
-      (
+      let a = made.answer in (
         λ most first more. have_one most first old new (Publish (Ok done)) more refl made,
-        (published_less old.catalog new.catalog a.0, a.3, ap (λ (c : Catalog). c.merge) a.0.next_is),
+        (published_less old.catalog new.catalog a.0, (a.3, ap (λ (c : Catalog). c.merge) a.0.next_is)),
       )
   publish_goes old new (Err e) all made = (
     λ most first more. stopped most first old new e (Publish (Err e)) more refl made (λ one. not_published e old made.answer.0 all.0 all.1),

@@ -35,6 +35,7 @@ impl<'a, R: Files<File = File> + AllocGlobal + Clone + Drop> Host for FileHost<'
     ghost use Rattle.command_line.specs.Hosts.{unspecified};
 
     type Disk = NamedFile<'a, R>;
+
     type Asked = u64;
 
     ghost view = { λ _. unspecified };

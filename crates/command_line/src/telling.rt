@@ -135,7 +135,11 @@ fn write_refusal<E: Write>(
     faults: &mut E,
 ) -> io::Result<()> {
     if let LineRefusal::Store(Refusal::Unreadable(damage)) = refusal {
-        let also = if damage == Damage::Directory { UPGRADED } else { "" };
+        let also = if damage == Damage::Directory {
+            UPGRADED
+        } else {
+            ""
+        };
         return writeln!(
             faults,
             "sctd: {store}: the store is damaged: {damage}; restore your copy{also}"

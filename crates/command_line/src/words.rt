@@ -30,10 +30,7 @@ const VERSION: &str = "1.0.0, opens layouts 1, 2 and 3";
 #[derive(Clone, Copy, Debug, PartialEq, Eq)]
 pub enum Task<'a> {
     /// Do this with the file of a store.
-    At {
-        store: &'a str,
-        action: Action<'a>,
-    },
+    At { store: &'a str, action: Action<'a> },
     /// Answer the lines of a script, with a store in memory.
     Demo,
 }

@@ -1,8 +1,7 @@
 use Rattle.std.proofs.Common.{◌≡◌, ◌+◌, ◌<◌, min, Ok, Err, arith}
 use Rattle.std.proofs.lemmas.Result.{err_from_is_err_and}
-use Rattle.store_life.proofs.Made.{trim_made}
 use Rattle.command_line.specs.Merging.{segments_of}
-use Rattle.command_line.proofs.Merged.{have_none, have_both, further, stopped_so, halted, trimmed_to, not_trimmed_to}
+use Rattle.command_line.proofs.Merged.{have_none, have_both, stopped_so, halted, trim_call, trimmed_to, not_trimmed_to}
 use Rattle.command_line.proofs.merging.merge_to.Goals as goal
 
 pub loop-init : goal.loop-init
@@ -36,11 +35,7 @@ returns-in_err-trim g c =
     let p = err_from_is_err_and c.from_residual-in_err-trim.result c.from_residual-in_err-trim.ensures.1 in
     let number = i.1 in
     let few : segments_of c.loop.store ≡ min (segments_of c.args.store.now) c.args.most = omega (arith, number, c.loop-test.false, c.loop.auto.counter-end, c.saturating_sub-end.ensures, c.segments.ensures) in
-    let made = record {
-      answer = e.answer;
-      disk = (e.now, e.meters.counts);
-      life = trim_made view (Err refusal) c.loop.store c.trim.new.self e.answer e.crash e.meters.counts.honesty;
-    } in
+    let made = trim_call view (Err refusal) c.loop.store c.trim.new.self e.answer (e.now, e.meters.counts) e.crash in
     rw (p.1, p.2) (not_trimmed_to view c.args.most _ _ _ refusal i.0 few i.2 made)
 
 pub returns : goal.returns
@@ -51,9 +46,5 @@ returns g c =
     let bytes = c.in_ok-trim.field-0 in
     let number = i.1 in
     let few : segments_of c.loop.store ≡ min (segments_of c.args.store.now) c.args.most = omega (arith, number, c.loop-test.false, c.loop.auto.counter-end, c.saturating_sub-end.ensures, c.segments.ensures) in
-    let made = record {
-      answer = e.answer;
-      disk = (e.now, e.meters.counts);
-      life = trim_made view (Ok bytes) c.loop.store c.trim.new.self e.answer e.crash e.meters.counts.honesty;
-    } in
+    let made = trim_call view (Ok bytes) c.loop.store c.trim.new.self e.answer (e.now, e.meters.counts) e.crash in
     trimmed_to view c.args.most bytes _ _ _ i.0 few i.2 made

@@ -2,9 +2,8 @@ use Rattle.std.proofs.Common.{◌≡◌, ℕ, ◌<◌, ◌≤◌, ◌+◌, ◌-�
 use Rattle.std.specs.Int.{div_ceil}
 use Rattle.std.proofs.lemmas.Grind.{div_ceil_times}
 use Rattle.std.proofs.lemmas.Result.{err_from_is_err_and}
-use Rattle.store_life.proofs.Made.{step_made}
 use Rattle.command_line.specs.Merging.{rows_left}
-use Rattle.command_line.proofs.Merged.{have_none, further, step_stops, stepped_on, all_taken}
+use Rattle.command_line.proofs.Merged.{have_none, further, step_call, step_stops, stepped_on, all_taken}
 use Rattle.command_line.proofs.merging.take_rows.Goals as goal
 
 pub loop-init : goal.loop-init
@@ -27,11 +26,7 @@ returns-in_err-merge_step-clause-progress g c =
     let some : 1 ≤ c.unwrap_or-left.result - c.loop.counter * 100000 = some_left c.unwrap_or-left.result c.div_ceil-end.result c.loop.counter c.div_ceil-end.ensures c.loop-test.true in
     let taken = i.3 in
     let more_left : 1 ≤ rows_left c.loop.store = omega (arith, left, some, taken) in
-    let made = record {
-      answer = (e.answer, e.undamaged);
-      disk = (e.refused, e.meters.looked_up, e.meters.counts);
-      life = step_made view (Err refusal) 100000 c.loop.store c.merge_step.new.self e.answer e.crash e.meters.counts.honesty;
-    } in
+    let made = step_call view (Err refusal) c.loop.store c.merge_step.new.self (e.answer, e.undamaged) (e.refused, e.meters.looked_up, e.meters.counts) e.crash in
     rw (p.1, p.2) (further view _ _ _ (Err refusal) i.0 i.1 (step_stops view _ _ refusal i.2 more_left made))
 
 pub loop-preserved : goal.loop-preserved
@@ -44,11 +39,7 @@ loop-preserved g c =
     let some : 1 ≤ c.unwrap_or-left.result - c.loop.counter * 100000 = some_left c.unwrap_or-left.result c.div_ceil-end.result c.loop.counter c.div_ceil-end.ensures c.loop-test.true in
     let before = i.3 in
     let more_left : 1 ≤ rows_left c.loop.store = omega (arith, left, some, before) in
-    let made = record {
-      answer = (e.answer, e.undamaged);
-      disk = (e.refused, e.meters.looked_up, e.meters.counts);
-      life = step_made view (Ok rows) 100000 c.loop.store c.merge_step.new.self e.answer e.crash e.meters.counts.honesty;
-    } in
+    let made = step_call view (Ok rows) c.loop.store c.merge_step.new.self (e.answer, e.undamaged) (e.refused, e.meters.looked_up, e.meters.counts) e.crash in
     let on = stepped_on view _ _ rows more_left made in
     let now = on.3 in
     let same = i.1 in
