@@ -7,7 +7,6 @@ ghost use Rattle.command_line.specs.Tasks.{IsCheckTold};
 use crate::answering::answer_read;
 use crate::check_source::CheckSource;
 use crate::endings::Ending;
-use crate::folder_source::FolderSource;
 use crate::host::Host;
 use disk_model::Disk;
 use history_store::Store;
@@ -21,19 +20,15 @@ use std::io::Write;
 pub(crate) fn check<D: Disk + Drop, H: Host, E: Write, O: Write>(
     alloc: Global,
     name: &str,
-    folder: FolderSource<'_, H, E>,
+    source: &mut CheckSource<'_, H, E>,
     store: &mut Store<D>,
     output: &mut O,
 ) -> Result<Ending, ServeFault>
-    ensures { IsCheckTold (source_in (H.view folder.host.now) folder.dir.now) D.view name.now
-        store.old store.new.disk
+    ensures { IsCheckTold (source_in (H.view source.old.folder.host.now)
+        source.old.folder.dir.now) D.view name.now store.old store.new.disk
         (report result (O.contents output.old) (O.contents output.new)) }
 {
-    let mut source = CheckSource {
-        folder,
-        refused: None,
-    };
-    let ended = answer_read(alloc, &check_request(name), &mut source, store, output);
+    let ended = answer_read(alloc, &check_request(name), source, store, output);
     source.tell_more(alloc, name, ended, store);
     ended
 }

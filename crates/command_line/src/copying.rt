@@ -127,19 +127,20 @@ pub(crate) fn copy_to<H: Host, O: Write, E: Write>(
     output: &mut O,
     faults: &mut E,
 ) -> (Result<Ending, ServeFault>, H::Disk, Option<H::Disk>)
-    ensures copied { IsCopiedTo (H.view host.now) H.Disk.view (H.asked asked.old) to.now imports
+    ensures copied { IsCopiedTo (H.view host.now) H.Disk.view (H.count asked.old) to.now imports
         layout source result.1 result.2
         (report result.0 (O.contents output.old) (O.contents output.new)) }
-    ensures asked { H.asked asked.new ≡ raised_by (H.asked asked.old) 1 }
+    ensures asked { H.count asked.new ≡ raised_by (H.count asked.old) 1 }
 {
     let Some(target) = host.open(asked, Mode::MakeNew, to, faults) else {
         return (refuse(alloc, output, Refusal::DiskFault), source, None);
     };
-    if !host.settle(alloc, to, faults) {
+    if host.settle(alloc, to, faults) {
+        copy_onto(
+            host, alloc, path, to, imports, layout, source, target, output, faults,
+        )
+    } else {
         let ended = refuse(alloc, output, Refusal::DiskFault);
-        return (ended, source, host.discard(target, faults));
+        (ended, source, host.discard(target, faults))
     }
-    copy_onto(
-        host, alloc, path, to, imports, layout, source, target, output, faults,
-    )
 }

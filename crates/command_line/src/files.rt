@@ -40,7 +40,7 @@ impl<'a, R: Files<File = File> + AllocGlobal + Clone + Drop> Host for FileHost<'
 
     ghost view = { λ _. unspecified };
 
-    ghost asked = { λ asked. asked };
+    ghost count = { λ asked. asked };
 
     fn open<E: Write>(
         &self,

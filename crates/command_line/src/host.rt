@@ -33,7 +33,7 @@ pub trait Host {
     ghost view: { Self → HostView Self.Disk };
     /// How often a disk was asked for, whatever the result: a number of 64 bits, which stays at its
     /// greatest value.
-    ghost asked: { Self.Asked → ℕ };
+    ghost count: { Self.Asked → ℕ };
 
     /// The disk with this name.
     fn open<E: Write>(
@@ -43,8 +43,8 @@ pub trait Host {
         name: &str,
         faults: &mut E,
     ) -> Option<Self::Disk>
-        ensures answer { (view self.now).opens (asked asked.old) mode name.now result }
-        ensures asked { asked asked.new ≡ raised_by (asked asked.old) 1 };
+        ensures answer { (view self.now).opens (count asked.old) mode name.now result }
+        ensures asked { count asked.new ≡ raised_by (count asked.old) 1 };
 
     /// Makes sure that the name of a new disk survives a crash. Returns whether that is sure.
     fn settle<E: Write>(&self, alloc: Global, name: &str, faults: &mut E) -> bool

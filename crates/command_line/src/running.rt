@@ -3,13 +3,14 @@
 ghost use Rattle.std.specs.Prelude.{◌≡◌, ◌≤◌, ◌⊎◌, map, string_bytes};
 ghost use Rattle.line_server.specs.Streams.{streams};
 ghost use Rattle.command_line.specs.Endings.{report};
-ghost use Rattle.command_line.specs.Tasks.{IsWorkDone};
+ghost use Rattle.command_line.specs.Tasks.{IsWorkDone, IsWorkOnDisk};
 ghost use Rattle.command_line.specs.Runs.{Does, IsActionDone, IsMadeAt, FindsFolder, IsUsed};
 ghost use Rattle.command_line.specs.Runs.{mode_of, IsDemonstrated, IsDemonstration};
 ghost use Rattle.command_line.specs.Runs.{IsRun, IsNoTask, IsExplained};
 ghost use Rattle.command_line.specs.Private.{IsAtRest};
 
 use crate::answering::answer_read;
+use crate::check_source::CheckSource;
 use crate::checking::check;
 use crate::copying::copy_to;
 use crate::demonstration::{SCRIPT, Samples};
@@ -50,10 +51,10 @@ pub fn run<H: Host, I: Read, O: Write, E: Write>(
     ensures no_command { result.0 ≡ 2 → (input.new ≡ input.old) × (output.new ≡ output.old) }
     ensures done { IsRun (H.view host.now) H.Disk.view SCRIPT.now (map string_bytes words.now)
         result.1 result.2 result.0 (streams (I.remaining input.old) (I.remaining input.new)
-        (O.contents output.old) (O.contents output.new)) (H.asked asked.old) (H.asked asked.new)
+        (O.contents output.old) (O.contents output.new)) (H.count asked.old) (H.count asked.new)
         ⊎ IsNoTask (map string_bytes words.now) result.1 result.2 result.0
         (streams (I.remaining input.old) (I.remaining input.new)
-        (O.contents output.old) (O.contents output.new)) (H.asked asked.old) (H.asked asked.new) }
+        (O.contents output.old) (O.contents output.new)) (H.count asked.old) (H.count asked.new) }
 {
     match task_of(alloc, words) {
         Ok(task) => {
@@ -76,7 +77,7 @@ fn perform<H: Host, I: Read, O: Write, E: Write>(
 ) -> Performed<H::Disk>
     ensures { Does (H.view host.now) H.Disk.view SCRIPT.now task.now result.1 result.2 result.0
         (streams (I.remaining input.old) (I.remaining input.new)
-        (O.contents output.old) (O.contents output.new)) (H.asked asked.old) (H.asked asked.new) }
+        (O.contents output.old) (O.contents output.new)) (H.count asked.old) (H.count asked.new) }
 {
     let Task::At { store, action } = task else {
         return (demo(alloc, output), None, None);
@@ -115,7 +116,7 @@ fn do_at<H: Host, I: Read, O: Write, E: Write>(
 ) -> (Result<Ending, ServeFault>, H::Disk, Option<H::Disk>)
     ensures { IsActionDone (H.view host.now) H.Disk.view path.now action.now disk
         result.1 result.2 result.0 (streams (I.remaining input.old) (I.remaining input.new)
-        (O.contents output.old) (O.contents output.new)) (H.asked asked.old) (H.asked asked.new) }
+        (O.contents output.old) (O.contents output.new)) (H.count asked.old) (H.count asked.new) }
 {
     match action {
         Action::Init { layout } => {
@@ -185,7 +186,7 @@ fn has_folder<H: Host, E: Write>(host: &H, work: &Work<'_>, faults: &mut E) -> b
     }
 }
 
-/// Opens the store of a disk, and works with it.
+/// Opens the store of a disk, and works with it, unless a folder is missing that the work needs.
 fn use_at<H: Host, I: Read, O: Write, E: Write>(
     host: &H,
     alloc: Global,
@@ -200,9 +201,28 @@ fn use_at<H: Host, I: Read, O: Write, E: Write>(
         (streams (I.remaining input.old) (I.remaining input.new)
         (O.contents output.old) (O.contents output.new)) }
 {
-    if !has_folder(host, work, faults) {
-        return (tell_refusal(alloc, output, LineRefusal::NoFolder), disk);
+    if has_folder(host, work, faults) {
+        open_and_work(host, alloc, path, work, disk, input, output, faults)
+    } else {
+        (tell_refusal(alloc, output, LineRefusal::NoFolder), disk)
     }
+}
+
+/// Opens the store of a disk, and works with it.
+fn open_and_work<H: Host, I: Read, O: Write, E: Write>(
+    host: &H,
+    alloc: Global,
+    path: &str,
+    work: &Work<'_>,
+    disk: H::Disk,
+    input: &mut I,
+    output: &mut O,
+    faults: &mut E,
+) -> (Result<Ending, ServeFault>, H::Disk)
+    ensures { IsWorkOnDisk (H.view host.now) H.Disk.view work.now disk result.1 result.0
+        (streams (I.remaining input.old) (I.remaining input.new)
+        (O.contents output.old) (O.contents output.new)) }
+{
     match Store::open(alloc, disk) {
         Ok(store) => {
             let mut store = store;
@@ -214,11 +234,11 @@ fn use_at<H: Host, I: Read, O: Write, E: Write>(
 }
 
 /// Works with an open store.
-fn do_work<H: Host, I: Read, O: Write, E: Write>(
-    host: &H,
+fn do_work<'a, H: Host, I: Read, O: Write, E: Write>(
+    host: &'a H,
     alloc: Global,
     path: &str,
-    work: &Work<'_>,
+    work: &Work<'a>,
     store: &mut Store<H::Disk>,
     input: &mut I,
     output: &mut O,
@@ -244,7 +264,11 @@ fn do_work<H: Host, I: Read, O: Write, E: Write>(
             quiet,
         } => {
             let folder = FolderSource::new(host, *releases, faults, "checking", *quiet);
-            check(alloc, *name, folder, store, output)
+            let mut source = CheckSource {
+                folder,
+                refused: None,
+            };
+            check(alloc, *name, &mut source, store, output)
         }
         Work::Serve { releases } => {
             let mut source = FolderSource::new(host, *releases, faults, "importing", true);
