@@ -131,7 +131,7 @@ module _ {X : Type 0} {cmp : X → X → Ordering} (o : IsTotalOrder cmp) where
       (IsPermutation-sym (xs ++ x ∷ ys) (x ∷ (xs ++ ys)) (IsPermutation-middle xs x ys))
       (IsPermutation-append xs xs (x ∷ ys) (put cmp x ys) (IsPermutation-refl xs) (put_moves x ys (λ y h. none x y (inl refl) h))))
       (put_all_moves xs (put cmp x ys) a.1 (λ z y h k e. elim (Has-put_cases cmp x ys y k) [
-        | inl same ↦ a.0 z h (turned z x (subst (λ w. cmp z w ≡ Equal) (sym same) e))
+        | inl same ↦ a.0 z h (turned x z (subst (λ w. cmp z w ≡ Equal) (sym same) e))
         | inr old ↦ none z y (inr h) old e
       ]))
 
@@ -202,7 +202,7 @@ about_refers id active (body.Concept c) row e f = rw (e, f) (and_false active fa
 about_refers id active (body.Description d) row e f = rw (e, f) (and_false active (d.concept == id))
 about_refers id active (body.Relationship r) row e f = rw (e, f) (and_false active (r.source == id))
 about_refers id true (body.Association a) row e f = rw (e, f) refl
-about_refers id false (body.Association a) row e f = rw (e, f) refl
+about_refers id false (body.Association a) row e f = rw e refl
 about_refers id active (body.Concrete c) row e f = rw (e, f) (and_false active (c.source == id))
 about_refers id active (body.Member m) row e f = rw (e, f) (and_false active (m.referenced == id))
 

@@ -126,7 +126,7 @@ member_says refset id active (body.Relationship r) row e f = rw (e, f) (no_membe
 member_says refset id active (body.Association a) row e f = rw (e, f) (no_member active (0 == id) (a.referenced == id))
 member_says refset id active (body.Concrete c) row e f = rw (e, f) (no_member active (0 == id) (c.source == id))
 member_says refset id true (body.Member m) row e f = rw (e, f) (about_member true (m.refset == refset) (m.referenced == id))
-member_says refset id false (body.Member m) row e f = rw (e, f) refl
+member_says refset id false (body.Member m) row e f = rw e refl
 
 pub members_about_are : (refset id date : ℕ) (rows : List RowValue) → filter (is_member_about refset id) (snapshot rows date) ≡ members_about refset id date rows
 unfolding members_about about

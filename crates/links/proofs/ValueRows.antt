@@ -113,6 +113,7 @@ module _ (lists : List (List StampedRow)) (are : ArePlaces (map places_of lists)
     own_refset k h = let r = value_kept k h in r.first_is ∙ (wanted_parts asked.wanted r.key r.row.wanted_so).first_is
 
     own_component : (k : Chosen) (s : StampedRow) → Has kept k → StandsAt lists k.segment k.at s → component_of s.row ≡ k.target
+    unfolding value_kept
     own_component k s h v =
         let r = value_kept k h in
         let own = own_row lists are edges posts asked test (path_of_values refset after last) ranked_cmp one_member kept a k s h v in

@@ -21,9 +21,9 @@ use as_of_index::{AsOf, Chosen, Index, ReadFault, RowReader, read_all};
 use rf2_values::{Row, Sctid};
 use std::alloc::{AllocError, Global};
 
-/// The ids of the posted members of a reference set, ascending, that are greater than `above`, if
-/// that is given. The result of a query doesn't depend on which these are: they are only used as
-/// upper limits of a search.
+/// The ids of the posted members of a reference set that are greater than `above`, if that is given.
+/// The result of a query doesn't depend on which these are: they are only used as upper limits of a
+/// search.
 fn posted_ids(
     alloc: Global,
     links: &[Sealed],
@@ -40,8 +40,17 @@ fn posted_ids(
             }
         }
     }
-    ids.sort_unstable();
     Ok(ids)
+}
+
+/// Which of the ids has the number `count` in ascending order, from 0 on, if there are so many.
+/// Changes their order.
+fn id_behind(ids: &mut [u128], count: usize) -> Option<u128> {
+    if ids.len() <= count {
+        return None;
+    }
+    let (_, id, _) = ids.select_nth_unstable(count);
+    Some(*id)
 }
 
 /// The places of the current members with ids greater than `after`, if that is given, by id: either
@@ -64,14 +73,14 @@ fn enough_by_id(
         above: after,
         ..asked_all(Tag::Member, refset, as_of)
     };
-    let ids = posted_ids(alloc, links, index, &all)?;
+    let mut ids = posted_ids(alloc, links, index, &all)?;
     let mut count = limit as usize;
     for _ in 0..16 {
-        let Some(last) = ids.get(count) else {
+        let Some(last) = id_behind(&mut ids, count) else {
             break;
         };
         let asked = Asked {
-            up_to: Some(*last),
+            up_to: Some(last),
             ..all
         };
         let kept = find_by_key(alloc, links, index, &asked)?;

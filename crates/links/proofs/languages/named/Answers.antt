@@ -23,7 +23,7 @@ loop-k-preserved c = λ lists listed_so.
     let pushed : c.push_with.new.kept.items ≡ kept ++ with_members k those = c.in_ok-push_with.ensures ∙ ap (λ ys. kept ++ with_members k ys) c.as_slice.ensures.value in
     subst (λ js. AreNamed lists a.refset a.as_of.now xs js c.push_with.new.kept.items) (sym one_more)
     (subst (λ ys. AreNamed lists a.refset a.as_of.now xs (take i ks ++ k ∷ []) ys) (sym pushed)
-    (named_push lists a.refset a.as_of.now xs (take i ks) k kept those (c.loop-k.invariant lists listed_so) (c.in_ok-those.ensures lists listed_so)))
+    (named_push lists a.refset a.as_of.now xs (take i ks) k kept those (c.loop-k.invariant lists listed_so) (rw c.asked_about-asked.ensures at (c.in_ok-those.ensures lists listed_so))))
 
 pub returns : goal.returns
 returns c = λ lists listed_so.
