@@ -60,12 +60,7 @@ fn is_asked(asked: &Asked, p: &Posting, id: u128) -> bool
 }
 
 /// The place of the posting's row, if that is asked for and current.
-pub(crate) fn row_at(
-    p: &Posting,
-    segment: usize,
-    index: &Index,
-    asked: &Asked,
-) -> Option<RowPlace>
+pub(crate) fn row_at(p: &Posting, segment: usize, index: &Index, asked: &Asked) -> Option<RowPlace>
     ensures { (lists : List (List StampedRow)) → Lists index.now lists → (at : RowPlace)
         → (result ≡ Some at) ↔ (IsPlaceOfRow lists segment p.now.row at
         × IsCurrentAt lists asked.now.as_of segment at

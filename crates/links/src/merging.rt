@@ -7,8 +7,7 @@ ghost use Rattle.links.specs.MergedEdges.{IsMergeOf, edges_left, less_each};
 
 use crate::posting::{Posting, rank_of};
 use crate::postings::{Sealed, Subject, compare};
-use as_of_index::Posting as Mergeable;
-use as_of_index::{MergedList, Numbers, TakenCount, merge_on, reserve_left};
+use as_of_index::{MergedList, Numbers, Posting as Mergeable, TakenCount, merge_on, reserve_left};
 use std::alloc::{AllocError, Global};
 use std::cmp::Ordering;
 use std::marker::Model;

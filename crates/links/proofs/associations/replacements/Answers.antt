@@ -1,4 +1,4 @@
-use Rattle.std.proofs.Common.{List, Ok, Err, subst}
+use Rattle.std.proofs.Common.{List, Ok, Err, subst, Vec, Global}
 use Rattle.std.specs.List.{filter}
 use Rattle.rf2_values.specs.Row.{RowValue}
 use Rattle.history_model.specs.declared.stamped.StampedRow.{StampedRow}
@@ -40,10 +40,10 @@ returns-in_err-rows-clause-answer g c =
     let up = IsAscending-rows_at a.as_of.pin (listed old.lists) (IsAscending-listed old.lists) in
     let Kept : List (List StampedRow) → Type 0 = λ lists. Lists a.index.now lists × EachPosted lists a.links.now in
     let wanted : List (List StampedRow) → List RowValue = λ lists. filter (is_replacement_of a.component) (snapshot (rows_seen a.as_of lists) a.as_of.date) in
-    let p = err_from_is_err_and c.from_residual.result c.from_residual.ensures in
+    let p = err_from_is_err_and c.from_residual.result c.from_residual.ensures.1 in
     rw (p.1, p.2)
     (ordered_refused (λ rows. rows.items) replacements_total wanted Kept
     r.cost old (r.view c.about_of.new.reader) c.in_err-rows.field-0.0
     (replacements_apart a.component a.as_of.date (rows_seen a.as_of old.lists) up)
-    (subst (λ (those : List (List StampedRow) → List RowValue). IsRowsRead (Err c.in_err-rows.field-0.0) (λ rows. rows.items) those Kept r.cost old (r.view c.about_of.new.reader)) (λ i lists. about_are_replacements a.component a.as_of.date (rows_seen a.as_of lists) i)
+    (subst (λ (those : List (List StampedRow) → List RowValue). IsRowsRead {T = Vec RowValue Global} (Err c.in_err-rows.field-0.0) (λ rows. rows.items) those Kept r.cost old (r.view c.about_of.new.reader)) (λ i lists. about_are_replacements a.component a.as_of.date (rows_seen a.as_of lists) i)
     (rw c.value-id.ensures.value at c.in_err-rows.ensures.answer)))

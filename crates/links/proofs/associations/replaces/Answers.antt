@@ -1,4 +1,3 @@
-use Rattle.std.proofs.Common.{subst}
 use Rattle.std.specs.List.{filter}
 use Rattle.history_model.specs.Lists.{listed}
 use Rattle.history_model.specs.Queries.{replaces, snapshot, is_replaced_by}
@@ -34,7 +33,7 @@ returns-in_err-rows-clause-answer g c =
     let a = c.args in
     let old = r.view a.reader.now in
     let up = IsAscending-rows_at a.as_of.pin (listed old.lists) (IsAscending-listed old.lists) in
-    let p = err_from_is_err_and c.from_residual.result c.from_residual.ensures in
+    let p = err_from_is_err_and c.from_residual.result c.from_residual.ensures.1 in
     rw (p.1, p.2)
     (ordered_refused (λ rows. rows.items) replaced_total
     (λ lists. filter (is_replaced_by a.component) (snapshot (rows_seen a.as_of lists) a.as_of.date)) (λ lists. Lists a.index.now lists × EachPosted lists a.links.now)

@@ -1,6 +1,5 @@
 use Rattle.std.proofs.Common.{◌≡◌, Some, None, false, [], ◌∷◌, ◌++◌, get_or, refl, sym, ap, subst, ◌∙◌, take, take_all}
 use Rattle.std.proofs.lemmas.List.{take_more}
-use Rattle.segment.specs.declared.place.RowPlace.{RowPlace}
 use Rattle.links.specs.declared.posting.Tag.TheVariants.{Child}
 use Rattle.links.specs.declared.posting.Posting.{Posting}
 use Rattle.links.specs.Private.{Takes}
