@@ -84,16 +84,21 @@ def count_old(record: Record | None) -> int:
 
 def count_of_other_kit(record: Record | None) -> int:
     """How many lines of a record were made with another version of the kit."""
-    if record is None or record.kit == kit_version():
+    if record is None or record.kit in (None, kit_version()):
         return 0
     return sum(bool(line.grounds) for line in record.lines.values())
+
+
+def count_of_unknown_kit(record: Record | None) -> int:
+    """How many lines of a record don't say with which version of the kit they were made."""
+    return len(record.lines) if record and record.kit is None else 0
 
 
 def main(words: list[str]) -> int:
     if words:
         print((__doc__ or "").strip(), file=sys.stderr)
         return 2
-    count, wrong, older, other = 0, 0, 0, 0
+    count, wrong, older, other, unknown = 0, 0, 0, 0, 0
     for crate in sorted(os.listdir(os.path.join(TOP, "crates"))):
         edits = all_edits(crate)
         stale = [f"{fault}: run python3 bench/faults/try_edits.py {crate}"
@@ -104,8 +109,10 @@ def main(words: list[str]) -> int:
         count += len(edits)
         older += count_old(record_of(crate))
         other += count_of_other_kit(record_of(crate))
+        unknown += count_of_unknown_kit(record_of(crate))
     print(f"{older} lines say nothing of the grounds of their edits", file=sys.stderr)
     print(f"{other} lines are of another version of the kit", file=sys.stderr)
+    print(f"{unknown} lines don't say with which version of the kit", file=sys.stderr)
     print(f"{count} edits, {wrong} not so", file=sys.stderr)
     return 1 if wrong or not count else 0
 

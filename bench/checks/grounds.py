@@ -322,7 +322,7 @@ def why_stale(record: Record, edit: Edit) -> Stale | None:
         return None if stands else Stale.OTHER_CRATE
     if line.grounds != tree().checksum(edit):
         return Stale.OTHER_GROUNDS
-    return None if record.kit == kit_version() else Stale.OTHER_KIT
+    return None if record.kit in (None, kit_version()) else Stale.OTHER_KIT
 
 
 # ---- other commits

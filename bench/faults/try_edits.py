@@ -630,8 +630,9 @@ class Refusals:
         day = datetime.date.today().isoformat() if self.added else self.record.day
         lines = self.found | self.added
         old = (self.record.sources, self.record.below)
+        kit = self.record.kit if self.found else grounds.kit_version()
         if lines and self.has_folder:
-            record = Record(day, grounds.kit_version(), *old, lines)
+            record = Record(day, kit, *old, lines)
             editing.write_record(self.crate, record)
         else:
             editing.remove_record(self.crate)
