@@ -1,8 +1,7 @@
 #!/usr/bin/env python3
 """digest.py FOLDER.. [--all FOLDER..]: the digest that `sctd digest` gives of a store into which
 these folders of releases were imported, computed from their files alone. Those behind --all were
-imported while the store had version 3 of its layout, which keeps more files. Standard library
-alone."""
+imported while the store was in layout 3, which keeps more files. Standard library alone."""
 import hashlib
 import re
 import sys

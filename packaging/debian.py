@@ -89,6 +89,10 @@ class Copied(NamedTuple):
     is_compressed: bool = False
 
 
+PAGES = (
+    "docs/GUIDE.md", "docs/START.md", "docs/ASK.md", "docs/OPERATE.md", "docs/FHIR.md",
+    "docs/AUDIT.md", "docs/internals/PROMISES.md", "docs/internals/FORMAT.md", "CHANGELOG.md",
+)
 COPIED = (
     Copied("service/sctd_service", SHARE + "/service/sctd_service"),
     Copied("service/sctd-hub", SHARE + "/service/sctd-hub"),
@@ -103,10 +107,7 @@ COPIED = (
     Copied("packaging/sctd-gateway.service", UNITS + "/sctd-gateway.service"),
     Copied("packaging/nginx.conf", SHARE + "/examples/nginx.conf"),
     Copied("packaging/debian/README", DOC + "/README"),
-    Copied("docs/GUIDE.md", DOC + "/GUIDE.md.gz", is_compressed=True),
-    Copied("docs/PROMISES.md", DOC + "/PROMISES.md.gz", is_compressed=True),
-    Copied("docs/FORMAT.md", DOC + "/FORMAT.md.gz", is_compressed=True),
-    Copied("CHANGELOG.md", DOC + "/CHANGELOG.md.gz", is_compressed=True),
+    *(Copied(name, "%s/%s.gz" % (DOC, Path(name).name), is_compressed=True) for name in PAGES),
 )
 # Commands, as links to where they are.
 LINKS = {
@@ -230,9 +231,9 @@ def put_manuals(tree: Tree, package: built.Built, python: str) -> None:
         source = TOP / "service" / "sctd_service" / part / "__main__.py"
         text = manuals.service_page(command, source.read_text("utf-8"), version)
         tree.compress("%s/man8/%s.8.gz" % (pages, command.words), text)
-    guide = (TOP / "docs" / "GUIDE.md").read_text("utf-8")
+    operating = (TOP / "docs" / "OPERATE.md").read_text("utf-8")
     tree.compress(pages + "/man5/sctd.conf.5.gz",
-                  manuals.settings_page(guide, "Settings", version))
+                  manuals.settings_page(operating, "Settings", version))
     others = list(services.values())
     tree.write("usr/share/bash-completion/completions/sctd",
                manuals.bash_completion(program, others))

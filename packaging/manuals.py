@@ -1,5 +1,5 @@
-"""The manual pages and the completions, made from what the commands say of themselves and from the
-guide, so that nothing has to be written twice."""
+"""The manual pages and the completions, made from what the commands say of themselves and from a
+chapter of docs/OPERATE.md, so that nothing has to be written twice."""
 
 from __future__ import annotations
 
@@ -110,9 +110,9 @@ def service_page(command: Command, source: str, version: str) -> str:
         see_also("sctd(1)", "sctd.conf(5)")))
 
 
-def settings_page(guide: str, title: str, version: str) -> str:
-    """The page of the file of settings: a chapter of the guide."""
-    chapter = re.search(r"^### %s\n(.*?)^##" % re.escape(title), guide, re.M | re.S)
+def settings_page(document: str, title: str, version: str) -> str:
+    """The page of the file of settings: a chapter of a document."""
+    chapter = re.search(r"^### %s\n(.*?)^##" % re.escape(title), document, re.M | re.S)
     assert chapter
     return "".join((
         heading("sctd.conf", 5, version),
@@ -124,8 +124,8 @@ def settings_page(guide: str, title: str, version: str) -> str:
 
 def see_also(*pages: str) -> str:
     links = ", ".join(".BR".join(("", " %s (%s" % tuple(page.split("(")))) for page in pages)
-    guide = "The whole guide is /usr/share/doc/sctd/GUIDE.md.gz.\n"
-    return part("SEE ALSO", links.replace(", .BR", " ,\n.BR") + "\n.PP\n" + guide)
+    pages_of_docs = "The guide is in /usr/share/doc/sctd, from START.md.gz on.\n"
+    return part("SEE ALSO", links.replace(", .BR", " ,\n.BR") + "\n.PP\n" + pages_of_docs)
 
 
 def blocks(text: str) -> Iterator[str]:

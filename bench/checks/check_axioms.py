@@ -1,5 +1,5 @@
 #!/usr/bin/env python3
-"""Compares what the build of the program takes for granted with what docs/PROMISES.md says of it.
+"""Compares what the build of the program takes for granted with what PROMISES.md says of it.
 
 check_axioms.py FILE
 
@@ -22,7 +22,7 @@ from typing import NamedTuple
 from edits import TOP, read
 
 CRATE = "sctd"
-DOCUMENT = os.path.join("docs", "PROMISES.md")
+DOCUMENT = os.path.join("docs", "internals", "PROMISES.md")
 # What `rt ci` prints of the crate: of its proof, or that an earlier one is kept.
 PROOF = re.compile(rf"^== {CRATE}\n(.*?)^rt: {CRATE} proved$", re.M | re.S)
 KEPT = re.compile(rf"^rt: {CRATE} is kept:", re.M)

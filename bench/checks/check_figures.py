@@ -15,13 +15,14 @@ error. The status is 1 where a figure isn't so. Standard library alone.
 
 from __future__ import annotations
 
-import glob
 import os
 import re
 import subprocess
 import sys
 from collections.abc import Iterator, Sequence
 from typing import NamedTuple
+
+from documents import documents, name_of
 
 ROOT = os.path.dirname(os.path.dirname(os.path.dirname(os.path.abspath(__file__))))
 
@@ -42,7 +43,7 @@ class Table(NamedTuple):
     command: str
 
 
-PERFORMANCE, RELIABILITY = "docs/PERFORMANCE.md", "docs/RELIABILITY.md"
+PERFORMANCE, RELIABILITY = "docs/internals/PERFORMANCE.md", "docs/internals/RELIABILITY.md"
 EDITS = "ls crates/*/must-fail/*.edit crates/*/edits/*.edit | wc -l"
 TESTS = "grep -rhE '^ *#\\[test\\]' --include=*.rt crates/*/src | wc -l"
 CASES = "grep -rhE '^case ' crates/*/data/cases | wc -l"
@@ -122,7 +123,7 @@ FIGURES = [
     Figure(RELIABILITY, "| A crash | {} moments, 4 images each", reckoned(SCRIPT_CALLS, "n + 1")),
     Figure(RELIABILITY, ": {} disks | before, between and after all calls of the script",
            reckoned(SCRIPT_CALLS, "(n + 1) * 4")),
-    Figure(RELIABILITY, "becomes version 2 | {} moments, 4 images each", OLD_CRASHES),
+    Figure(RELIABILITY, "becomes layout 2 | {} moments, 4 images each", OLD_CRASHES),
     Figure(RELIABILITY, ": {} disks | see below", reckoned(OLD_CRASHES, "n * 4")),
     Figure(RELIABILITY, "runs: {} calls, twice", BREAKS),
     Figure(RELIABILITY, "| {} runs: ", reckoned(BREAKS, "n * 2")),
@@ -149,7 +150,7 @@ FIGURES = [
            " | sed -nE 's/^keep -> //p'" % DAMAGE),
 ]
 
-TABLES = [Table("docs/ARCHITECTURE.md", "python3 bench/checks/count_reach.py")]
+TABLES = [Table("docs/internals/ARCHITECTURE.md", "python3 bench/checks/count_reach.py")]
 
 # What has to be in FIGURES wherever it stands, and the rows that say what was so on a day.
 COUNTED = re.compile(
@@ -170,7 +171,7 @@ def printed(command: str, known: dict[str, str | None]) -> str | None:
 
 def pattern_of(figure: Figure) -> re.Pattern[str]:
     """The text of a figure, with a group for its number."""
-    front, behind = map(re.escape, figure.text.split("{}"))
+    front, behind = (re.escape(part) for part in figure.text.split("{}"))
     return re.compile("(%s)([0-9][0-9,]*)(?=%s)" % (front, behind))
 
 
@@ -232,8 +233,7 @@ def main(words: Sequence[str]) -> int:
         return 2
     known: dict[str, str | None] = {}
     wrong: list[str] = []
-    names = ["README.md"] + sorted(os.path.relpath(n, ROOT) for n in glob.glob(ROOT + "/docs/*.md"))
-    for name in names:
+    for name in map(name_of, documents()):
         path = os.path.join(ROOT, name)
         with open(path, encoding="utf-8", newline="") as file:
             text = file.read()

@@ -8,13 +8,14 @@ It also checks that no module, type or trait of the sources has the name of a cr
 folder of proofs/ stands for what is gone, both of which `rt ci` refuses only once it comes to that
 crate; and that bench/README.md has each script of bench/.
 
-It reads README.md, CHANGELOG.md, docs/*.md and bench/README.md. Of each text between backquotes
-that begins with the name of a crate and `::`, each further word has to stand in that crate's src/
-or specs/, where `crate::{one, other}` names two. Each text that ends with .rt, .antt, .py, .md, .rs
-or .service and has a slash has to be the path of a file, from the top of the repository, from
-crates/ or from a crate's folder. What isn't there is said in a line of its own on standard error,
-and the status is 1 then. PROMISES.md is checked further by check_promises.py. Nothing is built.
-Standard library alone.
+It reads README.md, CHANGELOG.md, bench/README.md and all pages of docs/. A link has to lead to a
+file of the repository and, behind `#`, to one of its headings. Of each text between backquotes that
+begins with the name of a crate and `::`, each further word has to stand in that crate's src/ or
+specs/, where `crate::{one, other}` names two. Each text that ends with .rt, .antt, .py, .md, .rs or
+.service and has a slash has to be the path of a file, from the top of the repository, from crates/
+or from a crate's folder. What isn't there is said in a line of its own on standard error, and the
+status is 1 then. PROMISES.md is checked further by check_promises.py. Nothing is built. Standard
+library alone.
 """
 
 import glob
@@ -23,6 +24,7 @@ import re
 import sys
 from collections.abc import Iterator
 
+from documents import documents, lost_links, name_of
 from edits import read
 
 ROOT = os.path.dirname(os.path.dirname(os.path.dirname(os.path.abspath(__file__))))
@@ -126,13 +128,12 @@ def main() -> int:
     crates = [os.path.basename(path) for path in glob.glob(ROOT + "/crates/*")]
     words = {crate: words_of(crate) for crate in crates}
     count, lost = 0, 0
-    documents = [os.path.join(ROOT, name) for name in ("README.md", "CHANGELOG.md", INDEX)]
-    for path in documents + sorted(glob.glob(ROOT + "/docs/*.md")):
-        text = read(path)
+    for path in documents():
+        text = read(str(path))
         count += len(QUOTED.findall(text))
-        for fault in faults_of(text, words):
+        for fault in (*faults_of(text, words), *lost_links(path, text)):
             lost += 1
-            print("%s: %s" % (os.path.relpath(path, ROOT), fault), file=sys.stderr)
+            print("%s: %s" % (name_of(path), fault), file=sys.stderr)
     for fault in (*named_as_crates(crates), *proofs_of_nothing(words), *scripts_not_listed()):
         lost += 1
         print(fault, file=sys.stderr)

@@ -768,7 +768,7 @@ def print_counts(project: Project) -> None:
         total = [a + b for a, b in zip(total, counts)]
         if words:
             print("%-18s %6d %8d %6d" % ((crate.name,) + counts))
-    print("%-18s %6d %8d %6d" % (("all",) + tuple(total)))
+    print("%-18s %6d %8d %6d" % ("all", total[0], total[1], total[2]))
 
 
 def main(words: Sequence[str]) -> int:

@@ -1,5 +1,5 @@
 #!/usr/bin/env python3
-"""Checks the promises of docs/PROMISES.md under "Proved" against the sources.
+"""Checks the promises of docs/internals/PROMISES.md under "Proved" against the sources.
 
 check_promises.py
 
@@ -27,7 +27,7 @@ from typing import NamedTuple, Optional
 from edits import read
 
 ROOT = os.path.dirname(os.path.dirname(os.path.dirname(os.path.abspath(__file__))))
-DOCUMENT = "docs/PROMISES.md"
+DOCUMENT = "docs/internals/PROMISES.md"
 PARTS = ("- ", "  - Clause: ", "  - Shown by: ")
 # The folders of a crate that hold edits, and the one of them whose edits CI tries.
 TRIED_BY_CI = "must-fail"

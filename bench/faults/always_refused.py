@@ -267,10 +267,6 @@ CALLS = [
          "store_cases", "nothing is found in an empty store"),
     Call("history_store", "Store::create_in", "store.rt", "pub fn create_in(", BACK,
          "store_cases", "a new store of version 3 byte for byte"),
-    Call("history_store", "Store::upgrade", "upgrading.rt", "pub fn upgrade(", STORE,
-         "store_cases", "an upgrade byte for byte"),
-    Call("history_store", "Store::rewrite", "rewriting.rt", "pub fn rewrite(", STORE,
-         "store_cases", "the only segment written anew byte for byte"),
     Call("history_store", "Store::open", "store.rt", "pub fn open(", BACK,
          "store_cases", "a merge ends with the store"),
     Call("history_store", "Store::import", "store.rt", "pub fn import(", STORE,
@@ -320,10 +316,10 @@ CALLS = [
          "program_cases", "questions"),
     Call("line_server", "serve", "serving.rt", "pub fn serve<", "Err(ServeFault::OutOfMemory)",
          "program_cases", "pieces play no part"),
-    Call("command_line", "FolderSource::release", "folders.rt", "fn release(", SOURCE,
+    Call("command_line", "FolderSource::release", "folder_source.rt", "fn release(", SOURCE,
          "program_cases", "a file keeps what was imported"),
     Call("command_line", "run", "running.rt", "pub fn run<",
-         "(fail(ServeFault::OutOfMemory, faults), None)", "program_cases", "statuses"),
+         "(fail(ServeFault::OutOfMemory, faults), None, None)", "program_cases", "statuses"),
 ]
 
 

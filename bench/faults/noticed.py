@@ -23,7 +23,6 @@ import shutil
 import sys
 import tempfile
 from pathlib import Path
-from typing import Callable
 
 TOP = Path(__file__).resolve().parents[2]
 sys.path += [str(TOP / "bench"), str(TOP / "bench" / "checks")]
@@ -161,9 +160,9 @@ def plant_all(top: Path, edits: list[Edit]) -> dict[int, Edit]:
     return planted
 
 
-def told_by(crates: list[str], failed: Callable[[str], list[str]]) -> list[str]:
-    """What fails of some crates with an edit, each by the crate's name."""
-    return ["%s `%s`" % (name, what) for name in crates for what in failed(name)]
+def told(crate: str, failed: list[str]) -> list[str]:
+    """What fails of a crate with an edit, each behind the crate's name."""
+    return ["%s `%s`" % (crate, what) for what in failed]
 
 
 def seen_in(top: Path, edits: list[Edit], crates: list[str]) -> dict[Edit, list[str]]:
@@ -179,7 +178,7 @@ def seen_in(top: Path, edits: list[Edit], crates: list[str]) -> dict[Edit, list[
                 print("%s: as it is, it fails: %s" % (name, found), flush=True)
                 continue
             for number, edit in planted.items():
-                seen[edit] += told_by([name], lambda _, number=number: failed_in(tests, number))
+                seen[edit] += told(name, failed_in(tests, number))
     return seen
 
 
@@ -231,7 +230,7 @@ def main() -> int:
     if len(edits) > MOST and not asked.alone:
         parser.error("at most %d edits can be tried together" % MOST)
     if asked.alone:
-        seen = {edit: told_by(by, lambda name, edit=edit: failed_with(edit, name))
+        seen = {edit: [one for name in by for one in told(name, failed_with(edit, name))]
                 for edit in edits}
     else:
         top = Path(asked.keep or tempfile.mkdtemp(prefix="sctd-noticed-"))

@@ -9,7 +9,7 @@ ci_time.py --last         says what CI does and how long its last run took, and 
 Each second it reads from /proc what the processes below the run have used, and adds it to the crate
 that their command line names. Minutes are the processor's, and wall minutes those from the first
 sight of a crate's part to the last. What isn't of a crate, as scripts and the run itself, stands
-under "other". Last comes the line of this run for the table of CI's runs in docs/PERFORMANCE.md,
+under "other". Last comes the line of this run for the table of CI's runs in PERFORMANCE.md,
 from which --last reads. It needs Linux, and ends with the status of the command. Standard library
 alone.
 """
@@ -29,7 +29,7 @@ TICKS = os.sysconf("SC_CLK_TCK")
 PARTS = ("library", "tests", "edits", "run")
 BETWEEN_LOOKS = 1.0
 TOP = os.path.dirname(os.path.dirname(os.path.dirname(os.path.abspath(__file__))))
-DOCUMENT = os.path.join(TOP, "docs", "PERFORMANCE.md")
+DOCUMENT = os.path.join(TOP, "docs", "internals", "PERFORMANCE.md")
 EDITS = os.path.join(TOP, "crates", "*", "must-fail", "*.edit")
 CRATES = os.path.join(TOP, "crates", "*", "src")
 
@@ -65,7 +65,7 @@ tests, tries the must-fail edits, and runs the tests and the programs; some kits
 what passed, and then only what has changed since is proved again. Last come the trials of the built
 program. (python3 bench/quick.py runs all tests and trials without a proof, in ten minutes.)"""
 LAST = """\
-CI's last run that began with nothing kept (docs/PERFORMANCE.md), on {date}, took {wall} minutes by
+CI's last run that began with nothing kept (PERFORMANCE.md), on {date}, took {wall} minutes by
 the wall on {cores} cores, and {all} of the processor: {library} for libraries, {tests} for tests
 and {tried} for {edits} must-fail edits."""
 
@@ -80,7 +80,7 @@ def tell_last() -> int:
     with open(DOCUMENT, encoding="utf-8") as file:
         found = runs_in(file.read())
     print(PLAN)
-    print(found[-1].told() if found else "docs/PERFORMANCE.md has no run of CI")
+    print(found[-1].told() if found else "PERFORMANCE.md has no run of CI")
     return 0 if found else 1
 
 
@@ -206,7 +206,7 @@ def main(words: list[str]) -> int:
         time.sleep(BETWEEN_LOOKS)
     print("\n".join(watch.table()))
     print("%.1f minutes by the wall" % ((time.monotonic() - watch.begun) / 60))
-    print("For the table of CI's runs in docs/PERFORMANCE.md:\n" + watch.as_line().line())
+    print("For the table of CI's runs in PERFORMANCE.md:\n" + watch.as_line().line())
     return run.returncode if run else 0
 
 

@@ -313,6 +313,7 @@ def axiom_body(edition: Edition) -> Columns:
 
 
 def reason_body(edition: Edition) -> Columns:
+    component: object
     if edition.random.random() < 0.5:
         what, component = WHY_CONCEPTS_ARE_INACTIVE, edition.a_concept()
     else:

@@ -37,7 +37,7 @@ from collections.abc import Callable, Sequence
 from multiprocessing.queues import Queue
 from typing import Any
 
-from measure_harness import made_release, seconds_used
+from measure_harness import absolute, made_release, seconds_used
 
 BENCH = os.path.dirname(os.path.dirname(os.path.abspath(__file__)))
 sys.path += [os.path.join(BENCH, "trials"), os.path.join(os.path.dirname(BENCH), "packaging")]
@@ -71,10 +71,15 @@ class Connection:
     """One client: a question at a time, and when it was asked."""
 
     def __init__(self, path: str, make: Callable[[], bytes]) -> None:
-        self.socket, self.make = socket.socket(socket.AF_UNIX), make
-        self.socket.connect(path)
+        self.socket, self.make = self.connected(path), make
         self.got, self.asked, self.wrong = b"", 0.0, 0
         self.waits: list[float] = []
+
+    @staticmethod
+    def connected(path: str) -> socket.socket:
+        found = socket.socket(socket.AF_UNIX)
+        found.connect(path)
+        return found
 
     def whole(self) -> bool:
         """Whether what has come is all of the answer."""
@@ -268,7 +273,7 @@ def make_store(options: argparse.Namespace, folder: str, store: str) -> None:
     made_release(folder, options.rows, is_package=options.package)
     release = os.path.join(folder, "full")
     for words in (
-        [options.program, "init", "--layout", "3" if options.package else "2", "--store", store],
+        [options.program, "init", "--store", store],
         [options.program, "import", "--quiet", "--store", store, release],
     ):
         subprocess.run(words, check=True, stdout=subprocess.DEVNULL)
@@ -319,11 +324,11 @@ def tried(options: argparse.Namespace, folder: str, python: str) -> None:
 
 def main() -> int:
     words = argparse.ArgumentParser(description="Measures the gateway, the hub and the program.")
-    words.add_argument("program", type=os.path.abspath)
+    words.add_argument("program", type=absolute)
     words.add_argument("--rows", type=int, default=DEFAULT_ROWS)
     words.add_argument("--seconds", type=int, default=DEFAULT_SECONDS)
     words.add_argument(
-        "--hub", type=os.path.abspath, default=os.path.join(SERVICE, "sctd-hub")
+        "--hub", type=absolute, default=os.path.join(SERVICE, "sctd-hub")
     )
     words.add_argument("--raw-only", action="store_true")
     words.add_argument("--package", action="store_true")

@@ -25,6 +25,11 @@ class Cost:
     peak: Optional[int] = None
 
 
+def absolute(path: str) -> str:
+    """A path that is given to a script, for processes that run in other folders."""
+    return os.path.abspath(path)
+
+
 def made_release(place: str, rows: int, seed: int = 1, is_package: bool = False) -> None:
     """Makes the releases of make_release.py in a folder, unless they are there. A process of its
     own does it, so that their rows don't count in the peak of this one."""

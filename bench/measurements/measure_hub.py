@@ -24,10 +24,11 @@ import tempfile
 from collections.abc import Callable
 from multiprocessing.queues import Queue
 
-import measure_gateway
 from measure_gateway import (
     DEFAULT_ROWS, PROCESSES, YEARS, SlowHubClient, Waits, begin_hub, child_of, concepts,
-    make_store, question, run, seconds_used)
+    make_store, question, run)
+from measure_harness import absolute, seconds_used
+from try_gateway import SERVICE
 
 CLIENTS = (1, 8, 64)
 DEFAULT_SECONDS, DEFAULT_ROUNDS = 3, 2
@@ -65,14 +66,14 @@ def measured(name: str, path: str, pids: list[int], make: Callable[[], bytes], c
 
 def main() -> int:
     words = argparse.ArgumentParser(description="Measures a hub, or several in turn.")
-    words.add_argument("program", type=os.path.abspath)
-    words.add_argument("--hub", type=os.path.abspath, action="append")
+    words.add_argument("program", type=absolute)
+    words.add_argument("--hub", type=absolute, action="append")
     words.add_argument("--rows", type=int, default=DEFAULT_ROWS)
     words.add_argument("--seconds", type=int, default=DEFAULT_SECONDS)
     words.add_argument("--rounds", type=int, default=DEFAULT_ROUNDS)
     options = words.parse_args()
     options.package = False
-    hubs = options.hub or [os.path.join(measure_gateway.SERVICE, "sctd-hub")]
+    hubs = options.hub or [os.path.join(SERVICE, "sctd-hub")]
     with tempfile.TemporaryDirectory() as folder:
         store, path = os.path.join(folder, "store"), os.path.join(folder, "hub")
         make_store(options, folder, store)

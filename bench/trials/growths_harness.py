@@ -62,7 +62,7 @@ class Refusals(NamedTuple):
     """Which requests for memory are refused: so many, from the one with this number on."""
 
     first: int
-    count: int = ALONE
+    how_many: int = ALONE
 
 
 def ways_to_be_refused(store: str, *others: str) -> list[tuple[bytes, bytes]]:
@@ -101,7 +101,7 @@ class Program:
         around = dict(os.environ)
         if refusals is not None:
             around.update(LD_PRELOAD=str(self.library), REFUSED=str(mark),
-                          REFUSE=str(refusals.first), REFUSE_COUNT=str(refusals.count))
+                          REFUSE=str(refusals.first), REFUSE_COUNT=str(refusals.how_many))
         try:
             done = subprocess.run([str(self.program), *words], cwd=folder, env=around, input=given,
                                   stdout=subprocess.PIPE, stderr=subprocess.PIPE, timeout=SECONDS,

@@ -36,7 +36,7 @@ class Session:
 
     def __init__(self, program: Program, folder: Path, count: int, seed: int) -> None:
         self.made = soak.Soak(str(program.program), seed, str(folder))
-        self.keeps_all: bool = self.made.is_of_version_three()
+        self.keeps_all: bool = self.made.is_of_layout_three()
         self.store = Path(self.made.store)
         layout = "3" if self.keeps_all else "2"
         program.done(["init", "--store", str(self.store), "--layout", layout], folder)
@@ -169,7 +169,7 @@ class Runs:
         if ran.status or len(replies) != len(lines):
             raise Wrong("%d replies, %s" % (len(replies), ran.told()))
         refused = self.check(model, lines, replies)
-        if len(refused) > (refusals.count if was_refused else 0) >= 0:
+        if len(refused) > (refusals.how_many if was_refused else 0) >= 0:
             raise Wrong("%d lines refused" % len(refused))
         self.look(folder, model)
         return Outcome(False, refused, model.state.imports) if was_refused else None
@@ -192,8 +192,8 @@ class Runs:
         outcome = self.outcome(place, self.served.lines, refusals)
         if outcome is None:
             return False
-        self.outcomes[refusals.count].append(outcome)
-        if refusals.count == ALONE and outcome.refused and refusals.first % AGAIN_STEP == 0:
+        self.outcomes[refusals.how_many].append(outcome)
+        if refusals.how_many == ALONE and outcome.refused and refusals.first % AGAIN_STEP == 0:
             self.run_again(place, refusals, outcome.refused[0])
         return True
 
@@ -331,11 +331,13 @@ def runs_of_script(program: Program, folder: Path, releases: Path,
     """The runs of the demonstration's lines, and of its questions on the store that it leaves."""
     empty, full = folder / "empty", folder / "full"
     program.done(["init", "--store", str(empty)], folder)
-    script = Runs(program, folder, Served(CHANGES + QUESTIONS, releases, files, empty))
+    script = Runs(program, folder, Served(CHANGES + QUESTIONS, releases, files, empty,
+                                          keeps_all=True))
     shutil.copyfile(empty, folder / "store")
     script.serve(folder, CHANGES)
     (folder / "store").rename(full)
-    return [script, Runs(program, folder, Served(QUESTIONS, releases, files, full, CHANGES))]
+    asked = Served(QUESTIONS, releases, files, full, CHANGES, keeps_all=True)
+    return [script, Runs(program, folder, asked)]
 
 
 def runs_of_session(program: Program, folder: Path, count: int, seed: int) -> list[Runs]:

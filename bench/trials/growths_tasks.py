@@ -13,9 +13,9 @@ from growths_harness import (ALL_BEHIND, DISK_FAULT, OUT_OF_MEMORY, Program, Ran
 Files = Mapping[str, bytes]
 
 STORE, COPY = "store", "copy"
-# The stores that are made before: the first two releases in version 2 of the layout and in version
-# 3, and all three in version 2.
-TWO, TWO_OF_THREE, THREE = "two", "two, in version 3", "three"
+# The stores that are made before: the first two releases in layout 2 and in layout 3, and all three
+# in layout 2.
+TWO, TWO_OF_THREE, THREE = "two", "two, in layout 3", "three"
 NONE: Files = {}
 # Of the runs in which all requests are refused from one on, each one with so many in between.
 STEP = 10
@@ -47,7 +47,7 @@ TASKS = (
     Task("copy --store store --to copy", THREE),
     Task("copy --store store --to copy --imports 1", THREE),
     Task("digest --store store", THREE),
-    Task("upgrade --store store", THREE),
+    Task("copy --store store --to copy --layout 3", THREE),
     Task("serve --store store --releases ../releases", THREE,
          b"0 STATUS\n0 PIN\n0 RECEIPT 1\n0 UNPIN\n0 TRIM\n"),
     # Words that are no task.

@@ -17,7 +17,8 @@ from pathlib import Path
 
 from hub_copies import begin_copy, slow_copies
 from hub_harness import RECORDER, ROOT, SECONDS, Client, Hub, Place, content, mode, until
-from operators_harness import Skipped, Wrong, concept, concept_id, rf2, same, write_release
+from operators_harness import Skipped, Wrong, concept, concept_id, same, write_release
+import make_release as rf2
 
 NOT_A_QUESTION = ["ERR hub NotAQuestion"]
 STATUS = ["OK 2 10 2 -"]
@@ -67,10 +68,10 @@ AUDIT = [
     ("DELTA A 20200131 20210131 - 10", [MEMBER, "END 1"]),
     ("REPLACES 2000001 20210131", [MEMBER, "END 1"]),
     ("TIMELINE A 1000004", [MEMBER, "END 1"]),
-    # (A store of this version has no members of reference sets.)
-    ("MEMBERS 900000000000509007 20210131 - 10", ["END 0"]),
-    ("VALUES 900000000000509007 20210131 - 10", ["END 0"]),
-    ("CALLED 1000004 20210131 900000000000509007", ["END 0"]),
+    # (A store of this layout keeps no members of reference sets.)
+    ("MEMBERS 900000000000509007 20210131 - 10", ["ERR 14 LaterVersion"]),
+    ("VALUES 900000000000509007 20210131 - 10", ["ERR 14 LaterVersion"]),
+    ("CALLED 1000004 20210131 900000000000509007", ["ERR 14 LaterVersion"]),
     ("DIGEST", ["OK " + DIGEST_IN_2021]),
 ]
 AT_A_PIN = [("AT 2 " + line, wanted) for line, wanted in AUDIT] + [
@@ -159,7 +160,8 @@ def rights(place: Place, store: str) -> None:
     calls = "chmod,fchmodat,chown,fchownat,lchown,listen"
     slowly = [*TRACE, "-o", "/dev/null", "-e", "inject=%s:delay_enter=100000" % calls]
     slowly = slowly if has_strace() else []
-    for words, wanted in (([], "0o600"), (["--group", own], "0o660")):
+    rights: tuple[tuple[list[str], str], ...] = (([], "0o600"), (["--group", own], "0o660"))
+    for words, wanted in rights:
         part = place.below("group" if words else "alone")
         seen = Watched([part.path("hub"), part.path("questions")])
         with seen, Hub(part, store, "--questions", part.path("questions"), *words, umask=0,
@@ -204,9 +206,10 @@ def other_users(place: Place, store: str) -> None:
     group = next(one for one in grp.getgrall() if one.gr_gid not in (0, NOBODY))
     words = ["--questions", place.path("questions"), "--group", group.gr_name]
     with Hub(place, store, *words) as hub:
-        for path, groups, wanted in (
-                (hub.socket, [], 1), (hub.socket, [group.gr_gid], 1), (hub.questions, [], 1),
-                (hub.questions, [group.gr_gid], 0)):
+        users: tuple[tuple[str, list[int], int], ...] = (
+            (hub.socket, [], 1), (hub.socket, [group.gr_gid], 1), (hub.questions, [], 1),
+            (hub.questions, [group.gr_gid], 0))
+        for path, groups, wanted in users:
             same("another user, of the groups %r" % groups, asks_as_nobody(path, groups), wanted)
 
 
@@ -365,10 +368,10 @@ def full_store(place: Place, store: str) -> None:
         same("the end of the hub", hub.stop("a hub that is stopped"), 0)
     with Hub(place, own, "--merge-above", str(MOST_SEGMENTS), releases=releases) as hub:
         client = Client(hub.socket)
-        for line, wanted in zip(lines[-2:],
-                                ("OK %d 1 0" % (len(lines) - 1), "ERR 6 TooManySegments")):
+        for line, reply in zip(lines[-2:],
+                               ("OK %d 1 0" % (len(lines) - 1), "ERR 6 TooManySegments")):
             for asked in (check_of(line), line):
-                same("%s without merges" % asked, client.ask(asked), [wanted])
+                same("%s without merges" % asked, client.ask(asked), [reply])
     with Hub(place, own, "--merge-above", str(ALMOST_FULL), releases=releases) as hub:
         client = Client(hub.socket)
         for asked in (check_of(lines[-1]), lines[-1]):
@@ -503,7 +506,7 @@ def system_calls(place: Place, store: str) -> None:
         raise Wrong("the trace hasn't all calls: %r" % sorted(called))
     same("calls that the unit forbids", sorted(called - allowed), [])
     for forbidden in (
-            r"PROT_WRITE\|PROT_EXEC", r"mprotect\([^)]*PROT_EXEC", r"socket\(AF_(?!UNIX)"):
+            r"PROT_WRITE\|PROT_EXEC", r"mprotect\([^)\n]*PROT_EXEC", r"socket\(AF_(?!UNIX)"):
         same("what the unit forbids", re.findall(forbidden, lines), [])
     copying = lines[lines.index('copy", O_WRONLY|O_CREAT|O_EXCL') :]
     copying = copying[: copying.index('"status", "--store"')]

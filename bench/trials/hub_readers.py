@@ -13,7 +13,8 @@ from collections.abc import Iterable, Sequence
 from pathlib import Path
 
 from hub_harness import AROUND, SECONDS, Client, Hub, Place
-from operators_harness import Wrong, concept, concept_id, rf2, same, write_release
+from operators_harness import Wrong, concept, concept_id, same, write_release
+import make_release as rf2
 
 ADDED = ["active_then", "name_then", "active_now", "name_now", "replaced_by",
          "may_be_replaced_by", "problem", "pin", "receipt"]
@@ -323,13 +324,14 @@ def bad_runs(place: Place, store: str) -> None:
     with chains(place) as hub:
         empty = read(place, hub, b"code,date\n%d,20120630\n" % concept_id(1))
         same("a store without imports", empty[1][2:], [""] * 6 + [LATER, "0", ""])
-        for given, words, status, why in (
-                (b"", [], 2, "the first line names no columns code and date"),
-                (b"code;date,x\n", [], 2, "the first line names no columns code and date"),
-                (b"code,date,pin\n", [], 2, "the first line names a column that is added here"),
-                (b"x" * 70_000, [], 2, "a line of more than 65536 bytes"),
-                (b"code,date\n", ["--pin", "1"], 1, "PIN 1 was answered ERR 44 PinRange"),
-                (b"code,date\n", ["--pin", "-1"], 1, "PIN -1 was answered ERR 43 Arguments")):
+        bad: tuple[tuple[bytes, list[str], int, str], ...] = (
+            (b"", [], 2, "the first line names no columns code and date"),
+            (b"code;date,x\n", [], 2, "the first line names no columns code and date"),
+            (b"code,date,pin\n", [], 2, "the first line names a column that is added here"),
+            (b"x" * 70_000, [], 2, "a line of more than 65536 bytes"),
+            (b"code,date\n", ["--pin", "1"], 1, "PIN 1 was answered ERR 44 PinRange"),
+            (b"code,date\n", ["--pin", "-1"], 1, "PIN -1 was answered ERR 43 Arguments"))
+        for given, words, status, why in bad:
             done = place.run(READER, "--socket", hub.questions, *words, given=given)
             same("read_records.py, given %r" % given[:30], (done.returncode, done.stderr.decode()),
                  (status, "read_records: %s\n" % why))

@@ -124,11 +124,15 @@ class Place:
             raise Wrong("a digest of %s: %r" % (store.name, ran))
         return found[1]
 
-    def copy(self, store: Path, name: str, imports: Optional[int] = None) -> Path:
-        """A new store with the first imports of one, or with all."""
+    def copy(
+        self, store: Path, name: str, imports: Optional[int] = None, layout: Optional[int] = None
+    ) -> Path:
+        """A new store with the first imports of one, or with all, in a layout, or in its own."""
         path = self.path(name)
         words = ["copy", "--store", str(store), "--to", str(path)]
-        self.done(*words, *([] if imports is None else ["--imports", str(imports)]))
+        for option, number in (("--imports", imports), ("--layout", layout)):
+            words += [] if number is None else [option, str(number)]
+        self.done(*words)
         return path
 
     def ask(self, store: Path, lines: Sequence[str]) -> list[list[str]]:

@@ -104,7 +104,7 @@ INSTALLATION = (
          "sctd-hub 1.0.0, a commit\nsctd-gateway 1.0.0, a commit"),
     Step("the program's version", "sctd --version | "
          "sed -E 's/(commit [0-9a-f]{12}|an unknown commit).*/a commit/'",
-         "sctd 1.0.0, opens layout versions 1, 2 and 3\nbuilt from a commit"),
+         "sctd 1.0.0, opens layouts 1, 2 and 3\nbuilt from a commit"),
     Step("a manual page", "man -P cat sctd.conf 2>&1 | grep -c merge-above", "1"),
 )
 USE = (

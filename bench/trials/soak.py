@@ -5,11 +5,11 @@ soak.py PROGRAM [SECONDS [SEED [FOLDER]]]
 
 PROGRAM is the built `sctd` (crates/sctd/out/sctd). It serves a store in FOLDER (a fresh folder
 below the system's temporary one, where none is given) for SECONDS (60 where none are given).
-A run begins with a store of version 2, 1 or 3 of the layout, by the rest of SEED divided by 3.
+A run begins with a store of layout 2, 1 or 3, by the rest of SEED divided by 3.
 Sessions import random releases of all sorts of files, some of them faulty or contradicting, and
 some once more, ask at random dates and pins, merge in steps and trim, in batches of lines that are
-sent at once. From time to time a second `sctd import` is tried on the file, and the store is
-upgraded, in version 3 to no effect. Some upgrades, some batches, and some openings, are cut short
+sent at once. From time to time a second `sctd import` is tried on the file, and a copy in layout 3
+takes the store's place. Some copies, some batches, and some openings, are cut short
 by `kill -9` at a random moment; then the program serves the same file again. The model in
 soak_model.py answers each line too. What has to hold:
 
@@ -25,7 +25,7 @@ soak_model.py answers each line too. What has to hold:
 It ends by itself, prints its figures, and has the status 1 at the first reply that is another one
 and at bytes behind the last reply, and 3 where no import or no publication was cut short, or no
 MEMBERS, VALUES or CALLED was answered by a row: until all were, a run goes on for up to four times
-SECONDS, and its store is upgraded after SECONDS. The same SEED gives the same lines up to the first
+SECONDS, and its store is copied in layout 3 after SECONDS. The same SEED gives the same lines up to the first
 kill: the moments of the kills are those of the machine, and what comes behind one goes on from what
 it left. Standard library alone.
 """
@@ -67,7 +67,7 @@ RUN_SECONDS, TIMES_LONGER = 60, 4
 # The status where it still wasn't.
 NOT_TRIED = 3
 PIPE_SIZE = 1 << 16
-# Where the versions of the layout stand in the two directories of a store, and version 1.
+# Where the layouts stand in the two directories of a store, and layout 1.
 VERSIONS_AT = (4111, 12303)
 VERSION_ONE = b"1"
 
@@ -330,19 +330,19 @@ class Soak:
         self.program, self.folder, self.seed = program, folder, seed
         self.chance = random.Random(seed)
         self.releases = Releases(self.chance, os.path.join(folder, "releases"))
-        self.model = Model(self.releases.files, keeps_all=self.is_of_version_three())
+        self.model = Model(self.releases.files, keeps_all=self.is_of_layout_three())
         self.store = os.path.join(folder, "store")
         self.serving: Optional[Program] = None
         self.took = 0.05
         self.counts = dict.fromkeys(
             "openings kills_in_openings kills_in_batches lines imports imports_cut_kept "
             "imports_cut_lost publications publications_cut_kept publications_cut_lost trims "
-            "dumps seconds_refused upgrades upgrades_cut releases_again".split() + list(ANSWERED),
+            "dumps seconds_refused copies copies_cut releases_again".split() + list(ANSWERED),
             0,
         )
 
-    def is_of_version_three(self) -> bool:
-        """Whether the run begins with a store of version 3."""
+    def is_of_layout_three(self) -> bool:
+        """Whether the run begins with a store of layout 3."""
         return self.seed % 3 == 2
 
     def start(self) -> None:
@@ -483,7 +483,7 @@ class Soak:
 
     def release(self) -> str:
         """The name of a new release, or now and then of one that was made before: a store that was
-        upgraded meanwhile may take more of it."""
+        copied in layout 3 meanwhile may take more of it."""
         if self.releases.files and self.chance.random() < 0.1:
             self.counts["releases_again"] += 1
             return self.chance.choice(list(self.releases.files))
@@ -654,7 +654,7 @@ class Soak:
         return [next(iter(shown[name].values()))[1][0] for name in self.model.kinds[kind].ids]
 
     def run(self, seconds: int) -> None:
-        layout = ["--layout", "3"] if self.is_of_version_three() else []
+        layout = ["--layout", "3" if self.is_of_layout_three() else "2"]
         made = self.ended(["init", "--store", self.store] + layout)
         if made.returncode or made.stdout != b"OK\n":
             raise Wrong("init: %r, status %d" % (made.stdout, made.returncode))
@@ -669,7 +669,7 @@ class Soak:
             elif what < 0.3:
                 self.second_import()
             elif what < 0.31 or time.monotonic() > begun + seconds and not self.model.keeps_all:
-                self.upgrade()
+                self.copy_in_layout_three()
             else:
                 lines, replies, states = self.batch()
                 self.ask(lines, replies)
@@ -684,28 +684,33 @@ class Soak:
             raise Wrong("the program ended with the status %d" % status)
 
     def make_version_one(self) -> None:
-        """Makes of the new store one of version 1: that of the layout before this one."""
+        """Makes of the new store one of layout 1."""
         with open(self.store, "r+b") as file:
             for at in VERSIONS_AT:
                 file.seek(at - 7)
                 if file.read(7) == b"SCTHIST":
                     file.write(VERSION_ONE)
 
-    def upgrade(self) -> None:
-        """Between two servers the store is upgraded, perhaps after an upgrade that was killed."""
+    def copy_in_layout_three(self) -> None:
+        """Between two servers a copy in layout 3 takes the place of the store, perhaps after a copy
+        that was killed."""
         status, rest = self.served.end()
         if rest or status:
-            raise Wrong("before an upgrade: %r, status %d" % (rest[:300], status))
-        words = ["upgrade", "--store", self.store]
+            raise Wrong("before a copy: %r, status %d" % (rest[:300], status))
+        made = self.store + ".copy"
+        words = ["copy", "--store", self.store, "--to", made, "--layout", "3"]
         if self.chance.random() < 0.5:
             cut = Program([self.program] + words)
             time.sleep(self.chance.random() * 0.02)
             cut.kill()
-            self.counts["upgrades_cut"] += 1
+            self.counts["copies_cut"] += 1
+            if os.path.exists(made):
+                os.unlink(made)
         done = self.ended(words)
         if (done.returncode, done.stdout) != (0, b"OK\n"):
-            raise Wrong("upgrade: %r, status %d" % (done.stdout, done.returncode))
-        self.counts["upgrades"] += 1
+            raise Wrong("copy: %r, status %d" % (done.stdout, done.returncode))
+        os.replace(made, self.store)
+        self.counts["copies"] += 1
         self.model.keeps_all = True
         self.start_again([self.model.state], 0)
 

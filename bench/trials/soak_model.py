@@ -31,6 +31,9 @@ QUESTIONS = frozenset(
     "DELTA DATES DIGEST RECEIPT MEMBERS VALUES CALLED".split()
 )
 NO_ARGUMENTS, NO_SUCH_IMPORT = ["ERR 43 Arguments"], ["ERR 44 PinRange"]
+# What needs members is refused with below layout 3: these, and questions with the letter M.
+LATER_LAYOUT = ["ERR 14 LaterVersion"]
+OF_MEMBERS = frozenset("MEMBERS VALUES CALLED".split())
 
 
 class Fault(NamedTuple):
@@ -42,7 +45,7 @@ class Fault(NamedTuple):
 
 class File(NamedTuple):
     """A file of a release: the letter of its rows, whether each store keeps it or only one of
-    version 3 of the layout, its rows, and its first fault."""
+    layout 3, its rows, and its first fault."""
 
     kind: str
     is_basic: bool
@@ -162,8 +165,8 @@ def reached(first: int, steps: Iterable[tuple[int, int]]) -> set[int]:
 
 
 class Model:
-    """What each line is answered, by the definitions: slow and plain. A store of version 3 asks for
-    all files of a release, one of a version below for the basic ones alone."""
+    """What each line is answered, by the definitions: slow and plain. A store of layout 3 asks for
+    all files of a release, one of a layout below for the basic ones alone."""
 
     def __init__(self, releases: Mapping[str, Sequence[File]], keeps_all: bool = False) -> None:
         self.releases, self.keeps_all = releases, keeps_all
@@ -182,7 +185,13 @@ class Model:
         call = self.call_of(command)
         if call is None or not command.isupper():
             return ["ERR 42 Command"]
-        return call(int(session), words)
+        return self.asked(command, call(int(session), words), words)
+
+    def asked(self, command: str, said: Reply, words: str) -> Reply:
+        """What a command is answered: below layout 3 nothing that needs members, unless its
+        arguments are none."""
+        needs = command in OF_MEMBERS or command in QUESTIONS and words.startswith("M ")
+        return LATER_LAYOUT if needs and not self.keeps_all and said != NO_ARGUMENTS else said
 
     def call_of(self, command: str) -> Optional[Callable[[Optional[int], str], Reply]]:
         """What answers a command."""
@@ -203,7 +212,7 @@ class Model:
     def page(self, session: Optional[int], kind: str, date: str, after: str, limit: str,
              is_wanted: Callable[[Columns], bool]) -> Reply:
         """The first so many rows that are wanted, of components after an identifier."""
-        table, found = self.kinds[kind], []
+        table, found = self.kinds[kind], list[Columns]()
         start = 0 if after == "-" else bisect.bisect_right(table.ids, name_of(kind, after))
         for name in table.ids[start:]:
             if len(found) == int(limit):
@@ -359,7 +368,7 @@ class Model:
         if command not in QUESTIONS or call is None:
             return NO_ARGUMENTS
         self.pins[None] = int(number)
-        said = call(None, rest)
+        said = self.asked(command, call(None, rest), rest)
         del self.pins[None]
         # A question that is none is refused before its number is looked at.
         return NO_SUCH_IMPORT if int(number) > self.state.imports and said != NO_ARGUMENTS else said

@@ -17,7 +17,8 @@ import tempfile
 from collections.abc import Sequence
 from pathlib import Path
 
-from operators_harness import Place, Server, Wrong, rf2, same, write_release
+from operators_harness import Place, Server, Wrong, same, write_release
+import make_release as rf2
 
 BLOCK = 4096
 KEPT_BLOCKS = 1024

@@ -269,6 +269,8 @@ def main(words: Sequence[str]) -> int:
     if shutil.which("curl") is None:
         print("not run: there is no curl")
         return NOT_RUN
+    # (A shell's background job ignores SIGINT, and what it starts would, too.)
+    signal.signal(signal.SIGINT, signal.default_int_handler)
     try:
         with tempfile.TemporaryDirectory(prefix="sctd-look-") as place:
             tried(os.path.abspath(words[0]), is_built, Path(place))

@@ -105,8 +105,8 @@ class Store:
                 raise Wrong("no directory of version 3")
         self.segments: list[tuple[int, int]] = []
         for place in range(at + 32, at + 32 + 16 * number(self.data, at + 20, 4), 16):
-            first, length, _, form = (number(self.data, place + 4 * k, 4) for k in range(4))
-            if form != 1:
+            first, length, _, checksum = (number(self.data, place + 4 * k, 4) for k in range(4))
+            if not checksum:
                 raise Wrong("a segment without checksums")
             self.segments.append((BLOCK * first, BLOCK * first + length))
 

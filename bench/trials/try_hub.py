@@ -25,7 +25,7 @@ import sys
 import tempfile
 import termios
 import time
-from collections.abc import Sequence
+from collections.abc import Callable, Sequence
 
 import hub_copies
 import hub_crowds
@@ -113,7 +113,7 @@ def bad_clients(_: Place, hub: Hub) -> None:
 def many_clients(_: Place, hub: Hub) -> None:
     """More clients than sessions: so many are answered, and the others are told."""
     clients = [served(hub.socket) for _ in range(SESSIONS)]
-    for _ in range(CLIENTS - SESSIONS):
+    for _more in range(CLIENTS - SESSIONS):
         one_more = Client(hub.socket)
         same("one client more", one_more.read(), ["ERR 41 Session"])
         one_more.leave()
@@ -140,7 +140,10 @@ def served(path: str) -> Client:
 
 def kept_sessions(place: Place, store: str) -> None:
     """Clients that only ask leave sessions to those that import."""
-    with Hub(place, store, "--questions", place.path("questions"), *MANY_A_USER) as hub:
+    # (Where few are left, those that have been silent for ten seconds are hung up on, which so many
+    # clients may take to come.)
+    patient = place.changed("clients.py", "_IF_FULL = 600, 10\n", "_IF_FULL = 600, 600\n")
+    with Hub(patient, store, "--questions", patient.path("questions"), *MANY_A_USER) as hub:
         asking = [served(hub.questions) for _ in range(SESSIONS - KEPT_SESSIONS)]
         one_more = Client(hub.questions)
         same("one more that asks", one_more.read(), ["ERR 41 Session"])
@@ -409,9 +412,10 @@ def left_unread(place: Place, store: str) -> None:
 def words(place: Place, store: str) -> None:
     """What isn't understood of the words is said, with status 2."""
     rest = ["--program", place.program, "--store", store, "--releases", place.folder]
-    for wrong in ([], ["--socket", "s", "--questions", "s"], ["--socket", "s", "--group", "root"],
-                  ["--socket", "s", "--merge-above", "0"],
-                  ["--questions", "s", "--group", "no such group"]):
+    bad: tuple[list[str], ...] = (
+        [], ["--socket", "s", "--questions", "s"], ["--socket", "s", "--group", "root"],
+        ["--socket", "s", "--merge-above", "0"], ["--questions", "s", "--group", "no such group"])
+    for wrong in bad:
         done = place.run(HUB, *rest, *wrong)
         same("the words %r" % wrong, (done.returncode, done.stdout), (2, b""))
 
@@ -422,13 +426,14 @@ def all_trials(place: Place, skipped: list[str]) -> int:
     on_one_hub = [two_clients, bad_clients, many_clients]
     with Hub(place, store) as hub:
         same("an opening", hub.first_line, "OK ready")
-        for each in on_one_hub:
-            each(place, hub)
+        for of_hub in on_one_hub:
+            of_hub(place, hub)
         same("the end of the hub", hub.stop("a hub that is stopped"), 0)
-    tries = [openings, kept_sessions, turns, disk_fault, ends, unread, left_unread, kill_program]
+    tries: list[Callable[[Place, str], None]] = [
+        openings, kept_sessions, turns, disk_fault, ends, unread, left_unread, kill_program]
     tries += [words, sockets]
-    tries += hub_duties.TRIALS + hub_crowds.TRIALS + hub_copies.TRIALS
-    tries += hub_openings.TRIALS + hub_readers.TRIALS + [damage]
+    tries += [*hub_duties.TRIALS, *hub_crowds.TRIALS, *hub_copies.TRIALS, *hub_openings.TRIALS]
+    tries += [*hub_readers.TRIALS, damage]
     count = len(on_one_hub)
     for each in tries:
         begun = time.monotonic()

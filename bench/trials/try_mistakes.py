@@ -226,8 +226,8 @@ def try_lacking(tries: Tries) -> None:
     write(stray, COLUMNS)
     got = tries.run(["import", "--quiet", "--store", "named", "releases/lacking/Full"])
     wanted = OUT_OF_PLACE % ("terminology/" + CONCEPTS)
-    wanted += "a release has it in Terminology or Refset/Content\n"
-    for kind in ("Description", "Relationship"):
+    wanted += "a release has it in Terminology or a folder of Refset\n"
+    for kind in ("Description", "Relationship", "Refset"):
         wanted += "sctd: warning: a Full file of concepts was taken, and no %s file\n" % kind
     tries.check("what a Full release lacks", got[0] == 0 and got[2] == wanted, got)
 
@@ -251,17 +251,17 @@ def import_told(tries: Tries, what: str, store: str, name: str, reply: str,
 
 
 def try_packages(tries: Tries) -> None:
-    """A whole package, which a store of version 2 takes in part, and files of it in a folder in
+    """A whole package, which a store of layout 2 takes in part, and files of it in a folder in
     which no package has them."""
     for layout in ("2", "3"):
         made = tries.run(["init", "--store", "layout" + layout, "--layout", layout])
         tries.check("init", made[1] == "OK\n", made)
     write_package(tries, "whole", {"Refset/Language/" + LANGUAGE: LANGUAGE_ROWS,
                                    "Terminology/" + DEFINITIONS: DEFINITION_ROWS})
-    told = import_told(tries, "members into version 2", "layout2", "whole", "OK 1 1 0", [
+    told = import_told(tries, "members into layout 2", "layout2", "whole", "OK 1 1 0", [
         "passed over Refset/Language/" + LANGUAGE, "passed over Terminology/" + DEFINITIONS])
     tries.check("its warnings", not any("warning" in line for line in told), told)
-    told = import_told(tries, "members into version 3", "layout3", "whole", "OK 1 3 0", [
+    told = import_told(tries, "members into layout 3", "layout3", "whole", "OK 1 3 0", [
         "took %s: Refset, rows: 1" % LANGUAGE, "took %s: Description, rows: 1" % DEFINITIONS])
     tries.check("its warnings", not any("warning" in line for line in told), told)
     for number, wrong in enumerate(("Refset", "refset/Language", "Language", "Refset/Language/en")):
@@ -276,9 +276,9 @@ def try_packages(tries: Tries) -> None:
     told = import_told(tries, "members of a beta release", "layout3", "beta", "OK 6 0 1", [])
     warning = "sctd: warning: passed over Refset/Language/x%s, " % LANGUAGE
     tries.check("its warning", any(line.startswith(warning) for line in told), told)
-    got = tries.run(["upgrade", "--store", "layout2"])
-    tries.check("an upgrade", got[:2] == (0, "OK\n"), got)
-    import_told(tries, "a package imported again", "layout2", "whole", "OK 2 2 1", [])
+    got = tries.run(["copy", "--store", "layout2", "--to", "copied", "--layout", "3"])
+    tries.check("a copy in layout 3", got[:2] == (0, "OK\n"), got)
+    import_told(tries, "a package imported again", "copied", "whole", "OK 2 2 1", [])
 
 
 def try_refsets(tries: Tries) -> None:
@@ -328,7 +328,7 @@ def try_forged(tries: Tries) -> None:
     made = tries.run(["init", "--store", forged])
     tries.check("init of a forged path", made == (0, "OK\n", ""), made)
     got = tries.run(["status", "--store", forged])
-    fine = got[2].startswith("sctd: %s: layout 2, " % shown) and got[2].count("\n") == 1
+    fine = got[2].startswith("sctd: %s: layout 3, " % shown) and got[2].count("\n") == 1
     tries.check("the status of a forged path", fine, got)
     name = CONCEPTS.replace(".txt", "\nsctd: took it.txt")
     write(tries.path("releases", "forged", "Terminology", name), COLUMNS + "?\n")
@@ -703,7 +703,7 @@ def main(words: Sequence[str]) -> int:
         tries = Tries(os.path.abspath(words[0]), place)
         for number in range(1, 5):
             write_release(tries, "r%d" % number, "%d0131" % (2019 + number))
-        made = tries.run(["init", "--store", "store"])
+        made = tries.run(["init", "--layout", "2", "--store", "store"])
         tries.check("init", made == (0, "OK\n", ""), made)
         for part in ALL_TRIES:
             part(tries)

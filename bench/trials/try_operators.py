@@ -31,7 +31,8 @@ from typing import Callable, Iterator, NamedTuple, Optional, Sequence
 
 from operators_harness import BLOCK, FIRST_ROW, RELEASES, SECONDS, Place, Ran, Server, Skipped
 from operators_harness import Wrong, basic_files, concept, concept_id, digest_of, flip, put_back
-from operators_harness import rf2, same, write_edition, write_package, write_release
+from operators_harness import same, write_edition, write_package, write_release
+import make_release as rf2
 
 KINDS = "CDRAVM"
 # How many rows the releases have whose digests are compared, and whose copies are killed.
@@ -55,7 +56,7 @@ OTHER_QUESTION = "GET C 2000001 20210131"
 PINNED = ["GET C 1000004 20211231", "HISTORY C 1000004", "ABOUT D 1000004 20211231", "DATES",
           "ANCESTORS 1000004 20200630", "DELTA C 20200131 20211231 - 1000"]
 PINNED += ["PAGE %s 20211231 - 1000" % kind for kind in KINDS]
-# What a store of version 3 answers of a package, and one of version 2 doesn't.
+# What a store of layout 3 answers of a package, and one of layout 2 refuses.
 LATE = "20991231"
 OF_MEMBERS = ["MEMBERS %d %s - 1000" % (rf2.US_ENGLISH, LATE), "PAGE M %s - 1000" % LATE,
               "VALUES %d %s - 1000" % (rf2.WHY_CONCEPTS_ARE_INACTIVE, LATE)]
@@ -63,6 +64,7 @@ OF_MEMBERS = ["MEMBERS %d %s - 1000" % (rf2.US_ENGLISH, LATE), "PAGE M %s - 1000
 ASKED_NAMES = 20
 ALL = "--all"
 NO_ROWS = hashlib.sha256(b"").hexdigest()
+LATER_LAYOUT = ["ERR 14 LaterVersion"]
 # A file of a reference set whose last column may have any text, and how its lines end.
 MAP_FILE = "Refset/Map/der2_sRefset_SimpleMapDelta_INT_20250131.txt"
 MAP_COLUMNS = ("id\teffectiveTime\tactive\tmoduleId\trefsetId\treferencedComponentId\tmapTarget"
@@ -444,10 +446,10 @@ def digests(place: Place) -> None:
     each_digest(place, place.copy(store, "first", imports=1), wanted[:2])
     place.done("merge", "--store", store)
     each_digest(place, store, wanted)
-    place.done("upgrade", "--store", store)
-    each_digest(place, store, wanted)
-    place.done("merge", "--store", store)
-    each_digest(place, place.copy(store, "upgraded"), wanted)
+    copied = place.copy(store, "in layout 3", layout=3)
+    each_digest(place, copied, wanted)
+    each_digest(place, place.copy(copied, "in layout 3 again", layout=3), wanted)
+    os.replace(copied, store)
     place.import_all(store, [full, delta])
     each_digest(place, store, [*wanted, wanted[2], wanted[2]])
     other = place.make_store("other", layout=3)
@@ -456,7 +458,7 @@ def digests(place: Place) -> None:
 
 
 def digests_of_members(place: Place) -> None:
-    """The same of a store of version 3 that has all files of a package."""
+    """The same of a store of layout 3 that has all files of a package."""
     full, delta = write_package(place.path("package"), DIGEST_ROWS, SEED)
     wanted = [NO_ROWS, digest_of(ALL, full), digest_of(ALL, full, delta)]
     store = place.make_store(layout=3)
@@ -485,7 +487,7 @@ def digest_of_line_ends(place: Place) -> None:
     each_digest(place, store, [NO_ROWS, digest_of(ALL, release)])
 
 
-# ---- A package in stores of each version
+# ---- A package in stores of each layout
 
 
 def of_members(full: Path) -> list[str]:
@@ -497,7 +499,7 @@ def of_members(full: Path) -> list[str]:
 
 
 def packages_below(place: Place) -> None:
-    """A store of version 2 takes from a package what it keeps, as if nothing else was there."""
+    """A store of layout 2 takes from a package what it keeps, as if nothing else was there."""
     full, delta = write_package(place.path("package"), DIGEST_ROWS, SEED)
     basic = [basic_files(one, place.path("basic-" + one.name)) for one in (full, delta)]
     seen = []
@@ -505,24 +507,27 @@ def packages_below(place: Place) -> None:
         here = place.below(name)
         store = here.make_store()
         told = [here.import_one(store, release) for release in releases]
-        same("members in version 2", here.ask(store, OF_MEMBERS), [["END 0"]] * len(OF_MEMBERS))
+        refused = [LATER_LAYOUT] * len(OF_MEMBERS)
+        same("members in layout 2", here.ask(store, OF_MEMBERS), refused)
         seen.append((told, here.status(store), here.digest(store), reports(here, store, 2)))
     same("with and without the further files", *seen)
     same("their digest", seen[0][2], digest_of(full, delta))
 
 
 def the_rest(place: Place) -> None:
-    """A store of version 2 takes the rest of a package once it was upgraded and the Full release is
-    imported again; what was reported before stays as it was."""
+    """A store of layout 2 takes the rest of a package once it was copied in layout 3 and the Full
+    release is imported again; what was reported before stays as it was."""
     full, delta = write_package(place.path("package"), DIGEST_ROWS, SEED)
     store, lines = place.make_store(), of_members(full)
     place.import_all(store, [full, delta])
     before, digest = reports(place, store, 2), place.digest(store)
-    for command in ("upgrade", "merge"):
-        place.done(command, "--store", store)
-    same("the digest after an upgrade", place.digest(store), digest)
+    same("members before", place.ask(store, lines), [LATER_LAYOUT] * len(lines))
+    os.replace(place.copy(store, "copied", layout=3), store)
+    same("the digest of a copy in layout 3", place.digest(store), digest)
     place.import_all(store, [full, delta])
-    same("reports on the first imports", reports(place, store, 2), before)
+    # In layout 3 there are no members where there was no answer.
+    wanted = [["END 0"] if reply == LATER_LAYOUT else reply for reply in before]
+    same("reports on the first imports", reports(place, store, 2), wanted)
     each_digest(place, store, [
         NO_ROWS, digest_of(full), digest, digest_of(full, delta, ALL, full),
         digest_of(ALL, full, delta)])

@@ -6,7 +6,7 @@ try_package.py PROGRAM [TRIAL ..]
 PROGRAM is the built `sctd`; a TRIAL is one of the list TRIALS below, and without any all are done.
 The package has to be the same when it is made again, to have what it has to have and nothing else,
 to complete words in bash and zsh, to have manual pages without warnings, and nothing that lintian
-calls an error. Each option of the hub and of the gateway has to stand in the guide's chapter about
+calls an error. Each option of the hub and of the gateway has to stand in OPERATE's chapter about
 settings, and each key of the settings has to be an option. Then it is installed in a container
 (package_container.py).
 
@@ -48,7 +48,9 @@ FILES = """
 ./usr/lib/tmpfiles.d/sctd.conf ./usr/libexec/sctd/sctd
 ./usr/share/bash-completion/completions/sctd ./usr/share/bash-completion/completions/sctd-hub
 ./usr/share/bash-completion/completions/sctd-gateway ./usr/share/zsh/vendor-completions/_sctd
-./usr/share/doc/sctd/README ./usr/share/doc/sctd/GUIDE.md.gz ./usr/share/doc/sctd/PROMISES.md.gz
+./usr/share/doc/sctd/README ./usr/share/doc/sctd/GUIDE.md.gz ./usr/share/doc/sctd/START.md.gz
+./usr/share/doc/sctd/ASK.md.gz ./usr/share/doc/sctd/OPERATE.md.gz ./usr/share/doc/sctd/FHIR.md.gz
+./usr/share/doc/sctd/AUDIT.md.gz ./usr/share/doc/sctd/PROMISES.md.gz
 ./usr/share/doc/sctd/FORMAT.md.gz ./usr/share/doc/sctd/CHANGELOG.md.gz
 ./usr/share/doc/sctd/changelog.gz ./usr/share/doc/sctd/copyright ./usr/share/doc/sctd/examples
 ./usr/share/lintian/overrides/sctd
@@ -65,7 +67,7 @@ MOST_LINES_OF_README = 10
 # A line to complete in bash, and what has to be among its completions; * is a file of the folder.
 COMPLETED = (
     ("sctd i", ["import", "init"]),
-    ("sctd init --l", ["--layout"]),
+    ("sctd copy --l", ["--layout"]),
     ("sctd import --", ["--check", "--help", "--quiet", "--releases", "--store"]),
     ("sctd serve --store a-", ["a-file", "a-folder"]),
     ("sctd serve --releases a-", ["a-folder"]),
@@ -133,7 +135,8 @@ def contents(made: Made) -> None:
     same("rights", modes, {"drwxr-xr-x", "-rwxr-xr-x", "-rw-r--r--", "lrwxrwxrwx"})
     commands = [words[5] for words in lines if words[0] == "-rwxr-xr-x"]
     same("scripts and programs", sorted(os.path.basename(name) for name in commands),
-         ["client.py", "digest.py", "read_records.py", "sctd", "sctd", "sctd-gateway", "sctd-hub"])
+         ["client.py", "digest.py", "read_records.py", "sctd", "sctd", "sctd-gateway", "sctd-hub",
+          "take_copy.py"])
     readme = made.path(debian.DOC + "/README").read_text("utf-8").count("\n")
     same("whether the README is short", readme <= MOST_LINES_OF_README, True)
 
@@ -164,18 +167,18 @@ def options_of(made: Made, part: str) -> set[str]:
 
 
 def settings(made: Made) -> None:
-    """The guide has each key, and the installed settings have no other one."""
-    guide = (ROOT / "docs" / "GUIDE.md").read_text("utf-8")
+    """OPERATE has each key, and the installed settings have no other one."""
+    document = (ROOT / "docs" / "OPERATE.md").read_text("utf-8")
     text = made.path("etc/sctd/sctd.conf").read_text("utf-8")
     told = tomllib.loads(re.sub(r"^#(\w+ = )", r"\1", text, flags=re.M))
     same("the tables of the settings", sorted(told), ["gateway", "hub"])
     for part, keys in told.items():
-        table = re.search(r"^\| Key of `\[%s\]`.*?\n\n" % part, guide, re.M | re.S)
-        same("whether the guide has a table of " + part, table is not None, True)
-        in_guide = set(re.findall(r"^\| `([\w-]+)`", table[0] if table else "", re.M))
-        same("the keys of %s in the guide" % part, sorted(in_guide),
+        table = re.search(r"^\| Key of `\[%s\]`.*?\n\n" % part, document, re.M | re.S)
+        same("whether OPERATE has a table of " + part, table is not None, True)
+        in_table = set(re.findall(r"^\| `([\w-]+)`", table[0] if table else "", re.M))
+        same("the keys of %s in OPERATE" % part, sorted(in_table),
              sorted(options_of(made, part)))
-        same("keys of %s that are no options" % part, sorted(set(keys) - in_guide), [])
+        same("keys of %s that are no options" % part, sorted(set(keys) - in_table), [])
 
 
 def manual_pages(made: Made) -> None:

@@ -34,6 +34,7 @@ SCRIPTS: list[tuple[str, ...]] = [
     ("trials/try_package.py",),
     ("trials/try_first_look.py",),
     ("trials/try_proxy.py",),
+    ("trials/try_machines.py",),
 ]
 NOT_RUN = 3
 

@@ -10,9 +10,9 @@ from typing import NamedTuple
 IS_A = "116680003"
 FULLY_SPECIFIED_NAME = "900000000000003001"
 SYNONYM = "900000000000013009"
-# What a concept is, in sentences. No name of it.
+# The type of a text definition, which is a description but no name of the concept.
 TEXT_DEFINITION = "900000000000550004"
-# How a language reference set has a description.
+# The acceptability of a description in a language.
 PREFERRED = "900000000000548007"
 ACCEPTABLE = "900000000000549004"
 # All reference sets, those of simple maps, and the one that says why concepts were retired.
@@ -31,6 +31,9 @@ POSSIBLY_REPLACED_BY = "1186921001"
 PARTIALLY_EQUIVALENT_TO = "1186924009"
 WAS_A = "900000000000528000"
 SIMILAR_TO = "900000000000529008"
+ASSOCIATIONS = (
+    MOVED_FROM, MOVED_TO, REFERS_TO, REPLACED_BY, SAME_AS, POSSIBLY_EQUIVALENT_TO, ALTERNATIVE,
+    POSSIBLY_REPLACED_BY, PARTIALLY_EQUIVALENT_TO, WAS_A, SIMILAR_TO)
 DEFINED = "900000000000073002"
 CASE_INSENSITIVE = "900000000000448009"
 INITIAL_CASE_INSENSITIVE = "900000000000020002"
@@ -130,6 +133,16 @@ class Language(NamedTuple):
 
     code: str = ""
     refsets: tuple[str, ...] = ()
+    others: tuple[Language, ...] = ()
+
+    @property
+    def each(self) -> tuple[Language, ...]:
+        """It, and those that are wanted where there is no term in it."""
+        return (self, *self.others)
+
+    @property
+    def every_refset(self) -> list[str]:
+        return distinct(refset for one in self.each for refset in one.refsets)
 
 
 class Facts(NamedTuple):
@@ -144,9 +157,12 @@ class Facts(NamedTuple):
     members: list[RefsetMember]
 
     def display(self, language: Language) -> str:
-        for refset in language.refsets:
-            if (preferred := preferred_term(self.called[refset])) is not None:
-                return preferred
+        for one in language.each:
+            for refset in one.refsets:
+                if (preferred := preferred_term(self.called[refset])) is not None:
+                    return preferred
+            if has_name_in(one.code, self.descriptions):
+                return display_of(self.concept.id, self.descriptions, one.code)
         return display_of(self.concept.id, self.descriptions, language.code)
 
     @property
@@ -221,6 +237,10 @@ def preferred_term(called: Iterable[Called]) -> str | None:
 def names_of(descriptions: Iterable[Description]) -> list[Description]:
     """Those that name the concept."""
     return [row for row in descriptions if row.type != TEXT_DEFINITION]
+
+
+def has_name_in(language: str, descriptions: Iterable[Description]) -> bool:
+    return any(row.language == language for row in names_of(descriptions))
 
 
 def display_of(code: str, descriptions: Sequence[Description], language: str = "") -> str:

@@ -21,7 +21,18 @@ from pathlib import Path
 from typing import Any
 from urllib.parse import urlencode
 
-from .house import PROGRAM_AND_HUB, SCT, SECONDS, Gateway, Json, begun_hub, parts_of, told, version
+from .house import (
+    PROGRAM_AND_HUB,
+    SCT,
+    SECONDS,
+    Gateway,
+    Json,
+    begun_hub,
+    parts_of,
+    told,
+    version,
+    with_hyphens,
+)
 from .release_files import (
     DEFINED,
     FULLY_SPECIFIED,
@@ -44,6 +55,7 @@ INDICATORS = "900000000000489007"
 VALUE_SETS = ("723264001", "733990004")
 MAP, MAP_SYSTEM = "900000000000497000", "urn:of:the:map"
 PACKAGE_WORDS = ("--languages", ",".join(LANGUAGES), "--map", "%s=%s" % (MAP, MAP_SYSTEM))
+ASKED = "sctd-date"
 CONTEXT_PARTS = ("context", "role", "type")
 # How long the release may take to be made or imported.
 RUN_SECONDS = 600
@@ -63,7 +75,7 @@ class Comparison:
         self.languages = languages
         self.connection = http.client.HTTPConnection("x", timeout=SECONDS)
         self.connection.sock = gateway.connect()
-        self.concepts = rows.concepts()
+        self.concepts, self.days = rows.concepts(), rows.days()
 
     def ask(self, path: str, **words: Any) -> tuple[int, Json]:
         self.connection.request("GET", "/fhir/%s?%s" % (path, urlencode(words)))
@@ -78,8 +90,7 @@ class Comparison:
 
     def day(self) -> str:
         """A day of the later releases, or the one before it."""
-        days = self.rows.days()
-        day = self.chance.choice(days[len(days) // 2 :])
+        day = self.chance.choice(self.days[len(self.days) // 2 :])
         # All releases are of the 31st of a month.
         return self.chance.choice([day, str(int(day) - 1)])
 
@@ -126,6 +137,10 @@ class Comparison:
             self.counts["$lookup of what isn't there"] += 1
             return
         self.alike("$lookup", status, 200, *where)
+        # A version is that of the greatest day of a row up to the one that was asked for.
+        release = max(day for day in self.days if day <= snapshot.day)
+        self.alike("version", told(said, "version"), [version(release)], *where)
+        self.alike("date", told(said, ASKED), self.asked(snapshot), *where)
         terms = [
             (one["value"], one["language"], one["use"]["code"])
             for one in parts_of(said, "designation")
@@ -143,6 +158,10 @@ class Comparison:
             found.setdefault(words["code"], set()).add(str(words["value"]))
         self.alike("property", found, properties(snapshot, code), *where)
         self.counts["$lookup"] += 1
+
+    def asked(self, snapshot: Snapshot) -> list[str]:
+        """The days that an answer says were asked for."""
+        return [with_hyphens(snapshot.day)]
 
     def contexts(self, snapshot: Snapshot, code: str) -> list[tuple[str, ...]]:
         """Each term with each of the languages that have it, how, and as what."""
@@ -316,7 +335,7 @@ def compared(
         root = Path(folder)
         store, questions = str(root / "store"), str(root / "questions")
         run(sys.executable, str(make), *words, folder, str(rows), str(seed))
-        run(program, "init", "--layout", "3" if is_package else "2", "--store", store)
+        run(program, "init", "--store", store)
         run(program, "import", "--quiet", "--store", store, str(root / "full"))
         serving = begun_hub(hub, program, store, folder, "--questions", questions)
         gateway: Gateway | None = None

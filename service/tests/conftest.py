@@ -47,7 +47,7 @@ def until_left(house: House) -> Iterator[House]:
 
 @pytest.fixture(scope="session")
 def house() -> Iterator[House]:
-    """A store that keeps no members, which tests leave as it is. What its gateway asks is
+    """A store whose releases have no members, which tests leave as it is. What its gateway asks is
     recorded."""
     yield from until_left(House(is_recorded=True))
 
@@ -55,7 +55,7 @@ def house() -> Iterator[House]:
 @pytest.fixture(scope="session")
 def whole_house() -> Iterator[House]:
     """A store of whole packages, which tests leave as it is."""
-    yield from until_left(House(layout=3, is_whole=True, words=WORDS))
+    yield from until_left(House(is_whole=True, words=WORDS))
 
 
 @pytest.fixture(scope="module")

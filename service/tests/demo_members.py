@@ -16,6 +16,9 @@ INDICATORS = "900000000000489007"
 AMBIGUOUS, DUPLICATE = "900000000000484002", "900000000000482003"
 PENDING_MOVE = "900000000000492006"
 CTV3 = "900000000000497000"
+ICD_10, NOT_SPECIFIED, EXACT = "447562003", "447561005", "447557004"
+PROPERLY, DEPENDS = "447637006", "447639009"
+DEPENDENT = "MAP OF SOURCE CONCEPT IS CONTEXT DEPENDENT"
 # A map of the house's own, of which no release has the concept.
 HOUSE_MAP = str(sctid(4712, "00"))
 # What the gateway prefers: British English, and where that says nothing that of the United States.
@@ -36,6 +39,11 @@ FILES = {
     "simple": ("Refset/Content/der2_Refset_SimpleDelta_INT_%s.txt", FIXED),
     "value": ("Refset/Content/der2_cRefset_AttributeValueDelta_INT_%s.txt", FIXED + " valueId"),
     "map": ("Refset/Map/der2_sRefset_SimpleMapDelta_INT_%s.txt", FIXED + " mapTarget"),
+    "extended": (
+        "Refset/Map/der2_iisssccRefset_ExtendedMapDelta_INT_%s.txt",
+        FIXED
+        + " mapGroup mapPriority mapRule mapAdvice mapTarget correlationId mapCategoryId",
+    ),
     "odd": ("Refset/Map/der2_ssRefset_OddMapDelta_INT_%s.txt", FIXED + " mapTarget advice"),
 }
 METADATA_TAG = " (foundation metadata concept)"
@@ -195,5 +203,28 @@ def maps(maker: WholeMaker) -> None:
     maker.member("map", "20190131", CTV3, codes["limb"], "X2")
     maker.member("map", "20200131", CTV3, codes["limb"], "X3", known=known)
     maker.member("map", FIRST_DAY, CTV3, codes["drug"], "")
+    extended_map(maker)
     maker.member("map", FIRST_DAY, HOUSE_MAP, codes["limb"], "H1")
     maker.member("odd", FIRST_DAY, codes["odd"], codes["limb"], "Y1", "ask <i>them</i>")
+
+
+def extended_map(maker: WholeMaker) -> None:
+    """Two groups, the second of which has a rule alone, and a target that is another one later."""
+    code = maker.codes["anaemia"]
+    female = "IFA 248152002 | Female (finding) |"
+    ways = (
+        ("1", "2", "OTHERWISE TRUE", "ALWAYS D64.9", "D64.9", NOT_SPECIFIED, PROPERLY),
+        ("2", "1", "TRUE", DEPENDENT, "", NOT_SPECIFIED, DEPENDS),
+    )
+    for way in ways:
+        maker.member("extended", FIRST_DAY, ICD_10, code, *way)
+    first = ("1", "1", female, "IF FEMALE CHOOSE D50.9")
+    known = maker.member(
+        "extended", FIRST_DAY, ICD_10, code, *first, "D50.9", NOT_SPECIFIED, PROPERLY
+    )
+    maker.member(
+        "extended", "20200131", ICD_10, code, *first, "D50.8", EXACT, PROPERLY, known=known
+    )
+    maker.member(
+        "extended", FIRST_DAY, ICD_10, maker.codes["drug"], *ways[1][:5], NOT_SPECIFIED, DEPENDS
+    )

@@ -113,9 +113,11 @@ class Maker:
         self.put("V", day, known, day, active, CORE, code, value, "1", kind, INFERRED, MODIFIER)
         return known
 
-    def association(self, number: int, day: str, refset: str, source: str, target: str) -> None:
+    def association(
+        self, number: int, day: str, refset: str, source: str, target: str, active: str = "1"
+    ) -> None:
         member = str(uuid.UUID(int=number))
-        self.put("A", day, member, day, "1", CORE, refset, source, target)
+        self.put("A", day, member, day, active, CORE, refset, source, target)
 
     def write(self, folder: Path) -> None:
         for release, kinds in self.rows.items():
@@ -264,6 +266,8 @@ def vague_associations(maker: Maker) -> None:
         (125, PARTIALLY_EQUIVALENT_TO, "limb"),
     ):
         maker.association(number, "20170731", refset, vague, maker.codes[target])
+    # One that was never active.
+    maker.association(126, "20170731", WAS_A, maker.codes["limb"], maker.codes["injury"], "0")
 
 
 def drug(maker: Maker) -> None:

@@ -144,13 +144,13 @@ class Answer:
 
 
 class House:
-    """A store, its hub and its gateway. What the gateway asks is recorded, if that is wanted. The
-    store is of a version of the layout, and the releases are whole packages, if that is wanted."""
+    """A store of a layout, its hub and its gateway. What the gateway asks is recorded, and the
+    releases are whole packages, if that is wanted."""
 
     def __init__(
         self,
         is_recorded: bool = False,
-        layout: int = 2,
+        layout: int = 3,
         is_whole: bool = False,
         words: Sequence[str] = (),
     ) -> None:
@@ -222,6 +222,10 @@ def begun_hub(
 
 def version(day: str) -> str:
     return "%s/%s/version/%s" % (SCT, EDITION, day)
+
+
+def with_hyphens(day: str) -> str:
+    return "%s-%s-%s" % (day[:4], day[4:6], day[6:])
 
 
 def value(part: Json) -> Any:

@@ -91,7 +91,7 @@ class TestHub(Asked):
             == "RECEIPT 1: OK 1 18 20210131"
         )
         self.another_store()
-        assert self.gateway.fhir(LOOKUP, "/pin/1/fhir/", **words)[0] == 404
+        assert self.gateway.fhir(LOOKUP, "/pin/1/fhir/", **words)[0] == 503
         assert self.gateway.fhir(LOOKUP, **self.wrist)[0] == 404
         assert self.gateway.fhir("metadata", mode="terminology")[0] == 200
         assert self.gateway.send("GET", "/?q=1105007").status == 200
@@ -109,8 +109,15 @@ class TestHub(Asked):
         self.another_store()
 
     def test_5_imports_while_it_runs(self) -> None:
-        for name, day in RELEASES.items():
+        """A pin is there once its import is. Before, a balancer is told to ask another machine."""
+        for pin, (name, day) in enumerate(RELEASES.items(), 1):
+            for target in ("/fhir/metadata", "/", "/suggest?text=x", "/health"):
+                answer = self.gateway.send("GET", "/pin/%d%s" % (pin, target))
+                assert (answer.status, answer.headers["retry-after"]) == (503, "5"), target
+            assert issue(self.gateway.fhir("metadata", "/pin/%d/fhir/" % pin)[1]) == "transient"
             assert self.send("IMPORT " + name)[0].startswith("OK ")
+            assert self.gateway.fhir("metadata", "/pin/%d/fhir/" % pin)[0] == 200
+            assert self.gateway.send("GET", "/pin/%d/health" % pin).json()["pin"] == pin
             if name == "d2":  # Of the new release at once, though the gateway knows the one before.
                 assert self.gateway.fhir(LOOKUP, version=version(day), **self.wrist)[0] == 200
             assert told(self.gateway.fhir(LOOKUP, **self.wrist)[1], "version") == [version(day)]
@@ -203,6 +210,18 @@ class TestStart:
         ):
             done = self.start(*whole, *words)
             assert (done.returncode, done.stdout) == (2, ""), words
+
+    def test_edition_that_is_not_in_the_store(self, house: House) -> None:
+        """An answer never claims an edition of which the store has nothing."""
+        for module in ("138875005", "731000124108"):
+            with tempfile.TemporaryDirectory() as folder:
+                listen = folder + "/socket"
+                done = self.start(
+                    "--socket", house.questions, "--edition", module, "--listen", listen
+                )
+                assert (done.returncode, done.stdout) == (1, "")
+                assert "the store has no concept of the module %s: " % module in done.stderr
+                assert not os.path.exists(listen)
 
     def test_end_where_the_socket_is_removed_already(self) -> None:
         with tempfile.TemporaryDirectory() as folder:

@@ -1,13 +1,40 @@
 """CodeSystem/$lookup: versions, dates, codes, properties."""
 
 from typing import Any
+from urllib.parse import urlencode
 
 import pytest
 
 from .asked import Asked
-from .house import EDITION, SCT, Json, issue, parts_of, properties, told, value, version
+from .house import (
+    EDITION,
+    SCT,
+    Json,
+    issue,
+    parts_of,
+    properties,
+    told,
+    value,
+    version,
+    with_hyphens,
+)
 
 LOOKUP = "CodeSystem/$lookup"
+# The version of the release in force at the beginning of 2018, whose rows are of some days before.
+IN_FORCE = [version("20170731")]
+
+
+# Days, and of each the greatest one up to it that a row of the releases has.
+ASKED = ("20150131", "20170730", "20180710", "20180720", "20200130", "20210130", "20220731")
+RELEASES_IN_FORCE = (
+    "20150131",
+    "20150131",
+    "20180705",
+    "20180720",
+    "20190131",
+    "20200731",
+    "20220731",
+)
 
 
 class TestLookup(Asked):
@@ -18,7 +45,7 @@ class TestLookup(Asked):
     def test_then(self) -> None:
         status, said = self.ask("wrist", version=version("20180101"))
         assert (status, told(said, "display")) == (200, ["Fracture of wrist (disorder)"])
-        assert told(said, "version") == [version("20180101")]
+        assert (told(said, "version"), told(said, "sctd-date")) == (IN_FORCE, ["2018-01-01"])
         found = properties(said)
         assert found["parent"] == [self.codes["injury"]]
         assert (found["inactive"], found["sufficientlyDefined"]) == ([False], [False])
@@ -27,7 +54,7 @@ class TestLookup(Asked):
 
     def test_latest(self) -> None:
         said = self.ask("wrist")[1]
-        assert told(said, "version") == [version("20220731")]
+        assert (told(said, "version"), told(said, "sctd-date")) == ([version("20220731")], [])
         assert properties(said)["inactive"] == [True]
         assert "parent" not in properties(said)
 
@@ -46,18 +73,55 @@ class TestLookup(Asked):
     )
     def test_date_of_a_record(self, date: str) -> None:
         said = self.ask("wrist", date=date)[1]
-        assert told(said, "version") == [version("20180101")], date
+        assert (told(said, "version"), told(said, "sctd-date")) == (IN_FORCE, ["2018-01-01"]), date
 
     def test_date_later_than_the_store(self) -> None:
-        assert told(self.ask("wrist", date="2030-01-01")[1], "version") == [version("20220731")]
+        said = self.ask("wrist", date="2030-01-01")[1]
+        assert told(said, "version") == [version("20220731")]
+        assert told(said, "sctd-date") == ["2030-01-01"]
+
+    @pytest.mark.parametrize("day, release", zip(ASKED, RELEASES_IN_FORCE))
+    def test_release_in_force(self, day: str, release: str) -> None:
+        """The greatest day of a row up to the one that is asked for."""
+        for words in ({"version": version(day)}, {"date": with_hyphens(day)}):
+            said = self.ask("root", **words)[1]
+            assert told(said, "version") == [version(release)], (day, words)
+            assert told(said, "sctd-date") == [with_hyphens(day)], (day, words)
+
+    @pytest.mark.parametrize("day", ("19990101", "20150130"))
+    def test_days_before_the_store(self, day: str) -> None:
+        """Nothing is known of them, whatever is asked."""
+        code = self.codes["root"]
+        both = {"system": SCT, "codeA": code, "codeB": code}
+        for path, words in (
+            (LOOKUP, {"system": SCT, "code": code, "version": version(day)}),
+            (LOOKUP, {"system": SCT, "code": code, "date": with_hyphens(day)}),
+            ("CodeSystem/$validate-code", {"url": SCT, "code": code, "date": with_hyphens(day)}),
+            ("CodeSystem/$subsumes", {**both, "version": version(day)}),
+            ("ValueSet/$expand", {"url": version(day) + "?fhir_vs"}),
+            ("ConceptMap/$translate", {
+                "url": SCT + "?fhir_cm=900000000000527005", "system": SCT, "code": code,
+                "date": with_hyphens(day)}),
+        ):
+            status, said = self.house.gateway.fhir(path, **words)
+            assert (status, issue(said)) == (404, "not-found"), path
+            why = "the store knows nothing of the day %s: its first is 20150131" % day
+            assert said["issue"][0]["diagnostics"] == why
 
     def test_date_and_version_of_one_day(self) -> None:
         status, said = self.ask("wrist", date="2018-01-01", version=version("20180101"))
-        assert (status, told(said, "version")) == (200, [version("20180101")])
+        assert (status, told(said, "version")) == (200, IN_FORCE)
+
+    def test_date_and_version_of_one_release(self) -> None:
+        """So a client that asks for a date may ask again with the version of the answer."""
+        for day, date in (("20180101", "2018-01-02"), ("20220731", "2030-01-01")):
+            status, said = self.ask("wrist", date=date, version=version(day))
+            assert (status, told(said, "sctd-date")) == (200, [date]), day
 
     def test_date_and_version_that_differ(self) -> None:
-        status, said = self.ask("wrist", date="2018-01-02", version=version("20180101"))
-        assert (status, issue(said)) == (400, "conflict")
+        for date in ("2018-07-05", "2017-07-30"):
+            status, said = self.ask("wrist", date=date, version=version("20180101"))
+            assert (status, issue(said)) == (400, "conflict"), date
 
     def test_version_later_than_the_store(self) -> None:
         status, said = self.ask("wrist", version=version("20220801"))
@@ -187,7 +251,49 @@ class TestLookup(Asked):
         assert told(self.ask("wrist", displayLanguage="fr")[1], "display") == [
             "Fracture of wrist joint region (disorder)"
         ]
-        assert self.ask("wrist", displayLanguage="de,fr;q=0.5")[0] == 400
+
+    @pytest.mark.parametrize(
+        "languages, display",
+        (
+            ("fr, de;q=0.5", "Handgelenksfraktur"),
+            ("en;q=0.5,de", "Handgelenksfraktur"),
+            ("de;q=0.5,en", "Fracture of wrist joint region (disorder)"),
+            ("de;q=0, en;q=0.1", "Fracture of wrist joint region (disorder)"),
+            ("fr,*;q=0.1,de;q=0.05", "Handgelenksfraktur"),
+            ("ja,fr", "Fracture of wrist joint region (disorder)"),
+        ),
+    )
+    def test_list_of_languages(self, languages: str, display: str) -> None:
+        """The first one that has a term, whether or not the client wants all to be understood."""
+        words = {"system": SCT, "code": self.codes["wrist"], "displayLanguage": languages}
+        for prefer in ("", "handling=strict"):
+            target = "/fhir/%s?%s" % (LOOKUP, urlencode(words))
+            answer = self.house.gateway.send("GET", target, headers={"Prefer": prefer})
+            assert (answer.status, told(answer.json(), "display")) == (200, [display]), languages
+        said = self.house.gateway.fhir(
+            "ValueSet/$expand",
+            url="%s?fhir_vs=isa/%s" % (SCT, self.codes["wrist"]),
+            displayLanguage=languages,
+        )[1]["expansion"]
+        assert [one["display"] for one in said["contains"]] == [display]
+
+    @pytest.mark.parametrize(
+        "languages", ("de,", ",", "de;q=2", "de;q=x", "de;q=0.1234", "de;r=1", "de en", "de,e")
+    )
+    def test_lists_that_are_none(self, languages: str) -> None:
+        assert self.ask("wrist", displayLanguage=languages)[0] == 400
+
+    def test_properties_that_nobody_has(self) -> None:
+        """Which are passed over and told, or refused where the client wants that."""
+        target = "/fhir/%s?system=%s&code=138875005&property=inactive&property=" % (LOOKUP, SCT)
+        for name in ("ancestor", "normalForm", "inactiv"):
+            answer = self.house.gateway.send("GET", target + name)
+            assert (answer.status, len(told(answer.json(), "warning"))) == (200, 1), name
+            wish = {"Prefer": "handling=strict"}
+            assert self.house.gateway.send("GET", target + name, headers=wish).status == 400
+        for name in ("*", "designation", "display", self.codes["site"]):
+            answer = self.house.gateway.send("GET", target + name)
+            assert told(answer.json(), "warning") == [], name
 
     def test_post_with_a_coding(self) -> None:
         coding = {"system": SCT, "code": self.codes["wrist"], "version": version("20180101")}
@@ -196,14 +302,14 @@ class TestLookup(Asked):
 
     def test_version_beside_a_coding(self) -> None:
         coding = {"name": "coding", "valueCoding": {"system": SCT, "code": self.codes["wrist"]}}
-        for day, name in (
-            ("20180101", "Fracture of wrist (disorder)"),
-            ("20190101", "Fracture of wrist joint region (disorder)"),
+        for day, release, name in (
+            ("20180101", "20170731", "Fracture of wrist (disorder)"),
+            ("20190101", "20180731", "Fracture of wrist joint region (disorder)"),
         ):
             said = self.house.gateway.posted(
                 LOOKUP, coding, {"name": "version", "valueString": version(day)}
             )[1]
-            assert (told(said, "version"), told(said, "display")) == ([version(day)], [name])
+            assert (told(said, "version"), told(said, "display")) == ([version(release)], [name])
 
     def test_two_ways_to_name_the_code(self) -> None:
         coding = {"system": SCT, "code": self.codes["wrist"]}
@@ -240,7 +346,6 @@ class TestLookup(Asked):
             "2",
             "RECEIPT 2: OK 2 18 20210131",
         )
-        assert gateway.fhir("metadata", "/pin/4/fhir/")[0] == 404
 
     def test_answers_and_refusals_are_of_a_pin(self) -> None:
         for code in (self.codes["wrist"], "138875005", "999999"):

@@ -3,7 +3,7 @@
 import asyncio
 import os
 import re
-from collections.abc import Sequence
+from collections.abc import Awaitable, Callable, Sequence
 from types import SimpleNamespace
 from typing import Any, cast
 from urllib.parse import urlencode
@@ -14,14 +14,13 @@ from sctd_service.gateway import languages, limits, refsets
 from sctd_service.gateway.hub import HubGone
 from sctd_service.gateway.page_history import Names
 from sctd_service.gateway.page_members import memberships, refset_entries
-from sctd_service.gateway.pool import Member, Session
-from sctd_service.gateway.problems import Problem
+from sctd_service.gateway.pool import Codes, Member, Session
+from sctd_service.gateway.problems import NO_MEMBERS, Problem
 from sctd_service.snomed import RefsetMember
 from sctd_service.gateway.store import View, called_of, members_of
 
 from . import demo_members as demo
 from .asked import Asked
-from .demo_releases import SAME_AS
 from .house import SCT, House, Json, issue, parts_of, properties, told, version
 
 LOOKUP, EXPAND = "CodeSystem/$lookup", "ValueSet/$expand"
@@ -121,7 +120,6 @@ class TestDisplays(Whole):
             "en-x-sctlang-90000000-00005090-07\n",
             "x-sctlang-90000000-00005090-07",
             "900000000000509007",
-            "en, de",
             "",
         ),
     )
@@ -329,7 +327,6 @@ class TestRefsets(Whole):
         for code, status, why in (
             (self.codes["never"], 422, "not-supported"),
             (self.codes["wrist"], 422, "not-supported"),
-            (SAME_AS, 404, "not-found"),
             (str(sctid(4711, "00")), 404, "not-found"),
             ("1105008", 400, "invalid"),
             ("", 400, "invalid"),
@@ -542,8 +539,8 @@ class TestPage(Whole):
         assert odd + ": Y1 \u00b7 ask &lt;i&gt;them&lt;/i&gt;" in limb
 
 
-class TestAsBefore:
-    """Stores that keep no members, asked with all that is new."""
+class TestWithoutMembers:
+    """Stores that have no members, asked for what they say."""
 
     def compared(self, house: House) -> None:
         fhir, codes = house.gateway.fhir, house.codes
@@ -572,19 +569,46 @@ class TestAsBefore:
             assert ">%s<" % title not in text
         assert "in short" not in text
 
-    @pytest.mark.parametrize("layout, is_whole", [(2, True), (2, False), (3, False)])
-    def test_layouts_and_packages_without_members(
-        self, layout: int, is_whole: bool, request: pytest.FixtureRequest
-    ) -> None:
-        house = House(layout=layout, is_whole=is_whole, words=demo.WORDS)
+    def test_packages_without_members(self, request: pytest.FixtureRequest) -> None:
+        house = House(words=demo.WORDS)
         request.addfinalizer(house.end)
         self.compared(house)
+        assert "layout" not in house.gateway.told()
+
+    def test_a_layout_without_members(self, request: pytest.FixtureRequest) -> None:
+        """What needs members is refused with a sentence, and all else is answered."""
+        house = House(layout=2, is_whole=True, words=demo.WORDS)
+        request.addfinalizer(house.end)
+        fhir, codes = house.gateway.fhir, house.codes
+        code = {"system": SCT, "code": codes["wrist"]}
+        refset = SCT + "?fhir_vs=refset/" + codes["set"]
+        needing: tuple[tuple[str, dict[str, str]], ...] = (
+            (LOOKUP, code),
+            (LOOKUP, {**code, "property": "parent", "displayLanguage": "en"}),
+            (LOOKUP, {**code, "property": "inactivationIndicator", "displayLanguage": "de"}),
+            (EXPAND, {"url": refset}),
+            (EXPAND, {"url": SCT + "?fhir_vs=refset"}),
+            ("ValueSet/$validate-code", {"url": refset, **code}),
+        )
+        for path, words in needing:
+            status, said = fhir(path, **words)
+            assert (status, issue(said)) == (422, "not-supported"), (path, words)
+            assert said["issue"][0]["diagnostics"] == NO_MEMBERS, (path, words)
+        page = house.gateway.send("GET", "/?q=" + codes["wrist"])
+        assert page.status == 422
+        assert "keeps no members" in page.text
+        free = {**code, "property": "parent", "displayLanguage": "und"}
+        assert fhir(LOOKUP, **free)[0] == 200
+        within = SCT + "?fhir_vs=isa/" + codes["limb"]
+        words = {"url": within, **code, "displayLanguage": "und"}
+        assert fhir("ValueSet/$validate-code", **words)[0] == 200
+        assert "sctd-gateway: " + NO_MEMBERS in house.gateway.told()
 
 
 class TestAnotherStore:
     def test_reference_sets_of_another_store(self, request: pytest.FixtureRequest) -> None:
         """Its first import is another one: nothing that is remembered of a set holds."""
-        house = House(layout=3, is_whole=True, words=demo.WORDS)
+        house = House(is_whole=True, words=demo.WORDS)
         request.addfinalizer(house.end)
         url = "%s?fhir_vs=refset/%s" % (version("20210131"), house.codes["set"])
         for releases, names in (
@@ -632,11 +656,9 @@ class NothingRemembered:
 
     pool = SimpleNamespace(refsets=None)
 
-    def remembered_set(self, *_: Any) -> None:
-        pass
-
-    def remember_set(self, *_: Any) -> None:
-        pass
+    async def recalled(self, sets: Any, day: str, code: str,
+                       make: Callable[[], Awaitable[Codes]]) -> Codes:
+        return await make()
 
 
 class ManyMembers(View):

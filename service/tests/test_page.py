@@ -16,13 +16,14 @@ from sctd_service.gateway.store import ANY, AnyRow, View
 
 from .asked import Asked
 from .demo_releases import REPLACED_BY
+from .house import version
 
 
 class Chain(View):
     """A store in which each concept but the last was replaced by the next."""
 
     def __init__(self, codes: list[str]) -> None:
-        self.codes = codes
+        self.codes, self.days = codes, ["20200101"]
 
     async def associations(self, codes: Sequence[str], day: str) -> list[list[Association]]:
         return [self.next(self.codes.index(code)) for code in codes]
@@ -114,14 +115,44 @@ class TestPage(Asked):
             found = [re.sub(r"</?bdi>", "", one) for one in changes(before, after, names)]
             assert found == told, after
 
-    @pytest.mark.parametrize("date, status", (("2021-01-30", "active"), ("2021-01-31", "inactive")))
-    def test_day_before_and_day_of(self, date: str, status: str) -> None:
+    @pytest.mark.parametrize(
+        "date, status, release",
+        (("2021-01-30", "active", "20200731"), ("2021-01-31", "inactive", "20210131")),
+    )
+    def test_day_before_and_day_of(self, date: str, status: str, release: str) -> None:
         text = self.page(q=self.codes["wrist"], date=date)[1]
-        assert (
-            "on %s: %s. http://snomed.info/sct/900000000000207008/version/%s;"
-            % (date, status, date.replace("-", ""))
-            in text
+        assert "on %s: %s. %s; pin 3;" % (date, status, version(release)) in text
+
+    def report(self, **words: str) -> str:
+        """The line for the report, up to the pin."""
+        found = re.search(r"<textarea[^>]*>(.*?); pin 3; ", self.page(**words)[1])
+        assert found
+        return found[1]
+
+    def test_a_code_that_was_not_there(self) -> None:
+        code = self.codes["radius"]
+        assert self.report(q=code, date="2020-07-30") == (
+            "SNOMED CT %s on 2020-07-30: no such code then, its first row is of 2020-07-31. %s"
+            % (code, version("20200131"))
         )
+
+    def test_days_before_the_store(self) -> None:
+        """They aren't answered as if the store knew them."""
+        code = self.codes["wrist"]
+        nothing = "The store knows nothing of <time"
+        text = self.page(q=code, date="1999-01-01")[1]
+        assert text.count(nothing) == 1 and "wasn\u2019t there" not in text
+        assert ">not known<" in text
+        assert self.report(q=code, date="1999-01-01") == (
+            "SNOMED CT %s on 1999-01-01: not known, since the store\u2019s first day is 2015-01-31"
+            % code
+        ).replace("\u2019", "&#39;")
+        text = self.page(q=code, date="1999-01-01", other="2015-01-30")[1]
+        assert text.count(nothing) == 2 and "<table" not in text
+        text = self.page(q=self.codes["radius"], date="1999-01-01", other="2020-07-30")[1]
+        assert text.count(nothing) == 1 and "isn\u2019t in the store by <time" in text
+        assert nothing in self.page(q="fracture", date="2015-01-30")[1]
+        assert self.house.gateway.send("GET", "/suggest?text=f&date=2015-01-30").text == "[]"
 
     def test_the_address_that_stays(self) -> None:
         text = self.page(q=self.codes["wrist"], date="2018-01-01")[1]

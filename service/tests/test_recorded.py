@@ -26,8 +26,13 @@ LINES = [
         f"{AT}CHILDREN {CODE} {DAY}",
         f"{AT}ANCESTORS {CODE} {DAY}",
         f"{AT}DESCENDANTS {CODE} {DAY}",
-        f"{AT}REPLACED {CODE} {DAY}",
+        f"{AT}REPLAC(ED|ES) {CODE} {DAY}",
+        f"{AT}PAGE A {DAY} (-|[0-9a-f-]{{36}}) {COUNT}",
         f"{AT}HISTORY C {CODE}",
+        # At the start, whether the store has rows of the edition's module (and `PAGE A`, below).
+        f"{AT}PAGE [DR] {DAY} - {COUNT}",
+        # At the start, whether the store's layout keeps members.
+        f"{AT}HISTORY M 0{{8}}(-0{{4}}){{3}}-0{{12}}",
         f"{AT}TIMELINE [DRVAM] {CODE}",
         f"{AT}PAGE C {DAY} {AFTER} {COUNT}",
         f"{AT}PAGE M {DAY} - 1",

@@ -172,13 +172,30 @@ class TestTurns:
 
 class TestRequests(Asked):
     @pytest.mark.parametrize(
-        "one", ("verison", "system-version", "<b>", "x" * 3000, "_summary", "Code")
+        "one", ("verison", "system-version", "<b>", "x" * 3000, "Code")
     )
     def test_unknown_parameters(self, one: str) -> None:
         status, said = self.gateway.fhir(
             "CodeSystem/$lookup", system=SCT, code="138875005", **{one: "1"}
         )
         assert (status, issue(said)) == (400, "not-supported"), one
+
+    def test_parameters_that_change_no_answer(self) -> None:
+        """They are passed over and told, or refused where the client wants that."""
+        target = LOOKUP + "?system=%s&code=138875005&_summary=true" % SCT
+        answer = self.gateway.send("GET", target)
+        warnings = told(answer.json(), "warning")
+        assert (answer.status, len(warnings)) == (200, 1)
+        assert "_summary is passed over" in warnings[0]
+        for wish, status in (
+            ("handling=strict", 400),
+            ('return=minimal; handling = "strict"', 400),
+            ("handling=lenient", 200),
+            ("handling=stricter", 200),
+        ):
+            answer = self.gateway.send("GET", target, headers={"Prefer": wish})
+            assert answer.status == status, wish
+            assert status == 200 or issue(answer.json()) == "not-supported"
 
     def test_twice(self) -> None:
         status, _ = self.gateway.fhir(
@@ -204,8 +221,19 @@ class TestRequests(Asked):
             "..%2f..%2fetc/passwd",
             "",
             "CodeSystem/$lookup/",
-            "ValueSet",
             "CodeSystem/other",
+            "CodeSystem/sct.",
+            "CodeSystem/sct.20190132",
+            "CodeSystem/sct.20190130",
+            "CodeSystem/sct/lookup",
+            "CodeSystem/sct/$nothing",
+            "CodeSystem/sct/$lookup/x",
+            "CodeSystem//$lookup",
+            "ValueSet/isa-1105008",
+            "ValueSet/isa-",
+            "ValueSet/isa-1105007.2019",
+            "ConceptMap/map-900000000000207008",
+            "metadata/x",
         ):
             assert self.gateway.fhir(path)[0] == 404, path
         for target in (

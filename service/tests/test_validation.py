@@ -35,7 +35,7 @@ class TestValidate(Asked):
         said = self.code("wrist")
         assert (told(said, "result"), told(said, "inactive")) == ([True], [True])
         assert told(self.code("1105008"), "result") == [False]
-        assert told(self.code("wrist", date="2014-01-01"), "result") == [False]
+        assert told(self.code("radius", date="2020-07-30"), "result") == [False]
 
     @pytest.mark.parametrize("day, valid", (("20170101", True), ("20180101", False)))
     def test_display_then_and_now(self, day: str, valid: bool) -> None:
@@ -175,15 +175,23 @@ class TestSubsumes(Asked):
         )
         assert status == 404
 
-    def test_date_is_no_parameter_of_it(self) -> None:
-        status, _ = self.house.gateway.fhir(
-            "CodeSystem/$subsumes",
-            system=SCT,
-            codeA="138875005",
-            codeB="138875005",
-            date="2018-01-01",
-        )
-        assert status == 400
+    @pytest.mark.parametrize("prefer", ("", "handling=strict"))
+    def test_date(self, prefer: str) -> None:
+        """FHIR has none here, and a record has one."""
+        for date, outcome, release in (
+            ("2019-01-30", "not-subsumed", "20180731"),
+            ("2019-01-31", "subsumes", "20190131"),
+            ("2030-01-01", "not-subsumed", "20220731"),
+        ):
+            target = "/fhir/CodeSystem/$subsumes?system=%s&codeA=%s&codeB=%s&date=%s" % (
+                SCT,
+                self.codes["limb"],
+                self.codes["wrist"],
+                date,
+            )
+            said = self.house.gateway.send("GET", target, headers={"Prefer": prefer}).json()
+            assert told(said, "outcome") == [outcome], date
+            assert (told(said, "version"), told(said, "sctd-date")) == ([version(release)], [date])
 
     def test_codings_of_different_dates(self) -> None:
         codings = [

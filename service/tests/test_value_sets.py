@@ -200,7 +200,6 @@ class TestTranslate(Asked):
 
     def test_what_is_refused(self) -> None:
         assert self.ask("900000000000207008")[0] == 404
-        assert self.ask("900000000000526001", reverse="true")[0] == 422
         assert self.ask("900000000000526001", targetsystem="http://loinc.org")[0] == 404
         assert self.ask("900000000000526001", date="2010-01-01")[0] == 404
         status, _ = self.house.gateway.fhir(
@@ -248,7 +247,13 @@ class TestMetadata(Asked):
 
     def test_code_system(self) -> None:
         fhir = self.house.gateway.fhir
-        assert fhir("CodeSystem", url=SCT)[1]["total"] == 1
+        days = (*FIRST_DAYS, *SECOND_DAYS, "20220731")
+        searches: tuple[dict[str, str], ...] = ({"url": SCT}, {"system": SCT}, {})
+        for words in searches:
+            found = fhir("CodeSystem", **words)[1]
+            assert found["total"] == len(days)
+            versions = [one["resource"]["version"] for one in found["entry"]]
+            assert versions == [version(day) for day in reversed(days)]
         assert fhir("CodeSystem")[1]["entry"][0]["resource"]["url"] == SCT
         assert fhir("CodeSystem", url="http://loinc.org")[1]["total"] == 0
         assert fhir("CodeSystem/sct")[1]["content"] == "not-present"

@@ -1,6 +1,6 @@
 -- What the calls of a reader leave, one after the other.
 use Rattle.std.specs.Prelude.{IsErrAnd}
-use Rattle.std.proofs.Common.{◌≡◌, ℕ, Result, Ok, Err, refl, sym, subst, ◌∙◌}
+use Rattle.std.proofs.Common.{◌≡◌, ℕ, List, [], ◌∷◌, ◌++◌, Result, Ok, Err, refl, sym, subst, ◌∙◌}
 use Rattle.fault_counts.specs.Counting.{Counts, CountsDiskFault, CountsDamage}
 use Rattle.fault_counts.specs.declared.fault.ReadFault.{ReadFault}
 use Rattle.as_of_index.specs.Reader.{ReaderView, LeavesReader}
@@ -32,3 +32,8 @@ fails_on fault (Ok x) a b c is ab bc = absurd is
 fails_on {A} {B} fault (Err e) a b c is ab bc =
     let on = reads_on (Err fault) a b c ab bc in
     subst (λ e. LeavesReader {T = B} (Err e) a c) (sym is) (record { lists = on.lists; honesty = on.honesty; disk_faults = on.disk_faults; damages = on.damages })
+
+-- a row that was pushed is among the wanted ones
+pub row_wanted : {A : Type 0} (xs ys wanted : List A) (x : A) → (xs ++ x ∷ []) ++ ys ≡ wanted → wanted ≡ [] → ⊥
+row_wanted [] ys wanted x same none = absurd (cc)
+row_wanted (y ∷ xs) ys wanted x same none = absurd (cc)

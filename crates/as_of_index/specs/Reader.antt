@@ -1,5 +1,5 @@
 -- What a reader of rows shows, and what a query that reads rows through it does.
-use Rattle.std.specs.Prelude.{◌≡◌, ◌≢◌, ◌+◌, ◌≤◌, ℕ, List, map, Result, IfOk, IfErr}
+use Rattle.std.specs.Prelude.{◌≡◌, ◌≢◌, ◌+◌, ◌≤◌, ℕ, List, [], map, Result, IfOk, IfErr}
 use Rattle.std.specs.List.{sum_by}
 use Rattle.rf2_values.specs.Row.{RowValue}
 use Rattle.rf2_values.specs.Key.{key_of}
@@ -32,13 +32,14 @@ pub record LeavesReader {T : Type 0} (result : Result T ReadFault) (old new : Re
 
 -- The result of a query for the wanted rows; `rows_of` gives the rows in it. With an honest reader
 -- these are the wanted ones, and no row is reported as damaged. Whatever the reader returned, they
--- have the keys of the wanted ones. Whatever the result, no more is read than the wanted rows take,
--- each counted once.
+-- have the keys of the wanted ones, and the disk fails or a row is damaged only if one is wanted.
+-- Whatever the result, no more is read than the wanted rows take, each counted once.
 pub record AnswersRows {T : Type 0} (result : Result T ReadFault) (rows_of : T → List RowValue)
     (wanted : List RowValue) (cost : RowValue → ℕ) (old new : ReaderView) : Type 0 where
   pub found : old.is_honest → IfOk result (λ x. rows_of x ≡ wanted)
   pub keys : IfOk result (λ x. map key_of (rows_of x) ≡ map key_of wanted)
   pub undamaged : old.is_honest → IfErr result (λ e. e ≢ readfault.Damaged)
+  pub causes : wanted ≡ [] → IfErr result (λ e. e ≡ readfault.OutOfMemory)
   pub work_always : new.work ≤ old.work + sum_by cost wanted
 
 -- A query for rows: `wanted` gives the wanted ones, from the reader's lists. This holds if

@@ -29,7 +29,7 @@ fn read_directory(rt: &HostRuntime, path: &str) -> Option<Directory> {
 /// Decodes a segment and drops its rows again. Returns how many there were.
 fn decode_one(alloc: Global, bytes: &[u8], entry: &Entry) -> Option<usize> {
     Some(
-        decode(alloc, entry.form, segment_in(bytes, entry)?)
+        decode(alloc, entry.form(), segment_in(bytes, entry)?)
             .ok()?
             .len(),
     )

@@ -6,7 +6,7 @@ use Rattle.std.specs.Fmt.{digits}
 use Rattle.line_commands.specs.Commands.{Ask, At}
 use Rattle.line_commands.specs.Questions.{Digest}
 use Rattle.line_commands.specs.Requests.{Asks}
-use Rattle.command_line.specs.Digests.{digest_line}
+use Rattle.command_line.specs.Tasks.{digest_line}
 
 pub digest_asks : Asks (digest_line None) 0 (Ask Digest)
 unfolding digits

@@ -1,6 +1,5 @@
 mod Commands
 mod Merged
-mod Checked
 mod OnlyRead
 pub mod Told
 pub mod Digested

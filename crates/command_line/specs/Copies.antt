@@ -4,6 +4,7 @@ use Rattle.std.specs.Prelude.{IfOk, IfErr, OnOk, length}
 use Rattle.disk_model.specs.Disk.{IsImage, LeavesOnly}
 use Rattle.fault_counts.specs.Counting.{Counts}
 use Rattle.disk_model.specs.View.{DiskView}
+use Rattle.directory.specs.declared.layout.Layout.{Layout}
 use Rattle.directory.specs.Listings.{DirectoryValue}
 use Rattle.store_image.specs.Answers.{synced}
 use Rattle.store_image.specs.Images.{IsStore}
@@ -15,7 +16,7 @@ use Rattle.history_store.specs.declared.refusal.Refusal.TheVariants as store
 use Rattle.line_server.specs.declared.refusal.LineRefusal.{LineRefusal}
 use Rattle.line_server.specs.declared.refusal.LineRefusal.TheVariants.{PinRange, Store}
 use Rattle.line_server.specs.ReplyValue.{Answer, Done as AllDone}
-use Rattle.command_line.specs.Disks.{IsRemoved}
+use Rattle.command_line.specs.Hosts.{HostView, IsRemoved}
 use Rattle.command_line.specs.Endings.{Report, Tells}
 
 -- the refusal for a store that couldn't be copied
@@ -25,6 +26,7 @@ copy_refusal faults.SourceFailed = Store store.DiskFault
 copy_refusal faults.NotAStore = Store store.NotAStore
 copy_refusal (faults.Damaged damage) = Store (store.Unreadable damage)
 copy_refusal faults.NoSuchImport = PinRange
+copy_refusal faults.LowerLayout = Store store.LaterVersion
 copy_refusal faults.NotEmpty = Store store.NotEmpty
 copy_refusal faults.NoRoom = Store store.Full
 copy_refusal faults.TargetFailed = Store store.DiskFault
@@ -34,23 +36,23 @@ abbrev pub copy_told : Result DirectoryValue CopyFault → Result Answer LineRef
 copy_told (Ok copy) = Ok (AllDone [])
 copy_told (Err e) = Err (copy_refusal e)
 
--- The first imports of the store on one disk, or all of them, were copied to another one; or the
--- result says why not.
-pub record IsCopied {D : Type 0} (view : D → DiskView) (imports : Option ℕ)
+-- The first imports of the store on one disk, or all of them, were copied to another one, in this
+-- layout or in the store's; or the result says why not.
+pub record IsCopied {D : Type 0} (view : D → DiskView) (imports : Option ℕ) (layout : Option Layout)
     (result : Result DirectoryValue CopyFault) (source source_left target target_left : D)
     : Type 0 where
   -- every image that a crash may leave is the copy
   pub copied : (view source).is_honest → (view target).is_honest → IfOk result
-      (λ copy. HasCopy imports (view source).moments.state.now copy
+      (λ copy. HasCopy imports layout (view source).moments.state.now copy
       (view target_left).moments.state)
   -- a crash at any moment leaves what it might have left before, no store, or the whole copy
   pub any_moment : (view source).is_honest → (view target).is_honest
       → LeavesOnly (view target).moments (view target_left).moments
       (λ c. IsImage (view target).moments.state c ⊎ (IsStore c → ⊥)
-      ⊎ IsCopyOf imports (view source).moments.state.now c)
+      ⊎ IsCopyOf imports layout (view source).moments.state.now c)
   pub empty : (view target).is_honest → OnOk result (length (view target).moments.state.now ≡ 0)
   pub refused : (view source).is_honest → (view target).is_honest → IfErr result
-      (λ e. IsNotCopied e imports (view source).moments.state.now
+      (λ e. IsNotCopied e imports layout (view source).moments.state.now
       (view target).moments.state.now)
   pub stays : (view source).is_honest → (view target).is_honest
       → StaysUnlessFailed result (view target).moments (view target_left).moments
@@ -68,21 +70,19 @@ pub record IsCopied {D : Type 0} (view : D → DiskView) (imports : Option ℕ)
       (view target_left).failures
 
 -- a copy is kept, and what was made for one that failed is removed
-abbrev pub IsKept : {D : Type 0} → (removes retains : D → Type 0) → Result DirectoryValue CopyFault
-    → D → Option D → Type 0
-IsKept removes retains (Ok copy) made left = left ≡ Some made
-IsKept removes retains (Err e) made left = IsRemoved removes retains made left
+abbrev pub IsKept : {D : Type 0} → HostView D → Result DirectoryValue CopyFault → D → Option D
+    → Type 0
+IsKept host (Ok copy) made left = left ≡ Some made
+IsKept host (Err e) made left = IsRemoved host made left
 
 -- A copy was made of the store on one disk onto another one, or the result says why not. The
 -- result was written, and each disk was left in its state after that, except one that was made
 -- for a copy that failed.
-pub record IsCopyMade {D : Type 0} (view : D → DiskView) (removes retains : D → Type 0)
-    (imports : Option ℕ) (source target : D) (left made : Option D) (report : Report)
+pub record IsCopyMade {D : Type 0} (host : HostView D) (view : D → DiskView) (imports : Option ℕ)
+    (layout : Option Layout) (source after target : D) (made : Option D) (report : Report)
     : Type 0 where
   pub result : Result DirectoryValue CopyFault
-  pub source_left : D
   pub target_left : D
-  pub copied : IsCopied view imports result source source_left target target_left
+  pub copied : IsCopied view imports layout result source after target target_left
   pub told : Tells report (copy_told result)
-  pub left_so : left ≡ Some source_left
-  pub made_so : IsKept removes retains result target_left made
+  pub made_so : IsKept host result target_left made

@@ -7,12 +7,10 @@ pub use Rattle.history_store.specs.Answers
 pub mod Endings
 pub mod Paths
 pub mod Words
-pub mod Disks
+pub mod Hosts
 pub mod NamedDisks
 pub mod Tasks
 pub mod Merging
-pub mod Checking
-pub mod Digests
 pub mod Copies
 pub mod Runs
 pub mod Private

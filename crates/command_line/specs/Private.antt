@@ -1,95 +1,61 @@
 -- Definitions for private functions and proofs, of this crate or of one above it. No public clause
 -- cites them.
-use Rattle.std.specs.Prelude.{◌≡◌, ℕ, ◌+◌, ◌<◌, ◌≤◌, List, Result, Ok, Err, IsOk, IsErr, [], ◌∷◌}
-use Rattle.line_server.specs.Sources.{no_releases}
-use Rattle.disk_model.specs.View.{DiskView}
-use Rattle.std.specs.Prelude.{codes, decimal, false}
-use Rattle.history_store.specs.Merging.{GoesOn, IsFinished}
+use Rattle.std.specs.Prelude.{◌≡◌, ℕ, ◌<◌, ◌≤◌, false, List, [], ◌∷◌, codes, decimal}
+use Rattle.std.specs.Prelude.{Option, Some, None, Result, Ok, Err}
 use Rattle.clap.specs.Walk.{Rule, rule_of}
 use Rattle.clap.specs.Simple.{App, app_of}
 use Rattle.clap.specs.declared.builder.command.Command.TheViews.{out-Command}
 use Rattle.clap.specs.declared.builder.arg.Arg.{Arg}
 use Rattle.clap.specs.declared.builder.command.Command.{Command}
-use Rattle.line_server.specs.declared.refusal.LineRefusal.{LineRefusal}
+use Rattle.disk_model.specs.View.{DiskView}
+use Rattle.history_store.specs.declared.refusal.Refusal.{Refusal}
+use Rattle.history_store.specs.Merging.{GoesOn, IsFinished}
+use Rattle.history_store.specs.StoreValue.{StoreValue}
 use Rattle.line_server.specs.declared.serving.ServeFault.{ServeFault}
 use Rattle.line_server.specs.declared.serving.ServeFault.TheVariants as faults
 use Rattle.line_server.specs.ReplyValue.{line}
-use Rattle.line_server.specs.Replies.{Server}
-use Rattle.line_server.specs.Turns.{Turn, HasTurn, IsTurn}
-use Rattle.command_line.specs.Merging.{IsMergeLine, Merges, IsHalt, IsHaltedBy, IsMergedTo}
-use Rattle.command_line.specs.Merging.{HasNoMerge, segments_of}
-
--- the line was answered OK, or its refusal is returned
-abbrev pub IsAsked : {D : Type 0} → (D → DiskView) → List ℕ → Result (Unit {0}) LineRefusal
-    → Server D → Server D → Type 0
-IsAsked view line (Ok done) old new =
-    HasTurn no_releases view line old new (λ turn. IsOk turn.outcome)
-IsAsked view line (Err refusal) old new =
-    HasTurn no_releases view line old new (λ turn. turn.outcome ≡ Err refusal)
+use Rattle.command_line.specs.Merging.{MergeCall, refusal_of, IsMergeCall, IsDue, AreMade, IsHalt}
+use Rattle.command_line.specs.Merging.{segments_of}
 
 -- no call has failed, and no merge is in progress
-abbrev pub IsAtRest : {D : Type 0} → Server D → Type 0
-IsAtRest server = (server.store.needs_reopen ≡ false) × HasNoMerge server
+abbrev pub IsAtRest : {D : Type 0} → StoreValue D → Type 0
+IsAtRest store = (store.needs_reopen ≡ false) × (store.catalog.merge ≡ None)
 
 -- no call has failed, and a merge is in progress
-abbrev pub IsMerging : {D : Type 0} → Server D → Type 0
-IsMerging server = (server.store.needs_reopen ≡ false) × GoesOn server.store.catalog
+abbrev pub IsMerging : {D : Type 0} → StoreValue D → Type 0
+IsMerging store = (store.needs_reopen ≡ false) × GoesOn store.catalog
 
 -- no call has failed, and a merge is in progress that has no row left
-abbrev pub HasMerged : {D : Type 0} → Server D → Type 0
-HasMerged server = (server.store.needs_reopen ≡ false) × IsFinished server.store.catalog
+abbrev pub HasMerged : {D : Type 0} → StoreValue D → Type 0
+HasMerged store = (store.needs_reopen ≡ false) × IsFinished store.catalog
 
--- lines of merges were answered OK
-pub record HaveMerged {D : Type 0} (view : D → DiskView) (old new : Server D) : Type 0 where
-  pub turns : List Turn
-  pub merges : Merges view old turns new
+-- calls were made, each when it was due, and none was refused
+pub record HaveMerged {D : Type 0} (view : D → DiskView) (most : ℕ) (first old new : StoreValue D)
+    : Type 0 where
+  pub calls : List MergeCall
+  pub made : AreMade view most first old calls new
 
--- lines of merges were answered OK, and then one was refused in its turn
-pub record IsStoppedBy {D : Type 0} (view : D → DiskView) (most : ℕ) (last : Turn)
-    (old new : Server D) : Type 0 where
-  pub before : Server D
-  pub have : HaveMerged view old before
-  pub is_merge : IsMergeLine last.line before
-  pub more : most < segments_of before
-  pub goes : IsTurn no_releases view before last new
-  pub refused : IsErr last.outcome
-  pub cause : 1 ≤ most → IsHalt last.outcome
+-- calls were made, each when it was due, and the last one was refused for this reason
+pub record IsStopped {D : Type 0} (view : D → DiskView) (most : ℕ) (first : StoreValue D)
+    (e : Refusal) (old new : StoreValue D) : Type 0 where
+  pub before : StoreValue D
+  pub have : HaveMerged view most first old before
+  pub last : MergeCall
+  pub due : IsDue most last first before
+  pub call : IsMergeCall view last before new
+  pub refused : refusal_of last ≡ Some e
+  pub cause : 1 ≤ most → IsHalt e
 
--- a line of a merge was refused for this reason
-abbrev pub IsStopped : {D : Type 0} → (D → DiskView) → ℕ → LineRefusal → Server D → Server D
-    → Type 0
-IsStopped view most refusal old new =
-    (last : Turn) × (last.outcome ≡ Err refusal) × IsStoppedBy view most last old new
+abbrev pub Goes : {D : Type 0} → (D → DiskView) → ℕ → StoreValue D → Result (Unit {0}) Refusal
+    → StoreValue D → StoreValue D → Type 0
+Goes view most first (Ok done) old new = HaveMerged view most first old new
+Goes view most first (Err e) old new = IsStopped view most first e old new
 
--- a line was refused for this reason
-abbrev pub IsHalted : {D : Type 0} → (D → DiskView) → ℕ → LineRefusal → Server D → Server D → Type 0
-IsHalted view most refusal old new =
-    (last : Turn) × (last.outcome ≡ Err refusal)
-    × IsHaltedBy view most last old new
-
--- all rows of the merge were merged, and there are as many segments as before
-abbrev pub MergesRows : {D : Type 0} → (D → DiskView) → Result (Unit {0}) LineRefusal
-    → Server D → Server D → Type 0
-MergesRows view (Ok done) old new =
-    HaveMerged view old new × (segments_of new ≡ segments_of old) × HasMerged new
-MergesRows view (Err refusal) old new =
-    (most : ℕ) → most < segments_of old → IsStopped view most refusal old new
-
--- two segments were merged into one
-abbrev pub IsOneLess : {D : Type 0} → (D → DiskView) → Result (Unit {0}) LineRefusal
-    → Server D → Server D → Type 0
-IsOneLess view (Ok done) old new =
-    HaveMerged view old new × (segments_of new + 1 ≡ segments_of old) × IsAtRest new
-IsOneLess view (Err refusal) old new =
-    (most : ℕ) → most < segments_of old → IsStopped view most refusal old new
-
--- segments were merged until `most` were left, and the disk was trimmed
-abbrev pub IsTrimmedTo : {D : Type 0} → (D → DiskView) → ℕ → Result (Unit {0}) LineRefusal
-    → Server D → Server D → Type 0
-IsTrimmedTo view most (Ok done) old new =
-    IsMergedTo view most old new
-IsTrimmedTo view most (Err refusal) old new =
-    IsHalted view most refusal old new
+-- calls were made that are due in each merge that leaves fewer segments than there are
+abbrev pub Progresses : {D : Type 0} → (D → DiskView) → Result (Unit {0}) Refusal → StoreValue D
+    → StoreValue D → Type 0
+Progresses {D} view result old new =
+    (most : ℕ) (first : StoreValue D) → most < segments_of old → Goes view most first result old new
 
 -- the number and the name of a fault of serving, with which the program ends
 abbrev pub fault_sign : ServeFault → ℕ × List ℕ

@@ -1,37 +1,39 @@
--- What each task does.
-use Rattle.std.specs.Prelude.{◌≡◌, ℕ, List, [], codes, Result, Ok, Err}
+-- What is done with a store.
+use Rattle.std.specs.Prelude.{◌≡◌, ◌↔◌, ◌≤◌, ℕ, List, [], ◌++◌, codes, decimal, Option, Some, None}
+use Rattle.std.specs.Prelude.{Result, Ok, Err}
 use Rattle.directory.specs.declared.layout.Layout.{Layout}
 use Rattle.directory.specs.declared.layout.Layout.TheVariants as layouts
 use Rattle.disk_model.specs.View.{DiskView}
-use Rattle.store_life.specs.Life.{IsCall, Other}
-use Rattle.history_store.specs.declared.refusal.Refusal.{Refusal}
 use Rattle.history_store.specs.StoreValue.{StoreValue}
 use Rattle.history_store.specs.Answers.{StoreOr, disk_of}
 use Rattle.history_store.specs.Openings.{IsMaking, IsOpening}
-use Rattle.history_store.specs.Upgrading.{IsUpgradingOf}
-use Rattle.line_commands.specs.Requests.{import_line}
+use Rattle.line_commands.specs.Requests.{import_line, check_line}
 use Rattle.line_server.specs.declared.refusal.LineRefusal.{LineRefusal}
 use Rattle.line_server.specs.declared.refusal.LineRefusal.TheVariants.{Store}
 use Rattle.line_server.specs.declared.serving.ServeFault.{ServeFault}
 use Rattle.line_server.specs.Sources.{SourceView, no_releases}
 use Rattle.line_server.specs.ReplyValue.{Answer, Done as AllDone}
 use Rattle.line_server.specs.StateValue.{StateValue, fresh}
-use Rattle.line_server.specs.Replies.{server}
+use Rattle.line_server.specs.Replies.{server, status_of}
 use Rattle.line_server.specs.Turns.{HasTurn}
 use Rattle.line_server.specs.Serving.{IsServed}
 use Rattle.line_server.specs.Streams.{Streams}
 use Rattle.command_line.specs.declared.endings.Ending.{Ending}
 use Rattle.command_line.specs.declared.endings.Ending.TheVariants.{Done}
-use Rattle.command_line.specs.Endings.{IsTold, Report, Tells}
+use Rattle.command_line.specs.declared.words.Work.{Work}
+use Rattle.command_line.specs.declared.words.Work.TheVariants as works
+use Rattle.command_line.specs.Endings.{Report, report, Tells}
+use Rattle.command_line.specs.Hosts.{HostView, source_in}
+use Rattle.command_line.specs.Merging.{IsMergeTold}
 
--- ---- init
+-- ---- making a store
 
 -- the outcome of making a store, as it is written
 abbrev pub making_told : {D : Type 0} → StoreOr D → Result Answer LineRefusal
 making_told (Ok store) = Ok (AllDone [])
 making_told (Err e) = Err (Store e.0)
 
--- a store of this layout version was made, the outcome was written, and the disk was left in its
+-- a store of this layout was made, the outcome was written, and the disk was left in its
 -- state after that
 pub record IsMade {D : Type 0} (layout : Layout) (view : D → DiskView) (disk left : D)
     (report : Report) : Type 0 where
@@ -40,7 +42,7 @@ pub record IsMade {D : Type 0} (layout : Layout) (view : D → DiskView) (disk l
   pub left_so : left ≡ disk_of had
   pub told : Tells report (making_told had)
 
--- ---- one line
+-- ---- with an open store
 
 -- The line was answered, with no session pinned, the reply was written, and the disk was left in
 -- its state after that.
@@ -52,61 +54,29 @@ pub record IsLineTold {D : Type 0} (source : SourceView) (view : D → DiskView)
       (λ turn. Tells report turn.outcome)
   pub left_so : left ≡ after.disk
 
--- the task was done on the store; or the outcome says why there is no store, and the disk was
--- left as the opening left it
-abbrev pub OnStore : {D : Type 0} → (StoreValue D → Type 0) → StoreOr D → D → Report → Type 0
-OnStore done (Ok store) left report = done store
-OnStore done (Err e) left report = Tells report (Err (Store e.0)) × (left ≡ e.1)
+-- Only reads were made on the disk: what crashes may leave of an honest one is unchanged, so is
+-- whether it is honest, and the count of failures isn't less.
+pub record IsOnlyRead {D : Type 0} (view : D → DiskView) (old new : D) : Type 0 where
+  pub moments : (view old).is_honest → (view new).moments ≡ (view old).moments
+  pub honesty : (view old).is_honest ↔ (view new).is_honest
+  pub failures : (view old).failures ≤ (view new).failures
 
--- the store was opened from this disk, and the task was done on it
-pub record IsOnOpened {D : Type 0} (view : D → DiskView) (done : StoreValue D → Type 0)
-    (disk left : D) (report : Report) : Type 0 where
-  pub had : StoreOr D
-  pub opening : IsOpening had view disk
-  pub does : OnStore done had left report
+-- the line that checks the release was answered, and afterwards the disk was only read
+abbrev pub IsCheckTold : {D : Type 0} → SourceView → (D → DiskView) → List ℕ → StoreValue D → D
+    → Report → Type 0
+IsCheckTold {D} source view name store left report =
+    (mid : D) × IsLineTold source view (check_line name) store mid report
+    × IsOnlyRead view mid left
 
--- ---- import
+-- the status was written, and the disk is unchanged
+abbrev pub IsStatusTold : {D : Type 0} → StoreValue D → D → Report → Type 0
+IsStatusTold store left report =
+    Tells report (Ok (AllDone (status_of store))) × (left ≡ store.disk)
 
--- the store was opened from this disk, and the line that imports the release was answered
-abbrev pub IsImport : {D : Type 0} → SourceView → (D → DiskView) → List ℕ → D → D → Report → Type 0
-IsImport source view name disk left report = IsOnOpened view
-    (λ store. IsLineTold source view (import_line name) store left report) disk left report
-
--- ---- status
-
--- the line of a session that asks for the status
-abbrev pub status_line : List ℕ
-status_line = codes "0 STATUS"
-
--- the store was opened from this disk, and the line that asks for the status was answered
-abbrev pub IsStatus : {D : Type 0} → (D → DiskView) → D → D → Report → Type 0
-IsStatus view disk left report = IsOnOpened view
-    (λ store. IsLineTold no_releases view status_line store left report) disk left report
-
--- ---- upgrade
-
--- the outcome of an upgrade, as it is written
-abbrev pub upgrade_told : Result (Unit {0}) Refusal → Result Answer LineRefusal
-upgrade_told (Ok done) = Ok (AllDone [])
-upgrade_told (Err e) = Err (Store e)
-
--- the store was upgraded to version 3, or that was refused; the outcome was written, and the disk
--- was left in its state after that
-pub record Upgrades {D : Type 0} (view : D → DiskView) (left : D) (report : Report)
-    (store : StoreValue D) : Type 0 where
-  pub result : Result (Unit {0}) Refusal
-  pub after : StoreValue D
-  pub answer : IsUpgradingOf result store after
-  pub call : IsCall view store Other after
-  pub told : Tells report (upgrade_told result)
-  pub left_so : left ≡ after.disk
-
--- the store was opened from this disk, and upgraded to version 3
-abbrev pub IsUpgrade : {D : Type 0} → (D → DiskView) → D → D → Report → Type 0
-IsUpgrade view disk left report =
-    IsOnOpened view (Upgrades view left report) disk left report
-
--- ---- serve
+-- the line that asks for the digest of all imports, or of the first ones
+abbrev pub digest_line : Option ℕ → List ℕ
+digest_line None = codes "0 DIGEST"
+digest_line (Some imports) = codes "0 AT " ++ decimal imports ++ codes " DIGEST"
 
 -- how the task ended, from the result of serving
 abbrev pub ended_by : Result ℕ ServeFault → Result Ending ServeFault
@@ -127,26 +97,49 @@ pub record IsInputServed {D : Type 0} (source : SourceView) (view : D → DiskVi
   pub served : IsServed result most_reads source view streams store after
   pub left_so : left ≡ after.disk
 
--- the lines were served from the store; or the outcome says why there is no store, and nothing was
--- read
-abbrev pub Serves : {D : Type 0} → SourceView → (D → DiskView) → StoreOr D → D
-    → Result Ending ServeFault → Streams → Type 0
-Serves source view (Ok store) left ended streams =
-    IsInputServed source view store left ended streams
-Serves source view (Err e) left ended streams =
-    IsTold ended (Err (Store e.0)) streams.old streams.new × (streams.rest ≡ streams.input)
-    × (left ≡ e.1)
+-- what work that doesn't read the input does with an open store
+abbrev pub IsWorkTold : {D : Type 0} → HostView D → (D → DiskView) → Work → StoreValue D → D
+    → Report → Type 0
+IsWorkTold host view (works.Import folder name quiet) store left report =
+    IsLineTold (source_in host folder.now) view (import_line name.now) store left report
+IsWorkTold host view (works.Check folder name quiet) store left report =
+    IsCheckTold (source_in host folder.now) view name.now store left report
+IsWorkTold host view works.Status store left report = IsStatusTold store left report
+IsWorkTold host view (works.Merge segments) store left report =
+    IsMergeTold view segments store left report
+IsWorkTold host view (works.Digest imports) store left report =
+    IsLineTold no_releases view (digest_line imports) store left report
+IsWorkTold host view (works.Serve folder) store left report = ⊥
 
--- the store was opened from this disk, and the lines were served from it
-pub record IsServing {D : Type 0} (source : SourceView) (view : D → DiskView) (disk left : D)
-    (ended : Result Ending ServeFault) (streams : Streams) : Type 0 where
+-- what work does with an open store: only `serve` reads the input
+abbrev pub IsWorkDone : {D : Type 0} → HostView D → (D → DiskView) → Work → StoreValue D → D
+    → Result Ending ServeFault → Streams → Type 0
+IsWorkDone host view (works.Serve folder) store left ended streams =
+    IsInputServed (source_in host folder.now) view store left ended streams
+IsWorkDone host view work store left ended streams =
+    IsWorkTold host view work store left (report ended streams.old streams.new)
+    × (streams.rest ≡ streams.input)
+
+-- this was done with the store; or the outcome says why there is no store, nothing was read, and
+-- the disk was left so
+abbrev pub OnStore : {D : Type 0}
+    → (StoreValue D → D → Result Ending ServeFault → Streams → Type 0) → StoreOr D → D
+    → Result Ending ServeFault → Streams → Type 0
+OnStore does (Ok store) left ended streams = does store left ended streams
+OnStore does (Err e) left ended streams =
+    Tells (report ended streams.old streams.new) (Err (Store e.0))
+    × (streams.rest ≡ streams.input) × (left ≡ e.1)
+
+-- the store was opened from this disk, and the work was done with it
+pub record IsWorkOnDisk {D : Type 0} (host : HostView D) (view : D → DiskView) (work : Work)
+    (disk left : D) (ended : Result Ending ServeFault) (streams : Streams) : Type 0 where
   pub had : StoreOr D
   pub opening : IsOpening had view disk
-  pub serves : Serves source view had left ended streams
+  pub does : OnStore (IsWorkDone host view work) had left ended streams
 
 -- the store was made on this disk, and the lines were served from it
 pub record IsServingNew {D : Type 0} (source : SourceView) (view : D → DiskView) (disk left : D)
     (ended : Result Ending ServeFault) (streams : Streams) : Type 0 where
   pub had : StoreOr D
   pub making : IsMaking layouts.Two had view disk
-  pub serves : Serves source view had left ended streams
+  pub does : OnStore (IsInputServed source view) had left ended streams

@@ -1,6 +1,6 @@
 -- Which task the words of the command line ask for. Words are parsed as clap parses them for these
 -- commands.
-use Rattle.std.specs.Prelude.{◌≡◌, ◌↔◌, ℕ, Bool, true, List, codes, Option, Some, None}
+use Rattle.std.specs.Prelude.{◌≡◌, ◌↔◌, ℕ, Bool, true, List, codes, option_map, Option, Some, None}
 use Rattle.clap.specs.Walk.{Text, Row, Rule, first_of}
 use Rattle.clap.specs.Simple.{App, new_rule, new_app, with_rule, with_subcommand, subcommand_of}
 use Rattle.clap.specs.Kinds.{IsAmong}
@@ -10,10 +10,15 @@ use Rattle.clap.specs.Values.{kind_of}
 use Rattle.clap.specs.declared.builder.value_parser.ValueParser.TheVariants.{Unsigned}
 use Rattle.clap.specs.declared.builder.action.ArgAction.TheVariants.{Set, SetTrue}
 use Rattle.std.specs.Prelude.{[], ◌∷◌, false}
+use Rattle.directory.specs.declared.layout.Layout.{Layout}
 use Rattle.directory.specs.Listings.{number_of}
 use Rattle.command_line.specs.Paths.{IsNamed}
 use Rattle.command_line.specs.declared.words.Task.{Task}
 use Rattle.command_line.specs.declared.words.Task.TheVariants as tasks
+use Rattle.command_line.specs.declared.words.Action.{Action}
+use Rattle.command_line.specs.declared.words.Action.TheVariants as actions
+use Rattle.command_line.specs.declared.words.Work.{Work}
+use Rattle.command_line.specs.declared.words.Work.TheVariants as works
 use Rattle.command_line.specs.declared.words.Refused.{Refused}
 use Rattle.command_line.specs.declared.words.Refused.TheVariants as refusals
 
@@ -35,13 +40,14 @@ optional id = record (option id) { required = false }
 abbrev pub flag : Text → Rule
 flag id = record (new_rule id) { long = Some id; action = Some SetTrue }
 
--- the option `--layout`: 2 or 3, and 2 if it isn't given
+-- the option `--layout` of `copy`: 2 or 3
+abbrev pub copy_layout_option : Rule
+copy_layout_option =
+    record (option (codes "layout")) { parser = Some (Unsigned 2 3); required = false }
+
+-- the option `--layout` of `init`: 2 or 3, and 3 if it isn't given
 abbrev pub layout_option : Rule
-layout_option = record (option (codes "layout")) {
-  parser = Some (Unsigned 2 3);
-  defaults = codes "2" ∷ [];
-  required = false;
-}
+layout_option = record copy_layout_option { defaults = codes "3" ∷ [] }
 
 abbrev pub init_command : App
 init_command =
@@ -80,16 +86,13 @@ imports_option = record (option (codes "imports")) {
 }
 
 abbrev pub copy_command : App
-copy_command = with_rule
+copy_command = with_rule (with_rule
     (with_rule (with_rule (new_app (codes "copy")) (option (codes "store"))) (option (codes "to")))
-    imports_option
+    imports_option) copy_layout_option
 
 abbrev pub digest_command : App
 digest_command =
     with_rule (with_rule (new_app (codes "digest")) (option (codes "store"))) imports_option
-
-abbrev pub upgrade_command : App
-upgrade_command = with_rule (new_app (codes "upgrade")) (option (codes "store"))
 
 abbrev pub demo_command : App
 demo_command = new_app (codes "demo")
@@ -104,83 +107,62 @@ empty_program = record {
 abbrev pub program : App
 program =
     with_subcommand (with_subcommand (with_subcommand (with_subcommand (with_subcommand
-    (with_subcommand (with_subcommand (with_subcommand (with_subcommand empty_program
+    (with_subcommand (with_subcommand (with_subcommand empty_program
     init_command.top) import_command.top) serve_command.top) status_command.top) merge_command.top)
-    copy_command.top) digest_command.top) upgrade_command.top) demo_command.top
+    copy_command.top) digest_command.top) demo_command.top
 
 -- ---- what is asked for
 
--- the arguments of this `init` were given
-abbrev pub IsInitOf : List Row → Task → Type 0
-IsInitOf rows (tasks.Init store layout) =
-    (first_of (codes "store") rows ≡ Some store.now)
-    × (text : Text) × (first_of (codes "layout") rows ≡ Some text)
-    × (number_of layout ≡ digits_value 10 (without_leading_plus text))
-IsInitOf rows task = ⊥
+-- this number was given by the option, or the option wasn't given
+abbrev pub IsNumber : Text → List Row → Option ℕ → Type 0
+IsNumber id rows None = first_of id rows ≡ None
+IsNumber id rows (Some number) = (text : Text) × (first_of id rows ≡ Some text)
+    × (number ≡ digits_value 10 (without_leading_plus text))
+
+-- this layout was given, or none
+abbrev pub IsLayout : List Row → Option Layout → Type 0
+IsLayout rows layout = IsNumber (codes "layout") rows (option_map number_of layout)
 
 -- the flag was given
 abbrev pub IsGivenFlag : Text → List Row → Type 0
 IsGivenFlag id rows = first_of id rows ≡ Some (codes "true")
 
--- the store, the release, and the flag for few messages were given
-abbrev pub NamesRelease : List Row → (store folder name : List ℕ) → Bool → Type 0
-NamesRelease rows store folder name quiet =
-    (first_of (codes "store") rows ≡ Some store)
-    × ((word : Text) × (first_of (codes "name") rows ≡ Some word)
+-- the release, and the flag for few messages were given
+abbrev pub NamesRelease : List Row → (folder name : List ℕ) → Bool → Type 0
+NamesRelease rows folder name quiet =
+    ((word : Text) × (first_of (codes "name") rows ≡ Some word)
     × IsNamed (first_of (codes "releases") rows) word folder name)
     × ((quiet ≡ true) ↔ IsGivenFlag (codes "quiet") rows)
 
--- the arguments of this import were given; or of this check of a release, which has a flag
-abbrev pub IsImportOf : List Row → Task → Type 0
-IsImportOf rows (tasks.Import store folder name quiet) =
-    NamesRelease rows store.now folder.now name.now quiet
-    × (IsGivenFlag (codes "check") rows → ⊥)
-IsImportOf rows (tasks.Check store folder name quiet) =
-    NamesRelease rows store.now folder.now name.now quiet × IsGivenFlag (codes "check") rows
-IsImportOf rows task = ⊥
+-- the command of this name was given, with the arguments of this work on an open store; of a check
+-- and of an import, a flag tells which it is
+abbrev pub IsWork : Text → List Row → Work → Type 0
+IsWork command rows (works.Import folder name quiet) = (command ≡ codes "import")
+    × NamesRelease rows folder.now name.now quiet × (IsGivenFlag (codes "check") rows → ⊥)
+IsWork command rows (works.Check folder name quiet) = (command ≡ codes "import")
+    × NamesRelease rows folder.now name.now quiet × IsGivenFlag (codes "check") rows
+IsWork command rows (works.Serve releases) =
+    (command ≡ codes "serve") × (first_of (codes "releases") rows ≡ Some releases.now)
+IsWork command rows works.Status = command ≡ codes "status"
+IsWork command rows (works.Merge segments) =
+    (command ≡ codes "merge") × IsNumber (codes "segments") rows (Some segments)
+IsWork command rows (works.Digest imports) =
+    (command ≡ codes "digest") × IsNumber (codes "imports") rows imports
 
--- this number of imports was given, or the option wasn't given
-abbrev pub AreImports : List Row → Option ℕ → Type 0
-AreImports rows None = first_of (codes "imports") rows ≡ None
-AreImports rows (Some imports) = (text : Text) × (first_of (codes "imports") rows ≡ Some text)
-    × (imports ≡ digits_value 10 (without_leading_plus text))
-
--- the arguments of this copy of a store were given
-abbrev pub IsCopyTaskOf : List Row → Task → Type 0
-IsCopyTaskOf rows (tasks.Copy store to imports) = (first_of (codes "store") rows ≡ Some store.now)
-    × (first_of (codes "to") rows ≡ Some to.now) × AreImports rows imports
-IsCopyTaskOf rows task = ⊥
-
--- the arguments of this digest of a store were given
-abbrev pub IsDigestTaskOf : List Row → Task → Type 0
-IsDigestTaskOf rows (tasks.Digest store imports) =
-    (first_of (codes "store") rows ≡ Some store.now) × AreImports rows imports
-IsDigestTaskOf rows task = ⊥
+-- the command of this name was given, with the arguments of this action on the file of a store
+abbrev pub IsAction : Text → List Row → Action → Type 0
+IsAction command rows (actions.Init layout) =
+    (command ≡ codes "init") × IsLayout rows (Some layout)
+IsAction command rows (actions.Copy to imports layout) = (command ≡ codes "copy")
+    × (first_of (codes "to") rows ≡ Some to.now) × IsNumber (codes "imports") rows imports
+    × IsLayout rows layout
+IsAction command rows (actions.Use work) = IsWork command rows work
 
 -- a command was given with the arguments of this task
 abbrev pub Reads : Option (Text × List Row) → Task → Type 0
 Reads None task = ⊥
-Reads (Some read) (tasks.Init store layout) =
-    (read.0 ≡ codes "init") × IsInitOf read.1 (tasks.Init store layout)
-Reads (Some read) (tasks.Import store folder name quiet) =
-    (read.0 ≡ codes "import") × IsImportOf read.1 (tasks.Import store folder name quiet)
-Reads (Some read) (tasks.Check store folder name quiet) =
-    (read.0 ≡ codes "import") × IsImportOf read.1 (tasks.Check store folder name quiet)
-Reads (Some read) (tasks.Serve store releases) =
-    (read.0 ≡ codes "serve") × (first_of (codes "store") read.1 ≡ Some store.now)
-    × (first_of (codes "releases") read.1 ≡ Some releases.now)
-Reads (Some read) (tasks.Status store) =
-    (read.0 ≡ codes "status") × (first_of (codes "store") read.1 ≡ Some store.now)
-Reads (Some read) (tasks.Merge store segments) =
-    (read.0 ≡ codes "merge") × (first_of (codes "store") read.1 ≡ Some store.now)
-    × (text : Text) × (first_of (codes "segments") read.1 ≡ Some text)
-    × (segments ≡ digits_value 10 (without_leading_plus text))
-Reads (Some read) (tasks.Copy store to imports) =
-    (read.0 ≡ codes "copy") × IsCopyTaskOf read.1 (tasks.Copy store to imports)
-Reads (Some read) (tasks.Digest store imports) =
-    (read.0 ≡ codes "digest") × IsDigestTaskOf read.1 (tasks.Digest store imports)
-Reads (Some read) (tasks.Upgrade store) =
-    (read.0 ≡ codes "upgrade") × (first_of (codes "store") read.1 ≡ Some store.now)
+Reads (Some read) (tasks.At store action) =
+    (first_of (codes "store") read.1 ≡ Some store.now) × IsAction read.0 read.1 action
 Reads (Some read) tasks.Demo = read.0 ≡ codes "demo"
 
 -- the words, whose first is the program's name, are valid and ask for the task

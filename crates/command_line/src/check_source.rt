@@ -1,10 +1,11 @@
 //! The source of a release that is checked, and the additional messages of a check.
 
-ghost use Rattle.command_line.specs.Checking.{IsOnlyRead};
+ghost use Rattle.command_line.specs.Tasks.{IsOnlyRead};
 
 use crate::contradicting::{MOST_TOLD, files_without_bytes, tell_contradictions};
 use crate::endings::Ending;
-use crate::folders::{FolderSource, Folders};
+use crate::folder_source::FolderSource;
+use crate::host::Host;
 use crate::warning::{outline_of, tell_uncompared, tell_warnings};
 use disk_model::Disk;
 use history_store::{Refusal, Store};
@@ -16,16 +17,16 @@ use std::io::{self, Write};
 /// The folder of a release that is checked. A contradiction for which the release is refused isn't
 /// reported at once: all contradictions are, once the reply has been written.
 #[derive(Drop)]
-pub(crate) struct CheckSource<'a, F: Folders, E: Write> {
-    pub folder: FolderSource<'a, F, E>,
+pub(crate) struct CheckSource<'a, H: Host, E: Write> {
+    pub folder: FolderSource<'a, H, E>,
     /// The contradiction for which the release was refused, if it was refused for one.
     pub refused: Option<Refusal>,
 }
 
-impl<F: Folders, E: Write> Source for CheckSource<'_, F, E> {
-    ghost is_honest = { λ s. F.is_honest s.folder.folders.now };
+impl<H: Host, E: Write> Source for CheckSource<'_, H, E> {
+    ghost is_honest = { λ s. (H.view s.folder.host.now).is_honest };
 
-    ghost releases = { λ s. F.releases s.folder.folders.now s.folder.dir.now };
+    ghost releases = { λ s. (H.view s.folder.host.now).releases s.folder.dir.now };
 
     fn release(&mut self, alloc: Global, name: &str, scope: Scope) -> Result<Release, SourceFault> {
         self.folder.release(alloc, name, scope)
@@ -40,7 +41,7 @@ impl<F: Folders, E: Write> Source for CheckSource<'_, F, E> {
     }
 }
 
-impl<F: Folders, E: Write> CheckSource<'_, F, E> {
+impl<H: Host, E: Write> CheckSource<'_, H, E> {
     /// Reports all contradictions of a release, if the check was refused for one, and what else may
     /// be wrong with the release, if it could be read. Reads the release from its folder once more.
     pub(crate) fn tell_more<D: Disk>(
@@ -59,7 +60,7 @@ impl<F: Folders, E: Write> CheckSource<'_, F, E> {
         let scope = scope_for(store);
         let again = self
             .folder
-            .folders
+            .host
             .release(alloc, self.folder.dir, name, scope, true, &mut io::sink());
         match again {
             Ok(release) => self.tell_of(alloc, name, release, store),

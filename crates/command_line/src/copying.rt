@@ -3,13 +3,13 @@
 ghost use Rattle.std.specs.Prelude.{◌≡◌, Err};
 ghost use Rattle.command_line.specs.Copies.{IsCopyMade, IsKept, copy_refusal, copy_told};
 ghost use Rattle.command_line.specs.Endings.{IsTold, report};
-ghost use Rattle.command_line.specs.Runs.{AsksForPair, IsCopiedAt};
+ghost use Rattle.command_line.specs.Runs.{IsCopiedTo};
+ghost use Rattle.disk_model.specs.Disk.{raised_by};
 
-use crate::disks::Disks;
-use crate::endings::{Ending, Performed, refuse, tell_done, tell_refusal};
-use crate::folders::Folders;
+use crate::endings::{Ending, refuse, tell_done, tell_refusal};
+use crate::host::{Host, Mode};
 use crate::telling::{Context, tell_why};
-use directory::Directory;
+use directory::{Directory, Layout};
 use history_store::Refusal;
 use line_server::{LineRefusal, ServeFault};
 use std::alloc::Global;
@@ -28,6 +28,7 @@ fn refusal_of(fault: CopyFault) -> LineRefusal
         CopyFault::NotAStore => LineRefusal::Store(Refusal::NotAStore),
         CopyFault::Damaged(damage) => LineRefusal::Store(Refusal::Unreadable(damage)),
         CopyFault::NoSuchImport => LineRefusal::PinRange,
+        CopyFault::LowerLayout => LineRefusal::Store(Refusal::LaterVersion),
         CopyFault::NotEmpty => LineRefusal::Store(Refusal::NotEmpty),
         CopyFault::NoRoom => LineRefusal::Store(Refusal::Full),
     }
@@ -50,110 +51,96 @@ fn tell_copy<O: Write>(
 
 /// The name and the last system error of the file at which a copy failed: the new file, or the
 /// store that is copied.
-fn context_of<'a, V: Disks>(
-    disks: &V,
+fn context_of<'a, H: Host>(
+    host: &H,
     path: &'a str,
     to: &'a str,
-    source: &V::Disk,
-    target: &V::Disk,
+    source: &H::Disk,
+    target: &H::Disk,
     copied: &Result<Directory, CopyFault>,
 ) -> Context<'a> {
     match copied {
         Err(CopyFault::NotEmpty | CopyFault::TargetFailed) => Context {
             store: to,
-            last_error: disks.last_error(target),
+            last_error: host.last_error(target),
         },
         _ => Context {
             store: path,
-            last_error: disks.last_error(source),
+            last_error: host.last_error(source),
         },
     }
 }
 
 /// Returns the disk of a copy; none if the copy failed and its file was removed.
-fn keep<V: Disks, E: Write>(
-    disks: &V,
+fn keep<H: Host, E: Write>(
+    host: &H,
     copied: &Result<Directory, CopyFault>,
-    made: V::Disk,
+    made: H::Disk,
     faults: &mut E,
-) -> Option<V::Disk>
-    ensures { IsKept V.removes V.retains copied.now made result }
+) -> Option<H::Disk>
+    ensures { IsKept (H.view host.now) copied.now made result }
 {
     match copied {
         Ok(_) => Some(made),
-        Err(_) => disks.discard(made, faults),
+        Err(_) => host.discard(made, faults),
     }
 }
 
-/// Copies the first imports of the store of a disk, or all, to a new disk with the name `to`,
-/// and writes the result.
-fn copy_onto<V: Disks, O: Write, E: Write>(
-    disks: &V,
+/// Copies the first imports of the store of a disk, or all, to a new disk with the name `to`, in
+/// this layout or in the store's, and writes the result.
+fn copy_onto<H: Host, O: Write, E: Write>(
+    host: &H,
     alloc: Global,
     path: &str,
     to: &str,
     imports: Option<u32>,
-    source: V::Disk,
-    target: V::Disk,
+    layout: Option<Layout>,
+    source: H::Disk,
+    target: H::Disk,
     output: &mut O,
     faults: &mut E,
-) -> Performed<V::Disk>
-    ensures { IsCopyMade V.Disk.view V.removes V.retains imports source target result.1 result.2
-        (report result.0 (O.contents output.old) (O.contents output.new)) }
+) -> (Result<Ending, ServeFault>, H::Disk, Option<H::Disk>)
+    ensures { IsCopyMade (H.view host.now) H.Disk.view imports layout source result.1 target
+        result.2 (report result.0 (O.contents output.old) (O.contents output.new)) }
 {
     let (mut source, mut target) = (source, target);
-    let copied = copy(alloc, &mut source, &mut target, imports);
+    let copied = copy(alloc, &mut source, &mut target, imports, layout);
     let ended = tell_copy(alloc, &copied, output);
-    let context = context_of(disks, path, to, &source, &target, &copied);
+    let context = context_of(host, path, to, &source, &target, &copied);
     tell_why(ended, &context, faults);
-    let made = keep(disks, &copied, target, faults);
-    (ended, Some(source), made)
+    let made = keep(host, &copied, target, faults);
+    (ended, source, made)
 }
 
-/// Copies the first imports of the store with this name, or all, to a new disk with another name.
-/// Before anything is written, it makes sure that the new name survives a crash.
-pub(crate) fn copy_at<V: Disks, F: Folders, O: Write, E: Write>(
-    disks: &mut V,
-    folders: &F,
+/// Copies the first imports of the store of a disk, or all, to a new disk with the name `to`, in
+/// this layout or in the store's. Before anything is written, it makes sure that the new name
+/// survives a crash.
+pub(crate) fn copy_to<H: Host, O: Write, E: Write>(
+    host: &H,
+    asked: &mut H::Asked,
     alloc: Global,
     path: &str,
     to: &str,
     imports: Option<u32>,
+    layout: Option<Layout>,
+    source: H::Disk,
     output: &mut O,
     faults: &mut E,
-) -> Performed<V::Disk>
-    ensures copied { IsCopiedAt (record {
-      stands = V.stands disks.old;
-      withholds = V.withholds disks.old;
-      makes = V.makes disks.old;
-      denies = V.denies disks.old;
-      creates = V.creates disks.old;
-      occupies = V.occupies disks.old;
-      keeps = F.keeps folders.now;
-      loses = F.loses folders.now;
-      removes = V.removes;
-      retains = V.retains;
-      finds = F.finds folders.now;
-      lacks = F.lacks folders.now;
-      is_honest = F.is_honest folders.now;
-      releases = F.releases folders.now;
-      disk = V.Disk.view;
-    }) path.now to.now imports result.1 result.2
+) -> (Result<Ending, ServeFault>, H::Disk, Option<H::Disk>)
+    ensures copied { IsCopiedTo (H.view host.now) H.Disk.view (H.count asked.old) to.now imports
+        layout source result.1 result.2
         (report result.0 (O.contents output.old) (O.contents output.new)) }
-    ensures asked { AsksForPair result.1 (V.asked disks.old) (V.asked disks.new) }
+    ensures asked { H.count asked.new ≡ raised_by (H.count asked.old) 1 }
 {
-    let Ok(source) = disks.open(path, faults) else {
-        return (refuse(alloc, output, Refusal::DiskFault), None, None);
+    let Some(target) = host.open(asked, Mode::MakeNew, to, faults) else {
+        return (refuse(alloc, output, Refusal::DiskFault), source, None);
     };
-    let Ok(target) = disks.make_new(to, faults) else {
+    if host.settle(alloc, to, faults) {
+        copy_onto(
+            host, alloc, path, to, imports, layout, source, target, output, faults,
+        )
+    } else {
         let ended = refuse(alloc, output, Refusal::DiskFault);
-        return (ended, Some(source), None);
-    };
-    if folders.settle(alloc, to, faults).is_err() {
-        let ended = refuse(alloc, output, Refusal::DiskFault);
-        return (ended, Some(source), disks.discard(target, faults));
+        (ended, source, host.discard(target, faults))
     }
-    copy_onto(
-        disks, alloc, path, to, imports, source, target, output, faults,
-    )
 }

@@ -2,16 +2,17 @@
 
 ghost use Rattle.std.specs.Prelude.{Some};
 ghost use Rattle.line_commands.specs.Requests.{Asks, command_of};
+ghost use Rattle.line_server.specs.Sources.{no_releases};
 ghost use Rattle.command_line.specs.Endings.{report};
-ghost use Rattle.command_line.specs.Digests.{IsDigest, digest_line};
+ghost use Rattle.command_line.specs.Tasks.{IsLineTold, digest_line};
 
 use crate::answering::answer_read;
-use crate::endings::{Ending, refuse};
-use crate::inspecting::NoReleases;
+use crate::endings::Ending;
 use disk_model::Disk;
-use history_store::Store;
+use history_store::{Refusal, Store};
+use import_check::{Release, Scope};
 use line_commands::{Command, Question, Request};
-use line_server::ServeFault;
+use line_server::{ServeFault, Source, SourceFault};
 use std::alloc::Global;
 use std::io::Write;
 
@@ -35,26 +36,42 @@ fn digest_command(imports: Option<u32>) -> Command<'static>
     }
 }
 
-/// Writes the digest of the store of a disk. Returns the disk.
+/// A source without releases.
+#[derive(Clone, Copy)]
+struct NoReleases;
+
+impl Source for NoReleases {
+    ghost use Rattle.std.specs.Prelude.{⊤, None};
+
+    ghost is_honest = { λ _. ⊤ };
+
+    ghost releases = { λ _ _ _. None };
+
+    fn release(
+        &mut self,
+        _alloc: Global,
+        _name: &str,
+        _scope: Scope,
+    ) -> Result<Release, SourceFault> {
+        Err(SourceFault::NoFolder)
+    }
+
+    fn note_refusal(&mut self, _alloc: Global, _name: &str, _scope: Scope, _refusal: Refusal) {}
+}
+
+/// Writes the digest of an open store.
 pub(crate) fn digest<D: Disk + Drop, O: Write>(
     alloc: Global,
-    disk: D,
     imports: Option<u32>,
+    store: &mut Store<D>,
     output: &mut O,
-) -> (Result<Ending, ServeFault>, D)
-    ensures { IsDigest D.view imports disk
-        result.1 (report result.0 (O.contents output.old) (O.contents output.new)) }
+) -> Result<Ending, ServeFault>
+    ensures { IsLineTold no_releases D.view (digest_line imports) store.old store.new.disk
+        (report result (O.contents output.old) (O.contents output.new)) }
 {
-    match Store::open(alloc, disk) {
-        Ok(store) => {
-            let mut store = store;
-            let request = Request {
-                session: 0,
-                command: digest_command(imports),
-            };
-            let ended = answer_read(alloc, &Ok(request), &mut NoReleases, &mut store, output);
-            (ended, store.close())
-        }
-        Err((refusal, disk)) => (refuse(alloc, output, refusal), disk),
-    }
+    let request = Request {
+        session: 0,
+        command: digest_command(imports),
+    };
+    answer_read(alloc, &Ok(request), &mut NoReleases, store, output)
 }

@@ -23,10 +23,8 @@ pub enum Ending {
     Refused(LineRefusal),
 }
 
-/// How a task ended, and its disk, if it has one.
-pub(crate) type Ended<D> = (Result<Ending, ServeFault>, Option<D>);
-
-/// The same, and the disk that was made for a copy, if there is one.
+/// How a task ended, its disk, if it has one, and the disk that was made for a copy, if there is
+/// one.
 pub(crate) type Performed<D> = (Result<Ending, ServeFault>, Option<D>, Option<D>);
 
 /// Flushes the output, and returns the exit status.
@@ -94,7 +92,7 @@ fn name_of(fault: ServeFault) -> &'static str
 }
 
 /// Writes an answer.
-fn tell_answer<O: Write>(output: &mut O, reply: &Reply) -> Result<Ending, ServeFault>
+pub(crate) fn tell_answer<O: Write>(output: &mut O, reply: &Reply) -> Result<Ending, ServeFault>
     ensures { (answer : Answer) → reply.now ≡ reply_value (Ok answer)
         → IsTold result (Ok answer) (O.contents output.old) (O.contents output.new) }
 {

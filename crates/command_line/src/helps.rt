@@ -10,7 +10,7 @@ The guide goes from an unpacked release to the first answers: docs/GUIDE.md";
 
 pub(crate) const INIT: &str = "Examples:
   sctd init --store terms.store
-  sctd init --layout 3 --store terms.store
+  sctd init --layout 2 --store terms.store
 
 The guide tells more: docs/GUIDE.md, \"A store\"";
 
@@ -28,7 +28,7 @@ pub(crate) const SERVE: &str =
     "A line is the number of a session, 0 to 1023, a command and its arguments, with
 single spaces between them. A date is eight digits. A kind is C (concepts),
 D (descriptions), R (relationships), A (association members), V (relationships
-with concrete values) or M (members of other reference sets; layout 3). An id is
+with concrete values) or M (members of other reference sets). An id is
 an SCTID, of a member its UUID.
 
 Questions, of the latest version of each component up to a date:
@@ -44,7 +44,7 @@ Questions, of the latest version of each component up to a date:
   0 STATUS                       how many imports, rows and segments there are, and
                                  how many rows are left to a merge
 
-Questions of reference sets (layout 3), which are concepts, as 723264001:
+Questions of reference sets, which are concepts, as 723264001:
   0 CALLED 1000004 20210131 900000000000509007
                                  what the concept was called in a language: each
                                  active description in it, and its member
@@ -90,9 +90,8 @@ pub(crate) const STATUS: &str = "Example:
   sctd status --store terms.store
 
 The answer is OK, the numbers of imports, rows and segments, and a - (no merge is in
-progress). Standard error tells the version of the layout, the length of the file, how
-many blocks the store needs, the greatest effective time of a row, and in layout
-version 3 how many segments have no checksums.
+progress). Standard error tells the layout, the length of the file, how many blocks the
+store needs, and the greatest effective time of a row.
 
 The guide tells more: docs/GUIDE.md, \"Importing a release\"";
 
@@ -104,12 +103,14 @@ The guide tells more: docs/GUIDE.md, \"Merges\"";
 pub(crate) const COPY: &str = "Examples:
   sctd copy --store terms.store --to backup.store
   sctd copy --store terms.store --to before.store --imports 12
+  sctd copy --store terms.store --to new.store --layout 3
 
 The copy has the same rows with the same import numbers, and no free blocks between its
-segments. A file that is there already is refused. Where the copy fails, the new file is
-removed.
+segments. A file that is there already is refused, and so is a layout below the store's.
+Where the copy fails, the new file is removed.
 
-The guide tells more: docs/GUIDE.md, \"Backup\" and \"A wrong release\"";
+The guide tells more: docs/GUIDE.md, \"Backup\", \"A wrong release\" and \"From layout 2 to
+layout 3\"";
 
 pub(crate) const DIGEST: &str = "Examples:
   sctd digest --store terms.store
@@ -118,15 +119,6 @@ pub(crate) const DIGEST: &str = "Examples:
 Stores with the same rows have the same digest, however they came to them.
 
 The guide tells more: docs/GUIDE.md, \"The same data as three years ago\"";
-
-pub(crate) const UPGRADE: &str = "Examples:
-  sctd upgrade --store terms.store
-  sctd merge --store terms.store
-
-A release that was imported before is imported again, to bring its text definitions and
-reference sets.
-
-The guide tells more: docs/GUIDE.md, \"Upgrading to layout 3\"";
 
 pub(crate) const DEMO: &str = "Example:
   sctd demo

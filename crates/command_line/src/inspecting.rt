@@ -1,81 +1,42 @@
 //! The status of a store.
 
-ghost use Rattle.command_line.specs.Endings.{report};
-ghost use Rattle.line_commands.specs.Requests.{Asks, command_of};
-ghost use Rattle.command_line.specs.Tasks.{IsStatus, status_line};
+ghost use Rattle.std.specs.Prelude.{Ok};
+ghost use Rattle.line_server.specs.ReplyValue.{Done as AllDone};
+ghost use Rattle.line_server.specs.Replies.{status_of};
+ghost use Rattle.command_line.specs.Endings.{IsTold};
 
-use crate::answering::answer_read;
-use crate::endings::{Ending, refuse};
+use crate::endings::{Ending, tell_answer};
 use crate::telling::Figures;
 use disk_model::Disk;
-use history_store::{Refusal, Store};
-use import_check::{Release, Scope};
-use line_commands::{Command, Request};
-use line_server::{ServeFault, Source, SourceFault};
+use history_store::Store;
+use line_server::{ServeFault, reply_status};
 use std::alloc::Global;
 use std::io::Write;
 
-/// The request of the line for the status, in session 0.
-pub(crate) fn status_request() -> Request<'static>
-    ensures { Asks status_line result.session (command_of result.command) }
-{
-    Request {
-        session: 0,
-        command: Command::Status,
-    }
-}
-
-/// A source without releases.
-#[derive(Clone, Copy)]
-pub(crate) struct NoReleases;
-
-impl Source for NoReleases {
-    ghost use Rattle.std.specs.Prelude.{⊤, None};
-
-    ghost is_honest = { λ _. ⊤ };
-
-    ghost releases = { λ _ _ _. None };
-
-    fn release(
-        &mut self,
-        _alloc: Global,
-        _name: &str,
-        _scope: Scope,
-    ) -> Result<Release, SourceFault> {
-        Err(SourceFault::NoFolder)
-    }
-
-    fn note_refusal(&mut self, _alloc: Global, _name: &str, _scope: Scope, _refusal: Refusal) {}
-}
-
-/// Writes the status of the store of a disk, and returns the disk and more figures about the
-/// store, to be shown to people. No call is made on the disk except to open the store.
-pub(crate) fn status<D: Disk + Drop, O: Write>(
+/// Writes the status of an open store.
+pub(crate) fn tell_status<D: Disk, O: Write>(
     alloc: Global,
-    disk: D,
+    store: &Store<D>,
     output: &mut O,
-) -> (Result<Ending, ServeFault>, D, Option<Figures>)
-    ensures { IsStatus D.view disk result.1
-        (report result.0 (O.contents output.old) (O.contents output.new)) }
+) -> Result<Ending, ServeFault>
+    ensures { IsTold result (Ok (AllDone (status_of store.now))) (O.contents output.old)
+        (O.contents output.new) }
 {
-    match Store::open(alloc, disk) {
-        Ok(store) => {
-            let mut store = store;
-            let figures = Figures {
-                layout: store.version(),
-                plain: store.plain_segments(),
-                blocks: store.blocks_in_use(),
-                latest: store.latest_time(),
-            };
-            let ended = answer_read(
-                alloc,
-                &Ok(status_request()),
-                &mut NoReleases,
-                &mut store,
-                output,
-            );
-            (ended, store.close(), Some(figures))
-        }
-        Err((refusal, disk)) => (refuse(alloc, output, refusal), disk, None),
+    let reply = reply_status(
+        alloc,
+        store.imports(),
+        store.row_count(),
+        store.segments(),
+        store.merge_left(),
+    );
+    tell_answer(output, &reply)
+}
+
+/// More figures about an open store, to be shown to people.
+pub(crate) fn figures_of<D: Disk>(store: &Store<D>) -> Figures {
+    Figures {
+        layout: store.version(),
+        blocks: store.blocks_in_use(),
+        latest: store.latest_time(),
     }
 }

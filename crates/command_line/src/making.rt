@@ -11,7 +11,7 @@ use line_server::ServeFault;
 use std::alloc::Global;
 use std::io::Write;
 
-/// Makes a store of this layout version on a disk, and writes the reply. Returns the disk.
+/// Makes a store of this layout on a disk, and writes the reply. Returns the disk.
 pub(crate) fn init<D: Disk + Drop, O: Write>(
     alloc: Global,
     disk: D,

@@ -1,122 +1,69 @@
 //! Merges the segments of a store.
 
-ghost use Rattle.std.specs.Prelude.{ℕ, List};
-ghost use Rattle.line_commands.specs.Requests.{IsReading};
-ghost use Rattle.line_server.specs.Pins.{AreWithin};
-ghost use Rattle.line_server.specs.StateValue.{fresh};
+ghost use Rattle.std.specs.Prelude.{◌≡◌, ◌+◌, OnOk};
 ghost use Rattle.command_line.specs.Endings.{report};
-ghost use Rattle.line_server.specs.Replies.{server};
-ghost use Rattle.command_line.specs.Merging.{IsMergedOnDisk, TellsLines, TellsMerge};
-ghost use Rattle.command_line.specs.Private.{IsAsked, IsAtRest, IsMerging, IsOneLess, IsTrimmedTo};
-ghost use Rattle.command_line.specs.Private.{MergesRows};
+ghost use Rattle.command_line.specs.Merging.{IsMergedTo, IsMergeTold, segments_of};
+ghost use Rattle.command_line.specs.Private.{IsAtRest, IsMerging, HasMerged, Progresses};
 
-use crate::endings::{Ending, refuse, tell};
-use crate::inspecting::{NoReleases, status_request};
-use crate::telling::{tell_rewritten, tell_segments};
+use crate::endings::{Ending, refuse};
+use crate::inspecting::tell_status;
+use crate::telling::tell_segments;
 use disk_model::Disk;
-use history_store::Store;
-use line_commands::{Command, Request, Unread};
-use line_server::{LineRefusal, ServeFault, ServerState, carry_out};
+use history_store::{Refusal, Store};
+use line_server::ServeFault;
 use std::alloc::Global;
 use std::io::Write;
 
-/// How many rows one request merges.
+/// How many rows one step merges.
 const STEP_ROWS: u32 = 100_000;
 
-/// Carries out a request, and returns the refusal if it is refused.
-fn ask<D: Disk>(
-    alloc: Global,
-    read: &Result<Request<'_>, Unread>,
-    state: &mut ServerState,
-    store: &mut Store<D>,
-) -> Result<(), LineRefusal>
-    requires asked { (line : List ℕ) × IsReading line read.now }
-    requires within { AreWithin store.old.history.imports state.old.pins }
-    ensures within { AreWithin store.new.history.imports state.new.pins }
-    ensures asked { (line : List ℕ) → IsReading line read.now → IsAsked D.view line result
-        (server state.old store.old) (server state.new store.new) }
-{
-    let _reply = carry_out(alloc, read, state, &mut NoReleases, store)?;
-    Ok(())
-}
-
 /// Merges all rows of the merge in progress.
-fn take_rows<D: Disk>(
-    alloc: Global,
-    state: &mut ServerState,
-    store: &mut Store<D>,
-) -> Result<(), LineRefusal>
-    requires within { AreWithin store.old.history.imports state.old.pins }
-    requires merging { IsMerging (server state.old store.old) }
-    ensures within { AreWithin store.new.history.imports state.new.pins }
-    ensures taken { MergesRows D.view result
-        (server state.old store.old) (server state.new store.new) }
+fn take_rows<D: Disk>(store: &mut Store<D>) -> Result<(), Refusal>
+    requires { IsMerging store.old }
+    ensures progress { Progresses D.view result store.old store.new }
+    ensures taken { OnOk result
+        ((segments_of store.new ≡ segments_of store.old) × HasMerged store.new) }
 {
-    let step = Ok(Request {
-        session: 0,
-        command: Command::Step { rows: STEP_ROWS },
-    });
     let left = store.merge_left().unwrap_or(0);
     for _ in 0..left.div_ceil(STEP_ROWS as u64) {
-        ask(alloc, &step, state, store)?;
+        store.merge_step(STEP_ROWS)?;
     }
     Ok(())
 }
 
 /// Merges the two segments with the fewest rows.
-fn merge_two<D: Disk>(
-    alloc: Global,
-    state: &mut ServerState,
-    store: &mut Store<D>,
-) -> Result<(), LineRefusal>
-    requires within { AreWithin store.old.history.imports state.old.pins }
-    requires at_rest { IsAtRest (server state.old store.old) }
-    ensures within { AreWithin store.new.history.imports state.new.pins }
-    ensures merged { IsOneLess D.view result
-        (server state.old store.old) (server state.new store.new) }
+fn merge_two<D: Disk>(store: &mut Store<D>) -> Result<(), Refusal>
+    requires { IsAtRest store.old }
+    ensures progress { Progresses D.view result store.old store.new }
+    ensures merged { OnOk result
+        ((segments_of store.new + 1 ≡ segments_of store.old) × IsAtRest store.new) }
 {
-    let merge = Ok(Request {
-        session: 0,
-        command: Command::Merge,
-    });
-    ask(alloc, &merge, state, store)?;
-    take_rows(alloc, state, store)?;
-    let publish = Ok(Request {
-        session: 0,
-        command: Command::Publish,
-    });
-    ask(alloc, &publish, state, store)
+    store.merge_begin()?;
+    take_rows(store)?;
+    store.merge_publish()
 }
 
 /// Merges until the store has at most `most` segments, and trims. Each merge is reported on
 /// `faults`.
 fn merge_to<D: Disk, E: Write>(
-    alloc: Global,
     path: &str,
     most: u32,
-    state: &mut ServerState,
     store: &mut Store<D>,
     faults: &mut E,
-) -> Result<(), LineRefusal>
-    requires within { AreWithin store.old.history.imports state.old.pins }
-    requires at_rest { IsAtRest (server state.old store.old) }
-    ensures within { AreWithin store.new.history.imports state.new.pins }
-    ensures merged { IsTrimmedTo D.view most result
-        (server state.old store.old) (server state.new store.new) }
+) -> Result<(), Refusal>
+    requires { IsAtRest store.old }
+    ensures { IsMergedTo D.view most result store.old store.new }
 {
     for _ in 0..store.segments().saturating_sub(most) {
-        merge_two(alloc, state, store)?;
+        merge_two(store)?;
         tell_segments(path, store.segments(), faults);
     }
-    let trim = Ok(Request {
-        session: 0,
-        command: Command::Trim,
-    });
-    ask(alloc, &trim, state, store)
+    store.trim()?;
+    Ok(())
 }
 
-/// Merges the segments of a store and asks for its status, and writes the last reply.
-fn merge_lines<D: Disk, O: Write, E: Write>(
+/// Merges the segments of an open store, and writes its status, or why that was refused.
+pub(crate) fn merge<D: Disk, O: Write, E: Write>(
     alloc: Global,
     path: &str,
     most: u32,
@@ -124,67 +71,12 @@ fn merge_lines<D: Disk, O: Write, E: Write>(
     output: &mut O,
     faults: &mut E,
 ) -> Result<Ending, ServeFault>
-    requires at_rest { IsAtRest (server fresh store.old) }
-    ensures { TellsLines D.view most store.new.disk
-        (report result (O.contents output.old) (O.contents output.new)) store.old }
+    requires { IsAtRest store.old }
+    ensures { IsMergeTold D.view most store.old store.new.disk
+        (report result (O.contents output.old) (O.contents output.new)) }
 {
-    let mut state = ServerState::new();
-    let outcome = match merge_to(alloc, path, most, &mut state, store, faults) {
-        Ok(()) => carry_out(
-            alloc,
-            &Ok(status_request()),
-            &mut state,
-            &mut NoReleases,
-            store,
-        ),
-        Err(halt) => Err(halt),
-    };
-    tell(alloc, output, outcome)
-}
-
-/// Merges the segments of an open store, and writes the last reply. If a store of version 3 has
-/// only one segment, and that has no checksums, it is rewritten first.
-fn merge_all<D: Disk, O: Write, E: Write>(
-    alloc: Global,
-    path: &str,
-    most: u32,
-    store: &mut Store<D>,
-    output: &mut O,
-    faults: &mut E,
-) -> Result<Ending, ServeFault>
-    requires at_rest { IsAtRest (server fresh store.old) }
-    ensures { TellsMerge D.view most store.new.disk
-        (report result (O.contents output.old) (O.contents output.new)) store.old }
-{
-    match store.rewrite() {
-        Ok(anew) => {
-            if anew {
-                tell_rewritten(path, faults);
-            }
-            merge_lines(alloc, path, most, store, output, faults)
-        }
+    match merge_to(path, most, store, faults) {
+        Ok(()) => tell_status(alloc, store, output),
         Err(refusal) => refuse(alloc, output, refusal),
-    }
-}
-
-/// Merges the segments of the store of a disk. Returns the disk.
-pub(crate) fn merge<D: Disk + Drop, O: Write, E: Write>(
-    alloc: Global,
-    disk: D,
-    path: &str,
-    most: u32,
-    output: &mut O,
-    faults: &mut E,
-) -> (Result<Ending, ServeFault>, D)
-    ensures { IsMergedOnDisk D.view most disk result.1
-        (report result.0 (O.contents output.old) (O.contents output.new)) }
-{
-    match Store::open(alloc, disk) {
-        Ok(store) => {
-            let mut store = store;
-            let ended = merge_all(alloc, path, most, &mut store, output, faults);
-            (ended, store.close())
-        }
-        Err((refusal, disk)) => (refuse(alloc, output, refusal), disk),
     }
 }

@@ -86,7 +86,7 @@ pub(crate) fn tell_later<E: Write>(later: u64, quiet: bool, faults: &mut E) {
         let _ = writeln!(
             faults,
             "sctd: passed over {later} of its files, of text definitions and reference sets: a \
-store keeps them from layout 3 on; sctd upgrade, and import the release again"
+store keeps them from layout 3 on; sctd copy --layout 3, and import the release again"
         );
     }
 }

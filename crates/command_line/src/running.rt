@@ -1,38 +1,34 @@
 //! Carries out the command line.
 
-ghost use Rattle.std.specs.Prelude.{◌≡◌, ◌≤◌, ◌⊎◌, IfOk, IfErr, None, map, string_bytes};
-ghost use Rattle.command_line.specs.Endings.{report};
+ghost use Rattle.std.specs.Prelude.{◌≡◌, ◌≤◌, ◌⊎◌, map, string_bytes};
 ghost use Rattle.line_server.specs.Streams.{streams};
-ghost use Rattle.line_server.specs.Sources.{source_view};
-ghost use Rattle.command_line.specs.Tasks.{IsImport, IsStatus, IsUpgrade};
-ghost use Rattle.command_line.specs.Merging.{IsMergedOnDisk};
-ghost use Rattle.command_line.specs.Checking.{IsCheck};
-ghost use Rattle.command_line.specs.Digests.{IsDigest};
-ghost use Rattle.command_line.specs.Runs.{IsDoneAt, IsMadeAt, IsServedAt, IsMissing};
-ghost use Rattle.command_line.specs.Runs.{IsDemonstrated, IsDemonstration, Does};
-ghost use Rattle.command_line.specs.Runs.{IsRun, IsNoTask, IsExplained, AsksFor};
-ghost use Rattle.disk_model.specs.Disk.{raised_by};
+ghost use Rattle.command_line.specs.Endings.{report};
+ghost use Rattle.command_line.specs.Tasks.{IsWorkDone, IsWorkOnDisk};
+ghost use Rattle.command_line.specs.Runs.{Does, IsActionDone, IsMadeAt, FindsFolder, IsUsed};
+ghost use Rattle.command_line.specs.Runs.{mode_of, IsDemonstrated, IsDemonstration};
+ghost use Rattle.command_line.specs.Runs.{IsRun, IsNoTask, IsExplained};
+ghost use Rattle.command_line.specs.Private.{IsAtRest};
 
+use crate::answering::answer_read;
 use crate::check_source::CheckSource;
 use crate::checking::check;
-use crate::copying::copy_at;
+use crate::copying::copy_to;
 use crate::demonstration::{SCRIPT, Samples};
 use crate::digesting::digest;
-use crate::disks::Disks;
-use crate::endings::{Ended, Ending, Performed, fail, finish, refuse, tell_refusal};
-use crate::folders::{FolderSource, Folders};
-use crate::importing::import;
-use crate::inspecting::status;
+use crate::endings::{Ending, Performed, fail, finish, refuse, tell_refusal};
+use crate::folder_source::FolderSource;
+use crate::host::{Host, Mode};
+use crate::inspecting::{figures_of, tell_status};
 use crate::making::init;
 use crate::merging::merge;
-use crate::serving::{serve_disk, serve_new};
+use crate::serving::{serve_all, serve_new};
 use crate::telling::{Context, tell_figures, tell_why};
 use crate::told_lines::ToldLines;
-use crate::upgrading::upgrade;
-use crate::words::{Refused, Task, task_of};
+use crate::words::{Action, Refused, Task, Work, task_of};
 use directory::Layout;
 use disk_model::MemDisk;
-use history_store::Refusal;
+use history_store::{Refusal, Store};
+use line_commands::import_request;
 use line_server::{LineRefusal, ServeFault};
 use std::alloc::Global;
 use std::io::{Read, Write};
@@ -40,47 +36,29 @@ use std::io::{Read, Write};
 /// Carries out a command line, whose first word is the program's name, and returns the exit status:
 /// 0 if it was done; 1 if it was refused, or a stream or memory failed; 2 if the words are no
 /// command. Also returns the disk of the task, as it was left, and the disk that was made for a
-/// copy.
-pub fn run<V: Disks, F: Folders, I: Read, O: Write, E: Write>(
-    disks: &mut V,
-    folders: &F,
+/// copy. `asked` counts how often the host was asked for one.
+pub fn run<H: Host, I: Read, O: Write, E: Write>(
+    host: &H,
+    asked: &mut H::Asked,
     alloc: Global,
     words: &[String],
     input: &mut I,
     output: &mut O,
     faults: &mut E,
-) -> (u8, Option<V::Disk>, Option<V::Disk>)
+) -> (u8, Option<H::Disk>, Option<H::Disk>)
     ensures status { result.0 ≤ 2 }
     // Words that are no command only cause a message.
     ensures no_command { result.0 ≡ 2 → (input.new ≡ input.old) × (output.new ≡ output.old) }
-    ensures done { IsRun (record {
-      stands = V.stands disks.old;
-      withholds = V.withholds disks.old;
-      makes = V.makes disks.old;
-      denies = V.denies disks.old;
-      creates = V.creates disks.old;
-      occupies = V.occupies disks.old;
-      keeps = F.keeps folders.now;
-      loses = F.loses folders.now;
-      removes = V.removes;
-      retains = V.retains;
-      finds = F.finds folders.now;
-      lacks = F.lacks folders.now;
-      is_honest = F.is_honest folders.now;
-      releases = F.releases folders.now;
-      disk = V.Disk.view;
-    }) SCRIPT.now (map string_bytes words.now) result.1 result.2 result.0
-        (streams (I.remaining input.old) (I.remaining input.new)
-        (O.contents output.old) (O.contents output.new))
-        (V.asked disks.old) (V.asked disks.new)
+    ensures done { IsRun (H.view host.now) H.Disk.view SCRIPT.now (map string_bytes words.now)
+        result.1 result.2 result.0 (streams (I.remaining input.old) (I.remaining input.new)
+        (O.contents output.old) (O.contents output.new)) (H.count asked.old) (H.count asked.new)
         ⊎ IsNoTask (map string_bytes words.now) result.1 result.2 result.0
         (streams (I.remaining input.old) (I.remaining input.new)
-        (O.contents output.old) (O.contents output.new))
-        (V.asked disks.old) (V.asked disks.new) }
+        (O.contents output.old) (O.contents output.new)) (H.count asked.old) (H.count asked.new) }
 {
     match task_of(alloc, words) {
         Ok(task) => {
-            let (ended, left, made) = perform(disks, folders, alloc, &task, input, output, faults);
+            let (ended, left, made) = perform(host, asked, alloc, &task, input, output, faults);
             (finish(ended, output, faults), left, made)
         }
         Err(refused) => (explain(&refused, output, faults), None, None),
@@ -88,382 +66,221 @@ pub fn run<V: Disks, F: Folders, I: Read, O: Write, E: Write>(
 }
 
 /// Carries out a task. If it is refused, the reason goes to `faults`.
-fn perform<V: Disks, F: Folders, I: Read, O: Write, E: Write>(
-    disks: &mut V,
-    folders: &F,
+fn perform<H: Host, I: Read, O: Write, E: Write>(
+    host: &H,
+    asked: &mut H::Asked,
     alloc: Global,
     task: &Task<'_>,
     input: &mut I,
     output: &mut O,
     faults: &mut E,
-) -> Performed<V::Disk>
-    ensures does { Does (record {
-      stands = V.stands disks.old;
-      withholds = V.withholds disks.old;
-      makes = V.makes disks.old;
-      denies = V.denies disks.old;
-      creates = V.creates disks.old;
-      occupies = V.occupies disks.old;
-      keeps = F.keeps folders.now;
-      loses = F.loses folders.now;
-      removes = V.removes;
-      retains = V.retains;
-      finds = F.finds folders.now;
-      lacks = F.lacks folders.now;
-      is_honest = F.is_honest folders.now;
-      releases = F.releases folders.now;
-      disk = V.Disk.view;
-    }) SCRIPT.now task.now result.1 result.2 result.0
+) -> Performed<H::Disk>
+    ensures { Does (H.view host.now) H.Disk.view SCRIPT.now task.now result.1 result.2 result.0
         (streams (I.remaining input.old) (I.remaining input.new)
-        (O.contents output.old) (O.contents output.new)) }
-    ensures asked { AsksFor task.now result.1 (V.asked disks.old) (V.asked disks.new) }
+        (O.contents output.old) (O.contents output.new)) (H.count asked.old) (H.count asked.new) }
 {
-    match task {
-        Task::Init { store, layout } => {
-            alone(init_at(disks, folders, alloc, *store, *layout, output, faults))
-        }
-        Task::Import {
-            store,
-            releases,
-            name,
-            quiet,
-        } => alone(import_at(
-            disks, folders, alloc, *store, *releases, *name, *quiet, output, faults,
-        )),
-        Task::Check {
-            store,
-            releases,
-            name,
-            quiet,
-        } => alone(check_at(
-            disks, folders, alloc, *store, *releases, *name, *quiet, output, faults,
-        )),
-        Task::Serve { store, releases } => alone(serve_at(
-            disks, folders, alloc, *store, *releases, input, output, faults,
-        )),
-        Task::Status { store } => alone(status_at(disks, alloc, *store, output, faults)),
-        Task::Merge { store, segments } => {
-            alone(merge_at(disks, alloc, *store, *segments, output, faults))
-        }
-        Task::Copy { store, to, imports } => copy_at(
-            disks, folders, alloc, *store, *to, *imports, output, faults,
-        ),
-        Task::Digest { store, imports } => {
-            alone(digest_at(disks, alloc, *store, *imports, output, faults))
-        }
-        Task::Upgrade { store } => alone(upgrade_at(disks, alloc, *store, output, faults)),
-        Task::Demo => (demo(alloc, output), None, None),
+    let Task::At { store, action } = task else {
+        return (demo(alloc, output), None, None);
+    };
+    let Some(disk) = host.open(asked, mode_of(action), *store, faults) else {
+        return (refuse(alloc, output, Refusal::DiskFault), None, None);
+    };
+    let (ended, left, made) = do_at(
+        host, asked, alloc, *store, action, disk, input, output, faults,
+    );
+    (ended, Some(left), made)
+}
+
+/// How an action asks for its disk.
+fn mode_of(action: &Action<'_>) -> Mode
+    ensures { result ≡ mode_of action.now }
+{
+    match action {
+        Action::Init { .. } => Mode::OpenOrMake,
+        Action::Copy { .. } | Action::Use(_) => Mode::Open,
     }
 }
 
-/// The ending of a task that made no copy.
-fn alone<D: Drop>(ended: Ended<D>) -> Performed<D>
-    ensures { result ≡ (ended.0, ended.1, None) }
+/// Does an action with the disk of this name, and returns how it ended, the disk, and the one that
+/// was made for a copy.
+fn do_at<H: Host, I: Read, O: Write, E: Write>(
+    host: &H,
+    asked: &mut H::Asked,
+    alloc: Global,
+    path: &str,
+    action: &Action<'_>,
+    disk: H::Disk,
+    input: &mut I,
+    output: &mut O,
+    faults: &mut E,
+) -> (Result<Ending, ServeFault>, H::Disk, Option<H::Disk>)
+    ensures { IsActionDone (H.view host.now) H.Disk.view path.now action.now disk
+        result.1 result.2 result.0 (streams (I.remaining input.old) (I.remaining input.new)
+        (O.contents output.old) (O.contents output.new)) (H.count asked.old) (H.count asked.new) }
 {
-    (ended.0, ended.1, None)
+    match action {
+        Action::Init { layout } => {
+            let (ended, left) = init_at(host, alloc, path, *layout, disk, output, faults);
+            tell_end(host, path, ended, &left, faults);
+            (ended, left, None)
+        }
+        Action::Copy {
+            to,
+            imports,
+            layout,
+        } => copy_to(
+            host, asked, alloc, path, *to, *imports, *layout, disk, output, faults,
+        ),
+        Action::Use(work) => {
+            let (ended, left) = use_at(host, alloc, path, work, disk, input, output, faults);
+            tell_end(host, path, ended, &left, faults);
+            (ended, left, None)
+        }
+    }
 }
 
-/// Makes a store of this layout version under a name. Before anything is written, it makes sure
+/// Writes why a task on the disk of this name was refused, or its last system error.
+fn tell_end<H: Host, E: Write>(
+    host: &H,
+    path: &str,
+    ended: Result<Ending, ServeFault>,
+    disk: &H::Disk,
+    faults: &mut E,
+) {
+    let context = Context {
+        store: path,
+        last_error: host.last_error(disk),
+    };
+    tell_why(ended, &context, faults);
+}
+
+/// Makes a store of this layout on the disk of this name. Before anything is written, it makes sure
 /// that the name survives a crash, so that the store is found after one.
-fn init_at<V: Disks, F: Folders, O: Write, E: Write>(
-    disks: &mut V,
-    folders: &F,
+fn init_at<H: Host, O: Write, E: Write>(
+    host: &H,
     alloc: Global,
     path: &str,
     layout: Layout,
+    disk: H::Disk,
     output: &mut O,
     faults: &mut E,
-) -> Ended<V::Disk>
-    ensures made { IsMadeAt layout (record {
-      stands = V.stands disks.old;
-      withholds = V.withholds disks.old;
-      makes = V.makes disks.old;
-      denies = V.denies disks.old;
-      creates = V.creates disks.old;
-      occupies = V.occupies disks.old;
-      keeps = F.keeps folders.now;
-      loses = F.loses folders.now;
-      removes = V.removes;
-      retains = V.retains;
-      finds = F.finds folders.now;
-      lacks = F.lacks folders.now;
-      is_honest = F.is_honest folders.now;
-      releases = F.releases folders.now;
-      disk = V.Disk.view;
-    }) path.now result.1 (report result.0 (O.contents output.old) (O.contents output.new)) }
-    ensures asked { V.asked disks.new ≡ raised_by (V.asked disks.old) 1 }
+) -> (Result<Ending, ServeFault>, H::Disk)
+    ensures { IsMadeAt (H.view host.now) H.Disk.view path.now layout disk result.1
+        (report result.0 (O.contents output.old) (O.contents output.new)) }
 {
-    let Ok(disk) = disks.open_or_make(path, faults) else {
-        return (refuse(alloc, output, Refusal::DiskFault), None);
-    };
-    if folders.settle(alloc, path, faults).is_err() {
-        let ended = refuse(alloc, output, Refusal::DiskFault);
-        return (ended, Some(disk));
+    if host.settle(alloc, path, faults) {
+        init(alloc, disk, layout, output)
+    } else {
+        (refuse(alloc, output, Refusal::DiskFault), disk)
     }
-    let (ended, left) = init(alloc, disk, layout, output);
-    let context = Context {
-        store: path,
-        last_error: disks.last_error(&left),
-    };
-    tell_why(ended, &context, faults);
-    (ended, Some(left))
 }
 
-/// Imports a release into the store with this name.
-fn import_at<V: Disks, F: Folders, O: Write, E: Write>(
-    disks: &mut V,
-    folders: &F,
+/// Whether the folder of releases exists without which the work isn't begun. Only lines that are
+/// served need one: each import of them would be refused.
+fn has_folder<H: Host, E: Write>(host: &H, work: &Work<'_>, faults: &mut E) -> bool
+    ensures { FindsFolder (H.view host.now) work.now result }
+{
+    match work {
+        Work::Serve { releases } => host.has_folder(*releases, faults),
+        _ => true,
+    }
+}
+
+/// Opens the store of a disk, and works with it, unless a folder is missing that the work needs.
+fn use_at<H: Host, I: Read, O: Write, E: Write>(
+    host: &H,
     alloc: Global,
     path: &str,
-    dir: &str,
-    name: &str,
-    quiet: bool,
+    work: &Work<'_>,
+    disk: H::Disk,
+    input: &mut I,
     output: &mut O,
     faults: &mut E,
-) -> Ended<V::Disk>
-    ensures done { IsDoneAt (V.stands disks.old path.now)
-        (λ disk after. IsImport
-        (source_view (F.is_honest folders.now) (F.releases folders.now dir.now)) V.Disk.view
-        name.now disk after (report result.0 (O.contents output.old) (O.contents output.new)))
-        (IsMissing (report result.0 (O.contents output.old) (O.contents output.new))
-        × V.withholds disks.old path.now) result.1 }
-    ensures asked { V.asked disks.new ≡ raised_by (V.asked disks.old) 1 }
+) -> (Result<Ending, ServeFault>, H::Disk)
+    ensures { IsUsed (H.view host.now) H.Disk.view work.now disk result.1 result.0
+        (streams (I.remaining input.old) (I.remaining input.new)
+        (O.contents output.old) (O.contents output.new)) }
 {
-    let had = disks.open(path, faults);
-    match had {
-        Ok(disk) => {
-            let mut source = FolderSource {
-                folders,
-                dir,
-                faults,
-                doing: "importing",
-                quiet,
-            };
-            let (ended, left) = import(alloc, disk, name, &mut source, output);
-            source.tell_why(ended, path, disks.last_error(&left));
-            (ended, Some(left))
+    if has_folder(host, work, faults) {
+        open_and_work(host, alloc, path, work, disk, input, output, faults)
+    } else {
+        (tell_refusal(alloc, output, LineRefusal::NoFolder), disk)
+    }
+}
+
+/// Opens the store of a disk, and works with it.
+fn open_and_work<H: Host, I: Read, O: Write, E: Write>(
+    host: &H,
+    alloc: Global,
+    path: &str,
+    work: &Work<'_>,
+    disk: H::Disk,
+    input: &mut I,
+    output: &mut O,
+    faults: &mut E,
+) -> (Result<Ending, ServeFault>, H::Disk)
+    ensures { IsWorkOnDisk (H.view host.now) H.Disk.view work.now disk result.1 result.0
+        (streams (I.remaining input.old) (I.remaining input.new)
+        (O.contents output.old) (O.contents output.new)) }
+{
+    match Store::open(alloc, disk) {
+        Ok(store) => {
+            let mut store = store;
+            let ended = do_work(host, alloc, path, work, &mut store, input, output, faults);
+            (ended, store.close())
         }
-        Err(_) => (refuse(alloc, output, Refusal::DiskFault), None),
+        Err((refusal, disk)) => (refuse(alloc, output, refusal), disk),
     }
 }
 
-/// Checks a release against the store with this name.
-fn check_at<V: Disks, F: Folders, O: Write, E: Write>(
-    disks: &mut V,
-    folders: &F,
+/// Works with an open store.
+fn do_work<'a, H: Host, I: Read, O: Write, E: Write>(
+    host: &'a H,
     alloc: Global,
     path: &str,
-    dir: &str,
-    name: &str,
-    quiet: bool,
+    work: &Work<'a>,
+    store: &mut Store<H::Disk>,
+    input: &mut I,
     output: &mut O,
     faults: &mut E,
-) -> Ended<V::Disk>
-    ensures done { IsDoneAt (V.stands disks.old path.now)
-        (λ disk after. IsCheck
-        (source_view (F.is_honest folders.now) (F.releases folders.now dir.now)) V.Disk.view
-        name.now disk after (report result.0 (O.contents output.old) (O.contents output.new)))
-        (IsMissing (report result.0 (O.contents output.old) (O.contents output.new))
-        × V.withholds disks.old path.now) result.1 }
-    ensures asked { V.asked disks.new ≡ raised_by (V.asked disks.old) 1 }
+) -> Result<Ending, ServeFault>
+    requires { IsAtRest store.old }
+    ensures { IsWorkDone (H.view host.now) H.Disk.view work.now store.old store.new.disk result
+        (streams (I.remaining input.old) (I.remaining input.new)
+        (O.contents output.old) (O.contents output.new)) }
 {
-    match disks.open(path, faults) {
-        Ok(disk) => {
-            let folder = FolderSource {
-                folders,
-                dir,
-                faults,
-                doing: "checking",
-                quiet,
-            };
+    match work {
+        Work::Import {
+            releases,
+            name,
+            quiet,
+        } => {
+            let mut source = FolderSource::new(host, *releases, faults, "importing", *quiet);
+            answer_read(alloc, &import_request(*name), &mut source, store, output)
+        }
+        Work::Check {
+            releases,
+            name,
+            quiet,
+        } => {
+            let folder = FolderSource::new(host, *releases, faults, "checking", *quiet);
             let mut source = CheckSource {
                 folder,
                 refused: None,
             };
-            let (ended, left) = check(alloc, disk, name, &mut source, output);
-            source.folder.tell_why(ended, path, disks.last_error(&left));
-            (ended, Some(left))
+            check(alloc, *name, &mut source, store, output)
         }
-        Err(_) => (refuse(alloc, output, Refusal::DiskFault), None),
-    }
-}
-
-/// Answers the lines of the input from the store with this name. If there is no folder in which
-/// releases could be looked for, it refuses before the store is opened, since each import would be
-/// refused.
-fn serve_at<V: Disks, F: Folders, I: Read, O: Write, E: Write>(
-    disks: &mut V,
-    folders: &F,
-    alloc: Global,
-    path: &str,
-    dir: &str,
-    input: &mut I,
-    output: &mut O,
-    faults: &mut E,
-) -> Ended<V::Disk>
-    ensures done { IsServedAt (record {
-      stands = V.stands disks.old;
-      withholds = V.withholds disks.old;
-      makes = V.makes disks.old;
-      denies = V.denies disks.old;
-      creates = V.creates disks.old;
-      occupies = V.occupies disks.old;
-      keeps = F.keeps folders.now;
-      loses = F.loses folders.now;
-      removes = V.removes;
-      retains = V.retains;
-      finds = F.finds folders.now;
-      lacks = F.lacks folders.now;
-      is_honest = F.is_honest folders.now;
-      releases = F.releases folders.now;
-      disk = V.Disk.view;
-    }) path.now dir.now result.1 result.0 (streams (I.remaining input.old) (I.remaining input.new)
-        (O.contents output.old) (O.contents output.new)) }
-    ensures asked { V.asked disks.new ≡ raised_by (V.asked disks.old) 1 }
-{
-    match disks.open(path, faults) {
-        Ok(disk) => {
-            if !folders.has_folder(dir, faults) {
-                return (
-                    tell_refusal(alloc, output, LineRefusal::NoFolder),
-                    Some(disk),
-                );
-            }
-            let mut source = FolderSource {
-                folders,
-                dir,
-                faults,
-                doing: "importing",
-                quiet: true,
-            };
-            let (ended, left) = serve_disk(alloc, disk, &mut source, input, output);
-            source.tell_why(ended, path, disks.last_error(&left));
-            (ended, Some(left))
+        Work::Serve { releases } => {
+            let mut source = FolderSource::new(host, *releases, faults, "importing", true);
+            serve_all(alloc, &mut source, store, input, output)
         }
-        Err(_) => (refuse(alloc, output, Refusal::DiskFault), None),
-    }
-}
-
-/// Writes the status of the store with this name.
-fn status_at<V: Disks, O: Write, E: Write>(
-    disks: &mut V,
-    alloc: Global,
-    path: &str,
-    output: &mut O,
-    faults: &mut E,
-) -> Ended<V::Disk>
-    ensures done { IsDoneAt (V.stands disks.old path.now)
-        (λ disk after. IsStatus V.Disk.view disk after
-        (report result.0 (O.contents output.old) (O.contents output.new)))
-        (IsMissing (report result.0 (O.contents output.old) (O.contents output.new))
-        × V.withholds disks.old path.now) result.1 }
-    ensures asked { V.asked disks.new ≡ raised_by (V.asked disks.old) 1 }
-{
-    let found = disks.open(path, faults);
-    match found {
-        Ok(disk) => {
-            let size = disks.size(path);
-            let (ended, left, figures) = status(alloc, disk, output);
-            let context = Context {
-                store: path,
-                last_error: disks.last_error(&left),
-            };
-            tell_why(ended, &context, faults);
-            tell_figures(path, figures, size, faults);
-            (ended, Some(left))
+        Work::Status => {
+            let ended = tell_status(alloc, store, output);
+            tell_figures(path, figures_of(store), host.size(path), faults);
+            ended
         }
-        Err(_) => (refuse(alloc, output, Refusal::DiskFault), None),
-    }
-}
-
-/// Merges the segments of the store with this name.
-fn merge_at<V: Disks, O: Write, E: Write>(
-    disks: &mut V,
-    alloc: Global,
-    path: &str,
-    most: u32,
-    output: &mut O,
-    faults: &mut E,
-) -> Ended<V::Disk>
-    ensures done { IsDoneAt (V.stands disks.old path.now)
-        (λ disk after. IsMergedOnDisk V.Disk.view most disk after
-        (report result.0 (O.contents output.old) (O.contents output.new)))
-        (IsMissing (report result.0 (O.contents output.old) (O.contents output.new))
-        × V.withholds disks.old path.now) result.1 }
-    ensures asked { V.asked disks.new ≡ raised_by (V.asked disks.old) 1 }
-{
-    let stands = disks.open(path, faults);
-    match stands {
-        Ok(disk) => {
-            let (ended, left) = merge(alloc, disk, path, most, output, faults);
-            let context = Context {
-                store: path,
-                last_error: disks.last_error(&left),
-            };
-            tell_why(ended, &context, faults);
-            (ended, Some(left))
-        }
-        Err(_) => (refuse(alloc, output, Refusal::DiskFault), None),
-    }
-}
-
-/// Writes the digest of the store with this name.
-fn digest_at<V: Disks, O: Write, E: Write>(
-    disks: &mut V,
-    alloc: Global,
-    path: &str,
-    imports: Option<u32>,
-    output: &mut O,
-    faults: &mut E,
-) -> Ended<V::Disk>
-    ensures done { IsDoneAt (V.stands disks.old path.now)
-        (λ disk after. IsDigest V.Disk.view imports disk after
-        (report result.0 (O.contents output.old) (O.contents output.new)))
-        (IsMissing (report result.0 (O.contents output.old) (O.contents output.new))
-        × V.withholds disks.old path.now) result.1 }
-    ensures asked { V.asked disks.new ≡ raised_by (V.asked disks.old) 1 }
-{
-    match disks.open(path, faults) {
-        Ok(disk) => {
-            let (ended, left) = digest(alloc, disk, imports, output);
-            let context = Context {
-                store: path,
-                last_error: disks.last_error(&left),
-            };
-            tell_why(ended, &context, faults);
-            (ended, Some(left))
-        }
-        Err(_) => (refuse(alloc, output, Refusal::DiskFault), None),
-    }
-}
-
-/// Upgrades the store with this name to version 3.
-fn upgrade_at<V: Disks, O: Write, E: Write>(
-    disks: &mut V,
-    alloc: Global,
-    path: &str,
-    output: &mut O,
-    faults: &mut E,
-) -> Ended<V::Disk>
-    ensures done { IsDoneAt (V.stands disks.old path.now)
-        (λ disk after. IsUpgrade V.Disk.view disk after
-        (report result.0 (O.contents output.old) (O.contents output.new)))
-        (IsMissing (report result.0 (O.contents output.old) (O.contents output.new))
-        × V.withholds disks.old path.now) result.1 }
-    ensures asked { V.asked disks.new ≡ raised_by (V.asked disks.old) 1 }
-{
-    let before = disks.open(path, faults);
-    match before {
-        Ok(disk) => {
-            let (ended, left) = upgrade(alloc, disk, output);
-            let context = Context {
-                store: path,
-                last_error: disks.last_error(&left),
-            };
-            tell_why(ended, &context, faults);
-            (ended, Some(left))
-        }
-        Err(_) => (refuse(alloc, output, Refusal::DiskFault), None),
+        Work::Merge { segments } => merge(alloc, path, *segments, store, output, faults),
+        Work::Digest { imports } => digest(alloc, *imports, store, output),
     }
 }
 
@@ -473,13 +290,8 @@ fn demo<O: Write>(alloc: Global, output: &mut O) -> Result<Ending, ServeFault>
         (report result (O.contents output.old) (O.contents output.new)) }
 {
     let mut script = SCRIPT;
-    let (ended, _) = serve_new(
-        alloc,
-        MemDisk::new(alloc),
-        &mut Samples,
-        &mut script,
-        output,
-    );
+    let disk = MemDisk::new(alloc);
+    let (ended, _) = serve_new(alloc, disk, &mut Samples, &mut script, output);
     ended
 }
 
@@ -494,13 +306,8 @@ pub fn demonstrate<O: Write, E: Write>(alloc: Global, output: &mut O, faults: &m
         rest: SCRIPT,
         told: faults,
     };
-    let (ended, _) = serve_new(
-        alloc,
-        MemDisk::new(alloc),
-        &mut Samples,
-        &mut script,
-        output,
-    );
+    let disk = MemDisk::new(alloc);
+    let (ended, _) = serve_new(alloc, disk, &mut Samples, &mut script, output);
     finish(ended, output, script.told)
 }
 

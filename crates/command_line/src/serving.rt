@@ -1,9 +1,8 @@
 //! Serves lines.
 
-ghost use Rattle.std.specs.Prelude.{Ok};
 ghost use Rattle.line_server.specs.Streams.{streams};
 ghost use Rattle.line_server.specs.Sources.{source_view};
-ghost use Rattle.command_line.specs.Tasks.{Serves, IsServing, IsServingNew};
+ghost use Rattle.command_line.specs.Tasks.{IsInputServed, IsServingNew};
 
 use crate::endings::{Ending, refuse};
 use disk_model::Disk;
@@ -15,45 +14,22 @@ use std::io::{Read, Write};
 /// The most reads that a server makes of its input.
 const MOST_READS: u32 = 4_294_967_295;
 
-/// Answers the lines of the input from a store.
-fn serve_all<D: Disk + Drop, S: Source, I: Read, O: Write>(
+/// Answers the lines of the input from an open store.
+pub(crate) fn serve_all<D: Disk + Drop, S: Source, I: Read, O: Write>(
     alloc: Global,
     source: &mut S,
     store: &mut Store<D>,
     input: &mut I,
     output: &mut O,
 ) -> Result<Ending, ServeFault>
-    ensures { Serves (source_view (S.is_honest source.old) (S.releases source.old)) D.view
-        (Ok store.old) store.new.disk result
+    ensures { IsInputServed (source_view (S.is_honest source.old) (S.releases source.old)) D.view
+        store.old store.new.disk result
         (streams (I.remaining input.old) (I.remaining input.new)
         (O.contents output.old) (O.contents output.new)) }
 {
     match serve(alloc, input, output, source, store, MOST_READS) {
         Ok(_) => Ok(Ending::Done),
         Err(fault) => Err(fault),
-    }
-}
-
-/// Answers the lines of the input from the store of a disk. Returns the disk.
-pub(crate) fn serve_disk<D: Disk + Drop, S: Source, I: Read, O: Write>(
-    alloc: Global,
-    disk: D,
-    source: &mut S,
-    input: &mut I,
-    output: &mut O,
-) -> (Result<Ending, ServeFault>, D)
-    ensures { IsServing (source_view (S.is_honest source.old) (S.releases source.old))
-        D.view disk result.1 result.0
-        (streams (I.remaining input.old) (I.remaining input.new)
-        (O.contents output.old) (O.contents output.new)) }
-{
-    match Store::open(alloc, disk) {
-        Ok(store) => {
-            let mut store = store;
-            let ended = serve_all(alloc, source, &mut store, input, output);
-            (ended, store.close())
-        }
-        Err((refusal, disk)) => (refuse(alloc, output, refusal), disk),
     }
 }
 

@@ -10,6 +10,7 @@ use line_server::{LineRefusal, ServeFault};
 use rf2_values::EffectiveTime;
 use shown_names::Shown;
 use std::io::{self, Write};
+use store_image::Damage;
 
 /// What the number of a refusal means.
 pub(crate) fn meaning(code: usize) -> &'static str {
@@ -25,7 +26,7 @@ reach 4 GiB"
         7 => "the file is no store",
         8 => "the store is damaged; restore your copy",
         13 => "import numbers or epochs ran out",
-        14 => "a store keeps no members of reference sets before layout 3: sctd upgrade",
+        14 => "that needs layout 3, into which sctd copy --layout 3 brings a store",
         20 => "a line is over 65,535 bytes",
         21 => "it isn't UTF-8",
         22 => "the first line isn't the column names of its kind",
@@ -48,6 +49,10 @@ them; no part is . or .., and it has at most 1,024 bytes"
         _ => "it was refused",
     }
 }
+
+/// What else may be the reason why a store's directory can't be read.
+const UPGRADED: &str = " (or, if `sctd upgrade` of an older program was ever used on it, copy it \
+with the `sctd copy` of that program)";
 
 /// What a message about the end of a task says of the store: its name, and the system error of its
 /// file.
@@ -75,14 +80,12 @@ pub(crate) fn tell_why<E: Write>(
     };
 }
 
-/// Figures about an open store, for people: its layout version, how many of its segments have no
-/// checksums, how many blocks it needs, and the greatest effective time of a row.
+/// Figures about an open store, for people: its layout, how many blocks it needs, and the greatest
+/// effective time of a row.
 #[derive(Clone, Copy)]
 pub(crate) struct Figures {
-    /// The layout version: 1, 2 or 3.
+    /// The layout: 1, 2 or 3.
     pub layout: u32,
-    /// How many segments have no checksums; shown only in version 3.
-    pub plain: u32,
     /// How many blocks of 4,096 bytes the store needs.
     pub blocks: u64,
     /// The greatest effective time of a row, if there is a row.
@@ -92,13 +95,11 @@ pub(crate) struct Figures {
 /// Prints a store's figures, and the length of its file.
 pub(crate) fn tell_figures<E: Write>(
     store: &str,
-    figures: Option<Figures>,
+    figures: Figures,
     size: Option<u64>,
     faults: &mut E,
 ) {
-    if let Some(figures) = figures {
-        let _ = write_figures(store, figures, size, faults);
-    }
+    let _ = write_figures(store, figures, size, faults);
 }
 
 /// Writes the figures as a line.
@@ -118,9 +119,6 @@ fn write_figures<E: Write>(
         let day = latest.value();
         write!(faults, ", latest effective time {day}")?;
     }
-    if figures.layout >= 3 {
-        write!(faults, ", segments without checksums: {}", figures.plain)?;
-    }
     writeln!(faults)
 }
 
@@ -130,15 +128,6 @@ pub(crate) fn tell_segments<E: Write>(store: &str, segments: u32, faults: &mut E
     let _ = writeln!(faults, "sctd: {name}: segments left: {segments}");
 }
 
-/// Prints that the only segment of a store was rewritten.
-pub(crate) fn tell_rewritten<E: Write>(store: &str, faults: &mut E) {
-    let name = Shown(store.as_bytes());
-    let _ = writeln!(
-        faults,
-        "sctd: {name}: the segment was written anew, with checksums"
-    );
-}
-
 /// Writes why a task on a store was refused, if that wasn't written before.
 fn write_refusal<E: Write>(
     refusal: LineRefusal,
@@ -146,9 +135,14 @@ fn write_refusal<E: Write>(
     faults: &mut E,
 ) -> io::Result<()> {
     if let LineRefusal::Store(Refusal::Unreadable(damage)) = refusal {
+        let also = if damage == Damage::Directory {
+            UPGRADED
+        } else {
+            ""
+        };
         return writeln!(
             faults,
-            "sctd: {store}: the store is damaged: {damage}; restore your copy"
+            "sctd: {store}: the store is damaged: {damage}; restore your copy{also}"
         );
     }
     let code = usize::from(refusal.code());

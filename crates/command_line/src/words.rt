@@ -1,19 +1,18 @@
 //! Parses the command line.
 
-ghost use Rattle.std.specs.Prelude.{◌≡◌, ◌↔◌, true, Some, IfOk, IfErr, IfSome, map, codes};
+ghost use Rattle.std.specs.Prelude.{◌≡◌, ◌↔◌, true, IfOk, IfErr, IfSome, map, codes};
 ghost use Rattle.std.specs.Prelude.{string_bytes};
 ghost use Rattle.clap.specs.Matches.{found_of};
 ghost use Rattle.clap.specs.Simple.{new_app, subcommand_rows_of};
-ghost use Rattle.clap.specs.Walk.{first_of, rows_of};
-ghost use Rattle.command_line.specs.Words.{IsImportOf, IsInitOf, Reads, AskFor, AskForNone};
-ghost use Rattle.command_line.specs.Words.{AreImports, IsCopyTaskOf, IsDigestTaskOf, IsGivenFlag};
+ghost use Rattle.clap.specs.Walk.{rows_of};
+ghost use Rattle.command_line.specs.Words.{IsAction, IsWork, IsNumber, Reads};
+ghost use Rattle.command_line.specs.Words.{AskFor, AskForNone, IsGivenFlag, IsLayout};
 ghost use Rattle.command_line.specs.Private.{IsArgument, IsCommand};
 ghost use Rattle.command_line.specs.Words.{wanted, option, optional, flag, segments_option};
 ghost use Rattle.command_line.specs.Words.{init_command, import_command, serve_command};
-ghost use Rattle.command_line.specs.Words.{status_command, merge_command, upgrade_command};
-ghost use Rattle.command_line.specs.Words.{demo_command, layout_option, copy_command};
-ghost use Rattle.command_line.specs.Words.{digest_command, imports_option};
-ghost use Rattle.directory.specs.Listings.{number_of};
+ghost use Rattle.command_line.specs.Words.{status_command, merge_command, demo_command};
+ghost use Rattle.command_line.specs.Words.{layout_option, copy_layout_option};
+ghost use Rattle.command_line.specs.Words.{copy_command, digest_command, imports_option};
 ghost use Rattle.command_line.specs.Words.{empty_program, program};
 
 use crate::helps;
@@ -23,23 +22,43 @@ use clap::error::ErrorKind;
 use clap::{Arg, ArgAction, ArgMatches, Command, Error};
 use directory::Layout;
 use std::alloc::{AllocError, Global};
-use std::num::ParseIntError;
 
-/// The version of the program, and the layout versions of stores that it opens.
-const VERSION: &str = "1.0.0, opens layout versions 1, 2 and 3";
+/// The version of the program, and the layouts of stores that it opens.
+const VERSION: &str = "1.0.0, opens layouts 1, 2 and 3";
 
 /// A task of the program.
 #[derive(Clone, Copy, Debug, PartialEq, Eq)]
 pub enum Task<'a> {
-    /// Make a store of this layout version in a file.
+    /// Do this with the file of a store.
+    At { store: &'a str, action: Action<'a> },
+    /// Answer the lines of a script, with a store in memory.
+    Demo,
+}
+
+/// What is done with the file of a store.
+#[derive(Clone, Copy, Debug, PartialEq, Eq)]
+pub enum Action<'a> {
+    /// Make a store of this layout in it.
     Init {
-        store: &'a str,
         layout: Layout,
     },
+    /// Copy the first imports of the store, or all if no number is given, to a new file, in this
+    /// layout, or in the store's if none is given.
+    Copy {
+        to: &'a str,
+        imports: Option<u32>,
+        layout: Option<Layout>,
+    },
+    /// Open the store, and do this work.
+    Use(Work<'a>),
+}
+
+/// What is done with an open store.
+#[derive(Clone, Copy, Debug, PartialEq, Eq)]
+pub enum Work<'a> {
     /// Import the release in the folder `name` below `releases`. If `quiet`, only print messages
     /// about what may be wrong.
     Import {
-        store: &'a str,
         releases: &'a str,
         name: &'a str,
         quiet: bool,
@@ -47,42 +66,24 @@ pub enum Task<'a> {
     /// Say what an import of the release in the folder `name` below `releases` would reply. If
     /// `quiet`, only print messages about what may be wrong.
     Check {
-        store: &'a str,
         releases: &'a str,
         name: &'a str,
         quiet: bool,
     },
     /// Answer the lines of the input. Releases are folders below `releases`.
     Serve {
-        store: &'a str,
         releases: &'a str,
     },
-    /// Write the numbers of imports, rows and segments of a store.
-    Status {
-        store: &'a str,
-    },
-    /// Merge segments until the store has at most this many.
+    /// Write the numbers of imports, rows and segments.
+    Status,
+    /// Merge segments until there are at most this many.
     Merge {
-        store: &'a str,
         segments: u32,
-    },
-    /// Copy the first imports of a store, or all if no number is given, to a new file.
-    Copy {
-        store: &'a str,
-        to: &'a str,
-        imports: Option<u32>,
     },
     /// Write the digest of the rows that the first imports brought, or all if no number is given.
     Digest {
-        store: &'a str,
         imports: Option<u32>,
     },
-    /// Upgrade a store to version 3.
-    Upgrade {
-        store: &'a str,
-    },
-    /// Answer the lines of a script, with a store in memory.
-    Demo,
 }
 
 /// Why there is no task.
@@ -226,16 +227,28 @@ fn imports<'a>(alloc: Global) -> Arg<'a>
         .action(ArgAction::Set)
 }
 
-/// The option for the layout version of a new store.
+/// The option for the layout of a new store.
 fn layout<'a>(alloc: Global) -> Arg<'a>
     ensures { IsArgument layout_option result }
 {
     Arg::new(alloc, "layout")
         .long("layout")
         .value_name("N")
-        .help("The version of the store's layout: 2, or 3 for checksums and all reference sets")
+        .help("The store's layout: 3, or 2 without checksums, text definitions and members")
         .value_parser(ValueParser::Unsigned(2, 3))
-        .default_value("2")
+        .default_value("3")
+        .action(ArgAction::Set)
+}
+
+/// The option for the layout of a copy.
+fn copy_layout<'a>(alloc: Global) -> Arg<'a>
+    ensures { IsArgument copy_layout_option result }
+{
+    Arg::new(alloc, "layout")
+        .long("layout")
+        .value_name("N")
+        .help("The copy's layout, 2 or 3, not below the store's; the store's if it isn't given")
+        .value_parser(ValueParser::Unsigned(2, 3))
         .action(ArgAction::Set)
 }
 
@@ -300,7 +313,8 @@ fn copy<'a>(alloc: Global) -> Result<Command<'a>, AllocError>
     new_command(alloc, "copy", about, helps::COPY)
         .arg(store(alloc))?
         .arg(to(alloc))?
-        .arg(imports(alloc))
+        .arg(imports(alloc))?
+        .arg(copy_layout(alloc))
 }
 
 fn digest<'a>(alloc: Global) -> Result<Command<'a>, AllocError>
@@ -310,14 +324,6 @@ fn digest<'a>(alloc: Global) -> Result<Command<'a>, AllocError>
     new_command(alloc, "digest", about, helps::DIGEST)
         .arg(store(alloc))?
         .arg(imports(alloc))
-}
-
-fn upgrade<'a>(alloc: Global) -> Result<Command<'a>, AllocError>
-    ensures { IfOk result (IsCommand upgrade_command) }
-{
-    let about =
-        "Brings a store to layout version 3: checksums, all reference sets, and no way back";
-    new_command(alloc, "upgrade", about, helps::UPGRADE).arg(store(alloc))
 }
 
 fn demo<'a>(alloc: Global) -> Command<'a>
@@ -352,7 +358,6 @@ fn commands<'a>(alloc: Global) -> Result<Command<'a>, AllocError>
         .subcommand(merge(alloc)?)?
         .subcommand(copy(alloc)?)?
         .subcommand(digest(alloc)?)?
-        .subcommand(upgrade(alloc)?)?
         .subcommand(demo(alloc))
 }
 
@@ -360,77 +365,70 @@ fn commands<'a>(alloc: Global) -> Result<Command<'a>, AllocError>
 fn task_in<'a>(matches: &ArgMatches<'a>) -> Option<Task<'a>>
     ensures { IfSome result (Reads (subcommand_rows_of matches.now)) }
 {
-    let (name, found) = matches.subcommand()?;
-    match name {
-        "init" => init_of(found),
+    let (command, found) = matches.subcommand()?;
+    if command == "demo" {
+        return Some(Task::Demo);
+    }
+    let store = found.get_str("store")?;
+    let action = action_in(command, found)?;
+    Some(Task::At { store, action })
+}
+
+/// What the command with this name does with the file of a store.
+fn action_in<'a>(command: &str, found: &ArgMatches<'a>) -> Option<Action<'a>>
+    ensures { IfSome result (IsAction command.now (rows_of (found_of found.now))) }
+{
+    match command {
+        "init" => Some(Action::Init {
+            layout: layout_of(found)??,
+        }),
+        "copy" => Some(Action::Copy {
+            to: found.get_str("to")?,
+            imports: number_of(found, "imports")?,
+            layout: layout_of(found)?,
+        }),
+        _ => {
+            let work = work_in(command, found)?;
+            Some(Action::Use(work))
+        }
+    }
+}
+
+/// What the command with this name does with an open store.
+fn work_in<'a>(command: &str, found: &ArgMatches<'a>) -> Option<Work<'a>>
+    ensures { IfSome result (IsWork command.now (rows_of (found_of found.now))) }
+{
+    match command {
         "import" => import_of(found),
-        "serve" => Some(Task::Serve {
-            store: found.get_str("store")?,
+        "serve" => Some(Work::Serve {
             releases: found.get_str("releases")?,
         }),
-        "status" => Some(Task::Status {
-            store: found.get_str("store")?,
+        "status" => Some(Work::Status),
+        "merge" => Some(Work::Merge {
+            segments: number_of(found, "segments")??,
         }),
-        "merge" => {
-            let store = found.get_str("store")?;
-            match found.get_str("segments")?.parse() {
-                Ok(segments) => Some(Task::Merge { store, segments }),
-                Err(_) => None,
-            }
-        }
-        "copy" => copy_of(found),
-        "digest" => digest_of(found),
-        "upgrade" => Some(Task::Upgrade {
-            store: found.get_str("store")?,
+        "digest" => Some(Work::Digest {
+            imports: number_of(found, "imports")?,
         }),
-        "demo" => Some(Task::Demo),
         _ => None,
     }
 }
 
-/// The task of `init`.
-fn init_of<'a>(found: &ArgMatches<'a>) -> Option<Task<'a>>
-    ensures { IfSome result (IsInitOf (rows_of (found_of found.now))) }
+/// An import, or the check of a release. If no folder of releases is given, it is the one that
+/// contains the release's folder.
+fn import_of<'a>(found: &ArgMatches<'a>) -> Option<Work<'a>>
+    ensures { IfSome result (IsWork (codes "import") (rows_of (found_of found.now))) }
 {
-    let store = found.get_str("store")?;
-    match found.get_str("layout")?.parse() {
-        Ok(number) => {
-            let layout = layout_with(number)?;
-            Some(Task::Init { store, layout })
-        }
-        Err(_) => None,
-    }
-}
-
-/// The layout version with this number, if stores can be made in it.
-fn layout_with(number: u32) -> Option<Layout>
-    ensures { IfSome result (λ layout. number_of layout ≡ number) }
-{
-    match number {
-        2 => Some(Layout::Two),
-        3 => Some(Layout::Three),
-        _ => None,
-    }
-}
-
-/// The task of `import`: an import, or the check of a release. If no folder of releases is given,
-/// it is the one that contains the release's folder.
-fn import_of<'a>(found: &ArgMatches<'a>) -> Option<Task<'a>>
-    ensures { IfSome result (IsImportOf (rows_of (found_of found.now))) }
-{
-    let store = found.get_str("store")?;
     let (releases, name) = folder_and_name(found.get_str("releases"), found.get_str("name")?);
     let quiet = is_set(found, "quiet");
     if is_set(found, "check") {
-        Some(Task::Check {
-            store,
+        Some(Work::Check {
             releases,
             name,
             quiet,
         })
     } else {
-        Some(Task::Import {
-            store,
+        Some(Work::Import {
             releases,
             name,
             quiet,
@@ -438,36 +436,28 @@ fn import_of<'a>(found: &ArgMatches<'a>) -> Option<Task<'a>>
     }
 }
 
-/// The task of `copy`.
-fn copy_of<'a>(found: &ArgMatches<'a>) -> Option<Task<'a>>
-    ensures { IfSome result (IsCopyTaskOf (rows_of (found_of found.now))) }
+/// The given number, if there is one. Nothing if what was given is no number of 32 bits.
+fn number_of(found: &ArgMatches<'_>, id: &str) -> Option<Option<u32>>
+    ensures { IfSome result (IsNumber id.now (rows_of (found_of found.now))) }
 {
-    let store = found.get_str("store")?;
-    let to = found.get_str("to")?;
-    match imports_of(found) {
-        Ok(imports) => Some(Task::Copy { store, to, imports }),
-        Err(_) => None,
+    match found.get_str(id) {
+        Some(text) => match text.parse() {
+            Ok(number) => Some(Some(number)),
+            Err(_) => None,
+        },
+        None => Some(None),
     }
 }
 
-/// The task of `digest`.
-fn digest_of<'a>(found: &ArgMatches<'a>) -> Option<Task<'a>>
-    ensures { IfSome result (IsDigestTaskOf (rows_of (found_of found.now))) }
+/// The given layout, if there is one. Nothing if stores can't be made in what was given.
+fn layout_of(found: &ArgMatches<'_>) -> Option<Option<Layout>>
+    ensures { IfSome result (IsLayout (rows_of (found_of found.now))) }
 {
-    let store = found.get_str("store")?;
-    match imports_of(found) {
-        Ok(imports) => Some(Task::Digest { store, imports }),
-        Err(_) => None,
-    }
-}
-
-/// The given number of imports, if there is one.
-fn imports_of(found: &ArgMatches<'_>) -> Result<Option<u32>, ParseIntError>
-    ensures { IfOk result (AreImports (rows_of (found_of found.now))) }
-{
-    match found.get_str("imports") {
-        Some(text) => Ok(Some(text.parse()?)),
-        None => Ok(None),
+    match number_of(found, "layout")? {
+        Some(2) => Some(Some(Layout::Two)),
+        Some(3) => Some(Some(Layout::Three)),
+        Some(_) => None,
+        None => Some(None),
     }
 }
 

@@ -1,7 +1,7 @@
 -- A byte of a block that was changed.
-use Rattle.std.proofs.Common.{◌≡◌, ◌≢◌, ◌⊎◌, inl, inr, ℕ, zero, suc, ◌+◌, ◌-◌, ◌<◌, List, [], ◌∷◌, ◌++◌, length, take, drop, get_or, refl, sym, ap, subst, ◌∙◌, arith}
+use Rattle.std.proofs.Common.{◌≡◌, ◌≢◌, ◌⊎◌, inl, inr, ℕ, zero, suc, ◌+◌, ◌-◌, ◌<◌, List, [], ◌∷◌, ◌++◌, length, take, drop, replicate, get_or, refl, sym, ap, subst, ◌∙◌, arith}
 use Rattle.std.specs.Int.{w32, w64, to_be_bytes}
-use Rattle.std.specs.List.{AllByRecursion}
+use Rattle.std.specs.List.{AllByRecursion, flat_map}
 use Rattle.std.proofs.lemmas.Bool.{cases_lt, cases_eq}
 use Rattle.std.proofs.lemmas.List.{append_cancel_left, get_or-drop, get_or-take, take-append-le, drop-append-le}
 use Rattle.list_lemmas.proofs.Each.{each_of_parts, each_of_both, each_of_taken}
@@ -10,8 +10,8 @@ use Rattle.checksum.specs.Crc32c.{crc32c}
 use Rattle.checksum.proofs.ChecksumLaws.{is_number_of_32_bits, one_byte_is_noticed}
 use Rattle.directory.specs.declared.layout.Layout.{Layout}
 use Rattle.directory.specs.declared.layout.Layout.TheVariants as layouts
-use Rattle.directory.specs.Listings.{DirectoryValue, RisesTo}
-use Rattle.directory.specs.Content.{HasMark, HasOlderMark, HasSum, Lists, MayPrecede, ChangedByteIsNoticed, ChangedByteMayNotPrecede, ListedMayPrecede, mark, sum_of}
+use Rattle.directory.specs.Listings.{DirectoryValue, next_layout}
+use Rattle.directory.specs.Content.{HasEpoch, HasMark, HasOlderMark, HasSum, Lists, MayPrecede, ChangedByteIsNoticed, ChangedByteMayNotPrecede, ListedMayPrecede, entry_bytes, listing_bytes, mark, sum_of}
 use Rattle.directory.proofs.Spelled.{block_is, header_fields, one_mark, same_4}
 
 pub same_at : (before after : List ℕ) (b c i : ℕ) → i ≢ length before → get_or (before ++ b ∷ after) i 0 ≡ get_or (before ++ c ∷ after) i 0
@@ -118,13 +118,13 @@ module _ (before after : List ℕ) (byte changed : ℕ) (all : AllByRecursion (�
   still_marked : length before < 8 → HasMark layouts.Three (before ++ changed ∷ after)
   still_marked short = ap (take 8) (sym (drop_beyond 8 before after byte changed short)) ∙ marks
 
-  pub may_not_precede : (layout : Layout) → (layout ≡ layouts.Three) ⊎ (length before < 8) → MayPrecede layout (before ++ changed ∷ after) → byte ≡ changed
-  may_not_precede layouts.One (inl three) may = absurd cc
-  may_not_precede layouts.One (inr short) may = absurd (may (still_marked short))
-  may_not_precede layouts.Two (inl three) may = absurd cc
-  may_not_precede layouts.Two (inr short) may = absurd (may (still_marked short))
-  may_not_precede layouts.Three how (inl older) = absurd (not_older_marked older)
-  may_not_precede layouts.Three how (inr other) = by_sum before after byte changed all small sum other
+  pub may_not_precede : (layout : Layout) (epoch : ℕ) → (layout ≡ layouts.Three) ⊎ (length before < 8) → MayPrecede layout epoch (before ++ changed ∷ after) → byte ≡ changed
+  may_not_precede layouts.One epoch (inl three) may = absurd cc
+  may_not_precede layouts.One epoch (inr short) may = absurd (may (still_marked short))
+  may_not_precede layouts.Two epoch (inl three) may = absurd cc
+  may_not_precede layouts.Two epoch (inr short) may = absurd (may (still_marked short))
+  may_not_precede layouts.Three epoch how (at, inl older) = absurd (not_older_marked older)
+  may_not_precede layouts.Three epoch how (at, inr other) = by_sum before after byte changed all small sum other
 
 pub changed_byte_is_noticed : ChangedByteIsNoticed
 changed_byte_is_noticed d e before after byte changed all small long three is others =
@@ -134,23 +134,27 @@ changed_byte_is_noticed d e before after byte changed all small long three is ot
     e.layout (marked (before ++ changed ∷ after) e others) others.sum
 
 pub changed_byte_may_not_precede : ChangedByteMayNotPrecede
-changed_byte_may_not_precede layout before after byte changed all small marks sum how may = may_not_precede before after byte changed all small marks sum layout how may
+changed_byte_may_not_precede layout epoch before after byte changed all small marks sum how may = may_not_precede before after byte changed all small marks sum layout epoch how may
 
 -- ---- what may precede
 
 pub not_three : (old : Layout) (block : List ℕ) → (old ≡ layouts.Three → ⊥) → HasMark old block → HasMark layouts.Three block → ⊥
 not_three old block other has three = other (one_mark old layouts.Three (sym has ∙ three))
 
-precedes : (old new : Layout) (block : List ℕ) → HasMark old block → HasSum old block → RisesTo old new → MayPrecede new block
-precedes layouts.One layouts.One block has sum rises = not_three layouts.One block (λ e. cc) has
-precedes layouts.Two layouts.One block has sum rises = not_three layouts.Two block (λ e. cc) has
-precedes layouts.Three layouts.One block has sum rises = elim rises [ inl next ↦ absurd cc | inr three ↦ absurd cc ]
-precedes layouts.One layouts.Two block has sum rises = not_three layouts.One block (λ e. cc) has
-precedes layouts.Two layouts.Two block has sum rises = not_three layouts.Two block (λ e. cc) has
-precedes layouts.Three layouts.Two block has sum rises = elim rises [ inl next ↦ absurd cc | inr three ↦ absurd cc ]
-precedes layouts.One layouts.Three block has sum rises = inl (inl has)
-precedes layouts.Two layouts.Three block has sum rises = inl (inr has)
-precedes layouts.Three layouts.Three block has sum rises = inr sum
+epoch_is : (epoch : ℕ) (rest : List ℕ) → take 8 (to_be_bytes w64 epoch ++ rest) ≡ to_be_bytes w64 epoch
+epoch_is epoch rest = refl
+
+pub has_epoch : (block : List ℕ) (d : DirectoryValue) → Lists block d → HasEpoch d.epoch block
+has_epoch block d lists =
+    ap (take 8) (block_is block d lists ∙ header_fields d.layout d.epoch d.imports (length d.entries) (flat_map entry_bytes d.entries ++ drop (length (listing_bytes d)) block)) ∙ epoch_is d.epoch (mark d.layout ++ (to_be_bytes w32 d.imports ++ (to_be_bytes w32 (length d.entries) ++ (replicate 8 0 ++ (flat_map entry_bytes d.entries ++ drop (length (listing_bytes d)) block)))))
+
+one_less : (n : ℕ) → (n + 1) - 1 ≡ n
+one_less n = omega arith
+
+precedes : (layout : Layout) (epoch : ℕ) (block : List ℕ) → HasMark layout block → HasSum layout block → HasEpoch epoch block → MayPrecede (next_layout layout) (epoch + 1) block
+precedes layouts.One epoch block has sum at = not_three layouts.One block (λ e. cc) has
+precedes layouts.Two epoch block has sum at = not_three layouts.Two block (λ e. cc) has
+precedes layouts.Three epoch block has sum at = (subst (λ n. HasEpoch n block) (sym (one_less epoch)) at, inr sum)
 
 pub listed_may_precede : ListedMayPrecede
-listed_may_precede block d layout lists rises = precedes d.layout layout block (marked block d lists) lists.sum rises
+listed_may_precede block d lists = precedes d.layout d.epoch block (marked block d lists) lists.sum (has_epoch block d lists)

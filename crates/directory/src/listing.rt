@@ -53,8 +53,8 @@ pub enum DirectoryFault {
     #[error("out of memory")]
     OutOfMemory,
     /// Epoch 0; an unknown mark; a non-zero byte in the last eight of the header; more entries than
-    /// the version allows; an entry without bytes or rows, in the slots, past the last block, or of
-    /// a form that is unknown or not allowed in the version; two entries that share a block; or, in
+    /// the version allows; an entry without bytes or rows, in the slots, past the last block, or
+    /// whose records aren't in the form of the version; two entries that share a block; or, in
     /// version 3, a wrong checksum.
     #[error("the block lists no directory")]
     BadDirectory,
@@ -72,7 +72,6 @@ impl From<AllocError> for DirectoryFault {
 }
 
 impl Directory {
-    ghost use Rattle.directory.specs.declared.layout.Layout.TheVariants as layouts;
     ghost use Rattle.directory.specs.Listings.{DirectoryValue, IsListing, empty_listing};
     ghost use Rattle.directory.specs.Listings.{next_layout, number_of};
     ghost use Rattle.directory.specs.Listings.{with_entry, with_two_replaced, with_two_back};
@@ -182,13 +181,6 @@ impl Directory {
         ensures { self.new ≡ record self.old { layout = next_layout self.old.layout } }
     {
         self.layout = self.layout.next();
-    }
-
-    /// Sets the layout version to 3. The epoch is unchanged.
-    pub fn upgrade_to_three(&mut self)
-        ensures { self.new ≡ record self.old { layout = layouts.Three } }
-    {
-        self.layout = Layout::Three;
     }
 
     /// The number of its publication: 1 for a new store, and one more for each later publication.

@@ -1,7 +1,7 @@
 //! The block of a directory that may have been published before another one.
 
 ghost use Rattle.std.specs.Prelude.{◌≡◌, ◌↔◌, length, IsTrue};
-ghost use Rattle.directory.specs.Content.{HasMark, HasOlderMark, MayPrecede};
+ghost use Rattle.directory.specs.Content.{HasEpoch, HasMark, HasOlderMark, MayPrecede};
 
 use crate::decoding::has_sum;
 use crate::layout::Layout;
@@ -22,14 +22,26 @@ fn has_older_mark(block: &[u8; 4096]) -> bool
     has_mark(Layout::One, block) || has_mark(Layout::Two, block)
 }
 
-/// Whether the block may be that of a directory which was published before one of this version. For
-/// a directory of version 3 it has to have a checksum, or the mark of a version without. For an
-/// older one it must not be of version 3, since the version never falls.
-pub fn may_precede(layout: Layout, block: &[u8; 4096]) -> bool
-    ensures { IsTrue result ↔ MayPrecede layout block.now }
+/// Whether the block has this epoch.
+fn has_epoch(epoch: u64, block: &[u8; 4096]) -> bool
+    requires { length block.now ≡ 4096 }
+    ensures { IsTrue result ↔ HasEpoch epoch block.now }
+{
+    &block[..8] == epoch.to_be_bytes().as_slice()
+}
+
+/// Whether the block may be that of the directory which was published before one of this version
+/// and epoch. For a directory of version 3 it has to have the epoch before, and a checksum, or the
+/// mark of a version without. For an older one it must not be of version 3, since the version never
+/// falls.
+pub fn may_precede(layout: Layout, epoch: u64, block: &[u8; 4096]) -> bool
+    ensures { IsTrue result ↔ MayPrecede layout epoch block.now }
 {
     match layout {
         Layout::One | Layout::Two => !has_mark(Layout::Three, block),
-        Layout::Three => has_older_mark(block) || has_sum(layout, block),
+        Layout::Three => {
+            has_epoch(epoch.saturating_sub(1), block)
+                && (has_older_mark(block) || has_sum(layout, block))
+        }
     }
 }

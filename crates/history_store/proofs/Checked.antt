@@ -1,5 +1,5 @@
 -- What the check of a release answers, and what it leaves.
-use Rattle.std.proofs.Common.{◌≡◌, ◌↔◌, ℕ, ◌+◌, Bool, false, IsTrue, List, length, Result, Ok, Err, refl, sym, ap, subst, ◌∙◌}
+use Rattle.std.proofs.Common.{◌≡◌, ◌≢◌, ◌↔◌, ℕ, ◌+◌, Bool, false, IsTrue, List, length, Result, Ok, Err, inl, inr, refl, sym, ap, subst, ◌∙◌}
 use Rattle.std.proofs.lemmas.Bool.{false≢true}
 use Rattle.disk_model.specs.View.{DiskView}
 use Rattle.disk_model.specs.Disk.{Moments, EachImage}
@@ -8,7 +8,10 @@ use Rattle.history_model.specs.declared.stamped.StampedRow.{StampedRow}
 use Rattle.history_model.specs.History.{History, IsHistory, full, stamped, after_release}
 use Rattle.import_check.specs.declared.release.Release.{Release}
 use Rattle.import_check.specs.declared.found.NewRows.{NewRows}
-use Rattle.import_check.specs.NewRows.{IsRefusal, IsAcceptedAs, BringsByKey}
+use Rattle.import_check.specs.NewRows.{IsRefusal, IsRefusalByKey, IsRead, IsAcceptedAs, BringsByKey}
+use Rattle.import_check.specs.Release.{IsReleaseOf}
+use Rattle.history_model.specs.InOrder.{joined}
+use Rattle.fault_counts.specs.declared.fault.ReadFault.{ReadFault}
 use Rattle.import_check.specs.declared.fault.ImportFault.{ImportFault}
 use Rattle.import_check.specs.declared.fault.ImportFault.TheVariants as importfault
 use Rattle.fault_counts.specs.declared.fault.ReadFault.TheVariants as readfault
@@ -22,7 +25,7 @@ use Rattle.history_store.specs.StoreValue.{StoreValue, IsAcknowledged}
 use Rattle.history_store.specs.Prepared.{IsNotSpent, IsForLater, IsAdmitted}
 use Rattle.history_store.specs.Meters.{IsMeteredReading}
 use Rattle.store_image.specs.Images.{Represents}
-use Rattle.history_store.specs.Answers.{Counts, CountsRefusal, IsRefusedFor, IsNotTaken, IsNotTakenByKey, IsRefused, IsStill}
+use Rattle.history_store.specs.Answers.{Counts, CountsRefusal, IsRefusedFor, IsNotTaken, IsNotTakenByKey, WouldBeTakenByKey, ReadsStored, IsRefused, IsStill, IsImportOnAnyDisk}
 use Rattle.history_store.specs.Refusals.{refusal_of}
 use Rattle.history_store.specs.Private.Answers.{IsNotFresh}
 use Rattle.history_store.specs.Checking.{IsChecking, IsCheckingOf, IsCheckingOnAnyDisk}
@@ -54,15 +57,21 @@ module _ {D : Type 0} (honest : Type 0) (s : StoreValue D) (release : Release) (
     each (importfault.Row file line fault) refused = (still, (admits, refused))
     each (importfault.Contradiction file line key) refused = (still, (admits, (key, refused.1 up)))
 
-  pub not_fresh_at_all : (e : Refusal) → IsNotFresh honest e (full s.history) release → IsRefusedFor (IsNotTakenByKey s.history s.catalog release) e s
-  not_fresh_at_all e why = subst (λ (x : Refusal). IsRefusedFor (IsNotTakenByKey s.history s.catalog release) x s) (sym why.1) (each why.0 why.2) where
-    each : (fault : ImportFault) → IsRefusal honest (full s.history) release fault → IsRefusedFor (IsNotTakenByKey s.history s.catalog release) (refusal_of fault) s
-    each importfault.OutOfMemory refused = (still, admits)
-    each (importfault.Known readfault.OutOfMemory) refused = (still, admits)
-    each (importfault.Known readfault.DiskFault) refused = (still, (admits, refused.0))
-    each (importfault.Known readfault.Damaged) refused = (still, (admits, refused.0))
-    each (importfault.Row file line fault) refused = (still, (admits, refused))
-    each (importfault.Contradiction file line key) refused = (still, (admits, refused.0))
+  -- a stored row couldn't be read, and so one has the key of a line
+  reads_stored : (fault : ReadFault) → fault ≢ readfault.OutOfMemory → IsRead release → IsRefusalByKey (full s.history) release (importfault.Known fault) → ReadsStored s.history release
+  reads_stored fault other read by_key =
+      let are : IsReleaseOf release (joined read.lists) = record { lists = read.lists; spelled = read.spelled; rows_are = refl } in
+      record { rows = joined read.lists; rows_are = are; stored = λ none. other (by_key (joined read.lists) are none) }
+
+  pub not_fresh_at_all : (Writes : Type 0) (e : Refusal) → IsNotFresh honest e (full s.history) release → IsRefusedFor (IsNotTakenByKey Writes s.history s.catalog release) e s
+  not_fresh_at_all Writes e why = subst (λ (x : Refusal). IsRefusedFor (IsNotTakenByKey Writes s.history s.catalog release) x s) (sym why.1) (each why.0 why.2 why.3) where
+    each : (fault : ImportFault) → IsRefusal honest (full s.history) release fault → IsRefusalByKey (full s.history) release fault → IsRefusedFor (IsNotTakenByKey Writes s.history s.catalog release) (refusal_of fault) s
+    each importfault.OutOfMemory refused by_key = (still, admits)
+    each (importfault.Known readfault.OutOfMemory) refused by_key = (still, admits)
+    each (importfault.Known readfault.DiskFault) refused by_key = (still, (admits, inl (reads_stored readfault.DiskFault (λ same. absurd (cc)) refused.0 by_key)))
+    each (importfault.Known readfault.Damaged) refused by_key = (still, (admits, reads_stored readfault.Damaged (λ same. absurd (cc)) refused.0 by_key))
+    each (importfault.Row file line fault) refused by_key = (still, (admits, refused))
+    each (importfault.Contradiction file line key) refused by_key = (still, (admits, (key, by_key)))
 
 -- ---- what is ready
 
@@ -125,6 +134,25 @@ module _ {D : Type 0} (honest : Type 0) (s : StoreValue D) (release : Release) (
         subst (λ receipt. IsCheckingOnAnyDisk (Ok receipt) old s release) (sym is.receipt_is)
         ((after, next.0, taken_by_key old old s release is.fresh after next.0 (s.history.imports + 1) (length is.fresh.rows.items) refl room_ready still brings_ready refl next.1 refl refl), still)
 
+-- ---- an import that is refused
+
+-- as the check of it was
+pub kept_early : {D : Type 0} (release : Release) (e : Refusal) (old new : StoreValue D) → IsCheckingOnAnyDisk (Err e) old new release → IsImportOnAnyDisk (Err e) old new release
+kept_early {D} release e old new checked = (each e checked.0, checked.1) where
+  each : (e : Refusal) → IsRefusedFor (IsNotTakenByKey ⊥ old.history old.catalog release) e old → IsRefusedFor (IsNotTakenByKey (WouldBeTakenByKey old.history old.catalog release) old.history old.catalog release) e old
+  each refusals.DiskFault why = (why.0, (why.1.0, elim why.1.1 [ inl stored ↦ inl stored | inr none ↦ absurd none ]))
+  each _ why = why
+
+-- after the check of it, because the disk failed
+pub kept_failed : {D : Type 0} (release : Release) (receipt : Receipt) (e : Refusal) (old mid new : StoreValue D) → IsCheckingOnAnyDisk (Ok receipt) old mid release → e ≡ refusals.DiskFault → IsRefused e mid new → IsImportOnAnyDisk (Err e) old new release
+kept_failed {D} release receipt e old mid new checked is refused =
+    let t = checked.0.2 in
+    let still = checked.1 in
+    let writes : WouldBeTakenByKey old.history old.catalog release = record { room = t.room; fresh = t.fresh; brings = t.brings; next = checked.0.1; catalog_is = t.catalog_is } in (
+      subst (λ x. IsRefusedFor (IsNotTakenByKey (WouldBeTakenByKey old.history old.catalog release) old.history old.catalog release) x old) (sym is) (still.open_before, (t.room, inr writes)),
+      record { history = refused.history ∙ still.history; catalog = refused.catalog ∙ still.catalog; closed = refused.closed; still = λ other. refused.still other ∙ still.open_still ∙ sym still.open_before },
+    )
+
 -- ---- a check that has read the known rows
 
 -- the same reading, with another result
@@ -164,7 +192,7 @@ module _ {D : Type 0} (view : D → DiskView) (old mid : StoreValue D) (release 
       let Stands : Moments → History → Catalog → Type 0 = λ m h x. EachImage m.state (λ c. Represents c h x.layout x.epoch x.entries) in
       record {
         answer = λ up. (not_fresh (view old.disk).is_honest old release still here e why up, refused);
-        kept = (not_fresh_at_all (view old.disk).is_honest old release still here e why, refused);
+        kept = (not_fresh_at_all (view old.disk).is_honest old release still here ⊥ e why, refused);
         closed = λ closed. absurd (false≢true (sym still ∙ closed));
         later = λ later. absurd (here.version later);
         acknowledged = λ up open_still. record {

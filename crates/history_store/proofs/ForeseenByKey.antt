@@ -19,7 +19,7 @@ use Rattle.history_store.specs.declared.refusal.Refusal.TheVariants as refusals
 use Rattle.history_store.specs.Catalog.{Catalog, HasNoEntry, HasNoPlace}
 use Rattle.history_store.specs.StoreValue.{StoreValue, last_import, last_epoch}
 use Rattle.history_store.specs.Prepared.{IsNotSpent, IsForLater, IsAdmitted}
-use Rattle.history_store.specs.Answers.{IsTakenByKey, IsNotTakenByKey, LacksByKey, IsRefusedFor, IsImportOnAnyDisk}
+use Rattle.history_store.specs.Answers.{IsTakenByKey, IsNotTakenByKey, LacksByKey, IsRefusedFor, IsImportOnAnyDisk, WouldBeTakenByKey}
 use Rattle.history_store.specs.Checking.{DependsOnReading, CheckedIsImportedOnAnyDisk}
 use Rattle.history_store.proofs.Foreseen.{not_both, was_read, has_entry, has_place}
 
@@ -108,18 +108,18 @@ module _ (h : History) (catalog : Catalog) (release : Release) where
 abbrev Cause : {D : Type 0} → StoreValue D → Release → Refusal → Type 0
 Cause s release e = ((e ≡ refusals.ReopenNeeded) × (s.needs_reopen ≡ true)) ⊎ ((s.needs_reopen ≡ false) × (IsOutByKey e s.history s.catalog release ⊎ DependsOnReading (Err e)))
 
-cause : {D : Type 0} (s : StoreValue D) (release : Release) (e : Refusal) → IsRefusedFor (IsNotTakenByKey s.history s.catalog release) e s → Cause s release e
-cause s release refusals.ReopenNeeded why = inl (refl, why)
-cause s release refusals.CountSpent why = inr (why.0, inl why.1)
-cause s release refusals.LaterVersion why = inr (why.0, inl why.1)
-cause s release (refusals.Line file line fault) why = inr (why.0, inl why.1)
-cause s release refusals.TooManySegments why = inr (why.0, inl why.1)
-cause s release refusals.Full why = inr (why.0, inl why.1)
-cause s release refusals.OutOfMemory why = inr (why.0, inr tt)
-cause s release refusals.DiskFault why = inr (why.0, inr tt)
-cause s release refusals.Damaged why = inr (why.0, inr tt)
-cause s release (refusals.Contradiction file line) why = inr (why.0, inr tt)
-cause s release _ why = absurd why.1
+cause : {D : Type 0} (Writes : Type 0) (s : StoreValue D) (release : Release) (e : Refusal) → IsRefusedFor (IsNotTakenByKey Writes s.history s.catalog release) e s → Cause s release e
+cause Writes s release refusals.ReopenNeeded why = inl (refl, why)
+cause Writes s release refusals.CountSpent why = inr (why.0, inl why.1)
+cause Writes s release refusals.LaterVersion why = inr (why.0, inl why.1)
+cause Writes s release (refusals.Line file line fault) why = inr (why.0, inl why.1)
+cause Writes s release refusals.TooManySegments why = inr (why.0, inl why.1)
+cause Writes s release refusals.Full why = inr (why.0, inl why.1)
+cause Writes s release refusals.OutOfMemory why = inr (why.0, inr tt)
+cause Writes s release refusals.DiskFault why = inr (why.0, inr tt)
+cause Writes s release refusals.Damaged why = inr (why.0, inr tt)
+cause Writes s release (refusals.Contradiction file line) why = inr (why.0, inr tt)
+cause Writes s release _ why = absurd why.1
 
 disk_or : (e : Refusal) → DependsOnReading (Err e) ⊎ (e ≡ refusals.DiskFault → ⊥)
 disk_or refusals.DiskFault = inl tt
@@ -132,7 +132,7 @@ module _ {D : Type 0} (checked new : StoreValue D) (release : Release) where
   -- behind a check on a closed store
   closed_then : checked.needs_reopen ≡ true → (result : Result Receipt Refusal) → IsImportOnAnyDisk result checked new release → IsForeseen (Err refusals.ReopenNeeded) result
   closed_then closed (Ok receipt) is = absurd (false≢true (sym is.1 ∙ closed))
-  closed_then closed (Err f) is = elim (cause checked release f is.0) [
+  closed_then closed (Err f) is = elim (cause (WouldBeTakenByKey checked.history checked.catalog release) checked release f is.0) [
     | inl again ↦ inl (ap Err again.0)
     | inr still ↦ absurd (false≢true (sym still.0 ∙ closed))
   ]
@@ -140,7 +140,7 @@ module _ {D : Type 0} (checked new : StoreValue D) (release : Release) where
   -- behind a check that was refused, whatever was read
   out_then : (e : Refusal) → checked.needs_reopen ≡ false → IsOutByKey e checked.history checked.catalog release → (result : Result Receipt Refusal) → IsImportOnAnyDisk result checked new release → IsForeseen (Err e) result
   out_then e still why (Ok receipt) is = absurd (none_out checked.history checked.catalog release new.history new.catalog receipt is.0 e why)
-  out_then e still why (Err f) is = elim (cause checked release f is.0) [
+  out_then e still why (Err f) is = elim (cause (WouldBeTakenByKey checked.history checked.catalog release) checked release f is.0) [
     | inl closed ↦ absurd (false≢true (sym still ∙ closed.1))
     | inr also ↦ elim also.1 [
       | inl other ↦ inl (ap Err (one_reason checked.history checked.catalog release e f why other))
@@ -151,7 +151,7 @@ module _ {D : Type 0} (checked new : StoreValue D) (release : Release) where
   -- behind a receipt
   taken_then : (after : History) (next : Catalog) (receipt : Receipt) → checked.needs_reopen ≡ false → IsTakenByKey checked.history after checked.catalog next release receipt → (result : Result Receipt Refusal) → IsImportOnAnyDisk result checked new release → IsForeseen (Ok receipt) result
   taken_then after next receipt still taken (Ok other) is = inl (ap Ok (one_receipt checked.history checked.catalog release after next receipt taken new.history new.catalog other is.0))
-  taken_then after next receipt still taken (Err f) is = elim (cause checked release f is.0) [
+  taken_then after next receipt still taken (Err f) is = elim (cause (WouldBeTakenByKey checked.history checked.catalog release) checked release f is.0) [
     | inl closed ↦ absurd (false≢true (sym still ∙ closed.1))
     | inr also ↦ elim also.1 [
       | inl out ↦ absurd (none_out checked.history checked.catalog release after next receipt taken f out)
@@ -166,7 +166,7 @@ checked_is_imported_on_any_disk {D} old checked new release (Ok receipt) result 
     taken_then checked new release is.0.0 is.0.1 receipt is.1.open_still taken result imported
 checked_is_imported_on_any_disk {D} old checked new release (Err e) result is imported = elim (disk_or e) [
   | inl read ↦ inr (inl read)
-  | inr other ↦ each (is.1.still other) (cause old release e is.0)
+  | inr other ↦ each (is.1.still other) (cause ⊥ old release e is.0)
 ] where
   each : checked.needs_reopen ≡ old.needs_reopen → Cause old release e → (result ≡ Err e) ⊎ (DependsOnReading (Err e) ⊎ DependsOnReading result)
   each same (inl closed) = subst (λ (x : Refusal). (result ≡ Err x) ⊎ (DependsOnReading (Err x) ⊎ DependsOnReading result)) (sym closed.0) (closed_then checked new release (same ∙ closed.1) result imported)

@@ -16,10 +16,12 @@ use Rattle.blocks.proofs.SlotFrames.{content_within}
 use Rattle.history_model.specs.declared.stamped.StampedRow.{StampedRow}
 use Rattle.history_model.specs.Lists.{union}
 use Rattle.directory.specs.declared.entry.Entry.{Entry}
-use Rattle.directory.specs.Listings.{DirectoryValue, HasForm, IsEntry, RisesTo, next_layout}
+use Rattle.directory.specs.declared.layout.Layout.{Layout}
+use Rattle.directory.specs.declared.layout.Layout.TheVariants as layouts
+use Rattle.directory.specs.Listings.{DirectoryValue, HasForm, IsEntry, form_in, form_of, next_layout}
+use Rattle.store_image.specs.Kept.{segment_with}
 use Rattle.directory.specs.Places.{AreBeside, extent_of, extents_of}
 use Rattle.directory.specs.Fit.{fit}
-use Rattle.directory.proofs.Adding.{form_risen}
 use Rattle.directory.proofs.Fitting.{fit_is_apart}
 use Rattle.segment.specs.Records.{segment_in, segment_of}
 use Rattle.segment.proofs.SegmentLaws.{length-segment_in}
@@ -36,8 +38,8 @@ use Rattle.segment_index.proofs.Built.{segment_within}
 
 module _ (d : DirectoryValue) (lists : List (List StampedRow)) (i j : ℕ) (entry : Entry) (output : OutputRows) (is : IsMergeOf d lists i j entry output) where
   -- what is written fits
-  pub written_fits : length (segment_in entry.form (taken_rows output)) ≤ entry.bytes
-  written_fits = omega (arith, length-segment_in entry.form (taken_rows output), segment_within output.taken (union output.a output.b), is.segment.bytes)
+  pub written_fits : length (segment_with entry (taken_rows output)) ≤ entry.bytes
+  written_fits = omega (arith, length-segment_in (form_in entry.sums) (taken_rows output), segment_within output.taken (union output.a output.b), is.segment.bytes)
 
 -- ---- what is written stays
 
@@ -54,7 +56,7 @@ outside_entry entry other i is is_other beside ge lt = elim (one_ends (extent_of
 written_published : (d : DirectoryValue) (lists : List (List StampedRow)) (merge : Option MergeInProgress) (slot : Slot) (old new : List ℕ) → IsMergingOf d lists merge → SameOutside (slot_range slot ∷ []) old new → IsWritten merge old → IsWritten merge new
 written_published d lists None slot old new is same written = tt
 written_published d lists (Some m) slot old new is same written =
-    begins_elsewhere (extent_of m.entry) (slot_range slot ∷ []) (segment_in m.entry.form (taken_rows m.output)) old new same
+    begins_elsewhere (extent_of m.entry) (slot_range slot ∷ []) (segment_with m.entry (taken_rows m.output)) old new same
     (λ i ge lt. All-cons (IsOutside i) (slot_range slot) [] (outside_slot m.entry slot i is.is_entry ge) (All-nil (IsOutside i))) written
 
 -- while a segment is added beside it
@@ -63,29 +65,38 @@ written_added : (d : DirectoryValue) (lists : List (List StampedRow)) (merge : O
 written_added d lists None other slot old new is is_other beside same written = tt
 written_added d lists (Some m) other slot old new is is_other beside same written =
     let fits = written_fits d lists m.i m.j m.entry m.output is in
-    begins_elsewhere (extent_of m.entry) (byte_range (extent_of other) ∷ slot_range slot ∷ []) (segment_in m.entry.form (taken_rows m.output)) old new same
+    begins_elsewhere (extent_of m.entry) (byte_range (extent_of other) ∷ slot_range slot ∷ []) (segment_with m.entry (taken_rows m.output)) old new same
     (λ i ge lt. All-cons (IsOutside i) (byte_range (extent_of other)) (slot_range slot ∷ []) (outside_entry m.entry other i is.is_entry is_other (beside m refl) ge (omega (arith, lt, fits)))
     (All-cons (IsOutside i) (slot_range slot) [] (outside_slot m.entry slot i is.is_entry ge) (All-nil (IsOutside i)))) written
 
 -- ---- it goes on beside the next directory
 
-pub merging_on : (d e : DirectoryValue) (lists : List (List StampedRow)) (merge : Option MergeInProgress) → e.entries ≡ d.entries → ((entry : Entry) → HasForm d.layout entry → HasForm e.layout entry) → IsMergingOf d lists merge → IsMergingOf e lists merge
-merging_on d e lists None same forms is = tt
-merging_on d e lists (Some m) same forms is = record {
+-- the form of the records stays
+form_stays : (layout : Layout) → form_of layout ≡ form_of (next_layout layout)
+form_stays layouts.One = refl
+form_stays layouts.Two = refl
+form_stays layouts.Three = refl
+
+form_risen : (d e : DirectoryValue) (entry : Entry) → e.layout ≡ next_layout d.layout → HasForm d.layout entry → HasForm e.layout entry
+form_risen d e entry version has = has ∙ form_stays d.layout ∙ ap form_of (sym version)
+
+pub merging_on : (d e : DirectoryValue) (lists : List (List StampedRow)) (merge : Option MergeInProgress) → e.entries ≡ d.entries → e.layout ≡ next_layout d.layout → IsMergingOf d lists merge → IsMergingOf e lists merge
+merging_on d e lists None same version is = tt
+merging_on d e lists (Some m) same version is = record {
   below = is.below;
   within = subst (λ (l : List Entry). m.j < length l) (sym same) is.within;
   a_is = is.a_is;
   b_is = is.b_is;
   segment = is.segment;
   is_entry = is.is_entry;
-  has_form = forms m.entry is.has_form;
+  has_form = form_risen d e m.entry version is.has_form;
   beside = subst (λ (l : List Entry). AllByRecursion (AreBeside (extent_of m.entry)) (extents_of l)) (sym same) is.beside;
 }
 
 -- a new segment shares no block with the extent that the merge reserves
-beside_reserved : (d : DirectoryValue) (merge : Option MergeInProgress) (rows : List StampedRow) (other : Entry) → IsPlacedAt d (merge_of merge) rows other → (m : MergeInProgress) → merge ≡ Some m → AreBeside (extent_of m.entry) (extent_of other)
+beside_reserved : (d : DirectoryValue) (merge : Option MergeInProgress) (rows : List StampedRow) (other : Entry) → IsPlacedAt d (merge_of merge) rows (extent_of other) → (m : MergeInProgress) → merge ≡ Some m → AreBeside (extent_of m.entry) (extent_of other)
 beside_reserved d merge rows other placed m same block in_reserved in_other =
-    let bytes : other.bytes ≡ length (segment_of rows) = ap (λ (x : Entry). x.bytes) placed.entry_is in
+    let bytes : other.bytes ≡ length (segment_of rows) = placed.bytes in
     let place : fit (block_count (extent_of other)) d.entries (reserved_by (merge_of merge)) ≡ Some other.first = ap (λ n. fit (div_ceil n 4096) d.entries (reserved_by (merge_of merge))) bytes ∙ placed.place in
     let all = (fit_is_apart (extent_of other) d.entries (reserved_by (merge_of merge)) place).0 in
     let P : Option MergeInProgress → Type 0 = λ o. AllByRecursion (AreBeside (extent_of other)) (extents_of d.entries ++ option_to_list (reserved_by (merge_of o))) in
@@ -109,7 +120,7 @@ merging_added d e lists more (Some m) other same version beside is = record {
   b_is = number_stays lists (more ∷ []) m.j m.output.b is.b_is;
   segment = is.segment;
   is_entry = is.is_entry;
-  has_form = form_risen d.layout e.layout m.entry (inl version) is.has_form;
+  has_form = form_risen d e m.entry version is.has_form;
   beside = subst (λ (l : List Entry). AllByRecursion (AreBeside (extent_of m.entry)) (extents_of l)) (sym same) (all_pushed (AreBeside (extent_of m.entry)) d.entries other is.beside (beside m refl));
 }
 
@@ -119,30 +130,33 @@ merging_added d e lists more (Some m) other same version beside is = record {
 pub merge_read : (was is : Type 0) (old new : Moments) (d : DirectoryValue) (lists : List (List StampedRow)) (merge : Option MergeInProgress) (needs : Bool) → HasMerge was old.state.now d lists merge needs → MomentsStay was is old new → HasMerge is new.state.now d lists merge needs
 merge_read was is old new d lists merge needs held stays = record {
   merging = held.merging;
+  summed = λ up still. held.summed (stays.0.1 up) still;
   written = λ up still. let before = stays.0.1 up in subst (λ (m : Moments). IsWritten merge m.state.now) (sym (stays.1 before)) (held.written before still);
 }
 
 -- after the publication of the same entries
 pub merge_repeated : (before after : Type 0) (old new : List ℕ) (slot : Slot) (d e : DirectoryValue) (lists : List (List StampedRow)) (merge : Option MergeInProgress) (needs : Bool) → HasMerge before old d lists merge needs → (after → before)
-    → e.entries ≡ d.entries → RisesTo d.layout e.layout → (before → SameOutside (slot_range slot ∷ []) old new) → HasMerge after new e lists merge needs
-merge_repeated before after old new slot d e lists merge needs held back same rises elsewhere = record {
-  merging = merging_on d e lists merge same (λ entry has. form_risen d.layout e.layout entry rises has) held.merging;
+    → e.entries ≡ d.entries → e.layout ≡ next_layout d.layout → (before → SameOutside (slot_range slot ∷ []) old new) → HasMerge after new e lists merge needs
+merge_repeated before after old new slot d e lists merge needs held back same version elsewhere = record {
+  merging = merging_on d e lists merge same version held.merging;
+  summed = λ up still. held.summed (back up) still;
   written = λ up still. written_published d lists merge slot old new held.merging (elsewhere (back up)) (held.written (back up) still);
 }
 
 -- after a segment was added beside it
 pub merge_added : (before after : Type 0) (old new : List ℕ) (slot : Slot) (d e : DirectoryValue) (entry : Entry) (lists nlists : List (List StampedRow)) (more : List StampedRow) (merge : Option MergeInProgress) (needs : Bool) → HasMerge before old d lists merge needs → (after → before)
-    → e.entries ≡ d.entries ++ entry ∷ [] → e.layout ≡ next_layout d.layout → IsEntry entry → IsPlacedAt d (merge_of merge) more entry → (before → SameOutside (byte_range (extent_of entry) ∷ slot_range slot ∷ []) old new) → nlists ≡ lists ++ more ∷ [] → HasMerge after new e nlists merge needs
+    → e.entries ≡ d.entries ++ entry ∷ [] → e.layout ≡ next_layout d.layout → IsEntry entry → IsPlacedAt d (merge_of merge) more (extent_of entry) → (before → SameOutside (byte_range (extent_of entry) ∷ slot_range slot ∷ []) old new) → nlists ≡ lists ++ more ∷ [] → HasMerge after new e nlists merge needs
 merge_added before after old new slot d e entry lists nlists more merge needs held back entries version is_entry placed elsewhere lists_are =
     let beside = beside_reserved d merge more entry placed in
     record {
       merging = subst (λ l. IsMergingOf e l merge) (sym lists_are) (merging_added d e lists more merge entry entries version beside held.merging);
+      summed = λ up still. held.summed (back up) still;
       written = λ up still. written_added d lists merge entry slot old new held.merging is_entry beside (elsewhere (back up)) (held.written (back up) still);
     }
 
 -- no merge goes on
 pub no_merge : (honest : Type 0) (now : List ℕ) (d : DirectoryValue) (lists : List (List StampedRow)) (merge : Option MergeInProgress) (needs : Bool) → merge ≡ None → HasMerge honest now d lists merge needs
-no_merge honest now d lists merge needs none = subst (λ (o : Option MergeInProgress). HasMerge honest now d lists o needs) (sym none) (record { merging = tt; written = λ up still. tt })
+no_merge honest now d lists merge needs none = subst (λ (o : Option MergeInProgress). HasMerge honest now d lists o needs) (sym none) (record { merging = tt; written = λ up still. tt; summed = λ up still. tt })
 
 pub goes_on : (d : DirectoryValue) (merge : Option MergeInProgress) → is_some merge ≡ true → GoesOn (catalog_of d (merge_of merge))
 goes_on d None some = absurd (cc)

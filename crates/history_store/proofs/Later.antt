@@ -7,7 +7,7 @@ use Rattle.import_check.specs.declared.release.Release.{Release}
 use Rattle.history_store.specs.declared.refusal.Refusal.{Refusal}
 use Rattle.history_store.specs.declared.refusal.Refusal.TheVariants as refusals
 use Rattle.history_store.specs.StoreValue.{StoreValue}
-use Rattle.history_store.specs.Answers.{IsRefusedFor, IsNotTakenByKey, IsImportOnAnyDisk}
+use Rattle.history_store.specs.Answers.{IsRefusedFor, IsNotTakenByKey, IsImportOnAnyDisk, WouldBeTakenByKey}
 use Rattle.history_store.specs.Checking.{IsCheckingOnAnyDisk, IsTooEarly, LaterIsRefused}
 use Rattle.history_store.proofs.Foreseen.{not_both}
 
@@ -27,51 +27,51 @@ is_later_answer (Ok receipt) = false
 is_later_answer (Err e) = is_later e
 
 module _ {D : Type 0} (s : StoreValue D) (release : Release) where
-  why : (e : Refusal) → is_later e ≡ true → IsRefusedFor (IsNotTakenByKey s.history s.catalog release) e s → IsTooEarly s release
-  why refusals.LaterVersion is refused = (refused.0, refused.1.0, refused.1.1)
-  why refusals.OutOfMemory is refused = absurd (false≢true is)
-  why refusals.DiskFault is refused = absurd (false≢true is)
-  why refusals.ReopenNeeded is refused = absurd (false≢true is)
-  why refusals.NotEmpty is refused = absurd refused.1
-  why refusals.Full is refused = absurd (false≢true is)
-  why refusals.TooManySegments is refused = absurd (false≢true is)
-  why refusals.NotAStore is refused = absurd refused.1
-  why refusals.Damaged is refused = absurd (false≢true is)
-  why (refusals.Unreadable damage) is refused = absurd refused.1
-  why refusals.NothingToMerge is refused = absurd refused.1
-  why refusals.MergeBusy is refused = absurd refused.1
-  why refusals.NoMerge is refused = absurd refused.1
-  why refusals.MergeUnfinished is refused = absurd refused.1
-  why refusals.CountSpent is refused = absurd (false≢true is)
-  why (refusals.Line file line fault) is refused = absurd (false≢true is)
-  why (refusals.Contradiction file line) is refused = absurd (false≢true is)
+  why : (Writes : Type 0) (e : Refusal) → is_later e ≡ true → IsRefusedFor (IsNotTakenByKey Writes s.history s.catalog release) e s → IsTooEarly s release
+  why Writes refusals.LaterVersion is refused = (refused.0, refused.1.0, refused.1.1)
+  why Writes refusals.OutOfMemory is refused = absurd (false≢true is)
+  why Writes refusals.DiskFault is refused = absurd (false≢true is)
+  why Writes refusals.ReopenNeeded is refused = absurd (false≢true is)
+  why Writes refusals.NotEmpty is refused = absurd refused.1
+  why Writes refusals.Full is refused = absurd (false≢true is)
+  why Writes refusals.TooManySegments is refused = absurd (false≢true is)
+  why Writes refusals.NotAStore is refused = absurd refused.1
+  why Writes refusals.Damaged is refused = absurd (false≢true is)
+  why Writes (refusals.Unreadable damage) is refused = absurd refused.1
+  why Writes refusals.NothingToMerge is refused = absurd refused.1
+  why Writes refusals.MergeBusy is refused = absurd refused.1
+  why Writes refusals.NoMerge is refused = absurd refused.1
+  why Writes refusals.MergeUnfinished is refused = absurd refused.1
+  why Writes refusals.CountSpent is refused = absurd (false≢true is)
+  why Writes (refusals.Line file line fault) is refused = absurd (false≢true is)
+  why Writes (refusals.Contradiction file line) is refused = absurd (false≢true is)
 
-  that : (e : Refusal) → IsTooEarly s release → IsRefusedFor (IsNotTakenByKey s.history s.catalog release) e s → e ≡ refusals.LaterVersion
-  that refusals.LaterVersion early refused = refl
-  that refusals.OutOfMemory early refused = absurd (refused.1.version early.2)
-  that refusals.DiskFault early refused = absurd (refused.1.0.version early.2)
-  that refusals.ReopenNeeded early refused = absurd (false≢true (sym early.0 ∙ refused))
-  that refusals.NotEmpty early refused = absurd refused.1
-  that refusals.Full early refused = absurd (refused.1.room.version early.2)
-  that refusals.TooManySegments early refused = absurd (refused.1.room.version early.2)
-  that refusals.NotAStore early refused = absurd refused.1
-  that refusals.Damaged early refused = absurd (refused.1.0.version early.2)
-  that (refusals.Unreadable damage) early refused = absurd refused.1
-  that refusals.NothingToMerge early refused = absurd refused.1
-  that refusals.MergeBusy early refused = absurd refused.1
-  that refusals.NoMerge early refused = absurd refused.1
-  that refusals.MergeUnfinished early refused = absurd refused.1
-  that refusals.CountSpent early refused = absurd (not_both s.history.imports s.catalog.epoch early.1 refused.1)
-  that (refusals.Line file line fault) early refused = absurd (refused.1.0.version early.2)
-  that (refusals.Contradiction file line) early refused = absurd (refused.1.0.version early.2)
+  that : (Writes : Type 0) (e : Refusal) → IsTooEarly s release → IsRefusedFor (IsNotTakenByKey Writes s.history s.catalog release) e s → e ≡ refusals.LaterVersion
+  that Writes refusals.LaterVersion early refused = refl
+  that Writes refusals.OutOfMemory early refused = absurd (refused.1.version early.2)
+  that Writes refusals.DiskFault early refused = absurd (refused.1.0.version early.2)
+  that Writes refusals.ReopenNeeded early refused = absurd (false≢true (sym early.0 ∙ refused))
+  that Writes refusals.NotEmpty early refused = absurd refused.1
+  that Writes refusals.Full early refused = absurd (refused.1.room.version early.2)
+  that Writes refusals.TooManySegments early refused = absurd (refused.1.room.version early.2)
+  that Writes refusals.NotAStore early refused = absurd refused.1
+  that Writes refusals.Damaged early refused = absurd (refused.1.0.version early.2)
+  that Writes (refusals.Unreadable damage) early refused = absurd refused.1
+  that Writes refusals.NothingToMerge early refused = absurd refused.1
+  that Writes refusals.MergeBusy early refused = absurd refused.1
+  that Writes refusals.NoMerge early refused = absurd refused.1
+  that Writes refusals.MergeUnfinished early refused = absurd refused.1
+  that Writes refusals.CountSpent early refused = absurd (not_both s.history.imports s.catalog.epoch early.1 refused.1)
+  that Writes (refusals.Line file line fault) early refused = absurd (refused.1.0.version early.2)
+  that Writes (refusals.Contradiction file line) early refused = absurd (refused.1.0.version early.2)
 
 imported : {D : Type 0} (old new : StoreValue D) (release : Release) (result : Result Receipt Refusal) → IsImportOnAnyDisk result old new release → IsLater result ↔ IsTooEarly old release
 imported old new release (Ok receipt) is = (λ later. absurd (false≢true (ap is_refusal later)), λ early. absurd (is.0.room.version early.2))
-imported old new release (Err e) is = (λ later. why old release e (ap is_later_answer later) is.0, λ early. ap Err (that old release e early is.0))
+imported old new release (Err e) is = (λ later. why old release (WouldBeTakenByKey old.history old.catalog release) e (ap is_later_answer later) is.0, λ early. ap Err (that old release (WouldBeTakenByKey old.history old.catalog release) e early is.0))
 
 checked : {D : Type 0} (old new : StoreValue D) (release : Release) (result : Result Receipt Refusal) → IsCheckingOnAnyDisk result old new release → IsLater result ↔ IsTooEarly old release
 checked old new release (Ok receipt) is = (λ later. absurd (false≢true (ap is_refusal later)), λ early. absurd (is.0.2.room.version early.2))
-checked old new release (Err e) is = (λ later. why old release e (ap is_later_answer later) is.0, λ early. ap Err (that old release e early is.0))
+checked old new release (Err e) is = (λ later. why old release ⊥ e (ap is_later_answer later) is.0, λ early. ap Err (that old release ⊥ e early is.0))
 
 pub later_is_refused : {D : Type 0} → LaterIsRefused D
 later_is_refused {D} old new release result (inl imports) = imported old new release result imports

@@ -35,11 +35,9 @@ mod ForeseenByKey
 mod Later
 mod KeptBlocks
 mod Forgotten
-mod Upgraded
 mod ImportWrites
 mod Metered
 mod MeteredImports
 mod MeteredReading
 pub mod LatestTimes
 mod BroughtRows
-mod Rewritten

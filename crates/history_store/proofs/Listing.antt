@@ -20,7 +20,7 @@ use Rattle.import_check.specs.declared.fault.ImportFault.TheVariants as importfa
 use Rattle.import_check.specs.declared.contradicting.Contradictions.{Contradictions}
 use Rattle.import_check.specs.Known.{already_known}
 use Rattle.import_check.specs.Release.{IsReleaseOf}
-use Rattle.import_check.specs.NewRows.{IsRead, CountsAnyDiskFault}
+use Rattle.import_check.specs.NewRows.{IsRefusalByKey, IsRead, CountsAnyDiskFault}
 use Rattle.import_check.specs.Contradictions.{AreContradictionsOf, IsNotListed}
 use Rattle.history_store.specs.declared.refusal.Refusal.{Refusal}
 use Rattle.history_store.specs.declared.refusal.Refusal.TheVariants as refusals
@@ -60,6 +60,10 @@ left_so : {D : Type 0} (result : Result Contradictions Refusal) (old new : Store
 left_so (Ok x) old new disk cache r = record { history = r.history; catalog = r.catalog; open_before = r.open_before; open_still = r.open_still }
 left_so (Err e) old new disk cache r = record { history = r.history; catalog = r.catalog; closed = r.closed; still = r.still }
 
+err_both : {T E : Type 0} (P Q : E → Type 0) (r : Result T E) → IfErr r P → IfErr r Q → IfErr r (λ e. P e × Q e)
+err_both P Q (Ok x) p q = tt
+err_both P Q (Err e) p q = (p, q)
+
 module _ {D : Type 0} (view : D → DiskView) (release : Release) (limit : ℕ) where
   -- a store that has to be opened again lists nothing, and isn't touched
   pub closed_listing : (s : StoreValue D) → s.needs_reopen ≡ true → IsListing (Err refusals.ReopenNeeded) release limit view s s
@@ -84,6 +88,7 @@ module _ {D : Type 0} (view : D → DiskView) (release : Release) (limit : ℕ) 
         → (IsHonestReader → Lists places shown → Early pin shown → IfOk read (AreContradictionsOf (rows_of shown) release limit))
         → IfOk read (λ found. IsRead release)
         → IfErr read (IsNotListed (IsHonestReader × Lists places shown × Early pin shown) release)
+        → (Lists places shown → Early pin shown → IfErr read (IsRefusalByKey (rows_of shown) release))
         → (Lists places shown → Early pin shown → (rows : List RowValue) → IsReleaseOf release rows → (view disk).bytes_read ≤ (view lent).bytes_read + sum_by row_cost (already_known (rows_of shown) rows))
         → ((IsRead release → ⊥) → (view disk).bytes_read ≤ (view lent).bytes_read)
         → CountsBy CountsAnyDiskFault read (view lent).failures (view disk).failures
@@ -94,7 +99,7 @@ module _ {D : Type 0} (view : D → DiskView) (release : Release) (limit : ℕ) 
         → MatchResult result (λ found. IsStill (record old { disk = disk; cache = cache }) new) (λ e. IsRefused e (record old { disk = disk; cache = cache }) new)
         → new.disk ≡ disk → new.cache ≡ cache → ((view disk).is_honest → new.needs_reopen ≡ false → IsAcknowledged view new)
         → IsListing result release limit view old new
-    listed_so rows_are still lent_is lent_cache_is entries_are shown_is sound lends found is_read why work none_read counted stays looked_up calls answers left same kept acknowledged =
+    listed_so rows_are still lent_is lent_cache_is entries_are shown_is sound lends found is_read why by_key work none_read counted stays looked_up calls answers left same kept acknowledged =
         let rows_so : rows_of shown ≡ full old.history = ap rows_of shown_is ∙ sym (ap (map (λ (s : StampedRow). s.row)) rows_are) in
         let stay = subst (λ x. MomentsStay (view x).is_honest (view disk).is_honest (view x).moments (view disk).moments) lent_is stays in
         let before = ap (λ d. (view d).bytes_read) lent_is in
@@ -102,8 +107,9 @@ module _ {D : Type 0} (view : D → DiskView) (release : Release) (limit : ℕ) 
         record {
           found = λ up. ok_so (AreContradictionsOf (full old.history) release limit) read result answers (subst (λ rows. IfOk read (AreContradictionsOf rows release limit)) rows_so (found (lends up) sound.0 sound.1));
           read = ok_so (λ found. IsRead release) read result answers is_read;
-          refused = err_so (IsNotListed (IsHonestReader × Lists places shown × Early pin shown) release) (λ e. ((e ≡ refusals.ReopenNeeded) × (old.needs_reopen ≡ true)) ⊎ ((old.needs_reopen ≡ false) × IsUnlisted (view old.disk).is_honest e release)) read result answers
-              (λ fault h. inr (still, (fault, refl, unlisted_less (IsHonestReader × Lists places shown × Early pin shown) (view old.disk).is_honest release fault (λ up. (lends up, sound.0, sound.1)) h))) why;
+          refused = err_so (λ fault. IsNotListed (IsHonestReader × Lists places shown × Early pin shown) release fault × IsRefusalByKey (full old.history) release fault) (λ e. ((e ≡ refusals.ReopenNeeded) × (old.needs_reopen ≡ true)) ⊎ ((old.needs_reopen ≡ false) × IsUnlisted (view old.disk).is_honest (full old.history) e release)) read result answers
+              (λ fault h. inr (still, (fault, refl, unlisted_less (IsHonestReader × Lists places shown × Early pin shown) (view old.disk).is_honest release fault (λ up. (lends up, sound.0, sound.1)) h.0, h.1)))
+              (err_both _ _ read why (subst (λ rows. IfErr read (IsRefusalByKey rows release)) rows_so (by_key sound.0 sound.1)));
           left = left_so result old new disk cache left;
           closed = λ closed. absurd (false≢true (sym still ∙ closed));
           acknowledged = λ up. acknowledged (stay.0.0 up);

@@ -13,7 +13,7 @@ use Rattle.history_store.specs.Catalog.{reserved_by}
 use Rattle.history_store.specs.MergeInProgress.{merge_of}
 use Rattle.history_store.specs.Merging.{step_cost}
 use Rattle.history_store.specs.Queries.{is_listed}
-use Rattle.history_store.specs.Meters.{IsMeteredWrite, IsMeteredStep, IsMeteredRewrite}
+use Rattle.history_store.specs.Meters.{IsMeteredWrite, IsMeteredStep}
 use Rattle.history_store.proofs.KeptBlocks.{none_stepped}
 
 -- ---- nothing was done
@@ -43,13 +43,6 @@ step_idle x bytes entries output view cache = record {
   uncalled = tt;
   calls = λ up. omega arith;
   looked_up = none_stepped (is_listed entries) output cache view.bytes_read;
-}
-
-pub rewrite_idle : {T : Type 0} (r : Result T Refusal) (bytes n : ℕ) (view : DiskView) (cache : LruCache ℕ (List ℕ)) → Counts r view.failures view.failures → IsMeteredRewrite r bytes n view view cache cache
-rewrite_idle r bytes n view cache counted = record {
-  counts = record { honesty = (λ up. up, λ up. up); failures = counted; bytes_read = omega arith; other_calls = omega arith };
-  calls = λ up. omega arith;
-  capacity = refl;
 }
 
 -- ---- a step, as the store's call shows it

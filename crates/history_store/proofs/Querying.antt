@@ -23,7 +23,7 @@ use Rattle.history_store.specs.Reading.{row_cost}
 use Rattle.history_store.specs.Refusals.{of_read}
 use Rattle.history_store.specs.StoreValue.{StoreValue, IsAcknowledged}
 use Rattle.history_store.specs.Answers.{Counts, IsRefused, IsReadingOf}
-use Rattle.history_store.specs.Queries.{IsQuery, IsRowsQuery, is_listed}
+use Rattle.history_store.specs.Queries.{IsQuery, IsRowsQuery, IsWithoutRead, is_listed}
 use Rattle.history_store.proofs.Refusing.{read_undamaged}
 
 -- what was read, as the store answers it
@@ -46,6 +46,10 @@ answered_so P Q (Err fault) result is so h = subst (λ r. IfOk r Q) (sym is) tt
 undamaged_answer : {T : Type 0} (read : Result T ReadFault) → IfErr read (λ e. e ≢ readfault.Damaged) → IfErr (answer_of read) (λ e. e ≢ refusals.Damaged)
 undamaged_answer (Ok x) other = tt
 undamaged_answer (Err fault) other = read_undamaged fault (of_read fault) refl other
+
+caused_answer : {T : Type 0} (read : Result T ReadFault) → IfErr read (λ e. e ≡ readfault.OutOfMemory) → IfErr (answer_of read) IsWithoutRead
+caused_answer (Ok x) memory = tt
+caused_answer (Err fault) memory = subst (λ f. IsWithoutRead (of_read f)) (sym memory) tt
 
 counted_answer : {T : Type 0} (read : Result T ReadFault) (before after : ℕ) → CountsBy CountsDiskFault read before after → Counts (answer_of read) before after
 counted_answer (Ok x) before after counts = counts
@@ -128,6 +132,7 @@ module _ {T D : Type 0} (view : D → DiskView) (rows_of : T → List RowValue) 
         record {
           found = λ up. answered_so (λ x. rows_of x ≡ wanted (rows_at pin (listed shown))) (λ x. rows_of x ≡ wanted (rows_at pin old.history.rows)) read result answers (λ x is. is ∙ ap (λ ls. wanted (rows_at pin (listed ls))) shown_is ∙ all_are) (rows.found (lends up));
           keys = answered_so (λ x. map key_of (rows_of x) ≡ map key_of (wanted (rows_at pin (listed shown)))) (λ x. map key_of (rows_of x) ≡ map key_of (wanted (rows_at pin old.history.rows))) read result answers (λ x is. is ∙ ap (map key_of) (ap (λ ls. wanted (rows_at pin (listed ls))) shown_is ∙ all_are)) rows.keys;
+          causes = λ none. subst (λ r. IfErr r IsWithoutRead) (sym (is_answer read result answers)) (caused_answer read (rows.causes (ap (λ ls. wanted (rows_at pin (listed ls))) shown_is ∙ all_are ∙ none)));
           query = answered_query view old new lent disk cache read result still lent_is stays read_so.reader.disk_faults (λ up. rows.undamaged (lends up)) answers left same acknowledged;
           other_calls = ap (λ d. (view d).other_calls) same ∙ calls ∙ ap (λ d. (view d).other_calls) lent_is;
           looked_up =
@@ -150,6 +155,7 @@ module _ {T D : Type 0} (view : D → DiskView) (rows_of : T → List RowValue) 
   closed_rows s needs = record {
     found = λ up. tt;
     keys = tt;
+    causes = λ none. tt;
     query = closed_query {T = T} view s needs;
     other_calls = refl;
     looked_up = none_looks_up (is_listed s.catalog.entries) s.cache (view s.disk).bytes_read;

@@ -1,10 +1,10 @@
 -- What a step of a merge writes.
-use Rattle.std.specs.Prelude.{Option, Some, None, Result, Ok, Err, min, slice_get}
+use Rattle.std.specs.Prelude.{Option, Some, None, Result, Ok, Err, MatchResult, min, slice_get}
 use Rattle.std.proofs.Common.{◌≡◌, inl, inr, ℕ, zero, suc, ◌+◌, ◌≤◌, List, [], ◌∷◌, ◌++◌, length, take, drop, length-take, length-drop, length-append, append_assoc, refl, sym, ap, subst, ◌∙◌, arith}
 use Rattle.std.proofs.lemmas.List.{take-append-drop, take_min}
 use Rattle.std.proofs.lemmas.List.Elements.{All-head, All-tail}
 use Rattle.list_lemmas.proofs.Parts.{take_sum}
-use Rattle.disk_model.specs.Disk.{Moments}
+use Rattle.disk_model.specs.Disk.{Moments, Fails, followed_by}
 use Rattle.blocks.specs.Extents.{start_of}
 use Rattle.history_model.specs.declared.stamped.StampedRow.{StampedRow}
 use Rattle.history_model.specs.InOrder.{Has, IsAscending}
@@ -16,14 +16,15 @@ use Rattle.history_model.proofs.Unions.{length-union}
 use Rattle.history_model.proofs.Filtered.{IsAscending-take, IsAscending-drop}
 use Rattle.history_model.proofs.Items.{Has-joined_at, Has-drop, Has-take}
 use Rattle.directory.specs.declared.entry.Entry.{Entry}
-use Rattle.directory.specs.Listings.{DirectoryValue}
+use Rattle.directory.specs.Listings.{DirectoryValue, form_in}
+use Rattle.checksum.specs.declared.form.Form.{Form}
 use Rattle.directory.specs.Places.{extent_of}
 use Rattle.segment.specs.Records.{segment_in, segment_of}
 use Rattle.segment.proofs.SegmentLaws.{length-segment_in, pieces_join}
 use Rattle.segment_index.specs.Output.{taken_rows, left_rows, left_count, with_more}
 use Rattle.segment_index.proofs.Built.{segment_within}
 use Rattle.store_image.specs.Pieces.{Holds, HoldsAll}
-use Rattle.store_image.specs.Kept.{AreSegments, IsKept, pieces_of, history_of}
+use Rattle.store_image.specs.Kept.{AreSegments, IsKept, pieces_of, history_of, segment_with}
 use Rattle.store_image.specs.Ahead.{BeginsWith}
 use Rattle.history_store.specs.declared.merge_in_progress.MergeInProgress.{MergeInProgress}
 use Rattle.history_store.specs.Catalog.{Merge, Catalog, catalog_of}
@@ -31,7 +32,7 @@ use Rattle.history_store.specs.Private.Reading.{AreThere}
 use Rattle.history_store.specs.Private.Stepping.{IsOneWrite}
 use Rattle.history_store.specs.MergeInProgress.{IsMergeOf, merge_of}
 use Rattle.history_store.specs.Merging.{IsUnfinished}
-use Rattle.history_store.specs.Written.{HasRows, AreNext, WritesNext}
+use Rattle.history_store.specs.Written.{HasRows, AreNext, WritesNext, after_part}
 
 -- ---- the rows of the segments
 
@@ -42,9 +43,9 @@ has_rows (e ∷ entries) [] k rows now are holds found = absurd are
 has_rows (e ∷ entries) (x ∷ lists) zero rows now are holds found =
     let same : x ≡ rows = cc in
     subst (λ l. HasRows (e ∷ entries) zero l now) same
-    (record { entry = e; entry_is = refl; segment = are.0; stands = (All-head (λ p. Holds p now) (start_of (extent_of e), segment_in e.form x) (pieces_of entries lists) holds).bytes })
+    (record { entry = e; entry_is = refl; segment = are.0; stands = (All-head (λ p. Holds p now) (start_of (extent_of e), segment_with e x) (pieces_of entries lists) holds).bytes })
 has_rows (e ∷ entries) (x ∷ lists) (suc k) rows now are holds found =
-    let on = has_rows entries lists k rows now are.1 (All-tail (λ p. Holds p now) (start_of (extent_of e), segment_in e.form x) (pieces_of entries lists) holds) found in
+    let on = has_rows entries lists k rows now are.1 (All-tail (λ p. Holds p now) (start_of (extent_of e), segment_with e x) (pieces_of entries lists) holds) found in
     record { entry = on.entry; entry_is = on.entry_is; segment = on.segment; stands = on.stands }
 
 -- ---- what is left of two lists
@@ -77,14 +78,14 @@ module _ (d : DirectoryValue) (lists : List (List StampedRow)) (m : MergeInProgr
         | inr q ↦ Has-joined_at lists m.j m.output.b s is.b_is q
       ])
 
-  are_next : (now : List ℕ) → AreThere d.entries lists now → BeginsWith (extent_of m.entry) (segment_in m.entry.form (taken_rows m.output)) now
-      → AreNext n (catalog_of d (merge_of (Some m))) (record { i = m.i; j = m.j; output = extent_of m.entry; form = m.entry.form; left = left_count m.output }) (taken_rows m.output) (take n rest) now
+  are_next : (now : List ℕ) → AreThere d.entries lists now → BeginsWith (extent_of m.entry) (segment_with m.entry (taken_rows m.output)) now
+      → AreNext n (catalog_of d (merge_of (Some m))) (record { i = m.i; j = m.j; output = extent_of m.entry; left = left_count m.output }) (taken_rows m.output) (take n rest) now
   are_next now there behind = record {
     a = m.output.a;
     b = m.output.b;
     first = has_rows d.entries lists m.i m.output.a now there.segments there.pieces is.a_is;
     second = has_rows d.entries lists m.j m.output.b now there.segments there.pieces is.b_is;
-    behind = behind;
+    behind = subst (λ (f : Form). BeginsWith (extent_of m.entry) (segment_in f (taken_rows m.output)) now) is.has_form behind;
     left = drop n rest;
     all = together;
     ascending = subst (λ (l : List StampedRow). IsAscending stamped_cmp l) (sym together) (IsAscending-union m.output.a m.output.b);
@@ -92,16 +93,16 @@ module _ (d : DirectoryValue) (lists : List (List StampedRow)) (m : MergeInProgr
     count_left = omega (arith, length-drop n rest, rest_count);
   }
 
-  pub writes_next : {T E : Type 0} (result : Result T E) (old new : Moments) → AreThere d.entries lists old.state.now → BeginsWith (extent_of m.entry) (segment_in m.entry.form (taken_rows m.output)) old.state.now
-      → IsOneWrite result (start_of (extent_of m.entry) + length (segment_in m.entry.form (taken_rows m.output))) (segment_in m.entry.form (take n rest)) old new → WritesNext result n (catalog_of d (merge_of (Some m))) (history_of d lists) old new
+  pub writes_next : {T E : Type 0} (result : Result T E) (old new : Moments) → AreThere d.entries lists old.state.now → BeginsWith (extent_of m.entry) (segment_with m.entry (taken_rows m.output)) old.state.now
+      → IsOneWrite result (start_of (extent_of m.entry) + length (segment_with m.entry (taken_rows m.output))) (segment_with m.entry (take n rest)) old new → WritesNext result n (catalog_of d (merge_of (Some m))) (history_of d lists) old new
   writes_next {T} {E} result old new there behind one = record {
-    merge = record { i = m.i; j = m.j; output = extent_of m.entry; form = m.entry.form; left = left_count m.output };
+    merge = record { i = m.i; j = m.j; output = extent_of m.entry; left = left_count m.output };
     goes_on = refl;
     taken = taken_rows m.output;
     rows = take n rest;
     next = are_next old.state.now there behind;
     of_history = of_history;
-    write = one;
+    write = subst (λ (f : Form). MatchResult result (λ x. new ≡ followed_by old (after_part f (extent_of m.entry) (taken_rows m.output) (take n rest) old.state)) (λ e. Fails old (after_part f (extent_of m.entry) (taken_rows m.output) (take n rest) old.state) new)) is.has_form one;
   }
 
   -- ---- the merge with the rows that are taken
@@ -114,7 +115,7 @@ module _ (d : DirectoryValue) (lists : List (List StampedRow)) (m : MergeInProgr
 
   pub part_fits : length (segment_of (taken_rows m.output)) + length (segment_of (take n rest)) ≤ m.entry.bytes
   part_fits =
-      let form = m.entry.form in
+      let form = form_in m.entry.sums in
       let join = ap (λ (l : List StampedRow). length (segment_in form l)) grown ∙ ap length (pieces_join form (taken_rows m.output) (take n rest)) ∙ length-append (segment_in form (taken_rows m.output)) (segment_in form (take n rest)) in
       omega (arith, join, length-segment_in form (taken_rows (with_more n m.output)), length-segment_in form (taken_rows m.output), length-segment_in form (take n rest), segment_within (m.output.taken + min n (left_count m.output)) all_rows, is.segment.bytes)
 

@@ -53,32 +53,32 @@ module _ (h : History) (rows : List RowValue) (fresh : NewRows) (is : IsHistory 
 room_of : {D : Type 0} (u old : StoreValue D) (release : Release) → u ≡ old → IsAdmitted u.history u.catalog release → IsAdmitted old.history old.catalog release
 room_of {D} u old release same left = subst (λ (x : StoreValue D). IsAdmitted x.history x.catalog release) same left
 
-lacking : {D : Type 0} (s : StoreValue D) (release : Release) (fresh : NewRows) (e : Refusal) → s.needs_reopen ≡ false → IsAdmitted s.history s.catalog release → BringsByKey (full s.history) release fresh → IsUnprepared e (stamped (s.history.imports + 1) fresh.rows.items) s.catalog → IsRefusedFor (IsNotTakenByKey s.history s.catalog release) e s
-lacking s release fresh refusals.OutOfMemory still room brings lacks = (still, room)
-lacking s release fresh refusals.DiskFault still room brings lacks = absurd lacks
-lacking s release fresh refusals.ReopenNeeded still room brings lacks = absurd lacks
-lacking s release fresh refusals.NotEmpty still room brings lacks = absurd lacks
-lacking s release fresh refusals.Full still room brings lacks = (still, record { room = room; fresh = fresh; brings = brings; lacks = lacks })
-lacking s release fresh refusals.TooManySegments still room brings lacks = (still, record { room = room; fresh = fresh; brings = brings; lacks = lacks })
-lacking s release fresh refusals.NotAStore still room brings lacks = absurd lacks
-lacking s release fresh refusals.Damaged still room brings lacks = absurd lacks
-lacking s release fresh (refusals.Unreadable damage) still room brings lacks = absurd lacks
-lacking s release fresh refusals.NothingToMerge still room brings lacks = absurd lacks
-lacking s release fresh refusals.MergeBusy still room brings lacks = absurd lacks
-lacking s release fresh refusals.NoMerge still room brings lacks = absurd lacks
-lacking s release fresh refusals.MergeUnfinished still room brings lacks = absurd lacks
-lacking s release fresh refusals.CountSpent still room brings lacks = absurd lacks
-lacking s release fresh refusals.LaterVersion still room brings lacks = absurd lacks
-lacking s release fresh (refusals.Line file line fault) still room brings lacks = absurd lacks
-lacking s release fresh (refusals.Contradiction file line) still room brings lacks = absurd lacks
+lacking : {D : Type 0} (Writes : Type 0) (s : StoreValue D) (release : Release) (fresh : NewRows) (e : Refusal) → s.needs_reopen ≡ false → IsAdmitted s.history s.catalog release → BringsByKey (full s.history) release fresh → IsUnprepared e (stamped (s.history.imports + 1) fresh.rows.items) s.catalog → IsRefusedFor (IsNotTakenByKey Writes s.history s.catalog release) e s
+lacking Writes s release fresh refusals.OutOfMemory still room brings lacks = (still, room)
+lacking Writes s release fresh refusals.DiskFault still room brings lacks = absurd lacks
+lacking Writes s release fresh refusals.ReopenNeeded still room brings lacks = absurd lacks
+lacking Writes s release fresh refusals.NotEmpty still room brings lacks = absurd lacks
+lacking Writes s release fresh refusals.Full still room brings lacks = (still, record { room = room; fresh = fresh; brings = brings; lacks = lacks })
+lacking Writes s release fresh refusals.TooManySegments still room brings lacks = (still, record { room = room; fresh = fresh; brings = brings; lacks = lacks })
+lacking Writes s release fresh refusals.NotAStore still room brings lacks = absurd lacks
+lacking Writes s release fresh refusals.Damaged still room brings lacks = absurd lacks
+lacking Writes s release fresh (refusals.Unreadable damage) still room brings lacks = absurd lacks
+lacking Writes s release fresh refusals.NothingToMerge still room brings lacks = absurd lacks
+lacking Writes s release fresh refusals.MergeBusy still room brings lacks = absurd lacks
+lacking Writes s release fresh refusals.NoMerge still room brings lacks = absurd lacks
+lacking Writes s release fresh refusals.MergeUnfinished still room brings lacks = absurd lacks
+lacking Writes s release fresh refusals.CountSpent still room brings lacks = absurd lacks
+lacking Writes s release fresh refusals.LaterVersion still room brings lacks = absurd lacks
+lacking Writes s release fresh (refusals.Line file line fault) still room brings lacks = absurd lacks
+lacking Writes s release fresh (refusals.Contradiction file line) still room brings lacks = absurd lacks
 
-pub not_prepared_at_all : {D : Type 0} (u old v mid : StoreValue D) (release : Release) (fresh : NewRows) (e : Refusal) → u ≡ old → IsAdmitted u.history u.catalog release → v ≡ mid → IsStill old mid → BringsByKey (full old.history) release fresh → IsUnprepared e (stamped (v.history.imports + 1) fresh.rows.items) v.catalog → IsRefusedFor (IsNotTakenByKey old.history old.catalog release) e old
-not_prepared_at_all {D} u old v mid release fresh e first left same still brings why =
+pub not_prepared_at_all : {D : Type 0} (Writes : Type 0) (u old v mid : StoreValue D) (release : Release) (fresh : NewRows) (e : Refusal) → u ≡ old → IsAdmitted u.history u.catalog release → v ≡ mid → IsStill old mid → BringsByKey (full old.history) release fresh → IsUnprepared e (stamped (v.history.imports + 1) fresh.rows.items) v.catalog → IsRefusedFor (IsNotTakenByKey Writes old.history old.catalog release) e old
+not_prepared_at_all {D} Writes u old v mid release fresh e first left same still brings why =
     let at_mid : IsUnprepared e (stamped (mid.history.imports + 1) fresh.rows.items) mid.catalog = subst (λ (x : StoreValue D). IsUnprepared e (stamped (x.history.imports + 1) fresh.rows.items) x.catalog) same why in
     let here : IsUnprepared e (stamped (old.history.imports + 1) fresh.rows.items) old.catalog =
     subst (λ (h : History). IsUnprepared e (stamped (h.imports + 1) fresh.rows.items) old.catalog) still.history
     (subst (λ (x : Catalog). IsUnprepared e (stamped (mid.history.imports + 1) fresh.rows.items) x) still.catalog at_mid) in
-    lacking old release fresh e still.open_before (room_of u old release first left) brings here
+    lacking Writes old release fresh e still.open_before (room_of u old release first left) brings here
 
 -- ---- what is taken
 

@@ -29,6 +29,7 @@ use Rattle.history_store.specs.Merging.{end_of_taken}
 use Rattle.segment_index.specs.Output.{taken_rows}
 use Rattle.history_store.proofs.GoingOn.{written_fits}
 use Rattle.history_store.proofs.EndOf.{end_within, entries_within, end_reserved, ends_below}
+use Rattle.store_image.specs.Kept.{segment_with}
 
 begins_cut : (extent : Extent) (bytes old : List ℕ) (len : ℕ) → 4 ≤ extent.first → start_of extent + length bytes ≤ len → BeginsWith extent bytes old → BeginsWith extent bytes (take len old)
 begins_cut extent [] old len first fits begins = refl
@@ -43,8 +44,8 @@ written_cut d lists None entries len old new is below cut written = tt
 written_cut d lists (Some m) entries len old new is below cut written =
     let fits = written_fits d lists m.i m.j m.entry m.output is in
     let end = end_reserved entries (extent_of m.entry) in
-    let P : List ℕ → Type 0 = λ l. BeginsWith (extent_of m.entry) (segment_in m.entry.form (taken_rows m.output)) l in
-    subst P (sym cut) (begins_cut (extent_of m.entry) (segment_in m.entry.form (taken_rows m.output)) old len is.is_entry.first (omega (arith, fits, end, below, blocks_cover m.entry.bytes)) written)
+    let P : List ℕ → Type 0 = λ l. BeginsWith (extent_of m.entry) (segment_with m.entry (taken_rows m.output)) l in
+    subst P (sym cut) (begins_cut (extent_of m.entry) (segment_with m.entry (taken_rows m.output)) old len is.is_entry.first (omega (arith, fits, end, below, blocks_cover m.entry.bytes)) written)
 
 -- nothing that is taken ends above the last block
 pub end_limit : (d : DirectoryValue) (lists : List (List StampedRow)) (merge : Option MergeInProgress) → IsListing d → IsMergingOf d lists merge → end_of_taken (extents_of d.entries ++ option_to_list (reserved_by (merge_of merge))) ≤ 4194304
@@ -73,5 +74,6 @@ pub trimmed_merge : (before after : Type 0) (old new : List ℕ) (d : DirectoryV
     → end ≡ end_of_taken (taken d.entries (reserved_by (merge_of merge))) → (before → new ≡ take (4096 * end) old) → HasMerge after new d lists merge needs
 trimmed_merge before after old new d lists merge needs end held back is cut = record {
   merging = held.merging;
+  summed = λ up still. held.summed (back up) still;
   written = λ up still. written_cut d lists merge d.entries (4096 * end) old new held.merging (omega (arith, is)) (cut (back up)) (held.written (back up) still);
 }

@@ -1,5 +1,5 @@
 -- The results of a store's calls, and the store after them.
-use Rattle.std.specs.Prelude.{◌≡◌, ◌≢◌, ◌⊎◌, ℕ, ◌+◌, ◌≤◌, true, false, List, ◌∷◌}
+use Rattle.std.specs.Prelude.{◌≡◌, ◌≢◌, ◌⊎◌, ℕ, ◌+◌, ◌≤◌, true, false, List, [], ◌∷◌}
 use Rattle.std.specs.Prelude.{length, None, Result, Ok, Err}
 use Rattle.fault_counts.specs.Counting.{HasRisen}
 use Rattle.disk_model.specs.Disk.{DiskState}
@@ -16,6 +16,9 @@ use Rattle.directory.specs.Listings.{empty_listing, next_layout}
 use Rattle.import_check.specs.declared.release.Release.{Release}
 use Rattle.import_check.specs.declared.found.NewRows.{NewRows}
 use Rattle.import_check.specs.Release.{IsAccepted, IsFaultOfRelease, HasContradiction}
+use Rattle.import_check.specs.Release.{HasPossibleContradiction, IsReleaseOf}
+use Rattle.import_check.specs.Known.{already_known}
+use Rattle.rf2_values.specs.Row.{RowValue}
 use Rattle.import_check.specs.NewRows.{BringsByKey, IsRead}
 use Rattle.store_image.specs.declared.fault.LoadFault.{LoadFault}
 use Rattle.store_image.specs.Answers.{synced, IsNotOpened as IsNotLoaded}
@@ -154,42 +157,59 @@ pub record WouldBeTaken (h : History) (catalog : Catalog) (release : Release) : 
   pub next : Catalog
   pub catalog_is : IsCatalogAfter (new_rows h accepted.rows) catalog next
 
+-- a release of which, by their keys, the new rows have a place, or that has no new rows
+pub record WouldBeTakenByKey (h : History) (catalog : Catalog) (release : Release) : Type 0 where
+  pub room : IsAdmitted h catalog release
+  pub fresh : NewRows
+  pub brings : BringsByKey (full h) release fresh
+  pub next : Catalog
+  pub catalog_is : IsCatalogAfter (stamped (h.imports + 1) fresh.rows.items) catalog next
+
+-- Each file is a valid release file, and a line of the release has the key of a stored row: only
+-- then stored rows are read, and only those with such keys.
+pub record ReadsStored (h : History) (release : Release) : Type 0 where
+  pub rows : List RowValue
+  pub rows_are : IsReleaseOf release rows
+  pub stored : already_known (full h) rows ≢ []
+
 -- Why a release isn't accepted with this history and catalog. `Lacks` says what its new rows lack,
--- `Contradicts` that the row of a line contradicts another one, and `Damaged` when a stored row may
--- be damaged. Stored rows are read only once each file is known to be a valid release file, and so
--- a disk failure implies that.
+-- `Contradicts` that the row of a line contradicts another one, and `Fails` and `Damaged` when the
+-- disk may fail and a stored row may be damaged.
 abbrev pub WhyNotTaken : (Lacks : (List StampedRow → Catalog → Type 0) → Type 0)
-    → (Contradicts : ℕ → ℕ → Type 0) → (Damaged : Type 0)
+    → (Contradicts : ℕ → ℕ → Type 0) → (Fails Damaged : Type 0)
     → History → Catalog → Release → Refusal → Type 0
-WhyNotTaken Lacks Contradicts Damaged h catalog release refusals.OutOfMemory =
+WhyNotTaken Lacks Contradicts Fails Damaged h catalog release refusals.OutOfMemory =
     IsAdmitted h catalog release
-WhyNotTaken Lacks Contradicts Damaged h catalog release refusals.DiskFault =
-    IsAdmitted h catalog release × IsRead release
-WhyNotTaken Lacks Contradicts Damaged h catalog release refusals.CountSpent =
+WhyNotTaken Lacks Contradicts Fails Damaged h catalog release refusals.DiskFault =
+    IsAdmitted h catalog release × Fails
+WhyNotTaken Lacks Contradicts Fails Damaged h catalog release refusals.CountSpent =
     (h.imports ≡ last_import) ⊎ (catalog.epoch ≡ last_epoch)
-WhyNotTaken Lacks Contradicts Damaged h catalog release refusals.LaterVersion =
+WhyNotTaken Lacks Contradicts Fails Damaged h catalog release refusals.LaterVersion =
     IsNotSpent h.imports catalog.epoch × IsForLater catalog.layout release
-WhyNotTaken Lacks Contradicts Damaged h catalog release (refusals.Line file line fault) =
+WhyNotTaken Lacks Contradicts Fails Damaged h catalog release (refusals.Line file line fault) =
     IsAdmitted h catalog release × IsFaultOfRelease release file line fault
-WhyNotTaken Lacks Contradicts Damaged h catalog release (refusals.Contradiction file line) =
+WhyNotTaken Lacks Contradicts Fails Damaged h catalog release (refusals.Contradiction file line) =
     IsAdmitted h catalog release × Contradicts file line
-WhyNotTaken Lacks Contradicts Damaged h catalog release refusals.TooManySegments = Lacks HasNoEntry
-WhyNotTaken Lacks Contradicts Damaged h catalog release refusals.Full = Lacks HasNoPlace
-WhyNotTaken Lacks Contradicts Damaged h catalog release refusals.Damaged = Damaged
-WhyNotTaken Lacks Contradicts Damaged h catalog release _ = ⊥
+WhyNotTaken Lacks Contradicts Fails Damaged h catalog release refusals.TooManySegments =
+    Lacks HasNoEntry
+WhyNotTaken Lacks Contradicts Fails Damaged h catalog release refusals.Full = Lacks HasNoPlace
+WhyNotTaken Lacks Contradicts Fails Damaged h catalog release refusals.Damaged = Damaged
+WhyNotTaken Lacks Contradicts Fails Damaged h catalog release _ = ⊥
 
 -- why a release isn't accepted, on an honest disk
 abbrev pub IsNotTaken : History → Catalog → Release → Refusal → Type 0
 IsNotTaken h catalog release e = WhyNotTaken (WouldBeTakenBut h catalog release)
-    (λ file line. (key : Key) × HasContradiction (full h) release file line key) ⊥
-    h catalog release e
+    (λ file line. (key : Key) × HasContradiction (full h) release file line key)
+    (IsRead release) ⊥ h catalog release e
 
--- Why a release isn't accepted, as far as that can be said on every disk. Whether a line
--- contradicts, and whether a stored row is damaged, depends on what the disk returns: these reasons
--- only imply that each file is a valid release file.
-abbrev pub IsNotTakenByKey : History → Catalog → Release → Refusal → Type 0
-IsNotTakenByKey h catalog release e = WhyNotTaken (LacksByKey h catalog release)
-    (λ file line. IsRead release) (IsAdmitted h catalog release × IsRead release)
+-- Why a release isn't accepted, as far as that can be said on every disk. Which row a line
+-- contradicts depends on what the disk returns, but a stored row has the line's key, or an earlier
+-- line has it with another row. The disk fails, or a row is damaged, only if a stored row is read;
+-- and the disk also if `Writes` holds.
+abbrev pub IsNotTakenByKey : (Writes : Type 0) → History → Catalog → Release → Refusal → Type 0
+IsNotTakenByKey Writes h catalog release e = WhyNotTaken (LacksByKey h catalog release)
+    (λ file line. (key : Key) × HasPossibleContradiction (full h) release file line key)
+    (ReadsStored h release ⊎ Writes) (IsAdmitted h catalog release × ReadsStored h release)
     h catalog release e
 
 -- why a call is refused: the store has to be opened again; or it doesn't have to be, and `Why` says
@@ -266,4 +286,5 @@ IsImportOnAnyDisk (Ok receipt) old new release =
     IsTakenByKey old.history new.history old.catalog new.catalog release receipt
     × (old.needs_reopen ≡ false) × (new.needs_reopen ≡ false)
 IsImportOnAnyDisk (Err e) old new release =
-    IsRefusedFor (IsNotTakenByKey old.history old.catalog release) e old × IsRefused e old new
+    IsRefusedFor (IsNotTakenByKey (WouldBeTakenByKey old.history old.catalog release)
+    old.history old.catalog release) e old × IsRefused e old new

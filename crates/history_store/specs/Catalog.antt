@@ -1,27 +1,24 @@
 -- The catalog of a store: where its segments are, and what an import adds to it. It contains no
 -- rows.
 use Rattle.std.specs.Prelude.{◌≡◌, ◌⊎◌, ℕ, ◌+◌, ◌^◌, ◌<◌, ◌≤◌, List, [], ◌∷◌, ◌++◌, length, sum_by}
-use Rattle.std.specs.Prelude.{Option, Some, None, Bool, true, false, count_by}
+use Rattle.std.specs.Prelude.{Option, Some, None}
 use Rattle.blocks.specs.declared.extent.Extent.{Extent}
 use Rattle.blocks.specs.Extents.{block_count}
 use Rattle.history_model.specs.declared.stamped.StampedRow.{StampedRow}
 use Rattle.directory.specs.declared.entry.Entry.{Entry}
 use Rattle.directory.specs.declared.layout.Layout.{Layout}
-use Rattle.checksum.specs.declared.form.Form.{Form}
-use Rattle.checksum.specs.declared.form.Form.TheVariants as forms
-use Rattle.directory.specs.Listings.{DirectoryValue, form_of, most_entries, next_layout}
+use Rattle.directory.specs.Listings.{DirectoryValue, most_entries, next_layout}
 use Rattle.directory.specs.Places.{extent_of}
 use Rattle.directory.specs.Fit.{fit}
 use Rattle.segment.specs.Records.{segment_of}
 use Rattle.store_image.specs.Kept.{entry_at}
 
--- a merge in progress: the numbers of its two segments, from 0 on, the extent and the form of its
--- output, and how many rows are left to merge
+-- a merge in progress: the numbers of its two segments, from 0 on, the extent of its output, and how
+-- many rows are left to merge
 pub record Merge : Type 0 where
   pub i : ℕ
   pub j : ℕ
   pub output : Extent
-  pub form : Form
   pub left : ℕ
 
 pub record Catalog : Type 0 where
@@ -40,15 +37,6 @@ catalog_of d merge =
 abbrev pub blocks_in_use : List Entry → ℕ
 blocks_in_use entries = 4 + sum_by (λ entry. block_count (extent_of entry)) entries
 
--- whether segments of this form have no checksums
-abbrev pub is_plain_form : Form → Bool
-is_plain_form forms.Plain = true
-is_plain_form forms.Checked = false
-
--- how many segments have no checksums
-abbrev pub plain_count : List Entry → ℕ
-plain_count entries = count_by (λ entry. is_plain_form entry.form) entries
-
 -- the extent that a merge reserves
 abbrev pub reserved_by : Option Merge → Option Extent
 reserved_by None = None
@@ -66,15 +54,15 @@ next_catalog catalog =
     record catalog { layout = next_layout catalog.layout; epoch = catalog.epoch + 1 }
 
 -- A segment of these rows is added at the first extent with room for it. The old layout version
--- decides how many entries there may be and which form the segment has; the next catalog has the
--- layout version of the next publication.
+-- decides how many entries there may be and which checksums the segment has; the next catalog has
+-- the layout version of the next publication.
 pub record IsPlaced (rows : List StampedRow) (catalog next : Catalog) : Type 0 where
   pub few : length catalog.entries < most_entries catalog.layout
   pub short : length (segment_of rows) < 2 ^ 32
   pub first : ℕ
   pub place : place_for rows catalog ≡ Some first
   pub next_is : next ≡ record (next_catalog catalog) {
-    entries = catalog.entries ++ entry_at (form_of catalog.layout) first rows ∷ [];
+    entries = catalog.entries ++ entry_at catalog.layout first rows ∷ [];
   }
 
 -- the catalog after an import of these new rows; without any, no segment is added

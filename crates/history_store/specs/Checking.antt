@@ -32,7 +32,7 @@ IsCheckingOnAnyDisk (Ok receipt) old new release =
     ((after : History) × (next : Catalog)
     × IsTakenByKey old.history after old.catalog next release receipt) × IsStill old new
 IsCheckingOnAnyDisk (Err e) old new release =
-    IsRefusedFor (IsNotTakenByKey old.history old.catalog release) e old × IsRefused e old new
+    IsRefusedFor (IsNotTakenByKey ⊥ old.history old.catalog release) e old × IsRefused e old new
 
 -- A release was checked. Whatever the result, history and catalog are unchanged, and only a disk
 -- failure closes the store. The store is left unchanged if it has to be opened again, or if the

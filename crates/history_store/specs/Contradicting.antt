@@ -11,7 +11,8 @@ use Rattle.import_check.specs.declared.release.Release.{Release}
 use Rattle.import_check.specs.declared.fault.ImportFault.{ImportFault}
 use Rattle.import_check.specs.declared.contradicting.Contradictions.{Contradictions}
 use Rattle.import_check.specs.Known.{IsUnknown}
-use Rattle.import_check.specs.NewRows.{IsRead}
+use Rattle.import_check.specs.NewRows.{IsRead, IsRefusalByKey}
+use Rattle.rf2_values.specs.Row.{RowValue}
 use Rattle.import_check.specs.Contradictions.{AreContradictionsOf, IsNotListed}
 use Rattle.history_store.specs.declared.refusal.Refusal.{Refusal}
 use Rattle.history_store.specs.declared.refusal.Refusal.TheVariants as refusals
@@ -25,10 +26,11 @@ abbrev pub IsBroughtBy : List StampedRow → Key → Option ℕ → Type 0
 IsBroughtBy rows key number = MatchOption number (IsUnknown (map (λ s. s.row) rows) key)
     (λ n. (s : StampedRow) × Has rows s × (key_of s.row ≡ key) × (s.import ≡ n))
 
--- the refusal's reason is one for which contradictions are not listed
-abbrev pub IsUnlisted : (honest : Type 0) → Refusal → Release → Type 0
-IsUnlisted honest e release =
-    (fault : ImportFault) × (e ≡ refusal_of fault) × IsNotListed honest release fault
+-- The refusal's reason is one for which contradictions are not listed. On every disk a row can't be
+-- read only if a line of the release has the key of a stored one.
+abbrev pub IsUnlisted : (honest : Type 0) → List RowValue → Refusal → Release → Type 0
+IsUnlisted honest known e release = (fault : ImportFault) × (e ≡ refusal_of fault)
+    × IsNotListed honest release fault × IsRefusalByKey known release fault
 
 -- The contradictions of a release were listed, unless the store has to be opened again, a file
 -- isn't a valid release file, or a row can't be read. Whatever the result, history and catalog are
@@ -42,7 +44,8 @@ pub record IsListing {D : Type 0} (result : Result Contradictions Refusal) (rele
   pub read : IfOk result (λ found. IsRead release)
   pub refused : IfErr result
       (λ e. ((e ≡ refusals.ReopenNeeded) × (old.needs_reopen ≡ true))
-      ⊎ ((old.needs_reopen ≡ false) × IsUnlisted (view old.disk).is_honest e release))
+      ⊎ ((old.needs_reopen ≡ false) × IsUnlisted (view old.disk).is_honest (full old.history) e
+      release))
   pub left : MatchResult result (λ found. IsStill old new) (λ e. IsRefused e old new)
   pub closed : old.needs_reopen ≡ true → new ≡ old
   pub acknowledged : (view old.disk).is_honest → new.needs_reopen ≡ false → IsAcknowledged view new

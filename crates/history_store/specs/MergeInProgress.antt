@@ -6,8 +6,9 @@ use Rattle.std.specs.List.{AllByRecursion}
 use Rattle.history_model.specs.declared.stamped.StampedRow.{StampedRow}
 use Rattle.history_model.specs.Lists.{union}
 use Rattle.directory.specs.declared.entry.Entry.{Entry}
-use Rattle.directory.specs.Listings.{DirectoryValue, HasForm, IsEntry}
+use Rattle.directory.specs.Listings.{DirectoryValue, HasForm, IsEntry, form_in}
 use Rattle.directory.specs.Places.{AreBeside, extent_of, extents_of}
+use Rattle.checksum.specs.Crc32c.{crc32c}
 use Rattle.segment.specs.Records.{segment_in}
 use Rattle.segment_index.specs.Output.{OutputRows, taken_rows, left_count}
 use Rattle.store_image.specs.Kept.{IsSegmentOf}
@@ -23,7 +24,6 @@ merge_of (Some m) =
       i = m.i;
       j = m.j;
       output = extent_of m.entry;
-      form = m.entry.form;
       left = left_count m.output;
     })
 
@@ -48,12 +48,18 @@ IsMergingOf d lists (Some m) = IsMergeOf d lists m.i m.j m.entry m.output
 abbrev pub IsWritten : Option MergeInProgress → List ℕ → Type 0
 IsWritten None now = Unit {0}
 IsWritten (Some m) now =
-    BeginsWith (extent_of m.entry) (segment_in m.entry.form (taken_rows m.output)) now
+    BeginsWith (extent_of m.entry) (segment_in (form_in m.entry.sums) (taken_rows m.output)) now
+
+-- the running checksum is that of what was written of the output
+abbrev pub IsSummed : Option MergeInProgress → Type 0
+IsSummed None = Unit {0}
+IsSummed (Some m) = m.crc ≡ crc32c (segment_in (form_in m.entry.sums) (taken_rows m.output))
 
 -- A merge in progress is one of two of these segments. As long as no call has failed, a read
--- returns what was written of its output.
+-- returns what was written of its output, and the running checksum is that of these bytes.
 pub record HasMerge (honest : Type 0) (now : List ℕ) (d : DirectoryValue)
     (lists : List (List StampedRow)) (merge : Option MergeInProgress) (needs_reopen : Bool)
     : Type 0 where
   pub merging : IsMergingOf d lists merge
   pub written : honest → needs_reopen ≡ false → IsWritten merge now
+  pub summed : honest → needs_reopen ≡ false → IsSummed merge

@@ -110,15 +110,6 @@ pub record IsMeteredTrim {D : Type 0} (result : Result ℕ Refusal) (view : D �
   pub drops : OnOk result (Forgets (nat_le (trimmed_blocks old.catalog)) old.cache new.cache)
   pub keeps : OnErr result (new.cache ≡ old.cache)
 
--- The meters of rewriting a segment, or of a part of that. It requests at most so many bytes, and
--- makes at most `n` calls besides reads; on an honest disk at most `n` changing calls. The cache
--- keeps its capacity.
-pub record IsMeteredRewrite {T : Type 0} (result : Result T Refusal) (bytes n : ℕ)
-    (old new : DiskView) (cache cached : LruCache ℕ (List ℕ)) : Type 0 where
-  pub counts : Calls (Counts result) (AtMost bytes) (AtMost n) old new
-  pub calls : old.is_honest → call_count new.moments ≤ call_count old.moments + n
-  pub capacity : cached.cap ≡ cache.cap
-
 -- The meters of making a store. It requests no bytes. It asks for the disk's length at most twice,
 -- and makes at most nine other calls; if it is refused for a reason other than a disk failure, none
 -- of the nine.

@@ -1,6 +1,6 @@
 -- The result of a query, and the store after it.
-use Rattle.std.specs.Prelude.{◌≡◌, ◌≢◌, ◌⊎◌, ◌↔◌, ℕ, Bool, true, false, List, Result, IfOk, IfErr}
-use Rattle.std.specs.Prelude.{◌+◌, ◌≤◌, OnOk, OnErr, Option, Some, None, map}
+use Rattle.std.specs.Prelude.{◌≡◌, ◌≢◌, ◌⊎◌, ◌↔◌, ℕ, Bool, true, false, List, []}
+use Rattle.std.specs.Prelude.{◌+◌, ◌≤◌, Result, IfOk, IfErr, OnOk, OnErr, Option, Some, None, map}
 use Rattle.std.specs.List.{list_any, sum_by}
 use Rattle.rf2_values.specs.Row.{RowValue}
 use Rattle.rf2_values.specs.Key.{key_of}
@@ -85,11 +85,17 @@ pub record IsQuery {T D : Type 0} (result : Result T Refusal) (view : D → Disk
   pub honesty : (view old.disk).is_honest ↔ (view new.disk).is_honest
   pub failures : Counts result (view old.disk).failures (view new.disk).failures
 
+-- the refusal isn't due to a read
+abbrev pub IsWithoutRead : Refusal → Type 0
+IsWithoutRead refusals.DiskFault = ⊥
+IsWithoutRead refusals.Damaged = ⊥
+IsWithoutRead _ = Unit {0}
+
 -- A query for rows: `rows_of` gives the rows of an answer, and `wanted` those that should be in it,
 -- among the rows that the pin shows. On an honest disk both are equal. On every disk they have the
 -- same keys, no calls but reads are made, cached blocks aren't read again, and no more is read than
 -- the rows of the answer take. Whatever the result, no more is read than the wanted rows take, each
--- counted once.
+-- counted once. If no row is wanted, the disk doesn't fail, and none is damaged.
 pub record IsRowsQuery {T D : Type 0} (result : Result T Refusal) (rows_of : T → List RowValue)
     (wanted : List RowValue → List RowValue) (pin : ℕ) (view : D → DiskView)
     (old new : StoreValue D) : Type 0 where
@@ -97,6 +103,7 @@ pub record IsRowsQuery {T D : Type 0} (result : Result T Refusal) (rows_of : T �
       → IfOk result (λ x. rows_of x ≡ wanted (rows_at pin old.history.rows))
   pub keys : IfOk result
       (λ x. map key_of (rows_of x) ≡ map key_of (wanted (rows_at pin old.history.rows)))
+  pub causes : wanted (rows_at pin old.history.rows) ≡ [] → IfErr result IsWithoutRead
   pub query : IsQuery result view old new
   pub other_calls : (view new.disk).other_calls ≡ (view old.disk).other_calls
   pub looked_up : ReadsThroughCache view old new

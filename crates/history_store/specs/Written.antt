@@ -4,13 +4,16 @@ use Rattle.std.specs.Prelude.{Some, slice_get, Result, MatchResult}
 use Rattle.std.specs.Option.{option_to_list}
 use Rattle.disk_model.specs.Disk.{DiskState, Moments, followed_by, after_write, Fails}
 use Rattle.disk_model.specs.Disk.{IsImage, SameBut}
+use Rattle.blocks.specs.declared.extent.Extent.{Extent}
 use Rattle.blocks.specs.Extents.{byte_range, start_of}
 use Rattle.history_model.specs.declared.stamped.StampedRow.{StampedRow}
 use Rattle.history_model.specs.InOrder.{Has, IsAscending}
 use Rattle.history_model.specs.History.{History, stamped_cmp}
 use Rattle.history_model.specs.Lists.{union}
 use Rattle.directory.specs.declared.entry.Entry.{Entry}
+use Rattle.directory.specs.Listings.{form_in, form_of}
 use Rattle.directory.specs.Places.{extent_of, extents_of}
+use Rattle.checksum.specs.declared.form.Form.{Form}
 use Rattle.segment.specs.Records.{segment_in}
 use Rattle.store_image.specs.Kept.{IsSegmentOf}
 use Rattle.store_image.specs.Ahead.{BeginsWith}
@@ -40,7 +43,7 @@ pub record HasRows (entries : List Entry) (number : ℕ) (rows : List StampedRow
   pub entry : Entry
   pub entry_is : slice_get entries number ≡ Some entry
   pub segment : IsSegmentOf entry rows
-  pub stands : BeginsWith (extent_of entry) (segment_in entry.form rows) now
+  pub stands : BeginsWith (extent_of entry) (segment_in (form_in entry.sums) rows) now
 
 -- The rows that a merge takes next, up to `n`. The rows taken before, these, and those left after
 -- them are the rows of its two segments, in key order. The records of the rows taken before are
@@ -51,18 +54,18 @@ pub record AreNext (n : ℕ) (catalog : Catalog) (merge : Merge) (taken rows : L
   pub b : List StampedRow
   pub first : HasRows catalog.entries merge.i a now
   pub second : HasRows catalog.entries merge.j b now
-  pub behind : BeginsWith merge.output (segment_in merge.form taken) now
+  pub behind : BeginsWith merge.output (segment_in (form_of catalog.layout) taken) now
   pub left : List StampedRow
   pub all : taken ++ rows ++ left ≡ union a b
   pub ascending : IsAscending stamped_cmp (taken ++ rows ++ left)
   pub count : length rows ≡ min n merge.left
   pub count_left : length left ≡ merge.left - n
 
--- the state after the records of these rows are written after those of the rows taken before
-abbrev pub after_part : Merge → List StampedRow → List StampedRow → DiskState → DiskState
-after_part merge taken rows state =
-    after_write state (start_of merge.output + length (segment_in merge.form taken))
-    (segment_in merge.form rows)
+-- the state after the records of these rows, in this form, are written after those of the rows taken
+-- before
+abbrev pub after_part : Form → Extent → List StampedRow → List StampedRow → DiskState → DiskState
+after_part form output taken rows state =
+    after_write state (start_of output + length (segment_in form taken)) (segment_in form rows)
 
 -- One write puts the records of the next rows, which are rows of the history, after those of the
 -- rows taken before. After an error this write failed, or none was made.
@@ -75,5 +78,6 @@ pub record WritesNext {T E : Type 0} (result : Result T E) (n : ℕ) (catalog : 
   pub next : AreNext n catalog merge taken rows old.state.now
   pub of_history : (s : StampedRow) → Has rows s → Has h.rows s
   pub write : MatchResult result
-      (λ _. new ≡ followed_by old (after_part merge taken rows old.state))
-      (λ _. Fails old (after_part merge taken rows old.state) new)
+      (λ _. new ≡ followed_by old (after_part (form_of catalog.layout) merge.output taken rows
+      old.state))
+      (λ _. Fails old (after_part (form_of catalog.layout) merge.output taken rows old.state) new)

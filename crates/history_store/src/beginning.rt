@@ -11,6 +11,7 @@ ghost use Rattle.history_store.specs.Private.Beginning.{AreLong, IsNewMerge};
 use crate::merge_in_progress::MergeInProgress;
 use crate::refusal::Refusal;
 use blocks::Extent;
+use checksum::crc32c;
 use directory::{Directory, Entry, first_fit};
 use segment_index::{IndexMerge, StoreIndex};
 use std::alloc::Global;
@@ -88,8 +89,9 @@ pub(crate) fn begin(
             first,
             bytes,
             rows: a.rows + b.rows,
-            form: directory.layout().form(),
+            sums: directory.layout().sums(0),
         },
+        crc: crc32c(&[]),
         output: IndexMerge::new(alloc, index, i, j),
     })
 }

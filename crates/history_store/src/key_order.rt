@@ -9,6 +9,7 @@ use disk_model::Disk;
 use rf2_rows::{Key, Row};
 
 impl<D: Disk> Store<D> {
+    ghost use Rattle.history_model.specs.History.{IsHistory};
     ghost use Rattle.history_model.specs.KeyOrder.{rows_after};
     ghost use Rattle.history_store.specs.Queries.{IsRowsQuery};
 
@@ -23,6 +24,8 @@ impl<D: Disk> Store<D> {
         requires { pin ≤ self.old.history.imports }
         ensures answer { IsRowsQuery result (λ rows. rows.items) (rows_after after limit) pin
             D.view self.old self.new }
+        // On every disk the store's rows are in key order, each with the number of an import.
+        ensures history { IsHistory self.old.history }
     {
         if self.needs_reopen {
             return Err(Refusal::ReopenNeeded);

@@ -25,12 +25,10 @@ mod queries;
 mod read_index;
 mod reading;
 mod refusal;
-mod rewriting;
 mod starting;
 mod stepping;
 mod store;
 mod taken_blocks;
-mod upgrading;
 
 pub use as_of_index::AsOf;
 pub use directory::Layout;

@@ -6,7 +6,7 @@ ghost use Rattle.disk_model.specs.Disk.{IsImage, EachImage, LeavesOnly};
 ghost use Rattle.disk_model.specs.View.{AtMost};
 
 use crate::checking::{Next, Ready};
-use crate::counting::{blocks_in_use, plain_count, row_count};
+use crate::counting::{blocks_in_use, row_count};
 use crate::known::find_new_rows;
 use crate::latest::latest_time;
 use crate::merge_in_progress::MergeInProgress;
@@ -73,7 +73,7 @@ impl<D: Disk> Store<D> {
     ghost use Rattle.import_check.specs.NewRows.{BringsByKey};
     ghost use Rattle.store_image.specs.Images.{Represents, RepresentsAs};
     ghost use Rattle.store_image.specs.Next.{IsRepeated};
-    ghost use Rattle.history_store.specs.Catalog.{catalog_of, blocks_in_use, plain_count};
+    ghost use Rattle.history_store.specs.Catalog.{catalog_of, blocks_in_use};
     ghost use Rattle.history_store.specs.Prepared.{IsForLater};
     ghost use Rattle.history_store.specs.Private.StoreValue.{directory_of, with_imports, with_rows};
     ghost use Rattle.history_store.specs.Private.Prepared.{IsPreparedFor};
@@ -324,7 +324,7 @@ impl<D: Disk> Store<D> {
     }
 
     /// The layout version on the disk: 1 for a store that was made with version 1 and has published
-    /// nothing since, 3 for one that was made in version 3 or upgraded, and otherwise 2.
+    /// nothing since, 3 for one that was made in version 3, and otherwise 2.
     pub fn version(&self) -> u32
         ensures { result ≡ number_of self.now.catalog.layout }
     {
@@ -336,13 +336,6 @@ impl<D: Disk> Store<D> {
         ensures { result ≡ length self.now.catalog.entries }
     {
         self.directory.entries().len() as u32
-    }
-
-    /// How many of the listed segments have no checksums: in versions 1 and 2 all of them.
-    pub fn plain_segments(&self) -> u32
-        ensures { result ≡ plain_count self.now.catalog.entries }
-    {
-        plain_count(self.directory.entries())
     }
 
     /// How many blocks of the disk the store needs: those of the slots, which hold the directory,

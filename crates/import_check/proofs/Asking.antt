@@ -95,7 +95,7 @@ has_from (x ∷ xs) key h = by (has_from xs key) (is_eq (key_cmp (key_of x) key)
   by rest true e = (x, inl refl, eq_of (key_of x) key (key_cmp (key_of x) key) refl e)
   by rest false e = let r = rest (sym (ap (λ b. b || has_key xs key) e) ∙ h) in (r.0, inr r.1, r.2)
 
-has_to : (rows : List RowValue) (key : Key) (row : RowValue) → Has rows row → key_of row ≡ key → has_key rows key ≡ true
+pub has_to : (rows : List RowValue) (key : Key) (row : RowValue) → Has rows row → key_of row ≡ key → has_key rows key ≡ true
 has_to [] key row h e = absurd h
 has_to (x ∷ xs) key row (inl s) e = ap (λ b. b || has_key xs key) (ap is_eq (subst (λ k. key_cmp (key_of x) k ≡ Equal) (ap key_of s ∙ e) (tie_of_same x x refl)))
 has_to (x ∷ xs) key row (inr t) e = by (is_eq (key_cmp (key_of x) key)) (has_to xs key row t e) where

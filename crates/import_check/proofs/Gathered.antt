@@ -1,6 +1,6 @@
 -- Which rows of the lines so far are new by their keys, whatever rows are given.
 use Rattle.std.proofs.Common.{◌≡◌, ◌⊎◌, ◌≤◌, List, [], ◌∷◌, ◌++◌, length, refl, sym, ap, subst, inl, inr, ◌∙◌, arith}
-use Rattle.std.specs.Prelude.{ℕ, suc, ◌-◌, Option, Some, None, IsSomeAnd, MatchOption, Result, Ok, Err, IfOk, IsOkAnd}
+use Rattle.std.specs.Prelude.{ℕ, suc, ◌-◌, Option, Some, None, IfSome, IsSomeAnd, MatchOption, Result, Ok, Err, IfOk, IsOkAnd}
 use Rattle.std.specs.List.Sorted.{IsPermutation}
 use Rattle.std.proofs.lemmas.List.Sorted.{IsPermutation-sym}
 use Rattle.rf2_values.specs.declared.key.Key.{Key}
@@ -20,12 +20,26 @@ use Rattle.import_check.specs.Release.{rows_of}
 use Rattle.import_check.specs.NewRows.{AreNewByKey}
 use Rattle.import_check.specs.Private.Sweep.{IsApart, IsGathered, IsOutcome, IsVerdict, standing_row, standing_of}
 use Rattle.import_check.proofs.Asking.{more_rows}
+use Rattle.import_check.proofs.Sweeping.{last_pushed}
 
-pub gathered_none : (known : List RowValue) (s : Sweep) → s.fresh.items ≡ [] → s.known_row ≡ None → IsGathered known [] s
-gathered_none known s none unread = record {
+-- the row that counts is that of a line that was taken
+abbrev pub LastIs : List PlacedLine → List RowValue → Key → Type 0
+LastIs done fresh key = (first : PlacedLine) × Has done first × (standing_row None fresh ≡ Some first.row) × (key_of first.row ≡ key)
+
+pub last_with : (done : List PlacedLine) (fresh : List RowValue) (last : Option Key) (key : Key) → IfSome last (LastIs done fresh) → IsSomeAnd last (λ k. k ≡ key) → LastIs done fresh key
+last_with done fresh None key is at = absurd at
+last_with done fresh (Some k) key is at = (is.0, is.1, is.2, is.3 ∙ at)
+
+last_more : (done : List PlacedLine) (line : PlacedLine) (fresh : List RowValue) (last : Option Key) → IfSome last (LastIs done fresh) → IfSome last (LastIs (done ++ line ∷ []) fresh)
+last_more done line fresh None is = tt
+last_more done line fresh (Some k) is = (is.0, Has-append_left done (line ∷ []) is.0 is.1, is.2, is.3)
+
+pub gathered_none : (known : List RowValue) (s : Sweep) → s.fresh.items ≡ [] → s.known_row ≡ None → s.key ≡ None → IsGathered known [] s
+gathered_none known s none unread at = record {
   from_lines = λ row h. absurd (subst (λ rows. Has rows row) none h);
   each = λ first row h unknown. absurd h;
   known_key = λ row e. absurd (cc);
+  new_key = λ e. subst (λ o. IfSome o (LastIs [] s.fresh.items)) (sym at) tt;
 }
 
 rows_cases : (done : List PlacedLine) (line : PlacedLine) (row : RowValue) → Has (rows_of (done ++ line ∷ [])) row → Has (rows_of done) row ⊎ (line.row ≡ row)
@@ -48,7 +62,7 @@ agreed : (standing : Option RowValue) (first : Option Contradiction) (line : Pla
 agreed standing first line now (inl p) none = (p.0, sym p.1 ∙ none)
 agreed standing first line now (inr p) none = let found = p.2 in absurd (cc)
 
-key_known : (key : Option Key) (known : List RowValue) (k : Key) → IsSomeAnd key (λ key. IsUnknown known key → ⊥) → IsSomeAnd key (λ last. last ≡ k) → IsUnknown known k → ⊥
+pub key_known : (key : Option Key) (known : List RowValue) (k : Key) → IsSomeAnd key (λ key. IsUnknown known key → ⊥) → IsSomeAnd key (λ last. last ≡ k) → IsUnknown known k → ⊥
 key_known None known k at same unknown = absurd at
 key_known (Some last) known k at same unknown = at (subst (λ key. IsUnknown known key) (sym same) unknown)
 
@@ -71,23 +85,27 @@ module _ (known : List RowValue) (done : List PlacedLine) (line : PlacedLine) (o
               | inr e ↦ subst (λ (r : RowValue). Has old.fresh.items r) e (stands_new known old.key old.known_row old.fresh.items line.row g.known_key at so.0 (subst (λ (r : RowValue). IsUnknown known (key_of r)) (sym e) unknown))
             ]);
         known_key = λ row e. subst (λ k. IsSomeAnd k (λ key. IsUnknown known key → ⊥)) (sym (ap (λ (s : Sweep). s.key) kept)) (g.known_key row (sym (ap (λ (s : Sweep). s.known_row) kept) ∙ e));
+        new_key = λ e.
+            subst (λ o. IfSome o (LastIs (done ++ line ∷ []) new.fresh.items)) (sym (ap (λ (s : Sweep). s.key) kept))
+            (subst (λ fresh. IfSome old.key (LastIs (done ++ line ∷ []) fresh)) (sym rows) (last_more done line old.fresh.items old.key (g.new_key (sym (ap (λ (s : Sweep). s.known_row) kept) ∙ e))));
       }
 
   -- a known row has the key
-  pub gathered_known : (first : Option Contradiction) (standing : Option RowValue) → first ≡ old.first → new.fresh.items ≡ old.fresh.items → new.key ≡ Some (key_of line.row) → IsVerdict standing first line new.first
+  pub gathered_known : (first : Option Contradiction) (standing : Option RowValue) (found : RowValue) → new.known_row ≡ Some found → first ≡ old.first → new.fresh.items ≡ old.fresh.items → new.key ≡ Some (key_of line.row) → IsVerdict standing first line new.first
       → (IsUnknown known (key_of line.row) → ⊥) → IsGathered known (done ++ line ∷ []) new
-  gathered_known first standing same rows at verdict there = record {
+  gathered_known first standing found found_is same rows at verdict there = record {
     from_lines = λ row h. rows_before done line row (g.from_lines row (subst (λ x. Has x row) rows h));
     each = λ none row h unknown. elim (rows_cases done line row h) as (λ _. Has new.fresh.items row) [
       | inl before ↦ subst (λ x. Has x row) (sym rows) (g.each (sym same ∙ (agreed standing first line new.first verdict none).1) row before unknown)
       | inr e ↦ absurd (there (subst (λ (r : RowValue). IsUnknown known (key_of r)) (sym e) unknown))
     ];
     known_key = λ row e. subst (λ k. IsSomeAnd k (λ key. IsUnknown known key → ⊥)) (sym at) there;
+    new_key = λ e. absurd (cc);
   }
 
   -- no known row has the key
-  pub gathered_new : new.first ≡ old.first → new.known_row ≡ None → new.fresh.items ≡ old.fresh.items ++ line.row ∷ [] → IsGathered known (done ++ line ∷ []) new
-  gathered_new same none rows = record {
+  pub gathered_new : new.first ≡ old.first → new.known_row ≡ None → new.key ≡ Some (key_of line.row) → new.fresh.items ≡ old.fresh.items ++ line.row ∷ [] → IsGathered known (done ++ line ∷ []) new
+  gathered_new same none at rows = record {
     from_lines = λ row h. elim (Has-append_cases old.fresh.items (line.row ∷ []) row (subst (λ x. Has x row) rows h)) as (λ _. Has (rows_of (done ++ line ∷ [])) row) [
       | inl before ↦ rows_before done line row (g.from_lines row before)
       | inr t ↦ elim t [ inl e ↦ subst (λ r. Has (rows_of (done ++ line ∷ [])) r) e (row_last done line) | inr n ↦ absurd n ]
@@ -97,6 +115,7 @@ module _ (known : List RowValue) (done : List PlacedLine) (line : PlacedLine) (o
       | inr e ↦ Has-append_right old.fresh.items (line.row ∷ []) row (inl e)
     ]);
     known_key = λ row e. absurd (cc);
+    new_key = λ e. subst (λ o. IfSome o (LastIs (done ++ line ∷ []) new.fresh.items)) (sym at) (line, Has-append_right done (line ∷ []) line (inl refl), ap (standing_row None) rows ∙ last_pushed old.fresh.items line.row, refl);
   }
 
 -- what a pass over the lines in another order ends with, where none contradicts

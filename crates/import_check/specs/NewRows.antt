@@ -1,5 +1,5 @@
 -- What a release adds, and why it is refused.
-use Rattle.std.specs.Prelude.{◌≡◌, ◌≢◌, ℕ, ◌+◌, List, ◌++◌, length, ⊤}
+use Rattle.std.specs.Prelude.{◌≡◌, ◌≢◌, ℕ, ◌+◌, List, [], ◌++◌, length, ⊤}
 use Rattle.rf2_values.specs.Row.{RowValue}
 use Rattle.rf2_values.specs.Key.{key_of}
 use Rattle.history_model.specs.InOrder.{Has, IsAscending}
@@ -9,9 +9,10 @@ use Rattle.import_check.specs.declared.found.NewRows.{NewRows}
 use Rattle.import_check.specs.declared.fault.ImportFault.{ImportFault}
 use Rattle.import_check.specs.declared.fault.ImportFault.TheVariants as importfault
 use Rattle.fault_counts.specs.declared.fault.ReadFault.TheVariants as readfault
-use Rattle.import_check.specs.Known.{IsUnknown}
+use Rattle.import_check.specs.Known.{IsUnknown, already_known}
 use Rattle.fault_counts.specs.Counting.{CountsDiskFault, CountsDamage}
 use Rattle.import_check.specs.Release.{SpellFiles, IsReleaseOf, IsFaultOfRelease, HasContradiction}
+use Rattle.import_check.specs.Release.{HasPossibleContradiction}
 
 -- the rows that are not known, each once and in key order, and how many other lines there are
 pub record AreNewRows (known rows fresh : List RowValue) (repeated : ℕ) : Type 0 where
@@ -65,6 +66,16 @@ IsRefusal honest known release (importfault.Row file line fault) =
     IsFaultOfRelease release file line fault
 IsRefusal honest known release (importfault.Contradiction file line key) =
     IsRead release × (honest → HasContradiction known release file line key)
+
+-- Why a release is refused, whatever rows are returned for known keys: a known row can't be read
+-- only if a line has the key of one, and a line contradicts only if a known row has its key, or an
+-- earlier line with another row.
+abbrev pub IsRefusalByKey : List RowValue → Release → ImportFault → Type 0
+IsRefusalByKey known release (importfault.Known fault) = (rows : List RowValue)
+    → IsReleaseOf release rows → already_known known rows ≡ [] → fault ≡ readfault.OutOfMemory
+IsRefusalByKey known release (importfault.Contradiction file line key) =
+    HasPossibleContradiction known release file line key
+IsRefusalByKey known release _ = ⊤
 
 -- the count of `DiskFault` errors from looking up known rows: it has risen if that is the error,
 -- and otherwise is unchanged

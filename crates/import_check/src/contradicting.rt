@@ -1,18 +1,18 @@
 //! All contradictions of a release.
 
-ghost use Rattle.std.specs.Prelude.{◌≡◌, ◌≢◌, ◌+◌, ◌≤◌, ◌<◌, ◌^◌, ◌⊎◌, List};
+ghost use Rattle.std.specs.Prelude.{◌≡◌, ◌≢◌, ◌+◌, ◌≤◌, ◌<◌, ◌^◌, ◌⊎◌, List, []};
 ghost use Rattle.std.specs.Prelude.{OnOk, IfOk, IfErr, Some, None, IsSomeAnd, MatchOption};
 ghost use Rattle.std.specs.List.{sum_by};
 ghost use Rattle.rf2_values.specs.Row.{RowValue};
 ghost use Rattle.rf2_values.specs.Key.{key_of};
 ghost use Rattle.history_model.specs.InOrder.{IsAscending};
-ghost use Rattle.import_check.specs.NewRows.{IsRead};
+ghost use Rattle.import_check.specs.NewRows.{IsRead, IsRefusalByKey};
 ghost use Rattle.import_check.specs.NewRows.{CountsAnyDiskFault, CountsAnyDamage};
 ghost use Rattle.import_check.specs.Contradictions.{place_cmp, rank_cmp, row_of};
 ghost use Rattle.import_check.specs.Contradictions.{AreContradictionsOf, IsNotListed};
-ghost use Rattle.import_check.specs.Known.{already_known, LeavesKnown};
+ghost use Rattle.import_check.specs.Known.{already_known, IsUnknown, LeavesKnown};
 ghost use Rattle.import_check.specs.Release.{IsReleaseOf, rows_of};
-ghost use Rattle.import_check.specs.Private.Sweep.{IsCutShort, AsksOnce};
+ghost use Rattle.import_check.specs.Private.Sweep.{IsCutShort, AsksOnce, IsWithoutRead};
 ghost use Rattle.import_check.specs.Private.Contradictions.{IsFoundFor, IsNext, last_key};
 ghost use Rattle.import_check.specs.Private.Contradictions.{IsNoted, AreSifted};
 
@@ -98,6 +98,8 @@ fn find<K: Known>(alloc: Global, line: &PlacedLine, known: &mut K) -> Result<Oth
     ensures asks { (K.view known.old).is_sound → AsksOnce K.cost (K.view known.old).rows None
         line.now (K.view known.old).work (K.view known.new).work }
     ensures cut_short { IfErr result (IsCutShort (K.view known.old).is_honest) }
+    ensures causes { (K.view known.old).is_sound
+        → IsUnknown (K.view known.old).rows (key_of line.now.row) → IfErr result IsWithoutRead }
     ensures stays { K.stays known.old known.new }
     ensures known { LeavesKnown CountsAnyDiskFault CountsAnyDamage result
         (K.view known.old) (K.view known.new) }
@@ -123,6 +125,8 @@ fn next<K: Known>(
         → AsksOnce K.cost (K.view known.old).rows (last_key last) line.now (K.view known.old).work
         (K.view known.new).work }
     ensures cut_short { IfErr result (IsCutShort (K.view known.old).is_honest) }
+    ensures causes { (K.view known.old).is_sound
+        → IsUnknown (K.view known.old).rows (key_of line.now.row) → IfErr result IsWithoutRead }
     ensures stays { K.stays known.old known.new }
     ensures known { LeavesKnown CountsAnyDiskFault CountsAnyDamage result
         (K.view known.old) (K.view known.new) }
@@ -175,6 +179,9 @@ fn compare_all<K: Known>(
         → (K.view known.new).work ≤ (K.view known.old).work
         + sum_by K.cost (already_known (K.view known.old).rows (rows_of lines.items)) }
     ensures cut_short { IfErr result (IsCutShort (K.view known.old).is_honest) }
+    ensures causes { (K.view known.old).is_sound → IsAscending rank_cmp lines.items
+        → already_known (K.view known.old).rows (rows_of lines.items) ≡ []
+        → IfErr result IsWithoutRead }
     ensures stays { K.stays known.old known.new }
     ensures known { LeavesKnown CountsAnyDiskFault CountsAnyDamage result
         (K.view known.old) (K.view known.new) }
@@ -208,6 +215,9 @@ pub fn find_contradictions<K: Known>(
         → IfOk result (AreContradictionsOf (K.view known.old).rows release limit) }
     ensures read { IfOk result (λ found. IsRead release) }
     ensures refused { IfErr result (IsNotListed (K.view known.old).is_honest release) }
+    // A known row can't be read only if a line has the key of one.
+    ensures causes { (K.view known.old).is_sound
+        → IfErr result (IsRefusalByKey (K.view known.old).rows release) }
     // Whatever the result: each known row whose key is in the release is read at most once, and no
     // other row is read. If a file isn't a valid release file, none is read.
     ensures work { (K.view known.old).is_sound → (rows : List RowValue) → IsReleaseOf release rows

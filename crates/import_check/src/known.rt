@@ -30,6 +30,9 @@ pub trait Known {
             → IfOk result (IsRowAt (view self.old).rows key.now) }
         // An honest one fails only because of the disk or memory.
         ensures undamaged { (view self.old).is_honest → IfErr result (λ e. e ≢ readfault.Damaged) }
+        // If no known row has the key, none is read, and only memory may run out.
+        ensures causes { (view self.old).is_sound → IsUnknown (view self.old).rows key.now
+            → IfErr result (λ e. e ≡ readfault.OutOfMemory) }
         // It returns no row exactly if no known row has the key.
         ensures absent { (view self.old).is_sound
             → IfOk result (λ found. (found ≡ None) ↔ IsUnknown (view self.old).rows key.now) }

@@ -1,10 +1,10 @@
 //! One pass over the lines of a release, in key order.
 
 ghost use Rattle.std.specs.Prelude.{◌≡◌, ◌+◌, ◌≤◌, ◌<◌, ◌⊎◌, ◌++◌, ◌↔◌, [], ◌∷◌, List, length};
-ghost use Rattle.std.specs.Prelude.{IsTrue, Some, IsSomeAnd, OnOk, IfOk, IfErr, MatchResult};
+ghost use Rattle.std.specs.Prelude.{IsTrue, Some, IsSomeAnd, IfSome, OnOk, IfOk, IfErr, MatchResult};
 ghost use Rattle.std.specs.Prelude.{option_copied, None};
 ghost use Rattle.std.specs.List.{sum_by};
-ghost use Rattle.import_check.specs.Known.{already_known, LeavesKnown};
+ghost use Rattle.import_check.specs.Known.{already_known, IsUnknown, LeavesKnown};
 ghost use Rattle.import_check.specs.Private.Sweep.{IsInStep, AsksOnce};
 ghost use Rattle.history_model.specs.InOrder.{IsAscending};
 ghost use Rattle.rf2_values.specs.Row.{RowValue};
@@ -18,7 +18,9 @@ ghost use Rattle.import_check.specs.Private.Sweep.{StandsBy};
 ghost use Rattle.import_check.specs.Private.Sweep.{IsSwept, TakesLine, IsOutcome};
 ghost use Rattle.import_check.specs.Private.Sweep.{KeepsApart, IsCutShort, IsRefusalOf};
 ghost use Rattle.import_check.specs.Private.Sweep.{IsRising};
-ghost use Rattle.import_check.specs.Private.Sweep.{IsApart, IsGathered, Gathers};
+ghost use Rattle.import_check.specs.Private.Sweep.{IsApart, IsGathered, Gathers, Blames};
+ghost use Rattle.import_check.specs.Private.Sweep.{IsBlameable, IsWithoutRead};
+ghost use Rattle.import_check.specs.Private.Sweep.{IsRefusalOfByKey};
 ghost use Rattle.import_check.specs.Contradictions.{place_cmp, rank_cmp};
 
 use crate::fault::ImportFault;
@@ -87,6 +89,7 @@ impl Sweep {
         ensures swept { (known : List RowValue) (lines : List PlacedLine)
             → IsSwept known lines [] result }
         ensures empty { result.fresh.items ≡ [] }
+        ensures blameless { result.first ≡ None }
         ensures gathered { (known : List RowValue) → IsGathered known [] result }
         ensures in_step { IsInStep result }
     {
@@ -171,7 +174,11 @@ impl Sweep {
         ensures gathers { (K.view known.old).is_sound
             → OnOk result (Gathers (K.view known.old).rows line self.old self.new) }
         ensures few { OnOk result (length self.new.fresh.items ≤ length self.old.fresh.items + 1) }
+        ensures blames { (K.view known.old).is_sound
+            → OnOk result (Blames (K.view known.old).rows line self.old self.new) }
         ensures cut_short { IfErr result (IsCutShort (K.view known.old).is_honest) }
+        ensures causes { (K.view known.old).is_sound
+            → IsUnknown (K.view known.old).rows (key_of line.row) → IfErr result IsWithoutRead }
         ensures stays { K.stays known.old known.new }
         ensures known { LeavesKnown CountsAnyDiskFault CountsAnyDamage result
             (K.view known.old) (K.view known.new) }
@@ -235,7 +242,13 @@ fn take_all<K: Known>(
     ensures work { (K.view known.old).is_sound → IsRising rank_cmp lines.items
         → (K.view known.new).work ≤ (K.view known.old).work
         + sum_by K.cost (already_known (K.view known.old).rows (rows_of lines.items)) }
+    ensures blamed { (K.view known.old).is_sound → IsRising rank_cmp lines.items
+        → IfOk result (λ sweep.
+        IfSome sweep.first (IsBlameable (K.view known.old).rows lines.items)) }
     ensures cut_short { IfErr result (IsCutShort (K.view known.old).is_honest) }
+    ensures causes { (K.view known.old).is_sound
+        → already_known (K.view known.old).rows (rows_of lines.items) ≡ []
+        → IfErr result IsWithoutRead }
     ensures stays { K.stays known.old known.new }
     ensures known { LeavesKnown CountsAnyDiskFault CountsAnyDamage result
         (K.view known.old) (K.view known.new) }
@@ -260,6 +273,8 @@ pub(crate) fn unite<K: Known>(
         → IfOk result (AreNewByKey (K.view known.old).rows (rows_of lines.items)) }
     ensures refused { IfErr result
         (IsRefusalOf (K.view known.old).is_honest (K.view known.old).rows lines.items) }
+    ensures causes { (K.view known.old).is_sound
+        → IfErr result (IsRefusalOfByKey (K.view known.old).rows lines.items) }
     ensures work { (K.view known.old).is_sound → (K.view known.new).work
         ≤ (K.view known.old).work
         + sum_by K.cost (already_known (K.view known.old).rows (rows_of lines.items)) }

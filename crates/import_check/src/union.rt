@@ -6,6 +6,7 @@ ghost use Rattle.rf2_values.specs.Row.{RowValue};
 ghost use Rattle.import_check.specs.Known.{already_known, LeavesKnown};
 ghost use Rattle.import_check.specs.Release.{IsReleaseOf};
 ghost use Rattle.import_check.specs.NewRows.{BringsByKey, IsRead, IsAcceptedAs, IsRefusal};
+ghost use Rattle.import_check.specs.NewRows.{IsRefusalByKey};
 ghost use Rattle.import_check.specs.NewRows.{CountsAnyDiskFault, CountsAnyDamage};
 
 use crate::fault::ImportFault;
@@ -40,6 +41,10 @@ pub fn new_rows<K: Known>(
     // faulty one, or else the first that contradicts.
     ensures refused { IfErr result
         (IsRefusal (K.view known.old).is_honest (K.view known.old).rows release) }
+    // A known row can't be read only if a line has the key of one; and the line in an error has a
+    // known key, or that of an earlier line with another row.
+    ensures causes { (K.view known.old).is_sound
+        → IfErr result (IsRefusalByKey (K.view known.old).rows release) }
     // Whatever the result: each known row whose key is in the release is read at most once, and no
     // other row is read. If a file isn't a valid release file, none is read.
     ensures work { (K.view known.old).is_sound → (rows : List RowValue) → IsReleaseOf release rows

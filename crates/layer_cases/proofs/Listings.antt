@@ -7,14 +7,14 @@ use Rattle.directory.specs.declared.entry.Entry.{Entry}
 use Rattle.directory.specs.declared.layout.Layout.{Layout}
 use Rattle.directory.specs.Places.{extent_of}
 use Rattle.directory.specs.Fit.{fit}
-use Rattle.directory.specs.Listings.{DirectoryValue, IsEntry, IsListing, form_of, most_entries, with_entry, with_two_back}
-use Rattle.directory.proofs.Adding.{fit_may_be_added, has_written_form}
+use Rattle.directory.specs.Listings.{DirectoryValue, IsEntry, IsListing, HasForm, most_entries, with_entry, with_two_back}
+use Rattle.directory.proofs.Adding.{fit_may_be_added}
 
 -- an entry of the form of its version may be added where it is the fit
-pub added_listing : (d : DirectoryValue) (entry : Entry) (reserved : Option Extent) → IsListing d → length d.entries < most_entries d.layout → IsEntry entry → entry.form ≡ form_of d.layout
+pub added_listing : (d : DirectoryValue) (entry : Entry) (reserved : Option Extent) → IsListing d → length d.entries < most_entries d.layout → IsEntry entry → HasForm d.layout entry
     → fit (block_count (extent_of entry)) d.entries reserved ≡ Some entry.first → IsListing (with_entry d entry)
 added_listing d entry reserved is few e form place =
-    fit_may_be_added d entry reserved is few e.bytes e.bytes_fit e.rows e.rows_fit (has_written_form d.layout entry form) place
+    fit_may_be_added d entry reserved is few e.bytes e.bytes_fit e.rows e.rows_fit e.sums form place
 
 two_are : (l : List Entry) (x : Entry) → length l ≡ 2 → l ≡ slice_index_or l 0 x ∷ slice_index_or l 1 x ∷ []
 two_are [] x two = absurd (omega (arith, two))

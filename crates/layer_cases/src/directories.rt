@@ -6,8 +6,9 @@
 //!   (`listing.rt`), or `BadDirectory`; `block lists-with AT BYTES` prints that for the block with
 //!   other bytes at an offset, and `block lists-summed AT BYTES` with the right checksum of version
 //!   3 as well;
-//! - `block precedes` prints whether it may be older than a directory of version 1, of version 2
-//!   and of version 3, and `block precedes-with AT BYTES` does so with other bytes at an offset;
+//! - `block precedes EPOCH` prints whether it may be older than a directory of version 1, of version
+//!   2 and of version 3 at this epoch, and `block precedes-with EPOCH AT BYTES` does so with other
+//!   bytes at an offset;
 //! - `fit BLOCKS RESERVED ENTRIES` prints the first block of the first fit for this many blocks, or
 //!   `Full`. An entry is its first block and its number of bytes, as in `4:46`, and so is the
 //!   reserved extent, which is `-` if there is none.
@@ -16,8 +17,8 @@ use crate::listing::{Listing, spell_directory};
 use blocks::Extent;
 use case_files::{Answer, NoAnswer, two_words};
 use case_values::{first_word, number, read_hex, spell_hex};
-use checksum::{Form, crc32c};
-use directory::{Directory, DirectoryFault, Entry, Full, Layout, first_fit, may_precede};
+use checksum::crc32c;
+use directory::{Directory, DirectoryFault, Entry, Full, Layout, Sums, first_fit, may_precede};
 use std::alloc::Global;
 
 /// Puts bytes in place of others, from an offset on.
@@ -60,11 +61,12 @@ fn put_sum(block: &mut [u8; 4096]) {
     block[4092..].copy_from_slice(&sum);
 }
 
-/// Whether the block may be older than a directory of each version.
-fn spell_older(alloc: Global, block: &[u8; 4096]) -> Answer {
-    let one = may_precede(Layout::One, block);
-    let two = may_precede(Layout::Two, block);
-    let three = may_precede(Layout::Three, block);
+/// Whether the block may be older than a directory of each version at this epoch.
+fn spell_older(alloc: Global, epoch: &str, block: &[u8; 4096]) -> Answer {
+    let epoch = number(epoch)?;
+    let one = may_precede(Layout::One, epoch, block);
+    let two = may_precede(Layout::Two, epoch, block);
+    let three = may_precede(Layout::Three, epoch, block);
     Ok(format!(in alloc; "{one} {two} {three}")?)
 }
 
@@ -90,12 +92,19 @@ pub fn spell_block(alloc: Global, block: &[u8; 4096]) -> Answer {
     Ok(text.trim_end().to_string(alloc)?)
 }
 
-/// Prints what a block lists or precedes with other bytes.
+/// Whether a block with other bytes may be older than a directory of each version.
+fn ask_older(alloc: Global, block: &[u8; 4096], words: &str) -> Answer {
+    let (epoch, words) = first_word(words)?;
+    let mut changed = *block;
+    put_bytes(alloc, &mut changed, words)?;
+    spell_older(alloc, epoch, &changed)
+}
+
+/// Prints what a block lists with other bytes.
 fn ask_changed(alloc: Global, block: &[u8; 4096], word: &str, words: &str) -> Answer {
     let mut changed = *block;
     put_bytes(alloc, &mut changed, words)?;
     match word {
-        "precedes-with" => return spell_older(alloc, &changed),
         "lists-with" => {}
         "lists-summed" => put_sum(&mut changed),
         _ => return Err(NoAnswer::NoQuestion),
@@ -111,7 +120,8 @@ pub fn ask_block(alloc: Global, listing: &mut Listing, words: &str) -> Answer {
             listing.directory = listed(alloc, &listing.block)?;
             return spell_listed(alloc, listing.directory.as_ref());
         }
-        "precedes" => return spell_older(alloc, &listing.block),
+        "precedes" => return spell_older(alloc, rest, &listing.block),
+        "precedes-with" => return ask_older(alloc, &listing.block, rest),
         "filled" => listing.block = [byte_of(rest)?; 4096],
         "put" => put_bytes(alloc, &mut listing.block, rest)?,
         _ => return ask_changed(alloc, &listing.block, word, rest),
@@ -137,7 +147,7 @@ fn entries_in(alloc: Global, words: &str) -> Result<Vec<Entry>, NoAnswer> {
             first,
             bytes,
             rows: 1,
-            form: Form::Plain,
+            sums: Sums::Nowhere,
         })?;
     }
     Ok(entries)

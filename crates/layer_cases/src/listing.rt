@@ -1,26 +1,27 @@
 //! The directory of a case, and calls that change it.
 //!
 //! - `directory new VERSION` begins with the directory of a new store; `directory advance IMPORTS`
-//!   goes to its next epoch, and `directory upgrade` and `directory upgrade-to-three` change its
-//!   version;
-//! - `directory add FIRST BYTES ROWS` adds an entry of the form of its version, and `directory
-//!   merge FIRST BYTES ROWS` puts one in place of the only two; `directory put-back` puts these two
-//!   back, with the version and the epoch that the directory had then. All of these print the
-//!   directory;
+//!   goes to its next epoch, and `directory upgrade` changes its version to that of the next
+//!   publication;
+//! - `directory add FIRST BYTES ROWS` adds the entry of a segment without a checksum of its own, and `directory add FIRST
+//!   BYTES ROWS CRC` the entry of a new segment with this CRC-32C, in hexadecimal; `directory merge
+//!   FIRST BYTES ROWS` puts one in place of the only two; `directory put-back` puts these two back,
+//!   with the version and the epoch that the directory had then. All of these print the directory;
 //! - `directory encode` writes the directory into the block, and prints the block: 16 bytes in each
 //!   line, after the offset of the first. A line that isn't printed has only zeros.
 
 ghost use Rattle.std.specs.Prelude.{◌≡◌, ◌<◌, IsTrue, IfOk, Some, length};
 ghost use Rattle.blocks.specs.Extents.{block_count};
 ghost use Rattle.directory.specs.Fit.{fit};
-ghost use Rattle.directory.specs.Listings.{IsEntry, IsListing, form_of, most_entries};
+ghost use Rattle.directory.specs.Listings.{AreSums, HasForm, IsEntry, IsListing, form_in, form_of};
+ghost use Rattle.directory.specs.Listings.{most_entries};
 ghost use Rattle.directory.specs.Places.{extent_of};
 
 use crate::directories::spell_block;
 use blocks::{BLOCK_LIMIT, Extent};
 use case_files::{Answer, NoAnswer, two_words};
 use case_values::{first_word, number};
-use directory::{Directory, Entry, Full, Layout, first_fit};
+use directory::{Directory, Entry, Full, Layout, Sums, first_fit};
 use std::alloc::{AllocError, Global};
 
 /// The content block and the directory of a case, and the directory before its last merge.
@@ -41,27 +42,57 @@ pub fn layout_of(word: &str) -> Result<Layout, NoAnswer> {
     }
 }
 
-/// Whether a directory may list an entry, as far as that depends on the entry alone.
-pub fn is_entry(entry: Entry) -> bool
-    ensures { IsTrue result → IsEntry entry }
+/// Whether an entry of a directory of this version may have these checksums.
+fn may_have(layout: Layout, sums: Sums) -> bool
+    ensures allowed { IsTrue result → AreSums sums }
+    ensures form { IsTrue result → form_in sums ≡ form_of layout }
+{
+    match (layout, sums) {
+        (Layout::Three, Sums::Nowhere) => false,
+        (Layout::Three, Sums::Records) => true,
+        (Layout::Three, Sums::Whole(sum)) => sum >= 2,
+        (_, Sums::Nowhere) => true,
+        (_, _) => false,
+    }
+}
+
+/// Whether a directory of this version may list the entry.
+pub fn is_entry(layout: Layout, entry: Entry) -> bool
+    ensures is { IsTrue result → IsEntry entry }
+    ensures form { IsTrue result → HasForm layout entry }
 {
     entry.first >= 4
         && entry.bytes > 0
         && entry.rows > 0
+        && may_have(layout, entry.sums)
         && entry.extent().end() <= u64::from(BLOCK_LIMIT)
 }
 
-/// Reads an entry of the form of a version.
-fn entry_of(layout: Layout, words: &str) -> Result<Entry, NoAnswer>
-    ensures { IfOk result (λ entry. entry.form ≡ form_of layout) }
-{
+/// The checksums of a segment in a directory of this version: those of a new one with this CRC-32C,
+/// in hexadecimal, or those of one from before segments had a checksum of their own.
+fn sums_of(layout: Layout, digits: &str) -> Result<Sums, NoAnswer> {
+    if digits.is_empty() {
+        return Ok(match layout {
+            Layout::One | Layout::Two => Sums::Nowhere,
+            Layout::Three => Sums::Records,
+        });
+    }
+    match u32::from_str_radix(digits, 16) {
+        Ok(crc) => Ok(layout.sums(crc)),
+        Err(_) => Err(NoAnswer::NoQuestion),
+    }
+}
+
+/// Reads an entry of a directory of this version.
+fn entry_of(layout: Layout, words: &str) -> Result<Entry, NoAnswer> {
     let (first, words) = first_word(words)?;
-    let (bytes, rows) = first_word(words)?;
+    let (bytes, words) = first_word(words)?;
+    let (rows, crc) = two_words(words);
     Ok(Entry {
         first: number(first)?,
         bytes: number(bytes)?,
         rows: number(rows)?,
-        form: layout.form(),
+        sums: sums_of(layout, crc)?,
     })
 }
 
@@ -94,7 +125,8 @@ fn add(directory: &mut Directory, words: &str) -> Result<(), NoAnswer> {
         first: 4,
         bytes: blocks.saturating_mul(4096),
     };
-    if !is_entry(entry) || !has_room(directory) || !is_fit(directory, entry, before) {
+    let layout = directory.layout();
+    if !is_entry(layout, entry) || !has_room(directory) || !is_fit(directory, entry, before) {
         return Err(NoAnswer::NoQuestion);
     }
     directory.add(entry);
@@ -104,7 +136,7 @@ fn add(directory: &mut Directory, words: &str) -> Result<(), NoAnswer> {
 /// Puts an entry in place of the only two.
 fn merge(directory: &mut Directory, words: &str) -> Result<(), NoAnswer> {
     let entry = entry_of(directory.layout(), words)?;
-    if directory.entries().len() != 2 || !is_entry(entry) {
+    if directory.entries().len() != 2 || !is_entry(directory.layout(), entry) {
         return Err(NoAnswer::NoQuestion);
     }
     directory.replace_two(0, 1, entry);
@@ -136,8 +168,15 @@ fn advance(directory: &mut Directory, imports: &str) -> Result<(), NoAnswer> {
 /// An entry, as text after that of the directory.
 fn spell_entry(alloc: Global, entry: &Entry) -> Result<String, AllocError> {
     let Extent { first, bytes } = entry.extent();
-    let (rows, form) = (entry.rows, entry.form);
-    format!(in alloc; "; in block {first}: {bytes} bytes, {rows} rows, {form:?}")
+    let (rows, form) = (entry.rows, entry.form());
+    match entry.sums {
+        Sums::Nowhere | Sums::Records => {
+            format!(in alloc; "; in block {first}: {bytes} bytes, {rows} rows, {form:?}")
+        }
+        Sums::Whole(sum) => format!(in alloc;
+            "; in block {first}: {bytes} bytes, {rows} rows, {form:?}, sum {sum:08x}"
+        ),
+    }
 }
 
 /// A directory.
@@ -168,7 +207,6 @@ impl Listing {
         match word {
             "advance" => advance(directory, words)?,
             "upgrade" => directory.upgrade(),
-            "upgrade-to-three" => directory.upgrade_to_three(),
             "add" => add(directory, words)?,
             "merge" => {
                 self.before = Some(directory.try_clone(alloc)?);

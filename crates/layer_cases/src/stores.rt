@@ -8,8 +8,9 @@
 //!   slot that is current then, or `failed`;
 //! - `store load` loads the store, and prints its current slot, epoch, imports and number of
 //!   segments, or the fault; `store load-with AT BYTES` does so with other bytes at an offset,
-//!   `store load-after CALLS CHOICE` after a crash, as `crash CALLS CHOICE` makes it, and `store
-//!   crashes CHOICE CALLS` after CALLS changing calls and after each later one: its lines count
+//!   `store turned FIRST END BITS` with these bits of each byte from FIRST up to END inverted, one
+//!   byte at a time, in lines that count from 0, which is FIRST, and `store load-after CALLS CHOICE`
+//!   after a crash, as `crash CALLS CHOICE` makes it, and `store crashes CHOICE CALLS` after CALLS changing calls and after each later one: its lines count
 //!   from 0, which is after CALLS. All of these but `store load` leave the disk as it is;
 //! - `store rows` prints where each row is that is loaded;
 //! - `store trim LENGTH` prints how many bytes were cut off.
@@ -92,6 +93,24 @@ fn load_with(alloc: Global, disk: &MemDisk, words: &str) -> Answer {
     spell_loaded(alloc, &mut MemDisk::from_bytes(alloc, bytes))
 }
 
+/// What is loaded of a disk in which these bits of one byte are inverted, for each of the bytes.
+fn spell_turned(alloc: Global, disk: &MemDisk, words: &str) -> Answer {
+    let (first, words) = first_word(words)?;
+    let (end, bits) = first_word(words)?;
+    let (first, end): (usize, usize) = (number(first)?, number(end)?);
+    let bits: u8 = number(bits)?;
+    let mut groups = Groups::new(alloc);
+    for at in first..end {
+        let mut bytes = disk.bytes().to_vec(alloc)?;
+        let Some(byte) = bytes.get_mut(at) else {
+            return Err(NoAnswer::NoQuestion);
+        };
+        *byte ^= bits;
+        groups.put(spell_loaded(alloc, &mut MemDisk::from_bytes(alloc, bytes))?)?;
+    }
+    groups.end()
+}
+
 /// What is loaded after crashes.
 fn spell_crashes(alloc: Global, disk: &MemDisk, choice: Choice, first: u64) -> Answer {
     let mut groups = Groups::new(alloc);
@@ -136,9 +155,9 @@ fn add(
 ) -> Result<Result<Slot, DiskFault>, NoAnswer> {
     let bytes = read_hex(alloc, digits)?;
     match directory.entries() {
-        [.., last] if is_entry(*last) && bytes.len() as u64 == u64::from(last.bytes) => {
-            Ok(add_segment(disk, slot, directory, *last, &bytes))
-        }
+        [.., last]
+            if is_entry(directory.layout(), *last) && bytes.len() as u64 == u64::from(last.bytes) =>
+            { Ok(add_segment(disk, slot, directory, *last, &bytes)) }
         _ => Err(NoAnswer::NoQuestion),
     }
 }
@@ -209,6 +228,7 @@ fn ask_loaded(alloc: Global, disk: &mut MemDisk, word: &str, rest: &str) -> Answ
         "check-empty" => spell_empty(alloc, check_empty(disk)),
         "load" => spell_loaded(alloc, disk),
         "load-with" => load_with(alloc, disk, rest),
+        "turned" => spell_turned(alloc, disk, rest),
         "load-after" => {
             let (calls, choice) = first_word(rest)?;
             load_after(alloc, disk, calls, choice_of(choice)?)

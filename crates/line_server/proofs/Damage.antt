@@ -4,6 +4,7 @@ use Rattle.std.proofs.lemmas.Bool.{false≢true}
 use Rattle.disk_model.specs.View.{DiskView}
 use Rattle.history_store.specs.declared.refusal.Refusal.{Refusal}
 use Rattle.history_store.specs.declared.refusal.Refusal.TheVariants as store
+use Rattle.history_store.specs.StoreValue.{StoreValue}
 use Rattle.line_commands.specs.Questions.{Question, Children, Descendants, Dates, Receipt}
 use Rattle.line_commands.specs.Commands.{Command, Ask, At, Import, Check, Pin, Unpin, Merge, Step, Publish, Abandon, Trim, Status}
 use Rattle.line_server.specs.declared.refusal.LineRefusal.{LineRefusal}
@@ -11,7 +12,7 @@ use Rattle.line_server.specs.declared.refusal.LineRefusal.TheVariants as refusal
 use Rattle.line_server.specs.Sources.{Releases, source_view}
 use Rattle.line_server.specs.ReplyValue.{Answer}
 use Rattle.line_server.specs.StateValue.{IsHeldBack, met_after}
-use Rattle.line_server.specs.Replies.{Server, Replies, IsOutcome, IsStoreRefusal, IsRefusalAt, IsClosed, IsLacking, imports_seen}
+use Rattle.line_server.specs.Replies.{Server, Replies, NeedsLater, IsOutcome, IsStoreRefusal, IsRefusalAt, IsClosed, IsLacking, imports_seen}
 use Rattle.line_server.specs.Turns.{Turn, Run}
 use Rattle.line_server.specs.Laws.{DamageHoldsBack, HonestMeetsNoDamage}
 use Rattle.line_server.proofs.Pinned.{Settles, asked_outcome}
@@ -29,7 +30,9 @@ is_damage _ = false
 pub met_by_line : {D : Type 0} (honest : Type 0) (releases : Releases) (line : List ℕ) (outcome : Result Answer LineRefusal) (old new : Server D) → Replies honest releases line outcome old new → new.met_damage ≡ met_after outcome old.met_damage
 met_by_line {D} honest releases line outcome old new (inl (session, command, asks, inl h)) =
     ap (λ (d : Server D). d.met_damage) h.unchanged ∙ h.held_back.0 ∙ sym (ap (λ (o : Result Answer LineRefusal). met_after o old.met_damage) h.refused)
-met_by_line honest releases line outcome old new (inl (session, command, asks, inr h)) = h.damage
+met_by_line {D} honest releases line outcome old new (inl (session, command, asks, inr (inl h))) =
+    ap (λ (d : Server D). d.met_damage) h.unchanged ∙ sym (ap (λ (o : Result Answer LineRefusal). met_after o old.met_damage) h.refused)
+met_by_line honest releases line outcome old new (inl (session, command, asks, inr (inr h))) = h.damage
 met_by_line {D} honest releases line outcome old new (inr r) =
     ap (λ (d : Server D). d.met_damage) r.3 ∙ sym (ap (λ (o : Result Answer LineRefusal). met_after o old.met_damage) r.2)
 
@@ -49,11 +52,18 @@ module _ (D : Type 0) (view : D → DiskView) (has : Releases) where
       run_met turns run.0 new run.2
       (met_by_line (view old.store.disk).is_honest run.1.releases turn.line turn.outcome old run.0 run.1.goes.replies ∙ met_stays turn.outcome old.met_damage met)
 
+-- what is held back needs no later layout
+pub not_both : {D : Type 0} (command : Command) (s : StoreValue D) → IsHeldBack command → NeedsLater command s → ⊥
+not_both (Ask question) s held later = held
+not_both (At number question) s held later = held
+not_both command s held later = later
+
 -- a command that is held back is answered 8
 held : {D : Type 0} (honest : Type 0) (releases : Releases) (session : ℕ) (command : Command) (outcome : Result Answer LineRefusal) (old new : Server D) → IsHeldBack command → old.met_damage ≡ true → Settles honest releases session command outcome old new
     → (outcome ≡ damaged) × (new ≡ old)
 held honest releases session command outcome old new is met (inl h) = (h.refused, h.unchanged)
-held honest releases session command outcome old new is met (inr h) = absurd (h.free (met, is))
+held honest releases session command outcome old new is met (inr (inl h)) = absurd (not_both command old.store is h.needs_later)
+held honest releases session command outcome old new is met (inr (inr h)) = absurd (h.free (met, is))
 
 pub damage_holds_back : (D : Type 0) (view : D → DiskView) → DamageHoldsBack D view
 damage_holds_back D view has before mid late after first turn turns session command t refused run last asks is =
@@ -103,7 +113,8 @@ module _ {D : Type 0} (honest : Type 0) (up : honest) (releases : Releases) (old
 
   line_undamaged : (line : List ℕ) (outcome : Result Answer LineRefusal) → old.met_damage ≡ false → Replies honest releases line outcome old new → new.met_damage ≡ false
   line_undamaged line outcome e (inl (session, command, asks, inl h)) = absurd (false≢true (sym e ∙ h.held_back.0))
-  line_undamaged line outcome e (inl (session, command, asks, inr h)) = h.damage ∙ outcome_undamaged session command outcome h.comes_out ∙ e
+  line_undamaged line outcome e (inl (session, command, asks, inr (inl h))) = ap (λ (d : Server D). d.met_damage) h.unchanged ∙ e
+  line_undamaged line outcome e (inl (session, command, asks, inr (inr h))) = h.damage ∙ outcome_undamaged session command outcome h.comes_out ∙ e
   line_undamaged line outcome e (inr r) = ap (λ (d : Server D). d.met_damage) r.3 ∙ e
 
 pub honest_meets_no_damage : (D : Type 0) (view : D → DiskView) → HonestMeetsNoDamage D view

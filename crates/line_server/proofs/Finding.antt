@@ -106,15 +106,15 @@ module _ {D : Type 0} (honest : Type 0) (up : honest) (seen : ℕ) (old new : Se
   answer_found question answer q a = (a.0, a.1, a.2.3 up)
 
   -- an open store refuses it only for want of memory or the disk
-  unfound : (refusal : Refusal) → IsSure (Err (refusals.Store refusal)) → IsUnfound honest refusal old new → IsShut (Err (refusals.Store refusal)) old × Same old new
-  unfound store.ReopenNeeded sure u = (
+  unfound : (question : Question) (refusal : Refusal) → IsSure (Err (refusals.Store refusal)) → IsUnfound honest seen question refusal old new → IsShut (Err (refusals.Store refusal)) old × Same old new
+  unfound question store.ReopenNeeded sure u = (
     (u.cause, refl),
     record { pins = u.pins; store = record { history = u.refused.history; catalog = u.refused.catalog; needs_reopen = u.refused.still (λ e. false≢true (ap is_fault e)) } },
   )
-  unfound store.Damaged sure u = absurd (u.undamaged up refl)
-  unfound store.OutOfMemory sure u = absurd sure
-  unfound store.DiskFault sure u = absurd sure
-  unfound _ sure u = absurd u.cause
+  unfound question store.Damaged sure u = absurd (u.undamaged up refl)
+  unfound question store.OutOfMemory sure u = absurd sure
+  unfound question store.DiskFault sure u = absurd sure
+  unfound question _ sure u = absurd u.cause
 
   unlisted : (refusal : Refusal) → IsSure (Err (refusals.Store refusal)) → IsClosed refusal old new ⊎ IsLacking refusal old new → IsShut (Err (refusals.Store refusal)) old × Same old new
   unlisted refusal sure (inl h) = ((h.1, ap (λ (e : Refusal). Err (refusals.Store e)) h.0), same_from old new h.2)
@@ -126,7 +126,7 @@ module _ {D : Type 0} (honest : Type 0) (up : honest) (seen : ℕ) (old new : Se
   refused (Children concept date) refusal q sure r = unlisted refusal sure r
   refused (Descendants concept date) refusal q sure r = unlisted refusal sure r
   refused Dates refusal q sure r = unlisted refusal sure r
-  refused question refusal q sure r = unfound refusal sure r
+  refused question refusal q sure r = unfound question refusal sure r
 
   not_unseen : {A : Type 0} (question : Question) → AsksFound question → IsUnseen seen question → A
   not_unseen (Receipt number) q h = absurd q

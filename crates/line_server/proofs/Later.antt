@@ -1,5 +1,5 @@
--- That no release is for a later version, where the source gives no members unasked.
-use Rattle.std.proofs.Common.{◌≡◌, ◌⊎◌, ℕ, Bool, true, false, List, Some, Result, Err, sym, ap, subst, ◌∙◌, inl, inr}
+-- That only questions about members are answered 14, where the source gives no members unasked.
+use Rattle.std.proofs.Common.{◌≡◌, ◌≢◌, ◌⊎◌, ℕ, Bool, true, false, List, Some, Result, Err, sym, ap, subst, ◌∙◌, inl, inr}
 use Rattle.std.proofs.lemmas.Bool.{false≢true}
 use Rattle.disk_model.specs.View.{DiskView}
 use Rattle.directory.specs.declared.layout.Layout.{Layout}
@@ -11,12 +11,15 @@ use Rattle.history_store.specs.declared.refusal.Refusal.TheVariants as store
 use Rattle.history_store.specs.Prepared.{IsForLater}
 use Rattle.line_commands.specs.Questions.{Question, Children, Descendants, Dates, Receipt}
 use Rattle.line_commands.specs.Commands.{Command, Ask, At, Import, Check, Pin, Unpin, Merge, Step, Publish, Abandon, Trim, Status}
+use Rattle.line_commands.specs.Requests.{Asks}
 use Rattle.line_server.specs.declared.refusal.LineRefusal.{LineRefusal}
 use Rattle.line_server.specs.declared.refusal.LineRefusal.TheVariants as refusals
 use Rattle.line_server.specs.Sources.{Releases, scope_of}
 use Rattle.line_server.specs.ReplyValue.{Answer}
-use Rattle.line_server.specs.Replies.{Server, IsOutcome, IsStoreRefusal, IsRefusalAt, IsClosed, IsLacking, imports_seen}
-use Rattle.line_server.specs.Laws.{GivesNoMembers, NoneIsLater}
+use Rattle.line_server.specs.Replies.{Server, Replies, NeedsLater, IsOutcome, IsStoreRefusal, IsRefusalAt, IsClosed, IsLacking, imports_seen}
+use Rattle.line_server.specs.Laws.{GivesNoMembers, OnlyMembersNeedLater}
+use Rattle.line_server.proofs.Damage.{not_both}
+use Rattle.line_server.proofs.Pinned.{Settles, asked_outcome}
 
 abbrev is_later : Refusal → Bool
 is_later store.LaterVersion = true
@@ -60,8 +63,22 @@ module _ {D : Type 0} (honest : Type 0) (releases : Releases) (none : GivesNoMem
   refused_never session Trim r = r.0.0
   refused_never session Status r = closed_never r
 
-pub none_is_later : (D : Type 0) (view : D → DiskView) → NoneIsLater D view
-none_is_later D view releases line outcome old new none (inl (session, command, asks, inl h)) e = false≢true (ap comes_later (sym h.refused ∙ e))
-none_is_later D view releases line outcome old new none (inl (session, command, asks, inr h)) e =
-    refused_never (view old.store.disk).is_honest releases none old new session command (subst (λ (o : Result Answer LineRefusal). IsOutcome (view old.store.disk).is_honest releases session command o old new) e h.comes_out)
-none_is_later D view releases line outcome old new none (inr r) e = false≢true (ap comes_later (sym r.2 ∙ e))
+  -- so no command that is performed is refused with 14
+  performed_never : (session : ℕ) (command : Command) (outcome : Result Answer LineRefusal) → IsOutcome honest releases session command outcome old new → outcome ≢ Err (refusals.Store store.LaterVersion)
+  performed_never session command outcome out e = refused_never session command (subst (λ (o : Result Answer LineRefusal). IsOutcome honest releases session command o old new) e out)
+
+pub only_members_need_later : (D : Type 0) (view : D → DiskView) → OnlyMembersNeedLater D view
+only_members_need_later D view releases line outcome old new none replies = (λ e. needed replies e, λ (session, command, asks, later). refused session command later (asked_outcome honest releases old new line session command outcome asks replies)) where
+  honest : Type 0
+  honest = (view old.store.disk).is_honest
+
+  needed : Replies honest releases line outcome old new → outcome ≡ Err (refusals.Store store.LaterVersion) → (session : ℕ) × (command : Command) × Asks line session command × NeedsLater command old.store
+  needed (inl (session, command, asks, inl h)) e = absurd (false≢true (ap comes_later (sym h.refused ∙ e)))
+  needed (inl (session, command, asks, inr (inl h))) e = (session, command, asks, h.needs_later)
+  needed (inl (session, command, asks, inr (inr h))) e = absurd (performed_never honest releases none old new session command outcome h.comes_out e)
+  needed (inr r) e = absurd (false≢true (ap comes_later (sym r.2 ∙ e)))
+
+  refused : (session : ℕ) (command : Command) → NeedsLater command old.store → Settles honest releases session command outcome old new → outcome ≡ Err (refusals.Store store.LaterVersion)
+  refused session command later (inl h) = absurd (not_both command old.store h.held_back.1 later)
+  refused session command later (inr (inl h)) = h.refused
+  refused session command later (inr (inr h)) = absurd (h.has_layout later)

@@ -26,20 +26,29 @@ use Rattle.import_check.specs.declared.release.Release.{Release}
 use Rattle.import_check.specs.Release.{files_of}
 use Rattle.line_server.specs.ReplyValue.{Answer, Done}
 use Rattle.line_server.specs.StateValue.{met_after}
-use Rattle.line_server.specs.Replies.{Server, Same, SameStore, IsChecked, import_words, imports_seen, left_of, IsAnswer, IsImported, IsClosed, IsStoreRefusal, IsOutcome, NamesRelease, Replies}
+use Rattle.line_server.specs.Replies.{Server, Same, SameStore, IsChecked, import_words, imports_seen, left_of, IsAnswer, IsImported, IsClosed, IsStoreRefusal, IsOutcome, NamesRelease, NeedsLater, Replies}
 use Rattle.history_store.specs.Checking.{HasFailed}
-use Rattle.line_server.specs.Laws.{OneReply, AreAlike, IsSure}
+use Rattle.line_server.specs.Laws.{OneReply, AreAlike, IsSure, without_sums}
 use Rattle.store_life.proofs.AlikeReleases.{import_alike}
 use Rattle.line_server.proofs.AskedOf.{OutcomeAt, outcome_at}
 use Rattle.line_server.proofs.Finding.{AsksFound, same_from, found_out, one_way}
+use Rattle.line_server.proofs.Damage.{not_both}
 use Rattle.line_server.proofs.Pinned.{Settles}
 use Rattle.line_server.proofs.Received.{receipt_out, one_receipt}
 use Rattle.store_life.proofs.OneImports.{one_import}
-use Rattle.line_server.proofs.MergesAlike.{refused, of_store, stepping, publishing, abandoning, catalog_after, Fares, step_fares, no_step_fares, publish_fares, no_publish_fares, abandon_fares, no_abandon_fares, trim_fares, no_trim_fares, one_beginning}
+use Rattle.line_server.proofs.ListedAlike.{bare_length, listed_as, imported_alike}
+use Rattle.line_server.proofs.MergesAlike.{refused, of_store, stepping, publishing, abandoning, catalog_after, Fares, step_fares, no_step_fares, publish_fares, no_publish_fares, abandon_fares, no_abandon_fares, trim_fares, no_trim_fares, one_beginning_alike}
 
 abbrev is_fault : Refusal → Bool
 is_fault store.DiskFault = true
 is_fault _ = false
+
+-- like `AreAlike`, whether damage was met or not
+pub record AreLike {D : Type 0} (a b : Server D) : Type 0 where
+  pub pins : b.pins ≡ a.pins
+  pub history : b.store.history ≡ a.store.history
+  pub catalog : without_sums b.store.catalog ≡ without_sums a.store.catalog
+  pub needs_reopen : b.store.needs_reopen ≡ a.store.needs_reopen
 
 -- ---- how a command that imports nothing, asks no question and begins no merge comes out, as a function
 
@@ -62,30 +71,29 @@ pins_after Unpin session pins h = slice_set pins session None
 pins_after command session pins h = pins
 
 record Told {D : Type 0} (command : Command) (session : ℕ) (outcome : Result Answer LineRefusal) (old new : Server D) : Type 0 where
-  is : outcome ≡ fate command session old.pins old.store.history old.store.catalog old.store.needs_reopen
+  is : outcome ≡ fate command session old.pins old.store.history (without_sums old.store.catalog) old.store.needs_reopen
   pins : new.pins ≡ pins_after command session old.pins old.store.history
   history : new.store.history ≡ old.store.history
-  catalog : new.store.catalog ≡ catalog_after outcome command old.store.catalog
+  catalog : without_sums new.store.catalog ≡ catalog_after outcome command (without_sums old.store.catalog)
   needs_reopen : new.store.needs_reopen ≡ old.store.needs_reopen
 
 -- two servers that are alike
-one_told : {D : Type 0} (command : Command) (session : ℕ) (x y : Result Answer LineRefusal) (a b after next : Server D) → Same a b → Told command session x a after → Told command session y b next → (x ≡ y) × Same after next
+one_told : {D : Type 0} (command : Command) (session : ℕ) (x y : Result Answer LineRefusal) (a b after next : Server D) → AreLike a b → Told command session x a after → Told command session y b next → (x ≡ y) × AreLike after next
 one_told command session x y a b after next same t u =
     let f : List (Option ℕ) → History → Catalog → Bool → Result Answer LineRefusal = fate command session in
+    let listed : Catalog = without_sums a.store.catalog in
     let one : x ≡ y = t.is
-    ∙ ap (λ (p : List (Option ℕ)). f p a.store.history a.store.catalog a.store.needs_reopen) (sym same.pins)
-    ∙ ap (λ (h : History). f b.pins h a.store.catalog a.store.needs_reopen) (sym same.store.history)
-    ∙ ap (λ (s : Catalog). f b.pins b.store.history s a.store.needs_reopen) (sym same.store.catalog)
-    ∙ ap (λ (r : Bool). f b.pins b.store.history b.store.catalog r) (sym same.store.needs_reopen)
+    ∙ ap (λ (p : List (Option ℕ)). f p a.store.history listed a.store.needs_reopen) (sym same.pins)
+    ∙ ap (λ (h : History). f b.pins h listed a.store.needs_reopen) (sym same.history)
+    ∙ ap (λ (s : Catalog). f b.pins b.store.history s a.store.needs_reopen) (sym same.catalog)
+    ∙ ap (λ (r : Bool). f b.pins b.store.history (without_sums b.store.catalog) r) (sym same.needs_reopen)
     ∙ sym u.is in (
       one,
       record {
-        pins = u.pins ∙ ap (λ (p : List (Option ℕ)). pins_after command session p b.store.history) same.pins ∙ ap (λ (h : History). pins_after command session a.pins h) same.store.history ∙ sym t.pins;
-        store = record {
-          history = u.history ∙ same.store.history ∙ sym t.history;
-          catalog = u.catalog ∙ ap (catalog_after y command) same.store.catalog ∙ ap (λ (o : Result Answer LineRefusal). catalog_after o command a.store.catalog) (sym one) ∙ sym t.catalog;
-          needs_reopen = u.needs_reopen ∙ same.store.needs_reopen ∙ sym t.needs_reopen;
-        };
+        pins = u.pins ∙ ap (λ (p : List (Option ℕ)). pins_after command session p b.store.history) same.pins ∙ ap (λ (h : History). pins_after command session a.pins h) same.history ∙ sym t.pins;
+        history = u.history ∙ same.history ∙ sym t.history;
+        catalog = u.catalog ∙ ap (catalog_after y command) same.catalog ∙ ap (λ (o : Result Answer LineRefusal). catalog_after o command listed) (sym one) ∙ sym t.catalog;
+        needs_reopen = u.needs_reopen ∙ same.needs_reopen ∙ sym t.needs_reopen;
       },
     )
 
@@ -110,14 +118,14 @@ IsFated _ = Unit {0}
 
 module _ {D : Type 0} (honest : Type 0) (up : honest) (releases : Releases) (session : ℕ) (old new : Server D) where
   abbrev here : Command → Result Answer LineRefusal
-  here c = fate c session old.pins old.store.history old.store.catalog old.store.needs_reopen
+  here c = fate c session old.pins old.store.history (without_sums old.store.catalog) old.store.needs_reopen
 
-  told_pair : (c : Command) (x : Result Answer LineRefusal) → old.pins ≡ pins_after c session old.pins old.store.history → old.store.catalog ≡ catalog_after x c old.store.catalog
+  told_pair : (c : Command) (x : Result Answer LineRefusal) → old.pins ≡ pins_after c session old.pins old.store.history → without_sums old.store.catalog ≡ catalog_after x c (without_sums old.store.catalog)
       → (x ≡ here c) × Same old new → Told c session x old new
-  told_pair c x pins catalog p = record { is = p.0; pins = p.1.pins ∙ pins; history = p.1.store.history; catalog = p.1.store.catalog ∙ catalog; needs_reopen = p.1.store.needs_reopen }
+  told_pair c x pins catalog p = record { is = p.0; pins = p.1.pins ∙ pins; history = p.1.store.history; catalog = ap without_sums p.1.store.catalog ∙ catalog; needs_reopen = p.1.store.needs_reopen }
 
   -- the store took a step of a merge, published or gave it up, or trimmed
-  told_fares : (c : Command) (x o : Result Answer LineRefusal) (catalog : Catalog) → old.pins ≡ pins_after c session old.pins old.store.history → of_store old.store.needs_reopen o ≡ here c → catalog ≡ catalog_after x c old.store.catalog
+  told_fares : (c : Command) (x o : Result Answer LineRefusal) (catalog : Catalog) → old.pins ≡ pins_after c session old.pins old.store.history → of_store old.store.needs_reopen o ≡ here c → catalog ≡ catalog_after x c (without_sums old.store.catalog)
       → new.pins ≡ old.pins → Fares old.store new.store x o catalog → Told c session x old new
   told_fares c x o catalog pins is after stay f = record { is = f.is ∙ is; pins = stay ∙ pins; history = f.history; catalog = f.catalog_is ∙ after; needs_reopen = f.needs_reopen }
 
@@ -131,7 +139,7 @@ module _ {D : Type 0} (honest : Type 0) (up : honest) (releases : Releases) (ses
         is = ap Ok a.2 ∙ sym (cond-true _ _ _ within);
         pins = ap (λ d. d.pins) a.1 ∙ sym (cond-true _ _ _ within);
         history = ap (λ d. d.store.history) a.1;
-        catalog = ap (λ d. d.store.catalog) a.1;
+        catalog = ap (λ d. without_sums d.store.catalog) a.1;
         needs_reopen = ap (λ d. d.store.needs_reopen) a.1;
       }
 
@@ -142,7 +150,7 @@ module _ {D : Type 0} (honest : Type 0) (up : honest) (releases : Releases) (ses
         is = sym (cond-false _ _ _ above);
         pins = ap (λ d. d.pins) same ∙ sym (cond-false _ _ _ above);
         history = ap (λ d. d.store.history) same;
-        catalog = ap (λ d. d.store.catalog) same;
+        catalog = ap (λ d. without_sums d.store.catalog) same;
         needs_reopen = ap (λ d. d.store.needs_reopen) same;
       }
 
@@ -156,10 +164,12 @@ module _ {D : Type 0} (honest : Type 0) (up : honest) (releases : Releases) (ses
   ok_told Publish x f h = told_as Publish x _ h.3 (told_fares Publish _ _ _ refl refl refl h.2 (publish_fares old.store new.store h.0 h.1))
   ok_told Abandon x f h = told_as Abandon x _ h.2 (told_fares Abandon _ _ _ refl refl refl h.1 (abandon_fares old.store new.store h.0))
   ok_told Trim x f h = told_as Trim x _ h.3 (told_fares Trim _ _ _ refl refl refl h.2 (trim_fares old.store new.store h.0 h.1))
-  ok_told (Pin None) x f h = record { is = ap Ok h.1; pins = ap (λ d. d.pins) h.0; history = ap (λ d. d.store.history) h.0; catalog = ap (λ d. d.store.catalog) h.0; needs_reopen = ap (λ d. d.store.needs_reopen) h.0 }
+  ok_told (Pin None) x f h = record { is = ap Ok h.1; pins = ap (λ d. d.pins) h.0; history = ap (λ d. d.store.history) h.0; catalog = ap (λ d. without_sums d.store.catalog) h.0; needs_reopen = ap (λ d. d.store.needs_reopen) h.0 }
   ok_told (Pin (Some n)) x f h = pin_told n x h
-  ok_told Unpin x f h = record { is = ap Ok h.1; pins = ap (λ d. d.pins) h.0; history = ap (λ d. d.store.history) h.0; catalog = ap (λ d. d.store.catalog) h.0; needs_reopen = ap (λ d. d.store.needs_reopen) h.0 }
-  ok_told Status x f h = told_pair Status (Ok x) refl refl (ap Ok h.2 ∙ open_still _ old h.0, same_from old new h.1)
+  ok_told Unpin x f h = record { is = ap Ok h.1; pins = ap (λ d. d.pins) h.0; history = ap (λ d. d.store.history) h.0; catalog = ap (λ d. without_sums d.store.catalog) h.0; needs_reopen = ap (λ d. d.store.needs_reopen) h.0 }
+  ok_told Status x f h =
+      let said : ℕ → Result Answer LineRefusal = λ segments. Ok (Done (decimal old.store.history.imports ∷ decimal (length old.store.history.rows) ∷ decimal segments ∷ left_of old.store.catalog.merge ∷ [])) in
+      told_pair Status (Ok x) refl refl (ap Ok h.2 ∙ ap said (sym (bare_length old.store.catalog.entries)) ∙ open_still _ old h.0, same_from old new h.1)
 
   store_told : (c : Command) (e : Refusal) → IsFated c → IsSure (refused e) → IsStoreRefusal honest releases session c e old new → Told c session (refused e) old new
   store_told (Import name) e f u h = absurd f
@@ -209,10 +219,10 @@ merge_told honest releases session (Err refusals.PinRange) old new h = absurd h.
 merge_told honest releases session (Err refusals.NoFolder) old new h = absurd h.1
 merge_told honest releases session (Err (refusals.Store e)) old new h = record { result = Err e; begins = h.0; is = refl; pins = h.1 }
 
-one_merge : {D : Type 0} (x y : Result Answer LineRefusal) (a b after next : Server D) → Same a b → Begins x a after → Begins y b next → (x ≡ y) × Same after next
+one_merge : {D : Type 0} (x y : Result Answer LineRefusal) (a b after next : Server D) → AreLike a b → Begins x a after → Begins y b next → (x ≡ y) × AreLike after next
 one_merge x y a b after next same h k =
-    let one = one_beginning a.store b.store after.store next.store same.store h.result k.result h.begins k.begins in
-    (h.is ∙ ap said_left one.0 ∙ sym k.is, record { pins = k.pins ∙ same.pins ∙ sym h.pins; store = one.1 })
+    let one = one_beginning_alike a.store b.store after.store next.store same.history same.catalog same.needs_reopen h.result k.result h.begins k.begins in
+    (h.is ∙ ap said_left one.0 ∙ sym k.is, record { pins = k.pins ∙ same.pins ∙ sym h.pins; history = one.1.history; catalog = one.1.catalog; needs_reopen = one.1.needs_reopen })
 
 -- ---- imports
 
@@ -220,10 +230,12 @@ abbrev pub said : Result Receipt Refusal → Result Answer LineRefusal
 said (Ok receipt) = Ok (Done (import_words receipt))
 said (Err e) = Err (refusals.Store e)
 
-then_same : {D : Type 0} (a b after next : Server D) → Same a b → Same a after → Same b next → Same after next
-then_same a b after next same h k = record {
+then_like : {D : Type 0} (a b after next : Server D) → AreLike a b → Same a after → Same b next → AreLike after next
+then_like a b after next same h k = record {
   pins = k.pins ∙ same.pins ∙ sym h.pins;
-  store = record { history = k.store.history ∙ same.store.history ∙ sym h.store.history; catalog = k.store.catalog ∙ same.store.catalog ∙ sym h.store.catalog; needs_reopen = k.store.needs_reopen ∙ same.store.needs_reopen ∙ sym h.store.needs_reopen };
+  history = k.store.history ∙ same.history ∙ sym h.store.history;
+  catalog = ap without_sums k.store.catalog ∙ same.catalog ∙ ap without_sums (sym h.store.catalog);
+  needs_reopen = k.store.needs_reopen ∙ same.needs_reopen ∙ sym h.store.needs_reopen;
 }
 
 -- an import without a release, and one with a release
@@ -249,8 +261,8 @@ named : {D : Type 0} (releases : Releases) (name : List ℕ) (old new : Server D
 named releases name old new h =
     record { is = refl; none = ap (releases (scope_of old.store.catalog.layout)) (sym h.1) ∙ h.2; stays = same_from old new h.3 }
 
--- where the catalogs are the same, a source is asked for the same
-pub same_release : {D : Type 0} (releases : Releases) (name : List ℕ) (a b : Server D) → b.store.catalog ≡ a.store.catalog → releases (scope_of a.store.catalog.layout) name ≡ releases (scope_of b.store.catalog.layout) name
+-- where the catalogs are alike, a source is asked for the same
+pub same_release : {D : Type 0} (releases : Releases) (name : List ℕ) (a b : Server D) → without_sums b.store.catalog ≡ without_sums a.store.catalog → releases (scope_of a.store.catalog.layout) name ≡ releases (scope_of b.store.catalog.layout) name
 same_release releases name a b same = ap (λ (c : Catalog). releases (scope_of c.layout) name) (sym same)
 
 pub import_told : {D : Type 0} (honest : Type 0) (releases : Releases) (session : ℕ) (name : List ℕ) (x : Result Answer LineRefusal) (old new : Server D) → IsSure x → IsOutcome honest releases session (Import name) x old new
@@ -263,17 +275,25 @@ import_told honest releases session name (Err (refusals.Store store.OutOfMemory)
 import_told honest releases session name (Err (refusals.Store store.DiskFault)) old new u h = absurd u
 import_told honest releases session name (Err (refusals.Store e)) old new u h = inr (record { result = Err e; sure = λ failed. failed; imported = h; is = refl })
 
-module _ {D : Type 0} (releases : Releases) (a b after next : Server D) (honest also : Type 0) (up : honest) (so : also) (same : Same a b) where
+module _ {D : Type 0} (releases : Releases) (a b after next : Server D) (honest also : Type 0) (up : honest) (so : also) (same : AreLike a b) where
   one_imported : (name : List ℕ) (x y : Result Answer LineRefusal)
-      → NoRelease releases name x a after ⊎ WithRelease honest releases name x a after → NoRelease releases name y b next ⊎ WithRelease also releases name y b next → (x ≡ y) × Same after next
-  one_imported name x y (inl h) (inl k) = (h.is ∙ sym k.is, then_same a b after next same h.stays k.stays)
-  one_imported name x y (inl h) (inr k) = absurd (none-some _ (sym h.none ∙ same_release releases name a b same.store.catalog ∙ k.imported.has))
-  one_imported name x y (inr h) (inl k) = absurd (none-some _ (sym k.none ∙ sym (same_release releases name a b same.store.catalog) ∙ h.imported.has))
+      → NoRelease releases name x a after ⊎ WithRelease honest releases name x a after → NoRelease releases name y b next ⊎ WithRelease also releases name y b next → (x ≡ y) × AreLike after next
+  one_imported name x y (inl h) (inl k) = (h.is ∙ sym k.is, then_like a b after next same h.stays k.stays)
+  one_imported name x y (inl h) (inr k) = absurd (none-some _ (sym h.none ∙ same_release releases name a b same.catalog ∙ k.imported.has))
+  one_imported name x y (inr h) (inl k) = absurd (none-some _ (sym k.none ∙ sym (same_release releases name a b same.catalog) ∙ h.imported.has))
   one_imported name x y (inr h) (inr k) =
-      let files : files_of k.imported.release ≡ files_of h.imported.release = same_Some _ _ (sym k.imported.has ∙ sym (same_release releases name a b same.store.catalog) ∙ h.imported.has) in
+      let files : files_of k.imported.release ≡ files_of h.imported.release = same_Some _ _ (sym k.imported.has ∙ sym (same_release releases name a b same.catalog) ∙ h.imported.has) in
       let other = import_alike k.imported.release h.imported.release files k.result b.store next.store k.sure (k.imported.imported so) in
-      let both = one_import D h.imported.release h.result k.result a.store b.store after.store next.store same.store.history same.store.catalog same.store.needs_reopen (h.imported.imported up) other h.sure k.sure in
-      (h.is ∙ ap said both.0 ∙ sym k.is, record { pins = k.imported.pins ∙ same.pins ∙ sym h.imported.pins; store = record { history = both.1; catalog = both.2; needs_reopen = both.3 } })
+      let listed = imported_alike a.store b.store next.store same.catalog h.imported.release k.result other in
+      let both = one_import D h.imported.release h.result k.result a.store (listed_as a.store b.store) after.store listed.0 same.history refl same.needs_reopen (h.imported.imported up) listed.1 h.sure k.sure in (
+        h.is ∙ ap said both.0 ∙ sym k.is,
+        record {
+          pins = k.imported.pins ∙ same.pins ∙ sym h.imported.pins;
+          history = sym listed.2 ∙ both.1;
+          catalog = sym listed.3 ∙ ap without_sums both.2;
+          needs_reopen = sym listed.4 ∙ both.3;
+        },
+      )
 
 -- ---- checks
 
@@ -300,43 +320,44 @@ module _ {D : Type 0} (old new : StoreValue D) (release : Release) where
   stays_checked (Err store.DiskFault) sure c = absurd (sure tt)
   stays_checked (Err e) sure c = record { history = c.1.history; catalog = c.1.catalog; needs_reopen = c.1.still (λ is. false≢true (ap is_fault is)) }
 
-module _ {D : Type 0} (releases : Releases) (a b after next : Server D) (honest also : Type 0) (up : honest) (so : also) (same : Same a b) where
+module _ {D : Type 0} (releases : Releases) (a b after next : Server D) (honest also : Type 0) (up : honest) (so : also) (same : AreLike a b) where
   one_checked : (name : List ℕ) (x y : Result Answer LineRefusal)
-      → NoRelease releases name x a after ⊎ WithCheck honest releases name x a after → NoRelease releases name y b next ⊎ WithCheck also releases name y b next → (x ≡ y) × Same after next
-  one_checked name x y (inl h) (inl k) = (h.is ∙ sym k.is, then_same a b after next same h.stays k.stays)
-  one_checked name x y (inl h) (inr k) = absurd (none-some _ (sym h.none ∙ same_release releases name a b same.store.catalog ∙ k.checked.has))
-  one_checked name x y (inr h) (inl k) = absurd (none-some _ (sym k.none ∙ sym (same_release releases name a b same.store.catalog) ∙ h.checked.has))
+      → NoRelease releases name x a after ⊎ WithCheck honest releases name x a after → NoRelease releases name y b next ⊎ WithCheck also releases name y b next → (x ≡ y) × AreLike after next
+  one_checked name x y (inl h) (inl k) = (h.is ∙ sym k.is, then_like a b after next same h.stays k.stays)
+  one_checked name x y (inl h) (inr k) = absurd (none-some _ (sym h.none ∙ same_release releases name a b same.catalog ∙ k.checked.has))
+  one_checked name x y (inr h) (inl k) = absurd (none-some _ (sym k.none ∙ sym (same_release releases name a b same.catalog) ∙ h.checked.has))
   one_checked name x y (inr h) (inr k) =
-      let files : files_of k.checked.release ≡ files_of h.checked.release = same_Some _ _ (sym k.checked.has ∙ sym (same_release releases name a b same.store.catalog) ∙ h.checked.has) in
+      let files : files_of k.checked.release ≡ files_of h.checked.release = same_Some _ _ (sym k.checked.has ∙ sym (same_release releases name a b same.catalog) ∙ h.checked.has) in
       let f = foreseen a.store after.store h.checked.release h.result h.sure (h.checked.checked up) in
       let g = foreseen b.store next.store k.checked.release k.result k.sure (k.checked.checked so) in
       let other = import_alike k.checked.release h.checked.release files k.result b.store g.0 k.sure g.1 in
-      let both = one_import D h.checked.release h.result k.result a.store b.store f.0 g.0 same.store.history same.store.catalog same.store.needs_reopen f.1 other h.sure k.sure in (
+      let listed = imported_alike a.store b.store g.0 same.catalog h.checked.release k.result other in
+      let both = one_import D h.checked.release h.result k.result a.store (listed_as a.store b.store) f.0 listed.0 same.history refl same.needs_reopen f.1 listed.1 h.sure k.sure in (
         h.is ∙ ap said both.0 ∙ sym k.is,
-        then_same a b after next same
+        then_like a b after next same
             (record { pins = h.checked.pins; store = stays_checked a.store after.store h.checked.release h.result h.sure (h.checked.checked up) })
             (record { pins = k.checked.pins; store = stays_checked b.store next.store k.checked.release k.result k.sure (k.checked.checked so) }),
       )
 
 -- ---- questions
 
-module _ {D : Type 0} (a b after next : Server D) (honest also : Type 0) (up : honest) (so : also) (same : Same a b) where
-  one_receipt_told : (number m n : ℕ) (x y : Result Answer LineRefusal) → m ≡ n → OutcomeAt honest m (AskReceipt number) x a after → OutcomeAt also n (AskReceipt number) y b next → (x ≡ y) × Same after next
+module _ {D : Type 0} (a b after next : Server D) (honest also : Type 0) (up : honest) (so : also) (same : AreLike a b) where
+  one_receipt_told : (number m n : ℕ) (x y : Result Answer LineRefusal) → m ≡ n → OutcomeAt honest m (AskReceipt number) x a after → OutcomeAt also n (AskReceipt number) y b next → (x ≡ y) × AreLike after next
   one_receipt_told number m n x y seen h k =
       let one = receipt_out honest m number x a after h in
       let two = receipt_out also n number y b next k in (
-        one_receipt m n number x y a b seen (sym same.store.needs_reopen) (λ within. ap (λ (g : History). brought_by number g.rows) (sym same.store.history)) one.1 two.1,
-        then_same a b after next same (same_from a after one.0) (same_from b next two.0),
+        one_receipt m n number x y a b seen (sym same.needs_reopen) (λ within. ap (λ (g : History). brought_by number g.rows) (sym same.history)) one.1 two.1,
+        then_like a b after next same (same_from a after one.0) (same_from b next two.0),
       )
 
-  one_found_told : (question : Question) (m n : ℕ) (x y : Result Answer LineRefusal) → AsksFound question → m ≡ n → IsSure x → IsSure y → OutcomeAt honest m question x a after → OutcomeAt also n question y b next → (x ≡ y) × Same after next
+  one_found_told : (question : Question) (m n : ℕ) (x y : Result Answer LineRefusal) → AsksFound question → m ≡ n → IsSure x → IsSure y → OutcomeAt honest m question x a after → OutcomeAt also n question y b next → (x ≡ y) × AreLike after next
   one_found_told question m n x y asks seen u v h k =
       let one = found_out honest up m a after question x asks u h in
       let two = found_out also so n b next question y asks v k in
-      let rows = ap (λ (i : ℕ). rows_at i a.store.history.rows) seen ∙ ap (λ (g : History). rows_at n g.rows) (sym same.store.history) in
-      (one_way question m n x y a b rows (sym same.store.needs_reopen) one.0 two.0, then_same a b after next same one.1 two.1)
+      let rows = ap (λ (i : ℕ). rows_at i a.store.history.rows) seen ∙ ap (λ (g : History). rows_at n g.rows) (sym same.history) in
+      (one_way question m n x y a b rows (sym same.needs_reopen) one.0 two.0, then_like a b after next same one.1 two.1)
 
-  one_question : (question : Question) (m n : ℕ) (x y : Result Answer LineRefusal) → m ≡ n → IsSure x → IsSure y → OutcomeAt honest m question x a after → OutcomeAt also n question y b next → (x ≡ y) × Same after next
+  one_question : (question : Question) (m n : ℕ) (x y : Result Answer LineRefusal) → m ≡ n → IsSure x → IsSure y → OutcomeAt honest m question x a after → OutcomeAt also n question y b next → (x ≡ y) × AreLike after next
   one_question (AskReceipt number) m n x y seen u v h k = one_receipt_told number m n x y seen h k
   one_question question m n x y seen u v h k = one_found_told question m n x y tt seen u v h k
 
@@ -351,28 +372,28 @@ above_all honest releases session number question (Err (refusals.Store e)) old n
 
 -- ---- a line
 
-module _ {D : Type 0} (releases : Releases) (a b after next : Server D) (honest also : Type 0) (up : honest) (so : also) (same : Same a b) where
+module _ {D : Type 0} (releases : Releases) (a b after next : Server D) (honest also : Type 0) (up : honest) (so : also) (same : AreLike a b) where
   one_behind : (session number : ℕ) (question : Question) (x y : Result Answer LineRefusal) → (old : (number ≤ a.store.history.imports) ⊎ (a.store.history.imports < number)) → IsSure x → IsSure y
-      → IsOutcome honest releases session (At number question) x a after → IsOutcome also releases session (At number question) y b next → (x ≡ y) × Same after next
+      → IsOutcome honest releases session (At number question) x a after → IsOutcome also releases session (At number question) y b next → (x ≡ y) × AreLike after next
   one_behind session number question x y (inl within) u v h k =
-      let there : number ≤ b.store.history.imports = subst (λ (g : History). number ≤ g.imports) (sym same.store.history) within in
+      let there : number ≤ b.store.history.imports = subst (λ (g : History). number ≤ g.imports) (sym same.history) within in
       one_question a b after next honest also up so same question number number x y refl u v
       (outcome_at honest releases session question a after (At number question) number x (inr (refl, within)) h)
       (outcome_at also releases session question b next (At number question) number y (inr (refl, there)) k)
   one_behind session number question x y (inr above) u v h k =
-      let there : b.store.history.imports < number = subst (λ (g : History). g.imports < number) (sym same.store.history) above in
+      let there : b.store.history.imports < number = subst (λ (g : History). g.imports < number) (sym same.history) above in
       let one = above_all honest releases session number question x a after above h in
       let two = above_all also releases session number question y b next there k in
-      (one.0 ∙ sym two.0, then_same a b after next same one.1 two.1)
+      (one.0 ∙ sym two.0, then_like a b after next same one.1 two.1)
 
-  one_outcome : (session : ℕ) (c : Command) (x y : Result Answer LineRefusal) → IsSure x → IsSure y → IsOutcome honest releases session c x a after → IsOutcome also releases session c y b next → (x ≡ y) × Same after next
+  one_outcome : (session : ℕ) (c : Command) (x y : Result Answer LineRefusal) → IsSure x → IsSure y → IsOutcome honest releases session c x a after → IsOutcome also releases session c y b next → (x ≡ y) × AreLike after next
   one_outcome session (Import name) x y u v h k =
       one_imported releases a b after next honest also up so same name x y (import_told honest releases session name x a after u h) (import_told also releases session name y b next v k)
   one_outcome session (Check name) x y u v h k =
       one_checked releases a b after next honest also up so same name x y (check_told honest releases session name x a after u h) (check_told also releases session name y b next v k)
   one_outcome session Merge x y u v h k = one_merge x y a b after next same (merge_told honest releases session x a after h) (merge_told also releases session y b next k)
   one_outcome session (Ask question) x y u v h k =
-      let seen = ap (λ (p : List (Option ℕ)). pin_of p session a.store.history.imports) (sym same.pins) ∙ ap (λ (g : History). pin_of b.pins session g.imports) (sym same.store.history) in
+      let seen = ap (λ (p : List (Option ℕ)). pin_of p session a.store.history.imports) (sym same.pins) ∙ ap (λ (g : History). pin_of b.pins session g.imports) (sym same.history) in
       one_question a b after next honest also up so same question (imports_seen a session) (imports_seen b session) x y seen u v
       (outcome_at honest releases session question a after (Ask question) (imports_seen a session) x (inl (refl, refl)) h)
       (outcome_at also releases session question b next (Ask question) (imports_seen b session) y (inl (refl, refl)) k)
@@ -385,18 +406,45 @@ module _ {D : Type 0} (releases : Releases) (a b after next : Server D) (honest 
   one_outcome session c x y u v h k =
       one_told c session x y a b after next same (told honest up releases session a after c x tt u h) (told also so releases session b next c y tt v k)
 
-module _ {D : Type 0} (releases : Releases) (a b after next : Server D) (honest also : Type 0) (up : honest) (so : also) (same : Same a b) (met : b.met_damage ≡ a.met_damage) where
+-- a later layout is needed at both of two stores that are alike
+later_too : {D : Type 0} (c : Command) (s t : StoreValue D) → t.history ≡ s.history → without_sums t.catalog ≡ without_sums s.catalog → NeedsLater c s → NeedsLater c t
+later_too (Ask question) s t history catalog later = (ap (λ (k : Catalog). scope_of k.layout) catalog ∙ later.0, later.1)
+later_too (At number question) s t history catalog later = (
+  subst (λ (h : History). number ≤ h.imports) (sym history) later.0,
+  ap (λ (k : Catalog). scope_of k.layout) catalog ∙ later.1,
+  later.2,
+)
+later_too c s t history catalog later = later
+
+with_damage : {D : Type 0} (a b : Server D) → AreLike a b → b.met_damage ≡ a.met_damage → AreAlike a b
+with_damage a b same met = record { pins = same.pins; history = same.history; catalog = same.catalog; needs_reopen = same.needs_reopen; met_damage = met }
+
+module _ {D : Type 0} (releases : Releases) (a b after next : Server D) (honest also : Type 0) (up : honest) (so : also) (same : AreLike a b) (met : b.met_damage ≡ a.met_damage) where
+  unchanged_alike : after ≡ a → next ≡ b → AreAlike after next
+  unchanged_alike first second =
+      with_damage after next (then_like a b after next same (same_from a after first) (same_from b next second))
+      (ap (λ (d : Server D). d.met_damage) second ∙ met ∙ sym (ap (λ (d : Server D). d.met_damage) first))
+
   -- at states that are alike a command is held back at both or at none
   one_settled : (session : ℕ) (c : Command) (x y : Result Answer LineRefusal) → IsSure x → IsSure y → Settles honest releases session c x a after → Settles also releases session c y b next → (x ≡ y) × AreAlike after next
   one_settled session c x y u v (inl h) (inl k) = (
     h.refused ∙ sym k.refused,
-    (then_same a b after next same (same_from a after h.unchanged) (same_from b next k.unchanged), ap (λ (d : Server D). d.met_damage) k.unchanged ∙ met ∙ sym (ap (λ (d : Server D). d.met_damage) h.unchanged)),
+    unchanged_alike h.unchanged k.unchanged,
   )
-  one_settled session c x y u v (inl h) (inr k) = absurd (k.free (met ∙ h.held_back.0, h.held_back.1))
-  one_settled session c x y u v (inr h) (inl k) = absurd (h.free (sym met ∙ k.held_back.0, k.held_back.1))
-  one_settled session c x y u v (inr h) (inr k) =
+  one_settled session c x y u v (inr (inl h)) (inr (inl k)) = (
+    h.refused ∙ sym k.refused,
+    unchanged_alike h.unchanged k.unchanged,
+  )
+  one_settled session c x y u v (inl h) (inr (inl k)) = absurd (not_both c b.store h.held_back.1 k.needs_later)
+  one_settled session c x y u v (inr (inl h)) (inl k) = absurd (not_both c a.store k.held_back.1 h.needs_later)
+  one_settled session c x y u v (inr (inl h)) (inr (inr k)) = absurd (k.has_layout (later_too c a.store b.store same.history same.catalog h.needs_later))
+  one_settled session c x y u v (inr (inr h)) (inr (inl k)) =
+      absurd (h.has_layout (later_too c b.store a.store (sym same.history) (sym same.catalog) k.needs_later))
+  one_settled session c x y u v (inl h) (inr (inr k)) = absurd (k.free (met ∙ h.held_back.0, h.held_back.1))
+  one_settled session c x y u v (inr (inr h)) (inl k) = absurd (h.free (sym met ∙ k.held_back.0, k.held_back.1))
+  one_settled session c x y u v (inr (inr h)) (inr (inr k)) =
       let one = one_outcome releases a b after next honest also up so same session c x y u v h.comes_out k.comes_out in
-      (one.0, (one.1, k.damage ∙ ap (met_after y) met ∙ ap (λ (o : Result Answer LineRefusal). met_after o a.met_damage) (sym one.0) ∙ sym h.damage))
+      (one.0, with_damage after next one.1 (k.damage ∙ ap (met_after y) met ∙ ap (λ (o : Result Answer LineRefusal). met_after o a.met_damage) (sym one.0) ∙ sym h.damage))
 
   one_case : (line : List ℕ) (x y : Result Answer LineRefusal) → IsSure x → IsSure y
       → Replies honest releases line x a after → Replies also releases line y b next → (x ≡ y) × AreAlike after next
@@ -408,8 +456,10 @@ module _ {D : Type 0} (releases : Releases) (a b after next : Server D) (honest 
   one_case line x y u v (inr h) (inl k) = absurd (asked_is_read line k.0 k.1 h.0 k.2 h.1)
   one_case line x y u v (inr h) (inr k) = (
     h.2 ∙ ap (λ (r : Unread). Err (refusals.Unread r)) (one_refusal line h.0 k.0 h.1 k.1) ∙ sym k.2,
-    (then_same a b after next same (same_from a after h.3) (same_from b next k.3), ap (λ (d : Server D). d.met_damage) k.3 ∙ met ∙ sym (ap (λ (d : Server D). d.met_damage) h.3)),
+    unchanged_alike h.3 k.3,
   )
 
 pub one_reply : (D : Type 0) (view : D → DiskView) → OneReply D view
-one_reply D view releases line x y a b after next up so (same, met) h k u v = one_case releases a b after next (view a.store.disk).is_honest (view b.store.disk).is_honest up so same met line x y u v h k
+one_reply D view releases line x y a b after next up so same h k u v =
+    one_case releases a b after next (view a.store.disk).is_honest (view b.store.disk).is_honest up so
+    (record { pins = same.pins; history = same.history; catalog = same.catalog; needs_reopen = same.needs_reopen }) same.met_damage line x y u v h k

@@ -9,10 +9,11 @@ use Rattle.history_model.proofs.Brought.{one_receipt_for_an_import}
 use Rattle.history_store.specs.declared.refusal.Refusal.{Refusal}
 use Rattle.history_store.specs.declared.refusal.Refusal.TheVariants as store
 use Rattle.line_commands.specs.Questions.{Receipt}
+use Rattle.line_commands.specs.Commands.{Command}
 use Rattle.line_server.specs.declared.refusal.LineRefusal.{LineRefusal}
 use Rattle.line_server.specs.declared.refusal.LineRefusal.TheVariants as refusals
 use Rattle.line_server.specs.ReplyValue.{Answer, Done}
-use Rattle.line_server.specs.Replies.{Server, receipt_of}
+use Rattle.line_server.specs.Replies.{Server, IsAskedOf, NeedsLater, receipt_of}
 use Rattle.line_server.specs.Laws.{PinnedReceiptIsUndisturbed}
 use Rattle.store_life.specs.Laws.{BroughtAlike}
 use Rattle.line_server.proofs.AskedOf.{OutcomeAt}
@@ -68,8 +69,13 @@ module _ {D : Type 0} (m n number : ℕ) (x y : Result Answer LineRefusal) (a b 
   one_receipt (inr (inr h)) (inr (inl k)) = absurd (let within = k.1 in let above = h.0 in omega (arith, within, above, seen))
   one_receipt (inr (inr h)) (inr (inr k)) = h.1 ∙ sym k.1
 
+-- a receipt needs no members
+pub no_members : {D : Type 0} (s : Server D) (session : ℕ) (command : Command) (number pin : ℕ) → IsAskedOf s session command (Receipt number) pin → NeedsLater command s.store → ⊥
+no_members s session command number pin (inl (is, at)) later = (subst (λ (c : Command). NeedsLater c s.store) is later).1
+no_members s session command number pin (inr (is, within)) later = (subst (λ (c : Command). NeedsLater c s.store) is later).2
+
 pub receipt_undisturbed : (D : Type 0) (view : D → DiskView) → PinnedReceiptIsUndisturbed D view
 receipt_undisturbed D view releases others a b after next line text session other pin number command also one two needs asks asked at to alike ra rb =
     one_receipt pin pin number one two a b refl needs (λ within. alike)
-    (receipt_out (view a.store.disk).is_honest pin number one a after (question_out (view a.store.disk).is_honest releases a after line session command (Receipt number) pin one asks at ra)).1
-    (receipt_out (view b.store.disk).is_honest pin number two b next (question_out (view b.store.disk).is_honest others b next text other also (Receipt number) pin two asked to rb)).1
+    (receipt_out (view a.store.disk).is_honest pin number one a after (question_out (view a.store.disk).is_honest releases a after line session command (Receipt number) pin one asks at (no_members a session command number pin at) ra)).1
+    (receipt_out (view b.store.disk).is_honest pin number two b next (question_out (view b.store.disk).is_honest others b next text other also (Receipt number) pin two asked to (no_members b other also number pin to) rb)).1

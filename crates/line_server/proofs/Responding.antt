@@ -14,7 +14,7 @@ use Rattle.blocks.proofs.Looked.{none_looks_up}
 use Rattle.history_store.specs.Answers.{CountsRefusal}
 use Rattle.line_commands.specs.declared.unread.Unread.{Unread}
 use Rattle.line_commands.specs.Questions.{Question, Children, Ancestors, Descendants, Dates, Digest, Receipt as AskReceipt}
-use Rattle.line_commands.specs.Commands.{Command, At, Import, Check, Pin, Unpin, Merge, Step, Publish, Status}
+use Rattle.line_commands.specs.Commands.{Command, Ask, At, Import, Check, Pin, Unpin, Merge, Step, Publish, Status}
 use Rattle.line_commands.specs.Requests.{Asks, IsUnread}
 use Rattle.line_commands.proofs.Readings.{asked_is_read, one_reading}
 use Rattle.line_server.specs.declared.refusal.LineRefusal.{LineRefusal}
@@ -22,9 +22,9 @@ use Rattle.line_server.specs.declared.refusal.LineRefusal.TheVariants as refusal
 use Rattle.line_server.specs.Pins.{AreWithin, pin_of}
 use Rattle.line_server.specs.Sources.{Releases, SourceView, source_view}
 use Rattle.line_server.specs.ReplyValue.{Answer, Done, ReplyValue, reply_value}
-use Rattle.line_server.specs.Replies.{Server, imports_seen, IsFound, IsAnswer, IsAnswerAt, IsRefusalAt, IsClosed, IsLacking, IsOutOfRange, receipt_of, status_of, server}
+use Rattle.line_server.specs.Replies.{Server, imports_seen, IsFound, IsAnswer, IsAnswerAt, IsRefusalAt, IsClosed, IsLacking, IsOutOfRange, NeedsLater, Replies, receipt_of, status_of, server}
 use Rattle.store_life.specs.Life.{Other}
-use Rattle.line_server.specs.Turns.{GoesBy, HasTurn, IsToldBy, LeavesAsked, LeavesDisk}
+use Rattle.line_server.specs.Turns.{CountsOutcome, GoesBy, HasTurn, IsToldBy, LeavesAsked, LeavesDisk}
 use Rattle.line_server.specs.StateValue.{StateValue, IsHeldBack, HoldsBack}
 use Rattle.line_server.specs.Private.{IsResponse, IsQueried, IsCarriedOut}
 use Rattle.line_server.proofs.Alike.{turn_of}
@@ -94,11 +94,11 @@ module _ {D : Type 0} (view : D → DiskView) (pin : ℕ) (s : StoreValue D) whe
 module _ {D : Type 0} (view : D → DiskView) (s : StoreValue D) where
   pub status_told : (reply : ReplyValue) → s.needs_reopen ≡ false → reply ≡ reply_value (Ok (Done (status_of s))) → IsCarriedOut (Ok reply) view Status s s
   status_told reply still told has session state free =
-      responded view (Ok reply) has session Status (Ok (Done (status_of s))) (server state s) (server state s) free refl told (still, refl, refl) (unmade view s) refl refl (omega arith)
+      responded view (Ok reply) has session Status (Ok (Done (status_of s))) (server state s) (server state s) free (λ later. later) refl told (still, refl, refl) (unmade view s) refl refl (omega arith)
 
   pub status_closed : s.needs_reopen ≡ true → IsCarriedOut (Err (refusals.Store store.ReopenNeeded)) view Status s s
   status_closed needs has session state free =
-      responded view (Err (refusals.Store store.ReopenNeeded)) has session Status (Err (refusals.Store store.ReopenNeeded)) (server state s) (server state s) free refl refl
+      responded view (Err (refusals.Store store.ReopenNeeded)) has session Status (Err (refusals.Store store.ReopenNeeded)) (server state s) (server state s) free (λ later. later) refl refl
       (refl, needs, refl) (unmade view s) refl refl (omega arith)
 
 -- ---- whatever the source has
@@ -121,7 +121,7 @@ repinned state session pin = record state { pins = slice_set state.pins session 
 module _ {D : Type 0} (source : SourceView) (view : D → DiskView) (session : ℕ) (state : StateValue) (s : StoreValue D) where
   pub unpinned : (reply : ReplyValue) → reply ≡ reply_value (Ok (Done [])) → IsResponse (Ok reply) source view session Unpin (server state s) (server (repinned state session None) s)
   unpinned reply told = any_source source view (Ok reply) session Unpin (server state s) (server (repinned state session None) s)
-      (responded view (Ok reply) source.releases session Unpin (Ok (Done [])) (server state s) (server (repinned state session None) s) (λ h. h.1) refl told (refl, refl) (unmade view s) refl refl (omega arith))
+      (responded view (Ok reply) source.releases session Unpin (Ok (Done [])) (server state s) (server (repinned state session None) s) (λ h. h.1) (λ later. later) refl told (refl, refl) (unmade view s) refl refl (omega arith))
 
 -- ---- PIN
 
@@ -129,7 +129,7 @@ module _ {D : Type 0} (view : D → DiskView) (session : ℕ) (state : StateValu
   pub pinned : (pin : ℕ) (reply : ReplyValue) → (pin ≤ s.history.imports) × (pin ≡ unwrap_or number s.history.imports) → reply ≡ reply_value (Ok (Done (decimal pin ∷ [])))
       → IsResponse (Ok reply) (source_view (Unit {0}) has) view session (Pin number) (server state s) (server (repinned state session (Some pin)) s)
   pinned pin reply h told =
-      responded view (Ok reply) has session (Pin number) (Ok (Done (decimal pin ∷ []))) (server state s) (server (repinned state session (Some pin)) s) (λ h. h.1) refl told
+      responded view (Ok reply) has session (Pin number) (Ok (Done (decimal pin ∷ []))) (server state s) (server (repinned state session (Some pin)) s) (λ h. h.1) (λ later. later) refl told
       (answered_so number h) (unmade view s) refl refl (omega arith) where
         answered_so : (number : Option ℕ) → (pin ≤ s.history.imports) × (pin ≡ unwrap_or number s.history.imports)
             → IsAnswer (view s.disk).is_honest has session (Pin number) (Done (decimal pin ∷ [])) (server state s) (server (repinned state session (Some pin)) s)
@@ -138,7 +138,7 @@ module _ {D : Type 0} (view : D → DiskView) (session : ℕ) (state : StateValu
 
   pub out_of_range : (n : ℕ) × (number ≡ Some n) × (s.history.imports < n) → IsResponse (Err refusals.PinRange) (source_view (Unit {0}) has) view session (Pin number) (server state s) (server state s)
   out_of_range h =
-      responded view (Err refusals.PinRange) has session (Pin number) (Err refusals.PinRange) (server state s) (server state s) (λ h. h.1) refl refl
+      responded view (Err refusals.PinRange) has session (Pin number) (Err refusals.PinRange) (server state s) (server state s) (λ h. h.1) (λ later. later) refl refl
       (subst (λ (o : Option ℕ). IsOutOfRange session (Pin o) (server state s)) (sym h.1) h.2, refl) (unmade view s) refl refl (omega arith)
 
 -- ---- RECEIPT
@@ -164,24 +164,26 @@ module _ {D : Type 0} (view : D → DiskView) (number pin : ℕ) (s : StoreValue
 
 -- ---- AT
 
+-- what a question leaves that is refused before the store is asked
+unasked_left : {D : Type 0} (view : D → DiskView) (seen : ℕ) (question : Question) (refusal : LineRefusal) (s : StoreValue D) → LeavesAsked view seen question (Err refusal) s s
+unasked_left view seen (Children concept date) refusal s = refl
+unasked_left view seen (Descendants concept date) refusal s = refl
+unasked_left view seen Dates refusal s = refl
+unasked_left view seen (AskReceipt other) refusal s = refl
+unasked_left view seen (Ancestors concept date) refusal s = ((λ h. refl, none_looks_up (is_listed s.catalog.entries) s.cache (view s.disk).bytes_read), tt, λ up above are. omega arith)
+unasked_left view seen Digest refusal s = ((λ h. refl, none_looks_up (is_listed s.catalog.entries) s.cache (view s.disk).bytes_read), omega arith)
+unasked_left view seen other refusal s = ((λ h. refl, none_looks_up (is_listed s.catalog.entries) s.cache (view s.disk).bytes_read), tt, λ wanted found. omega arith)
+
 module _ {D : Type 0} (view : D → DiskView) (number : ℕ) (question : Question) (old new : StoreValue D) where
   -- as the question is answered that is asked of the first so many imports
-  pub asked_behind : (result : Result ReplyValue LineRefusal) → number ≤ old.history.imports → IsQueried result view question number old new → IsCarriedOut result view (At number question) old new
-  asked_behind result within r has session state free = r has session state (At number question) (inr (refl, within))
+  pub asked_behind : (result : Result ReplyValue LineRefusal) → (NeedsLater (At number question) old → ⊥) → number ≤ old.history.imports → IsQueried result view question number old new → IsCarriedOut result view (At number question) old new
+  asked_behind result has_layout within r has session state free = r has session state (At number question) (inr (refl, within)) has_layout
 
   -- there are fewer imports
   pub above_all : old.history.imports < number → IsCarriedOut (Err refusals.PinRange) view (At number question) old old
   above_all above has session state free =
-      responded view (Err refusals.PinRange) has session (At number question) (Err refusals.PinRange) (server state old) (server state old) free refl refl
-      (inl above, refl) (unmade view old) refl (unseen_left question) (omega arith) where
-        unseen_left : (question : Question) → LeavesAsked view number question (Err refusals.PinRange) old old
-        unseen_left (Children concept date) = refl
-        unseen_left (Descendants concept date) = refl
-        unseen_left Dates = refl
-        unseen_left (AskReceipt other) = refl
-        unseen_left (Ancestors concept date) = ((λ h. refl, none_looks_up (is_listed old.catalog.entries) old.cache (view old.disk).bytes_read), tt, λ up above are. omega arith)
-        unseen_left Digest = ((λ h. refl, none_looks_up (is_listed old.catalog.entries) old.cache (view old.disk).bytes_read), omega arith)
-        unseen_left other = ((λ h. refl, none_looks_up (is_listed old.catalog.entries) old.cache (view old.disk).bytes_read), tt, λ wanted found. omega arith)
+      responded view (Err refusals.PinRange) has session (At number question) (Err refusals.PinRange) (server state old) (server state old) free (λ later. let within = later.0 in omega (arith, above, within)) refl refl
+      (inl above, refl) (unmade view old) refl (unasked_left view number question refusals.PinRange old) (omega arith)
 
 -- ---- pins
 
@@ -235,9 +237,34 @@ module _ {D : Type 0} (source : SourceView) (view : D → DiskView) (line : List
       disk = λ session command asks. absurd (asked_is_read line session command reason asks is);
     }
 
-  -- the line asks a command that is held back
-  module _ (session : ℕ) (command : Command) (s : Server D) (asks : Asks line session command) (held : HoldsBack s.met_damage command) where
-    -- the store isn't called
+  -- the line asks a command that is refused before it is carried out: the store isn't called
+  module _ (session : ℕ) (command : Command) (s : Server D) (refusal : LineRefusal) (asks : Asks line session command) where
+    refused_turn : ((releases : Releases) → Replies (view s.store.disk).is_honest releases line (Err refusal) s s) → ((releases : Releases) → LeavesDisk view releases (imports_seen s session) command (Err refusal) s.store s.store)
+        → CountsOutcome (Err refusal) (view s.store.disk).failures (view s.store.disk).failures → HasTurn source view line s s (λ turn. IsToldBy (Err refusal) turn.outcome)
+    refused_turn replies left counts = (
+      turn_of (Err refusal) Other s s line,
+      refl,
+      record {
+        releases = source.releases;
+        goes = goes source.releases;
+        own = λ h. goes source.releases;
+        call = unmade view s.store;
+        counts = counts;
+      },
+      refl,
+    ) where
+      goes : (releases : Releases) → GoesBy view releases s (turn_of (Err refusal) Other s s line) s
+      goes releases = record {
+        replies = replies releases;
+        asked = tt;
+        disk = λ other also asked.
+            let one = one_reading line session other command also asks asked in
+            subst (λ (c : Command). LeavesDisk view releases (imports_seen s other) c (Err refusal) s.store s.store) one.1
+            (subst (λ (n : ℕ). LeavesDisk view releases (imports_seen s n) command (Err refusal) s.store s.store) one.0 (left releases));
+      }
+
+  module _ (session : ℕ) (command : Command) (s : Server D) (asks : Asks line session command) where
+    -- the command is held back
     held_left : (releases : Releases) (seen : ℕ) (c : Command) → IsHeldBack c → LeavesDisk view releases seen c (Err (refusals.Store store.Damaged)) s.store s.store
     held_left releases seen (Import name) h = (λ up. refl, none_known view releases name 1 s.store)
     held_left releases seen (Check name) h = ((λ up. refl, none_looks_up (is_listed s.store.catalog.entries) s.store.cache (view s.store.disk).bytes_read), none_known view releases name 0 s.store)
@@ -246,25 +273,18 @@ module _ {D : Type 0} (source : SourceView) (view : D → DiskView) (line : List
     held_left releases seen Publish h = (λ up. refl, (omega arith, omega arith))
     held_left releases seen c h = absurd h
 
-    goes_held : (releases : Releases) → GoesBy view releases s (turn_of (Err (refusals.Store store.Damaged)) Other s s line) s
-    goes_held releases = record {
-      replies = inl (session, command, asks, inl (record { held_back = held; refused = refl; unchanged = refl }));
-      asked = tt;
-      disk = λ other also asked.
-          let one = one_reading line session other command also asks asked in
-          subst (λ (c : Command). LeavesDisk view releases (imports_seen s other) c (Err (refusals.Store store.Damaged)) s.store s.store) one.1 (held_left releases (imports_seen s other) command held.1);
-    }
+    pub held_back : HoldsBack s.met_damage command → HasTurn source view line s s (λ turn. IsToldBy (Err (refusals.Store store.Damaged)) turn.outcome)
+    held_back held =
+        refused_turn session command s (refusals.Store store.Damaged) asks (λ releases. inl (session, command, asks, inl (record { held_back = held; refused = refl; unchanged = refl })))
+        (λ releases. held_left releases (imports_seen s session) command held.1) refl
 
-    pub held_back : HasTurn source view line s s (λ turn. IsToldBy (Err (refusals.Store store.Damaged)) turn.outcome)
-    held_back = (
-      turn_of (Err (refusals.Store store.Damaged)) Other s s line,
-      refl,
-      record {
-        releases = source.releases;
-        goes = goes_held source.releases;
-        own = λ h. goes_held source.releases;
-        call = unmade view s.store;
-        counts = refl;
-      },
-      refl,
-    )
+    -- the command needs a later layout
+    later_left : (releases : Releases) (seen : ℕ) (c : Command) → NeedsLater c s.store → LeavesDisk view releases seen c (Err (refusals.Store store.LaterVersion)) s.store s.store
+    later_left releases seen (Ask question) h = unasked_left view seen question (refusals.Store store.LaterVersion) s.store
+    later_left releases seen (At number question) h = unasked_left view number question (refusals.Store store.LaterVersion) s.store
+    later_left releases seen c h = absurd h
+
+    pub for_later : NeedsLater command s.store → HasTurn source view line s s (λ turn. IsToldBy (Err (refusals.Store store.LaterVersion)) turn.outcome)
+    for_later needs =
+        refused_turn session command s (refusals.Store store.LaterVersion) asks (λ releases. inl (session, command, asks, inr (inl (record { needs_later = needs; refused = refl; unchanged = refl }))))
+        (λ releases. later_left releases (imports_seen s session) command needs) refl

@@ -1,5 +1,5 @@
 -- Laws of every run of lines, on an honest disk.
-use Rattle.std.specs.Prelude.{◌≡◌, ◌≢◌, ℕ, false, ◌≤◌, List, [], map, Option, Some, None}
+use Rattle.std.specs.Prelude.{◌≡◌, ◌↔◌, ℕ, false, ◌≤◌, List, [], map, Option, Some, None}
 use Rattle.std.specs.Prelude.{Result, Ok, Err, slice_index_or}
 use Rattle.disk_model.specs.View.{DiskView}
 use Rattle.std.specs.List.{AllByRecursion}
@@ -8,7 +8,10 @@ use Rattle.history_model.specs.Brought.{ImportReceiptOf}
 use Rattle.import_check.specs.declared.scope.Scope.TheVariants as scopes
 use Rattle.import_check.specs.declared.release.Release.{Release}
 use Rattle.import_check.specs.Release.{files_of}
+use Rattle.directory.specs.declared.entry.Entry.{Entry}
+use Rattle.directory.specs.declared.sums.Sums.TheVariants as sums
 use Rattle.history_store.specs.declared.refusal.Refusal.TheVariants as store
+use Rattle.history_store.specs.Catalog.{Catalog}
 use Rattle.history_store.specs.Prepared.{HasMembers}
 use Rattle.history_store.specs.StoreValue.{IsAcknowledged}
 use Rattle.line_commands.specs.Questions.{Question, Receipt as AskReceipt}
@@ -19,7 +22,8 @@ use Rattle.line_server.specs.declared.refusal.LineRefusal.TheVariants as refusal
 use Rattle.line_server.specs.Sources.{Releases, SourceView, source_view}
 use Rattle.line_server.specs.ReplyValue.{Answer, Done}
 use Rattle.line_server.specs.StateValue.{IsHeldBack}
-use Rattle.line_server.specs.Replies.{Server, Replies, Same, IsFound, IsAskedOf, receipt_of}
+use Rattle.line_server.specs.Replies.{Server, Replies, IsFound, IsAskedOf, NeedsLater}
+use Rattle.line_server.specs.Replies.{receipt_of}
 use Rattle.store_life.specs.Life.{Imported, taken, Called, IsLife}
 use Rattle.store_life.specs.Laws.{AgreeUpTo, BroughtAlike}
 use Rattle.line_server.specs.Turns.{Turn, IsTurn, Run}
@@ -32,8 +36,8 @@ IsSure (Err (refusals.Store store.DiskFault)) = ⊥
 IsSure _ = Unit {0}
 
 -- A question is answered alike in two states in which it is asked about the same number of imports,
--- and the histories agree up to it. So a question after AT is answered as in a session that is
--- pinned to these imports.
+-- the histories agree up to it, and no later layout is needed. So a question after AT is answered
+-- as in a session that is pinned to these imports.
 abbrev pub PinnedIsUndisturbed : (D : Type 0) → (D → DiskView) → Type 0
 PinnedIsUndisturbed D view = (releases others : Releases) (a b after next : Server D)
     (line text : List ℕ) (session other pin : ℕ) (command also : Command) (question : Question)
@@ -42,6 +46,7 @@ PinnedIsUndisturbed D view = (releases others : Releases) (a b after next : Serv
     → b.store.needs_reopen ≡ false
     → Asks line session command → Asks text other also
     → IsAskedOf a session command question pin → IsAskedOf b other also question pin
+    → (NeedsLater command a.store → ⊥) → (NeedsLater also b.store → ⊥)
     → IsFound question (rows_at pin a.store.history.rows) query
     → AgreeUpTo pin a.store.history b.store.history
     → Replies (view a.store.disk).is_honest releases line one a after
@@ -68,9 +73,23 @@ LinesAreCalls {D} source view = (old new : Server D) (turns : List Turn)
     → Run source view old turns new
     → IsLife view old.store (map (λ turn. Called turn.call) turns) new.store
 
--- the servers are equal, except perhaps for the disks of their stores
-abbrev pub AreAlike : {D : Type 0} → Server D → Server D → Type 0
-AreAlike a b = Same a b × (b.met_damage ≡ a.met_damage)
+-- the segment without its checksums
+abbrev pub entry_without_sums : Entry → Entry
+entry_without_sums entry = record entry { sums = sums.Nowhere }
+
+-- the catalog without the checksums of its segments
+abbrev pub without_sums : Catalog → Catalog
+without_sums catalog =
+    record catalog { entries = map entry_without_sums catalog.entries }
+
+-- The servers are equal, except perhaps for the disks of their stores and the checksums of
+-- segments: a merge computes one of the rows that it wrote, which aren't in a catalog.
+pub record AreAlike {D : Type 0} (a b : Server D) : Type 0 where
+  pub pins : b.pins ≡ a.pins
+  pub history : b.store.history ≡ a.store.history
+  pub catalog : without_sums b.store.catalog ≡ without_sums a.store.catalog
+  pub needs_reopen : b.store.needs_reopen ≡ a.store.needs_reopen
+  pub met_damage : b.met_damage ≡ a.met_damage
 
 -- A line has one reply in states that are equal in this sense, and leaves states that are so too.
 abbrev pub OneReply : (D : Type 0) → (D → DiskView) → Type 0
@@ -116,13 +135,15 @@ abbrev pub GivesNoMembers : Releases → Type 0
 GivesNoMembers releases = (name : List ℕ) (release : Release)
     → releases scopes.Basic name ≡ Some (files_of release) → HasMembers release → ⊥
 
--- With such releases no line is answered 14, whatever the disk does.
-abbrev pub NoneIsLater : (D : Type 0) → (D → DiskView) → Type 0
-NoneIsLater D view = (releases : Releases) (line : List ℕ) (outcome : Result Answer LineRefusal)
-    (old new : Server D)
+-- With such releases exactly those lines are answered 14 that ask a question which needs members,
+-- of a store whose layout keeps none, whatever the disk does.
+abbrev pub OnlyMembersNeedLater : (D : Type 0) → (D → DiskView) → Type 0
+OnlyMembersNeedLater D view =
+    (releases : Releases) (line : List ℕ) (outcome : Result Answer LineRefusal) (old new : Server D)
     → GivesNoMembers releases
     → Replies (view old.store.disk).is_honest releases line outcome old new
-    → outcome ≢ Err (refusals.Store store.LaterVersion)
+    → (outcome ≡ Err (refusals.Store store.LaterVersion)) ↔ ((session : ℕ) × (command : Command)
+    × Asks line session command × NeedsLater command old.store)
 
 -- an import that was answered OK is the one that its turn records
 abbrev pub OkIsImported : (D : Type 0) → (D → DiskView) → Type 0
@@ -170,14 +191,14 @@ RunKeepsPin D view =
     × AgreeUpTo pin new.store.history old.store.history
     × ((number : ℕ) → number ≤ pin → BroughtAlike number new.store.history old.store.history)
 
--- As long as a session stays pinned, each of its questions is answered from what the pin showed in
--- the beginning.
+-- As long as a session stays pinned, each of its questions that needs no later layout is answered
+-- from what the pin showed in the beginning.
 abbrev pub PinnedSeesItsImports : (D : Type 0) → (D → DiskView) → Type 0
 PinnedSeesItsImports D view =
     (has : Releases) (session pin : ℕ) (start : Server D) (turns : List Turn) (turn : Turn)
     (question : Question) (query : Answer)
-    → StaysPinned has view session pin start turns turn
-    → Asks turn.line session (Ask question)
+    → (stays : StaysPinned has view session pin start turns turn)
+    → Asks turn.line session (Ask question) → (NeedsLater (Ask question) stays.mid.store → ⊥)
     → IsFound question (rows_at pin start.store.history.rows) query
     → IsSure turn.outcome → turn.outcome ≡ Ok query
 
@@ -193,16 +214,18 @@ PinnedSeesItsReceipts D view =
     → turn.outcome ≡ Ok (Done (receipt_of number brought latest))
 
 -- In any two runs from histories that agree up to its pin, a session gets the same answers,
--- whatever the other sessions do.
+-- whatever the other sessions do, unless a question needs a later layout.
 abbrev pub PinnedRunsAreUndisturbed : (D : Type 0) → (D → DiskView)
     → Type 0
 PinnedRunsAreUndisturbed D view =
     (has others : Releases) (session pin : ℕ) (a b : Server D) (before also : List Turn)
     (one two : Turn) (question : Question) (query : Answer)
-    → StaysPinned has view session pin a before one
-    → StaysPinned others view session pin b also two
+    → (first : StaysPinned has view session pin a before one)
+    → (second : StaysPinned others view session pin b also two)
     → AgreeUpTo pin a.store.history b.store.history
     → one.line ≡ two.line → Asks one.line session (Ask question)
+    → (NeedsLater (Ask question) first.mid.store → ⊥)
+    → (NeedsLater (Ask question) second.mid.store → ⊥)
     → IsFound question (rows_at pin a.store.history.rows) query
     → IsSure one.outcome → IsSure two.outcome → one.outcome ≡ two.outcome
 

@@ -9,7 +9,7 @@ use Rattle.line_commands.specs.Requests.{Asks}
 use Rattle.line_server.specs.declared.refusal.LineRefusal.{LineRefusal}
 use Rattle.line_server.specs.Sources.{Releases, SourceView, source_view}
 use Rattle.line_server.specs.ReplyValue.{ReplyValue}
-use Rattle.line_server.specs.Replies.{server, Server, IsAskedOf}
+use Rattle.line_server.specs.Replies.{server, Server, IsAskedOf, NeedsLater}
 use Rattle.line_server.specs.StateValue.{StateValue, HoldsBack, met_after}
 use Rattle.line_server.specs.Turns.{HasTurn, IsToldBy}
 
@@ -42,11 +42,11 @@ abbrev pub QuestionCanBeAsked : Question → Type 0
 QuestionCanBeAsked question = (arguments : List (List ℕ)) × SpellsQuestion question arguments
 
 -- the question was answered with this result, for any session and command that ask it about this
--- number of imports
+-- number of imports and need no later layout
 abbrev pub IsQueried : {D : Type 0} → Result ReplyValue LineRefusal → (D → DiskView) → Question → ℕ
     → StoreValue D → StoreValue D → Type 0
 IsQueried result view question pin old new =
     (has : Releases) (session : ℕ) (state : StateValue) (command : Command)
-    → IsAskedOf (server state old) session command question pin
+    → IsAskedOf (server state old) session command question pin → (NeedsLater command old → ⊥)
     → IsResponse result (source_view (Unit {0}) has) view session command (server state old)
     (server (noted result state) new)

@@ -3,6 +3,7 @@ use Rattle.std.specs.Prelude.{◌≡◌, ◌≢◌, ℕ, ◌≤◌, ◌<◌, ◌
 use Rattle.std.specs.Prelude.{map, codes}
 use Rattle.std.specs.Prelude.{decimal, slice_set, option_map, Option, Some, None, Result, Ok, Err}
 use Rattle.std.specs.Prelude.{option_to_list}
+use Rattle.rf2_values.specs.declared.row.Kind.TheVariants as kinds
 use Rattle.rf2_values.specs.Row.{RowValue}
 use Rattle.rf2_values.specs.Key.{key_of}
 use Rattle.history_model.specs.declared.receipt.Receipt.{Receipt}
@@ -12,6 +13,7 @@ use Rattle.history_model.specs.Queries.{get, versions, page, delta, terms, searc
 use Rattle.history_model.specs.Queries.{replacements, replaces, about, timeline, dates}
 use Rattle.history_model.specs.Queries.{members, values, called}
 use Rattle.history_model.specs.Hierarchy.{AreAncestors, AreDescendants}
+use Rattle.import_check.specs.declared.scope.Scope.TheVariants as scopes
 use Rattle.import_check.specs.declared.release.Release.{Release}
 use Rattle.import_check.specs.Release.{files_of}
 use Rattle.history_store.specs.declared.refusal.Refusal.{Refusal}
@@ -20,6 +22,7 @@ use Rattle.history_store.specs.Catalog.{Merge as CatalogMerge}
 use Rattle.history_store.specs.StoreValue.{StoreValue}
 use Rattle.store_digest.specs.Digest.{digest_of, IsDigestByKey}
 use Rattle.history_store.specs.Answers.{IsImportOf, IsImportOnAnyDisk, IsReadRefusal, IsRefused}
+use Rattle.history_store.specs.Queries.{IsWithoutRead}
 use Rattle.history_store.specs.Checking.{IsCheckingOf, IsCheckingOnAnyDisk}
 use Rattle.history_store.specs.MergeAnswers.{IsBeginningOf, IsSteppingOf, IsPublishingOf}
 use Rattle.history_store.specs.MergeAnswers.{IsAbandoningOf, IsTrimmingOf}
@@ -242,13 +245,16 @@ abbrev pub IsLacking : {D : Type 0} → Refusal → Server D → Server D → Ty
 IsLacking refusal old new =
     (refusal ≡ store.OutOfMemory) × (old.store.needs_reopen ≡ false) × Same old new
 
--- A question is refused as a call of the store that only reads. On an honest disk nothing is
--- reported as damaged.
-pub record IsUnfound {D : Type 0} (honest : Type 0) (refusal : Refusal)
-    (old new : Server D) : Type 0 where
+-- A question about the first `seen` imports is refused as a call of the store that only reads. On
+-- an honest disk nothing is reported as damaged. On every disk the disk fails, or a row is damaged,
+-- only if the question finds something else than no rows.
+pub record IsUnfound {D : Type 0} (honest : Type 0) (seen : ℕ) (question : Question)
+    (refusal : Refusal) (old new : Server D) : Type 0 where
   pub cause : IsReadRefusal refusal old.store
   pub refused : IsRefused refusal old.store new.store
   pub undamaged : honest → refusal ≢ store.Damaged
+  pub causes : IsFound question (rows_at seen old.store.history.rows) (Rows [])
+      → IsWithoutRead refusal
   pub pins : new.pins ≡ old.pins
 
 -- the store's refusal of a question about the first `seen` imports
@@ -262,7 +268,7 @@ IsRefusalAt honest seen (Descendants concept date) refusal old new =
     IsClosed refusal old new ⊎ IsLacking refusal old new
 IsRefusalAt honest seen AskDates refusal old new =
     IsClosed refusal old new ⊎ IsLacking refusal old new
-IsRefusalAt honest seen question refusal old new = IsUnfound honest refusal old new
+IsRefusalAt honest seen question refusal old new = IsUnfound honest seen question refusal old new
 
 -- The store's refusal of a command. For an import or a check the source is asked first, and memory
 -- may run out there too. On an honest disk no step of a merge finds damage.
@@ -340,6 +346,28 @@ IsOutcome honest releases session command (Ok answer) old new =
 IsOutcome honest releases session command (Err refusal) old new =
     IsRefusal honest releases session command refusal old new
 
+-- the question asks for members of reference sets, or is answered by what they say
+abbrev pub NeedsMembers : Question → Type 0
+NeedsMembers (Get kind id date) = kind ≡ kinds.Member
+NeedsMembers (History kind id) = kind ≡ kinds.Member
+NeedsMembers (About kind id date) = kind ≡ kinds.Member
+NeedsMembers (Timeline kind id) = kind ≡ kinds.Member
+NeedsMembers (Page kind date after limit) = kind ≡ kinds.Member
+NeedsMembers (Delta kind from date after limit) = kind ≡ kinds.Member
+NeedsMembers (Members refset date after limit) = Unit {0}
+NeedsMembers (Values refset date after limit) = Unit {0}
+NeedsMembers (Called concept date refset) = Unit {0}
+NeedsMembers question = ⊥
+
+-- the command needs a later layout than the store's: it asks a question that needs members, and
+-- the store's layout keeps none; after AT, about imports that the store has
+abbrev pub NeedsLater : {D : Type 0} → Command → StoreValue D → Type 0
+NeedsLater (Ask question) store =
+    (scope_of store.catalog.layout ≡ scopes.Basic) × NeedsMembers question
+NeedsLater (At number question) store = (number ≤ store.history.imports)
+    × (scope_of store.catalog.layout ≡ scopes.Basic) × NeedsMembers question
+NeedsLater command store = ⊥
+
 -- Damage was found before, and so the command is held back: it is refused with 8, and nothing
 -- changes.
 pub record IsRefusedForDamage {D : Type 0} (command : Command) (outcome : Result Answer LineRefusal)
@@ -348,21 +376,30 @@ pub record IsRefusedForDamage {D : Type 0} (command : Command) (outcome : Result
   pub refused : outcome ≡ Err (refusals.Store store.Damaged)
   pub unchanged : new ≡ old
 
--- The command isn't held back. It has this outcome, which decides whether damage is recorded.
+-- The command needs a later layout: it is refused with 14, and nothing changes.
+pub record IsRefusedForLayout {D : Type 0} (command : Command) (outcome : Result Answer LineRefusal)
+    (old new : Server D) : Type 0 where
+  pub needs_later : NeedsLater command old.store
+  pub refused : outcome ≡ Err (refusals.Store store.LaterVersion)
+  pub unchanged : new ≡ old
+
+-- The command isn't held back, and needs no later layout. It has this outcome, which decides
+-- whether damage is recorded.
 pub record IsPerformed {D : Type 0} (honest : Type 0) (releases : Releases) (session : ℕ)
     (command : Command) (outcome : Result Answer LineRefusal) (old new : Server D) : Type 0 where
   pub free : HoldsBack old.met_damage command → ⊥
+  pub has_layout : NeedsLater command old.store → ⊥
   pub comes_out : IsOutcome honest releases session command outcome old new
   pub damage : new.met_damage ≡ met_after outcome old.met_damage
 
 -- A line that spells a request is answered by the outcome of its command, or refused because damage
--- was found. Any other line is refused with the first reason why it is no request, and nothing
--- changes.
+-- was found or a later layout is needed. Any other line is refused with the first reason why it is
+-- no request, and nothing changes.
 abbrev pub Replies : {D : Type 0} → Type 0 → Releases → List ℕ → Result Answer LineRefusal
     → Server D → Server D → Type 0
 Replies honest releases text outcome old new =
     ((session : ℕ) × (command : Command) × Asks text session command
-    × (IsRefusedForDamage command outcome old new
+    × (IsRefusedForDamage command outcome old new ⊎ IsRefusedForLayout command outcome old new
     ⊎ IsPerformed honest releases session command outcome old new))
     ⊎
     ((reason : Unread) × IsUnread text reason × (outcome ≡ Err (refusals.Unread reason))

@@ -1,8 +1,10 @@
 //! Answers questions about the first imports, up to a pin.
 
 ghost use Rattle.std.specs.Prelude.{◌≤◌, ℕ, List, Option};
+ghost use Rattle.std.specs.Prelude.{◌↔◌, IsTrue};
 ghost use Rattle.line_commands.specs.Commands.{At};
-ghost use Rattle.line_commands.specs.Requests.{question_of};
+ghost use Rattle.line_commands.specs.Requests.{command_of, question_of};
+ghost use Rattle.line_server.specs.Replies.{NeedsLater, NeedsMembers};
 ghost use Rattle.line_server.specs.Private.{IsCarriedOut, IsQueried, QuestionCanBeAsked};
 
 use crate::auditing::{
@@ -16,10 +18,45 @@ use crate::queries::{
 use crate::refsets::{answer_called, answer_members, answer_values};
 use crate::refusal::LineRefusal;
 use crate::reply::Reply;
+use crate::source::scope_for;
 use disk_model::Disk;
 use history_store::{AsOf, Store};
-use line_commands::Question;
+use import_check::Scope;
+use line_commands::{Command, Question};
+use rf2_rows::Kind;
 use std::alloc::Global;
+
+/// Whether the question asks for members of reference sets, or is answered by what they say.
+fn needs_members(question: &Question<'_>) -> bool
+    ensures { IsTrue result ↔ NeedsMembers (question_of question.now) }
+{
+    match *question {
+        Question::Get { kind, .. }
+        | Question::History { kind, .. }
+        | Question::About { kind, .. }
+        | Question::Timeline { kind, .. }
+        | Question::Page { kind, .. }
+        | Question::Delta { kind, .. } => kind == Kind::Member,
+        Question::Members { .. } | Question::Values { .. } | Question::Called { .. } => true,
+        _ => false,
+    }
+}
+
+/// Whether the command needs a later layout than the store's.
+pub(crate) fn needs_later<D: Disk>(command: &Command<'_>, store: &Store<D>) -> bool
+    ensures { IsTrue result ↔ NeedsLater (command_of command.now) store.now }
+{
+    match scope_for(store) {
+        Scope::Whole => false,
+        Scope::Basic => match command {
+            Command::Ask(question) => needs_members(question),
+            Command::At { number, question } => {
+                *number <= store.imports() && needs_members(question)
+            }
+            _ => false,
+        },
+    }
+}
 
 /// Answers a question about the first `pin` imports.
 pub(crate) fn ask<D: Disk>(
@@ -104,7 +141,8 @@ pub(crate) fn ask_at<D: Disk>(
     question: &Question<'_>,
     store: &mut Store<D>,
 ) -> Result<Reply, LineRefusal>
-    requires { QuestionCanBeAsked (question_of question.now) }
+    requires asked { QuestionCanBeAsked (question_of question.now) }
+    requires has_layout { NeedsLater (At number (question_of question.now)) store.old → ⊥ }
     ensures { IsCarriedOut result D.view
         (At number (question_of question.now)) store.old store.new }
 {

@@ -6,7 +6,7 @@ ghost use Rattle.line_server.specs.Sources.{source_view};
 ghost use Rattle.line_server.specs.Laws.{OkIsImported, RefusedIsNotImported, ImportedIsOk};
 ghost use Rattle.line_server.specs.Laws.{RunNeedsNoSource};
 ghost use Rattle.line_server.specs.Laws.{CheckForetells, DamageHoldsBack, HonestMeetsNoDamage};
-ghost use Rattle.line_server.specs.Laws.{NoneIsLater};
+ghost use Rattle.line_server.specs.Laws.{OnlyMembersNeedLater};
 ghost use Rattle.line_server.specs.Laws.{RunKeepsPin, PinnedSeesItsImports, PinnedSeesItsReceipts};
 ghost use Rattle.line_server.specs.Laws.{PinnedRunsAreUndisturbed, PinnedReceiptsAreUndisturbed};
 
@@ -14,7 +14,7 @@ use crate::source::Source;
 use disk_model::Disk;
 
 /// A question about the same imports is answered alike, whether the session is pinned to them or AT
-/// names them.
+/// names them, unless it needs a later layout.
 pub fn pinned_is_undisturbed<D: Disk>()
     ensures { PinnedIsUndisturbed D D.view }
 {}
@@ -51,10 +51,10 @@ pub fn honest_meets_no_damage<D: Disk>()
     ensures { HonestMeetsNoDamage D D.view }
 {}
 
-/// No line is answered 14 if the source gives no members of reference sets when it is asked for the
-/// basic files.
-pub fn none_is_later<D: Disk>()
-    ensures { NoneIsLater D D.view }
+/// If the source gives no members of reference sets when it is asked for the basic files, exactly
+/// the questions that need members are answered 14, where the store's layout keeps none.
+pub fn only_members_need_later<D: Disk>()
+    ensures { OnlyMembersNeedLater D D.view }
 {}
 
 /// An import that was answered OK is the one that its turn imported.

@@ -106,8 +106,9 @@ pub(crate) fn reply_receipt(alloc: Global, number: u32, receipt: ImportReceipt) 
     Reply::of_lines(Vec::new(alloc), last)
 }
 
-/// The reply to STATUS.
-pub(crate) fn reply_status(
+/// The reply to STATUS: the numbers of imports, rows and segments, and how many rows are left to a
+/// merge. Allocates nothing.
+pub fn reply_status(
     alloc: Global,
     imports: u32,
     rows: u64,

@@ -1,6 +1,6 @@
 -- The sources that are taken from all lists are the children.
 use Rattle.std.proofs.Common.{◌≡◌, ℕ, true, List, [], map, refl, sym, ap, subst, inl, inr, ◌∙◌}
-use Rattle.std.specs.Prelude.{◌==◌}
+use Rattle.std.specs.Prelude.{◌==◌, ◌↔◌}
 use Rattle.std.specs.List.{filter}
 use Rattle.std.specs.Ordering.{nat_cmp}
 use Rattle.std.specs.Cmp.{nat_cmp_total, ranked}
@@ -26,7 +26,8 @@ use Rattle.links.specs.Edges.{Edges}
 use Rattle.links.specs.Laws.{EachPosted}
 use Rattle.as_of_index.proofs.DatesOfAll.{number_there}
 use Rattle.as_of_index.specs.Current.{rows_seen}
-use Rattle.links.specs.Private.{links_in, AreSources}
+use Rattle.links.specs.Private.{links_in, AreSourcesTaken}
+use Rattle.as_of_index.specs.Private.Once.{AreOnce}
 use Rattle.links.proofs.Posted.{link_stands, link_of_child}
 
 -- who is a child of two is a child of one
@@ -48,10 +49,10 @@ module _ (lists : List (List StampedRow)) (are : ArePlaces (map places_of lists)
   abbrev sources : List ℕ
   sources = map (λ (row : RowValue). source_of row.body) (filter (is_child_of concept) at_date)
 
-  module _ (ids : List ℕ) (a : AreSources lists as_of concept (numbered 0 (links_in edges)) ids) where
+  module _ (ids : List ℕ) (a : AreSourcesTaken lists as_of concept (numbered 0 (links_in edges)) ids) where
     to_children : (id : ℕ) → Has ids id → Has sources id
     to_children id h =
-        let w = a.1.only id (a.2.only id h) in
+        let w = a.only id h in
         let x = w.0 in
         let s = w.3.row_there.1.0 in
         let post = link_stands lists edges posts x w.1 in
@@ -79,10 +80,19 @@ module _ (lists : List (List StampedRow)) (are : ArePlaces (map places_of lists)
         let now = current_where lists are as_of n p.0 post.0 row stands f.0 key_is in
         let dest : l.destination ≡ concept = dest_of l.destination concept post.0.row post.2.says (subst (λ (z : RowValue). is_child_of concept z ≡ true) now.0 f.1) in
         let id_is : l.source ≡ id = sym post.2.source_is ∙ ap (λ (z : RowValue). source_of z.body) (sym now.0) ∙ m.2 in
-        subst (λ k. Has ids k) id_is (number_there ids l.source (a.2.there l.source (a.1.taken g.x l.source g.there dest (record { at = p.0; row_there = (p.1, now.1); answer_is = refl }))))
+        subst (λ k. Has ids k) id_is (a.taken g.x l.source g.there dest (record { at = p.0; row_there = (p.1, now.1); answer_is = refl }))
 
-    pub children_from_sources : ids ≡ children concept as_of.date (rows_seen as_of lists)
+    pub sources_are_children : (id : ℕ) → Has ids id ↔ Has (children concept as_of.date (rows_seen as_of lists)) id
     unfolding children
-    children_from_sources = same_ascending nat_cmp_total ids (in_order nat_cmp sources) a.2.ascending (IsAscending-in_order nat_cmp_total sources)
-        (λ id h. Has-put_all_new nat_cmp sources [] id (λ y there tie. sym (ranked id y Equal (sym tie))) (to_children id h))
-        (λ id h. elim (Has-put_all_cases nat_cmp sources [] id h) [ inl l ↦ from_children id l | inr r ↦ absurd r ])
+    sources_are_children id = (
+      λ h. Has-put_all_new nat_cmp sources [] id (λ y there tie. sym (ranked id y Equal (sym tie))) (to_children id h),
+      λ h. elim (Has-put_all_cases nat_cmp sources [] id h) [ inl l ↦ from_children id l | inr r ↦ absurd r ],
+    )
+
+-- children that stand in any order, each once
+pub children_once : (concept date : ℕ) (rows : List RowValue) (all ids : List ℕ) → ((id : ℕ) → Has all id ↔ Has (children concept date rows) id) → AreOnce nat_cmp all ids → ids ≡ children concept date rows
+unfolding children
+children_once concept date rows all ids same once = same_ascending nat_cmp_total ids _ once.ascending
+    (IsAscending-in_order nat_cmp_total (map (λ (row : RowValue). source_of row.body) (filter (is_child_of concept) (snapshot rows date))))
+    (λ id h. (same id).0 (once.only id h))
+    (λ id h. number_there ids id (once.there id ((same id).1 h)))

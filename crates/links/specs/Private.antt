@@ -70,10 +70,6 @@ GivesSource = GivesAnswer (λ l. l.row) (λ n l at. l.source)
 abbrev pub AreSourcesTaken : List (List StampedRow) → AsOf → ℕ → List (ℕ × Link) → List ℕ → Type 0
 AreSourcesTaken lists as_of = AreTaken (GivesSource lists as_of) (λ l. l.destination)
 
-abbrev pub AreSources : List (List StampedRow) → AsOf → ℕ → List (ℕ × Link) → List ℕ → Type 0
-AreSources lists as_of d xs ids =
-    (all : List ℕ) × AreSourcesTaken lists as_of d xs all × AreOnce nat_cmp all ids
-
 -- the row to read for a reference of list `n`: its place, with refset and target, by which the
 -- result is sorted
 abbrev pub ranked : ℕ → Reference → RowPlace → Chosen

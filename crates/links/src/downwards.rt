@@ -9,7 +9,7 @@ ghost use Rattle.fault_counts.specs.declared.fault.ReadFault.TheVariants as read
 ghost use Rattle.links.specs.Laws.{EachPosted};
 
 use crate::Links;
-use crate::hierarchy::children_of;
+use crate::hierarchy::find_children;
 use crate::reaching::{Steps, reached};
 use as_of_index::{AsOf, Index, ReadFault};
 use rf2_values::Sctid;
@@ -56,9 +56,9 @@ impl Steps for Downwards<'_> {
 
     ghost fails_by_memory = { λ d. refl };
 
-    fn next(&mut self, alloc: Global, concept: u64) -> Result<Vec<u64>, ReadFault> {
-        let found = children_of(alloc, self.links, self.index, concept, &self.as_of)?;
-        Ok(found)
+    fn next(&mut self, _alloc: Global, concept: u64, ids: &mut Vec<u64>) -> Result<(), ReadFault> {
+        find_children(ids, self.links, self.index, concept, &self.as_of)?;
+        Ok(())
     }
 }
 

@@ -1,6 +1,6 @@
 //! Finds the children of a concept, by the postings of links.
 
-ghost use Rattle.std.specs.Prelude.{◌≡◌, ◌↔◌, List, IfOk, OnOk};
+ghost use Rattle.std.specs.Prelude.{◌≡◌, ◌↔◌, ℕ, List, IfOk, OnOk};
 ghost use Rattle.std.specs.List.Sorted.{IsNonDecreasingBy};
 ghost use Rattle.std.specs.Ordering.{nat_cmp};
 ghost use Rattle.history_model.specs.declared.stamped.StampedRow.{StampedRow};
@@ -11,7 +11,7 @@ ghost use Rattle.as_of_index.specs.Places.{Lists};
 ghost use Rattle.as_of_index.specs.Private.Postings.{numbered};
 ghost use Rattle.links.specs.Laws.{EachPosted};
 ghost use Rattle.as_of_index.specs.Private.Once.{AreOnce};
-ghost use Rattle.links.specs.Private.{links_in, GivesSource, Takes, AreSources};
+ghost use Rattle.links.specs.Private.{links_in, GivesSource, Takes, AreSourcesTaken};
 
 use crate::Links;
 use crate::postings::{Link, Sealed};
@@ -57,41 +57,42 @@ pub(crate) fn sort_once(ids: &mut Vec<u64>)
     ids.dedup();
 }
 
-/// The distinct sources of the current links to a destination, ascending.
-fn sources(
-    alloc: Global,
+/// Replaces what `ids` has by the sources of the current links to a destination, in any order.
+fn find_sources(
+    ids: &mut Vec<u64>,
     links: &[Sealed],
     index: &Index,
     destination: u64,
     as_of: &AsOf,
-) -> Result<Vec<u64>, AllocError>
-    ensures { IfOk result (λ ids. (lists : List (List StampedRow)) → Lists index.now lists
-        → AreSources lists as_of.now destination (numbered 0 (links_in links.now)) ids.items) }
+) -> Result<(), AllocError>
+    ensures { OnOk result ((lists : List (List StampedRow)) → Lists index.now lists
+        → AreSourcesTaken lists as_of.now destination (numbered 0 (links_in links.now))
+        ids.new.items) }
 {
-    let mut ids = Vec::new(alloc);
+    ids.clear();
     for (segment, list) in links.iter().enumerate() {
         let those = links_to(list.links(), destination);
-        add_sources(&mut ids, those, segment, index, as_of)?;
+        add_sources(ids, those, segment, index, as_of)?;
     }
-    sort_once(&mut ids);
-    Ok(ids)
+    Ok(())
 }
 
-/// The children of the concept with this SCTID, as `children` defines them.
-pub(crate) fn children_of(
-    alloc: Global,
+/// Replaces what `ids` has by the children of a concept, in any order, where one may stand several
+/// times.
+pub(crate) fn find_children(
+    ids: &mut Vec<u64>,
     links: &Links,
     index: &Index,
     concept: u64,
     as_of: &AsOf,
-) -> Result<Vec<u64>, AllocError>
-    ensures found { IfOk result (λ ids. (lists : List (List StampedRow)) → Lists index.now lists
-        → EachPosted lists links.now
-        → ids.items ≡ children concept as_of.now.date (rows_seen as_of.now lists)) }
+) -> Result<(), AllocError>
+    ensures found { OnOk result ((lists : List (List StampedRow)) → Lists index.now lists
+        → EachPosted lists links.now → (x : ℕ) → Has ids.new.items x
+        ↔ Has (children concept as_of.now.date (rows_seen as_of.now lists)) x) }
 {
     // The contract of `lists` says that no key is listed twice.
     let _listed = index.lists();
-    sources(alloc, links.as_slice(), index, concept, as_of)
+    find_sources(ids, links.as_slice(), index, concept, as_of)
 }
 
 /// The distinct sources of active "is a" relationships to the concept at the date, ascending, among
@@ -110,5 +111,8 @@ pub fn children(
         → EachPosted lists links.now
         → ids.items ≡ children concept as_of.date (rows_seen as_of lists)) }
 {
-    children_of(alloc, links, index, concept.value(), &as_of)
+    let mut ids = Vec::new(alloc);
+    find_children(&mut ids, links, index, concept.value(), &as_of)?;
+    sort_once(&mut ids);
+    Ok(ids)
 }

@@ -1,8 +1,9 @@
 //! Finds all concepts that can be reached from a concept, step by step.
 
-ghost use Rattle.std.specs.Prelude.{◌≡◌, ◌+◌, ◌≤◌, ◌∷◌, ℕ, List, IfOk, IfErr, OnOk};
+ghost use Rattle.std.specs.Prelude.{◌≡◌, ◌↔◌, ◌+◌, ◌≤◌, ◌∷◌, ℕ, List, IfOk, IfErr, OnOk};
 ghost use Rattle.std.specs.List.{sum_by};
 ghost use Rattle.history_model.specs.Hierarchy.{AreReached};
+ghost use Rattle.history_model.specs.InOrder.{Has};
 ghost use Rattle.history_model.specs.Private.{Adds};
 ghost use Rattle.links.specs.Private.{AreSeen};
 ghost use Rattle.fault_counts.specs.Counting.{Counts, CountsDiskFault, CountsDamage};
@@ -37,10 +38,11 @@ pub trait Steps {
     /// How often a call failed with `Damaged`.
     ghost damages: { Self → ℕ };
 
-    /// The concepts one step from a concept.
-    fn next(&mut self, alloc: Global, concept: u64) -> Result<Vec<u64>, ReadFault>
+    /// Replaces what `ids` has by the concepts one step from a concept, in any order, where one may
+    /// stand several times. After an error `ids` may have anything.
+    fn next(&mut self, alloc: Global, concept: u64, ids: &mut Vec<u64>) -> Result<(), ReadFault>
         ensures found { (next : ℕ → List ℕ) → leads self.old next
-            → IfOk result (λ ids. ids.items ≡ next concept) }
+            → OnOk result ((x : ℕ) → Has ids.new.items x ↔ Has (next concept) x) }
         ensures leads { (next : ℕ → List ℕ) → leads self.old next → leads self.new next }
         ensures work { (cost : ℕ → ℕ) → costs self.old cost
             → work self.new ≤ work self.old + cost concept }
@@ -96,11 +98,12 @@ pub fn reached<S: Steps>(alloc: Global, steps: &mut S, from: u64) -> Result<Vec<
 {
     let mut found = Vec::new(alloc);
     let mut seen = HashSet::new(alloc);
-    let first = steps.next(alloc, from)?;
-    add_new(&mut found, &mut seen, &first)?;
+    let mut ids = Vec::new(alloc);
+    steps.next(alloc, from, &mut ids)?;
+    add_new(&mut found, &mut seen, &ids)?;
     let mut i = 0;
     while i < found.len() {
-        let ids = steps.next(alloc, found[i])?;
+        steps.next(alloc, found[i], &mut ids)?;
         add_new(&mut found, &mut seen, &ids)?;
         i += 1;
     }

@@ -1,11 +1,12 @@
 //! Finds the concepts above a concept.
 
-ghost use Rattle.std.specs.Prelude.{◌≡◌, ◌≢◌, ◌+◌, ◌≤◌, ◌∷◌, ℕ, List, true, false};
-ghost use Rattle.std.specs.Prelude.{IfOk, IfErr, MatchOption};
+ghost use Rattle.std.specs.Prelude.{◌≡◌, ◌≢◌, ◌↔◌, ◌+◌, ◌≤◌, ◌∷◌, ℕ, List, true, false};
+ghost use Rattle.std.specs.Prelude.{IfOk, IfErr, OnOk, MatchOption};
 ghost use Rattle.std.specs.List.{sum_by};
 ghost use Rattle.as_of_index.specs.Current.{rows_seen};
 ghost use Rattle.history_model.specs.Queries.{about, parents, destination_of};
 ghost use Rattle.history_model.specs.Hierarchy.{AreAncestors};
+ghost use Rattle.history_model.specs.InOrder.{Has};
 ghost use Rattle.rf2_values.specs.declared.row.Kind.TheVariants as kinds;
 ghost use Rattle.as_of_index.specs.Reader.{LeavesReader};
 ghost use Rattle.as_of_index.specs.Places.{Lists};
@@ -14,7 +15,6 @@ ghost use Rattle.links.specs.Laws.{EachPosted};
 ghost use Rattle.links.specs.Private.{is_link, parents_told};
 
 use crate::Links;
-use crate::hierarchy::sort_once;
 use crate::reaching::{Steps, reached};
 use crate::subjects::about_of;
 use as_of_index::{AsOf, Index, ReadFault, RowReader};
@@ -33,34 +33,34 @@ fn parent_in(row: &Row) -> Option<u64>
     }
 }
 
-/// The destinations of those of the rows that are "is a" relationships.
-fn parents_in(alloc: Global, rows: &[Row]) -> Result<Vec<u64>, AllocError>
-    ensures { IfOk result (λ ids. ids.items ≡ parents_told rows.now) }
+/// Replaces what `ids` has by the destinations of those of the rows that are "is a" relationships.
+fn find_parents_in(ids: &mut Vec<u64>, rows: &[Row]) -> Result<(), AllocError>
+    ensures { OnOk result (ids.new.items ≡ parents_told rows.now) }
 {
-    let mut ids = Vec::new(alloc);
+    ids.clear();
     for row in rows {
         if let Some(parent) = parent_in(row) {
             ids.push(parent)?;
         }
     }
-    Ok(ids)
+    Ok(())
 }
 
-/// The destinations of the concept's active "is a" relationships at the date, ascending. Reads all
-/// active relationships whose source is the concept.
-fn parents_of<R: RowReader>(
+/// Replaces what `ids` has by the destinations of the concept's active "is a" relationships at the
+/// date, in any order. Reads all active relationships whose source is the concept.
+fn find_parents<R: RowReader>(
+    ids: &mut Vec<u64>,
     alloc: Global,
     links: &Links,
     index: &Index,
     reader: &mut R,
     concept: u64,
     as_of: &AsOf,
-) -> Result<Vec<u64>, ReadFault>
+) -> Result<(), ReadFault>
     ensures found { (R.view reader.old).is_honest → Lists index.now (R.view reader.old).lists
         → EachPosted (R.view reader.old).lists links.now
-        → IfOk result (λ ids.
-        ids.items ≡ parents concept as_of.now.date
-        (rows_seen as_of.now (R.view reader.old).lists)) }
+        → OnOk result ((x : ℕ) → Has ids.new.items x ↔ Has (parents concept as_of.now.date
+        (rows_seen as_of.now (R.view reader.old).lists)) x) }
     ensures undamaged { (R.view reader.old).is_honest → Lists index.now (R.view reader.old).lists
         → EachPosted (R.view reader.old).lists links.now
         → IfErr result (λ e. e ≢ readfault.Damaged) }
@@ -81,9 +81,8 @@ fn parents_of<R: RowReader>(
         concept,
         as_of,
     )?;
-    let mut ids = parents_in(alloc, rows.as_slice())?;
-    sort_once(&mut ids);
-    Ok(ids)
+    find_parents_in(ids, rows.as_slice())?;
+    Ok(())
 }
 
 /// The steps from a concept to its parents, at a date and a pin.
@@ -144,8 +143,9 @@ impl<R: RowReader> Steps for Upwards<'_, R> {
 
     ghost fails_by_memory = { λ u honest listed_so posted. memory_is_no_damage };
 
-    fn next(&mut self, alloc: Global, concept: u64) -> Result<Vec<u64>, ReadFault> {
-        parents_of(
+    fn next(&mut self, alloc: Global, concept: u64, ids: &mut Vec<u64>) -> Result<(), ReadFault> {
+        find_parents(
+            ids,
             alloc,
             self.links,
             self.index,

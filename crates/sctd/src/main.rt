@@ -2,7 +2,7 @@
 //! a file, and answers what each component looked like on any past date.
 #![tactic(auto)]
 
-use command_line::{FileDisks, demonstrate, run};
+use command_line::{FileHost, demonstrate, run};
 use std::fs::{self, File};
 use std::io::{ErrorKind, IsTerminal};
 use std::process::ExitCode;
@@ -53,10 +53,9 @@ fn main(rt: HostRuntime) -> ExitCode {
     if ask_for_demonstration(&words) && output.is_terminal() {
         return ExitCode::from(demonstrate(rt.alloc(), &mut output, &mut faults));
     }
-    let mut disks = FileDisks::new(&rt);
     let (status, _, _) = run(
-        &mut disks,
-        &rt,
+        &FileHost::new(&rt),
+        &mut 0,
         rt.alloc(),
         &words,
         &mut input,

@@ -1,12 +1,11 @@
 //! Calls of a store, and what the store reports.
 //!
-//! - `begin`, `step ROWS`, `publish`, `abandon`, `upgrade`, `rewrite` and `trim` print the result
-//!   of the call: a number, `done`, or `nothing`;
-//! - `imports`, `rows`, `segments`, `version`, `plain`, `blocks`, `left`, `closed` and `latest`
-//!   print what the store reports: `version` is the version of its layout, `plain` how many
-//!   segments have no checksums, `blocks` how many blocks of the disk it needs, `left` how many
-//!   rows of a merge are left, `closed` whether it has to be opened again, and `latest` its latest
-//!   day;
+//! - `begin`, `step ROWS`, `publish`, `abandon` and `trim` print the result of the call: a number or
+//!   `done`;
+//! - `imports`, `rows`, `segments`, `version`, `blocks`, `left`, `closed` and `latest` print what the
+//!   store reports: `version` is the version of its layout, `blocks` how many blocks of the disk it
+//!   needs, `left` how many rows of a merge are left, `closed` whether it has to be opened again, and
+//!   `latest` its latest day;
 //! - `holds` prints whether the store has exactly the rows of the first samples, as many as it has
 //!   imports, each with its import number, and `complete` imports those that it lacks;
 //! - `receipt NUMBER` prints the receipt of an import, and `digest PIN` the digest of the rows that
@@ -68,15 +67,6 @@ pub fn spell_receipt(alloc: Global, answer: Result<Receipt, Refusal>) -> Answer 
     }
 }
 
-/// Whether the only segment was rewritten.
-fn spell_rewritten(alloc: Global, rewritten: Result<bool, Refusal>) -> Answer {
-    match rewritten {
-        Ok(true) => Ok(String::from_str(alloc, "done")?),
-        Ok(false) => Ok(String::from_str(alloc, "nothing")?),
-        Err(refusal) => spell_refusal(alloc, refusal),
-    }
-}
-
 /// The receipt of an import at a later time.
 fn spell_brought(alloc: Global, brought: ImportReceipt) -> Answer {
     let new = brought.new;
@@ -104,7 +94,6 @@ fn show(alloc: Global, store: &Example, word: &str) -> Answer {
         "rows" => Some(store.row_count()),
         "segments" => Some(u64::from(store.segments())),
         "version" => Some(u64::from(store.version())),
-        "plain" => Some(u64::from(store.plain_segments())),
         "blocks" => Some(store.blocks_in_use()),
         "left" => store.merge_left(),
         "closed" => Some(u64::from(store.needs_reopen())),
@@ -149,8 +138,6 @@ pub fn call(alloc: Global, store: &mut Example, word: &str, words: &str) -> Answ
         ("begin", "") => spell_count(alloc, store.merge_begin()),
         ("publish", "") => spell_done(alloc, store.merge_publish()),
         ("abandon", "") => spell_done(alloc, store.merge_abandon()),
-        ("upgrade", "") => spell_done(alloc, store.upgrade()),
-        ("rewrite", "") => spell_rewritten(alloc, store.rewrite()),
         ("trim", "") => spell_count(alloc, store.trim()),
         ("holds", "") => spell_held(alloc, store),
         ("complete", "") => spell_done(alloc, complete(store)),

@@ -1,9 +1,10 @@
 -- The laws of copies.
-use Rattle.std.specs.Prelude.{◌==◌, nat_le}
+use Rattle.std.specs.Prelude.{◌==◌, nat_le, All}
 use Rattle.std.specs.List.{AllByRecursion, filter}
 use Rattle.std.proofs.Common.{◌≡◌, inl, inr, ℕ, zero, suc, ◌+◌, ◌≤◌, Bool, true, false, cond, List, [], ◌∷◌, length, map, take, refl, sym, ap, subst, ◌∙◌, arith}
 use Rattle.std.proofs.lemmas.Bool.Decides.{nat_tests}
 use Rattle.std.proofs.lemmas.Bool.{false_from_ne_true}
+use Rattle.std.proofs.lemmas.List.Elements.{All-from_recursion}
 use Rattle.rf2_values.specs.Row.{RowValue}
 use Rattle.blocks.specs.declared.slots.Slot.{Slot}
 use Rattle.blocks.specs.declared.slots.Slot.TheVariants.{A}
@@ -14,17 +15,21 @@ use Rattle.history_model.proofs.InOrder.{same_ascending, Has-put_all_cases, Has-
 use Rattle.history_model.proofs.Keys.{stamped_total}
 use Rattle.history_model.proofs.Releases.{then_is_history}
 use Rattle.history_model.proofs.Chains.{stamp_is, imports_then}
-use Rattle.directory.specs.Listings.{DirectoryValue}
+use Rattle.directory.specs.Listings.{DirectoryValue, number_of}
+use Rattle.directory.specs.declared.entry.Entry.{Entry}
 use Rattle.directory.specs.declared.layout.Layout.{Layout}
+use Rattle.directory.specs.declared.layout.Layout.TheVariants as layouts
+use Rattle.directory.specs.declared.sums.Sums.TheVariants as sums
+use Rattle.directory.specs.Places.{end_block, extent_of}
 use Rattle.segment.proofs.SegmentLaws.{one_segment}
-use Rattle.store_image.specs.Kept.{history_of}
+use Rattle.store_image.specs.Kept.{entry_at, history_of}
 use Rattle.store_image.specs.Images.{RepresentsAs}
 use Rattle.store_image.specs.OnDisk.{HasStore}
 use Rattle.store_image.proofs.Standing.{represents_one}
 use Rattle.store_image.specs.Images.{Represents}
-use Rattle.store_copy.specs.Copying.{chosen, first_imports, up_to}
-use Rattle.store_copy.specs.Answers.{copy_of, imports_of, lists_of}
-use Rattle.store_copy.specs.Laws.{CopyRepresents, EachCrashLeavesACopy, FirstImportsAreReleases, AllImportsAreAll, PinsStay, ReceiptsStay}
+use Rattle.store_copy.specs.Copying.{chosen, entries_from, first_imports, up_to}
+use Rattle.store_copy.specs.Answers.{copy_of, imports_of, layout_of, lists_of}
+use Rattle.store_copy.specs.Laws.{CopyRepresents, EachCrashLeavesACopy, EachSegmentIsSummed, FirstImportsAreReleases, AllImportsAreAll, PinsStay, ReceiptsStay}
 use Rattle.store_copy.proofs.UpTo.{Has-up_to, Has-up_to_from, up_to_ascends, listed_up_to}
 
 -- ---- what a copy represents
@@ -33,25 +38,43 @@ represented : (slot : Slot) (d : DirectoryValue) (lists : List (List StampedRow)
 represented slot d lists file shows = record { slot = slot; content = shows.0; lists = lists; stands = shows.2.has_pieces; says = shows.1; other_is_whole = shows.2.other_is_whole; rows = refl }
 
 pub copy_represents : CopyRepresents
-copy_represents asked file c h layout is rep =
+copy_represents asked version file c h layout is rep =
     let of = is.of in
     let d = of.directory in
     let n = imports_of asked of in
     let one = represents_one one_segment file h (history_of d of.lists) layout d.layout rep.0 d.epoch rep.1 d.entries rep.2 (represented of.slot d of.lists file of.is) in
-    let rows : history_of (copy_of asked of) (lists_of asked of) ≡ first_imports n (history_of d of.lists) = ap (λ (rows : List StampedRow). record { imports = n; rows = rows }) (listed_up_to n of.lists of.is.1.kept.apart) in
-    let there : RepresentsAs d.layout (first_imports n (history_of d of.lists)) c = subst (λ (g : History). RepresentsAs d.layout g c) rows (2, (copy_of asked of).entries, represented A (copy_of asked of) (lists_of asked of) c is.is) in
-    let P : History → Type 0 = λ g. (chosen asked g.imports ≤ g.imports) × RepresentsAs layout (first_imports (chosen asked g.imports) g) c in
-    let Q : Layout → Type 0 = λ l. RepresentsAs l (first_imports n (history_of d of.lists)) c in
-    let all : P (history_of d of.lists) = (is.within, subst Q (sym one.1) there) in
+    let rows : history_of (copy_of asked version of) (lists_of asked of) ≡ first_imports n (history_of d of.lists) = ap (λ (rows : List StampedRow). record { imports = n; rows = rows }) (listed_up_to n of.lists of.is.1.kept.apart) in
+    let there : RepresentsAs (layout_of version of) (first_imports n (history_of d of.lists)) c = subst (λ (g : History). RepresentsAs (layout_of version of) g c) rows (2, (copy_of asked version of).entries, represented A (copy_of asked version of) (lists_of asked of) c is.is) in
+    let P : History → Type 0 = λ g. (chosen asked g.imports ≤ g.imports) × (number_of layout ≤ number_of (chosen version layout)) × RepresentsAs (chosen version layout) (first_imports (chosen asked g.imports) g) c in
+    let Q : Layout → Type 0 = λ l. (number_of l ≤ number_of (chosen version l)) × RepresentsAs (chosen version l) (first_imports n (history_of d of.lists)) c in
+    let either = subst Q (sym one.1) (is.not_lower, there) in
+    let all : P (history_of d of.lists) = (is.within, either.0, either.1) in
     subst P (sym one.0) all
 
+-- in version 3 each entry has a checksum of the whole segment
+abbrev IsWhole : Entry → Type 0
+IsWhole entry = (sum : ℕ) × (entry.sums ≡ sums.Whole sum)
+
+whole_sums : (first : ℕ) (lists : List (List StampedRow)) → AllByRecursion IsWhole (entries_from layouts.Three first lists)
+whole_sums first [] = tt
+whole_sums first (rows ∷ lists) = ((_, refl), whole_sums (end_block (extent_of (entry_at layouts.Three first rows))) lists)
+
+pub each_segment_is_summed : EachSegmentIsSummed
+each_segment_is_summed asked version file copy state has three =
+    let lists = lists_of asked has.of in
+    let layout = sym (ap (λ (d : DirectoryValue). d.layout) has.copy_is) ∙ three in
+    let entries = ap (λ (d : DirectoryValue). d.entries) has.copy_is ∙ ap (λ (l : Layout). entries_from l 4 lists) layout in
+    let each = All-from_recursion IsWhole (entries_from layouts.Three 4 lists) (whole_sums 4 lists) in
+    subst (λ (es : List Entry). All IsWhole es) (sym entries) each
+
 pub each_crash_leaves_a_copy : EachCrashLeavesACopy
-each_crash_leaves_a_copy asked file copy state has c image =
+each_crash_leaves_a_copy asked version file copy state has c image =
     let on = has.on_disk in
     let same = has.copy_is in
     record {
       of = has.of;
       within = has.within;
+      not_lower = has.not_lower;
       is = subst (λ d. HasStore A d (lists_of asked has.of) c) same (on.0, on.1, on.2 c image);
     }
 

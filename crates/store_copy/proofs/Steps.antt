@@ -9,6 +9,7 @@ use Rattle.blocks.specs.declared.extent.Extent.{Extent}
 use Rattle.blocks.specs.Extents.{start_of}
 use Rattle.history_model.specs.declared.stamped.StampedRow.{StampedRow}
 use Rattle.history_model.specs.InOrder.{Has}
+use Rattle.checksum.specs.Crc32c.{continued, crc32c}
 use Rattle.checksum.specs.declared.form.Form.{Form}
 use Rattle.segment.specs.declared.place.RowPlace.{RowPlace}
 use Rattle.segment.specs.Records.{record_in, record_of, segment_in, segment_of}
@@ -16,6 +17,7 @@ use Rattle.segment.specs.Standing.{places_of, with_places}
 use Rattle.segment.proofs.Posting.{says}
 use Rattle.segment.proofs.SegmentLaws.{no_rows, no_rows_plain, push_plain, segment_push}
 use Rattle.store_image.specs.Ahead.{BeginsWith}
+use Rattle.store_image.proofs.Summed.{crc_goes_on, none_is}
 use Rattle.store_image.proofs.Unlisted.{ahead_written}
 use Rattle.store_copy.specs.Copying.{up_to}
 use Rattle.store_copy.specs.Private.Writing.{ArePending}
@@ -30,6 +32,7 @@ pub record Step (rows : List StampedRow) (i : ℕ) (p : RowPlace) : Type 0 where
   pub there : Has (with_places 0 rows) (row, p)
   pub import_is : p.import ≡ row.import
   pub bytes_are : p.bytes ≡ length (record_of row)
+  pub at_is : p.at ≡ length (segment_of (take i rows))
   pub taken : take (i + 1) rows ≡ take i rows ++ row ∷ []
 
 pub step_at : (rows : List StampedRow) (places : List RowPlace) (i : ℕ) (p : RowPlace) → places ≡ places_of rows → i < length places → p ≡ get_or places i p → Step rows i p
@@ -37,7 +40,8 @@ step_at rows places i p same lt is =
     let w = at_index 0 rows i p (subst (λ (l : List RowPlace). i < length l) same lt) (subst (λ (l : List RowPlace). p ≡ get_or l i p) same is) in
     let told = says 0 rows (w.0, p) w.1 in
     let next : suc i ≡ i + 1 = omega arith in
-    record { row = w.0; there = w.1; import_is = told.import_is; bytes_are = told.bytes_are; taken = subst (λ n. take n rows ≡ take i rows ++ w.0 ∷ []) next w.2 }
+    let place = w.3 in
+    record { row = w.0; there = w.1; import_is = told.import_is; bytes_are = told.bytes_are; at_is = omega (arith, place); taken = subst (λ n. take n rows ≡ take i rows ++ w.0 ∷ []) next w.2 }
 
 one_in : (n : ℕ) (s : StampedRow) → s.import ≤ n → up_to n (s ∷ []) ≡ s ∷ []
 unfolding up_to
@@ -64,6 +68,12 @@ module _ (n : ℕ) (rows : List StampedRow) (i : ℕ) (p : RowPlace) (step : Ste
       let is = ap (λ (l : List StampedRow). length (segment_of l)) (kept small) ∙ ap length (push_plain (up_to n (take i rows)) step.row) in
       omega (arith, is, length-append (segment_of (up_to n (take i rows))) (record_of step.row), step.bytes_are)
 
+  -- the next place is behind the row's record
+  pub place_more : p.at + p.bytes ≡ length (segment_of (take (i + 1) rows))
+  place_more =
+      let is = ap (λ (l : List StampedRow). length (segment_of l)) step.taken ∙ ap length (push_plain (take i rows) step.row) in
+      omega (arith, is, length-append (segment_of (take i rows)) (record_of step.row), step.bytes_are, step.at_is)
+
   pub kept_rows : p.import ≤ n → length (up_to n (take (i + 1) rows)) ≡ length (up_to n (take i rows)) + 1
   kept_rows small = let is = ap length (kept small) in omega (arith, is, length-append (up_to n (take i rows)) (step.row ∷ []))
 
@@ -89,35 +99,43 @@ none_rows n = sym (ap length (up_to_none n))
 
 -- ---- what is written of them
 
-pub no_pending : (form : Form) (extent : Extent) (n : ℕ) (rows : List StampedRow) (written : ℕ) (bytes file : List ℕ) → rows ≡ [] → written ≡ 0 → bytes ≡ [] → ArePending form extent (up_to n rows) written bytes file
-no_pending form extent n rows written bytes file none first nothing = record {
+pub no_pending : (form : Form) (extent : Extent) (n : ℕ) (rows : List StampedRow) (written crc : ℕ) (bytes file : List ℕ) → rows ≡ [] → written ≡ 0 → crc ≡ 0 → bytes ≡ [] → ArePending form extent (up_to n rows) written crc bytes file
+no_pending form extent n rows written crc bytes file none first zero nothing = record {
   front = [];
   front_is = sym first;
+  summed = zero ∙ none_is;
   there = refl;
   all = nothing ∙ sym (ap (λ (l : List StampedRow). segment_in form (up_to n l)) none ∙ ap (segment_in form) (up_to_none n) ∙ no_rows form);
 }
 
-pub more_pending : (form : Form) (extent : Extent) (rows : List StampedRow) (written same : ℕ) (bytes next file : List ℕ) (s : StampedRow) → ArePending form extent rows written bytes file → same ≡ written → next ≡ bytes ++ record_in form s → ArePending form extent (rows ++ s ∷ []) same next file
-more_pending form extent rows written same bytes next file s are as_before is = record {
+pub more_pending : (form : Form) (extent : Extent) (rows : List StampedRow) (written crc : ℕ) (bytes next file : List ℕ) (s : StampedRow) → ArePending form extent rows written crc bytes file → next ≡ bytes ++ record_in form s → ArePending form extent (rows ++ s ∷ []) written crc next file
+more_pending form extent rows written crc bytes next file s are is = record {
   front = are.front;
-  front_is = are.front_is ∙ sym as_before;
+  front_is = are.front_is;
+  summed = are.summed;
   there = are.there;
   all = ap (λ (l : List ℕ). are.front ++ l) is ∙ sym (append_assoc are.front bytes (record_in form s)) ∙ ap (λ (l : List ℕ). l ++ record_in form s) are.all ∙ sym (segment_push form rows s);
 }
 
-pub flushed : (form : Form) (extent : Extent) (rows : List StampedRow) (written next : ℕ) (bytes none : List ℕ) (old new : Moments) → new ≡ followed_by old (after_write old.state (start_of extent + written) bytes) → next ≡ written + length bytes → none ≡ []
-    → ArePending form extent rows written bytes old.state.now → ArePending form extent rows next none new.state.now
-flushed form extent rows written next bytes none old new made next_is none_is are =
+pub flushed : (form : Form) (extent : Extent) (rows : List StampedRow) (written next crc sum : ℕ) (bytes none : List ℕ) (old new : Moments) → new ≡ followed_by old (after_write old.state (start_of extent + written) bytes) → next ≡ written + length bytes → sum ≡ continued crc bytes → none ≡ []
+    → ArePending form extent rows written crc bytes old.state.now → ArePending form extent rows next sum none new.state.now
+flushed form extent rows written next crc sum bytes none old new made next_is sum_is none_is are =
     let done : Result ℕ ℕ = Ok 0 in
     record {
       front = are.front ++ bytes;
       front_is = let front = are.front_is in omega (arith, length-append are.front bytes, front, next_is);
+      summed = sum_is ∙ ap (λ c. continued c bytes) are.summed ∙ crc_goes_on are.front bytes;
       there = ahead_written done old new extent written are.front bytes made are.front_is are.there;
       all = ap (λ (l : List ℕ). (are.front ++ bytes) ++ l) none_is ∙ append-nil (are.front ++ bytes) ∙ are.all;
     }
 
 -- none is pending
-pub all_written : (form : Form) (extent : Extent) (rows : List StampedRow) (written : ℕ) (bytes file : List ℕ) → bytes ≡ [] → ArePending form extent rows written bytes file → BeginsWith extent (segment_in form rows) file
-all_written form extent rows written bytes file none are =
-    let same : are.front ≡ segment_in form rows = sym (append-nil are.front) ∙ ap (λ (l : List ℕ). are.front ++ l) (sym none) ∙ are.all in
-    subst (λ (l : List ℕ). BeginsWith extent l file) same are.there
+module _ (form : Form) (extent : Extent) (rows : List StampedRow) (written crc : ℕ) (bytes file : List ℕ) (none : bytes ≡ []) (are : ArePending form extent rows written crc bytes file) where
+  whole : are.front ≡ segment_in form rows
+  whole = sym (append-nil are.front) ∙ ap (λ (l : List ℕ). are.front ++ l) (sym none) ∙ are.all
+
+  pub all_written : BeginsWith extent (segment_in form rows) file
+  all_written = subst (λ (l : List ℕ). BeginsWith extent l file) whole are.there
+
+  pub all_summed : crc ≡ crc32c (segment_in form rows)
+  all_summed = are.summed ∙ ap crc32c whole

@@ -1,17 +1,20 @@
 -- The result of a copy, and what it leaves on the target disk.
-use Rattle.std.specs.Prelude.{◌≡◌, ◌⊎◌, ℕ, ◌<◌, ◌≤◌, Option, List, length, Result, Ok, Err}
+use Rattle.std.specs.Prelude.{◌≡◌, ◌⊎◌, ℕ, ◌+◌, ◌*◌, ◌<◌, ◌≤◌, Option, List, length, Result, Ok, Err}
 use Rattle.fault_counts.specs.Counting.{HasRisen}
 use Rattle.disk_model.specs.Disk.{DiskState, Moments}
 use Rattle.blocks.specs.Extents.{block_limit}
+use Rattle.blocks.specs.Slots.{slots_read}
 use Rattle.blocks.specs.declared.slots.Slot.{Slot}
 use Rattle.blocks.specs.declared.slots.Slot.TheVariants.{A}
 use Rattle.history_model.specs.declared.stamped.StampedRow.{StampedRow}
-use Rattle.directory.specs.Listings.{DirectoryValue}
+use Rattle.directory.specs.declared.layout.Layout.{Layout}
+use Rattle.directory.specs.Listings.{DirectoryValue, number_of}
 use Rattle.store_image.specs.declared.fault.LoadFault.{LoadFault}
 use Rattle.store_image.specs.declared.fault.LoadFault.TheVariants as loading
 use Rattle.store_image.specs.declared.fault.MakeFault.{MakeFault}
 use Rattle.store_image.specs.declared.fault.MakeFault.TheVariants as making
 use Rattle.store_image.specs.Answers.{IsNotOpened}
+use Rattle.store_image.specs.Kept.{IsKept, bytes_listed}
 use Rattle.store_image.specs.OnDisk.{HasStore, IsOnDisk}
 use Rattle.store_copy.specs.declared.fault.CopyFault.{CopyFault}
 use Rattle.store_copy.specs.declared.fault.CopyFault.TheVariants as faults
@@ -41,40 +44,77 @@ pub record Shown (file : List ℕ) : Type 0 where
 abbrev pub imports_of : {file : List ℕ} → Option ℕ → Shown file → ℕ
 imports_of asked of = chosen asked of.directory.imports
 
+-- the layout version of its copy
+abbrev pub layout_of : {file : List ℕ} → Option Layout → Shown file → Layout
+layout_of version of = chosen version of.directory.layout
+
+-- it has the imports that are asked for
+abbrev pub HasImports : {file : List ℕ} → Option ℕ → Shown file → Type 0
+HasImports asked of = imports_of asked of ≤ of.directory.imports
+
+-- the layout version that is asked for isn't below its own
+abbrev pub IsNotLower : {file : List ℕ} → Option Layout → Shown file → Type 0
+IsNotLower version of = number_of of.directory.layout ≤ number_of (layout_of version of)
+
 -- the directory of a copy of it
-abbrev pub copy_of : {file : List ℕ} → Option ℕ → Shown file → DirectoryValue
-copy_of asked of = copied_listing of.directory.layout (imports_of asked of) of.lists
+abbrev pub copy_of : {file : List ℕ} → Option ℕ → Option Layout → Shown file → DirectoryValue
+copy_of asked version of = copied_listing (layout_of version of) (imports_of asked of) of.lists
 
 -- the rows of the copy's segments
 abbrev pub lists_of : {file : List ℕ} → Option ℕ → Shown file → List (List StampedRow)
 lists_of asked of = lists_up_to (imports_of asked of) of.lists
 
--- the bytes are a copy of the store in the file, with as many imports as asked for, or all
-pub record IsCopyOf (asked : Option ℕ) (file c : List ℕ) : Type 0 where
-  pub of : Shown file
-  pub within : imports_of asked of ≤ of.directory.imports
-  pub is : HasStore A (copy_of asked of) (lists_of asked of) c
-
--- every image that a crash may leave is such a copy, with this directory
-pub record HasCopy (asked : Option ℕ) (file : List ℕ) (copy : DirectoryValue) (state : DiskState)
+-- the bytes are a copy of the store in the file, with as many imports as asked for, or all, in the
+-- layout version asked for, or its own
+pub record IsCopyOf (asked : Option ℕ) (version : Option Layout) (file c : List ℕ)
     : Type 0 where
   pub of : Shown file
-  pub within : imports_of asked of ≤ of.directory.imports
-  pub copy_is : copy ≡ copy_of asked of
+  pub within : HasImports asked of
+  pub not_lower : IsNotLower version of
+  pub is : HasStore A (copy_of asked version of) (lists_of asked of) c
+
+-- every image that a crash may leave is such a copy, with this directory
+pub record HasCopy (asked : Option ℕ) (version : Option Layout) (file : List ℕ)
+    (copy : DirectoryValue) (state : DiskState) : Type 0 where
+  pub of : Shown file
+  pub within : HasImports asked of
+  pub not_lower : IsNotLower version of
+  pub copy_is : copy ≡ copy_of asked version of
   pub on_disk : IsOnDisk state A copy (lists_of asked of)
 
--- why a store couldn't be copied
-abbrev pub IsNotCopied : CopyFault → Option ℕ → List ℕ → List ℕ → Type 0
-IsNotCopied faults.OutOfMemory asked file target = Unit {0}
-IsNotCopied faults.SourceFailed asked file target = Unit {0}
-IsNotCopied faults.NotAStore asked file target = IsNotOpened loading.NotAStore file
-IsNotCopied (faults.Damaged damage) asked file target = IsNotOpened (loading.Damaged damage) file
-IsNotCopied faults.NoSuchImport asked file target =
-    (of : Shown file) × (of.directory.imports < imports_of asked of)
-IsNotCopied faults.NotEmpty asked file target = 1 ≤ length target
-IsNotCopied faults.NoRoom asked file target =
-    (of : Shown file) × (block_limit < end_from 4 (lists_of asked of))
-IsNotCopied faults.TargetFailed asked file target = Unit {0}
+-- What was read of a source for a copy: a directory, and the rows of its segments, which on an honest
+-- disk are those of the store in the file. The slots were read, and each byte of the segments twice,
+-- at most.
+pub record IsReadTwice (honest : Type 0) (file : List ℕ) (copy : DirectoryValue) (before after : ℕ)
+    : Type 0 where
+  pub directory : DirectoryValue
+  pub lists : List (List StampedRow)
+  pub kept : IsKept directory lists
+  pub within : copy.imports ≤ directory.imports
+  pub is : honest → (slot : Slot) × HasStore slot directory lists file
+  pub reads : after ≤ before + slots_read + 2 * bytes_listed directory.entries
+
+-- Why a store couldn't be copied: the first reason, in the order in which they stand here, in which
+-- all disks that don't fail are looked at: the target isn't empty; the source isn't a store, or is
+-- damaged; it has fewer imports; its layout version is above the one asked for; the copy is too
+-- large.
+abbrev pub IsNotCopied : CopyFault → Option ℕ → Option Layout → List ℕ → List ℕ → Type 0
+IsNotCopied faults.OutOfMemory asked version file target = Unit {0}
+IsNotCopied faults.SourceFailed asked version file target = Unit {0}
+IsNotCopied faults.TargetFailed asked version file target = Unit {0}
+IsNotCopied faults.NotEmpty asked version file target = 1 ≤ length target
+IsNotCopied faults.NotAStore asked version file target =
+    (length target ≡ 0) × IsNotOpened loading.NotAStore file
+IsNotCopied (faults.Damaged damage) asked version file target =
+    (length target ≡ 0) × IsNotOpened (loading.Damaged damage) file
+IsNotCopied faults.NoSuchImport asked version file target =
+    (length target ≡ 0) × ((of : Shown file) × (of.directory.imports < imports_of asked of))
+IsNotCopied faults.LowerLayout asked version file target =
+    (length target ≡ 0) × ((of : Shown file) × HasImports asked of
+    × (number_of (layout_of version of) < number_of of.directory.layout))
+IsNotCopied faults.NoRoom asked version file target =
+    (length target ≡ 0) × ((of : Shown file) × HasImports asked of × IsNotLower version of
+    × (block_limit < end_from 4 (lists_of asked of)))
 
 -- a disk failed, or memory ran out
 abbrev pub IsFailure : CopyFault → Type 0

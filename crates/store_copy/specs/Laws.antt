@@ -1,26 +1,38 @@
 -- What a copy represents, and properties of the first imports of a history.
-use Rattle.std.specs.Prelude.{◌≡◌, ◌↔◌, ℕ, ◌≤◌, Option, List, length, take}
+use Rattle.std.specs.Prelude.{◌≡◌, ◌↔◌, ℕ, ◌≤◌, Option, List, length, take, All}
 use Rattle.rf2_values.specs.Row.{RowValue}
 use Rattle.history_model.specs.History.{History, IsHistory, no_history, rows_at, then_all}
 use Rattle.history_model.specs.Brought.{ImportReceiptOf}
 use Rattle.disk_model.specs.Disk.{DiskState, EachImage}
 use Rattle.directory.specs.declared.layout.Layout.{Layout}
-use Rattle.directory.specs.Listings.{DirectoryValue}
+use Rattle.directory.specs.declared.layout.Layout.TheVariants as layouts
+use Rattle.directory.specs.declared.sums.Sums.TheVariants as sums
+use Rattle.directory.specs.Listings.{DirectoryValue, number_of}
 use Rattle.store_image.specs.Images.{RepresentsAs}
 use Rattle.store_copy.specs.Copying.{chosen, first_imports}
 use Rattle.store_copy.specs.Answers.{HasCopy, IsCopyOf}
 
--- a copy represents the history of the first imports, in the layout version of the store
+-- a copy represents the history of the first imports, in the layout version asked for, which isn't
+-- below the store's, or in the store's
 abbrev pub CopyRepresents : Type 0
-CopyRepresents = (asked : Option ℕ) (file c : List ℕ) (h : History) (layout : Layout)
-    → IsCopyOf asked file c → RepresentsAs layout h file
+CopyRepresents = (asked : Option ℕ) (version : Option Layout) (file c : List ℕ) (h : History)
+    (layout : Layout) → IsCopyOf asked version file c → RepresentsAs layout h file
     → (chosen asked h.imports ≤ h.imports)
-    × RepresentsAs layout (first_imports (chosen asked h.imports) h) c
+    × (number_of layout ≤ number_of (chosen version layout))
+    × RepresentsAs (chosen version layout) (first_imports (chosen asked h.imports) h) c
 
 -- every image that a crash may leave of a disk with a copy is a copy
 abbrev pub EachCrashLeavesACopy : Type 0
-EachCrashLeavesACopy = (asked : Option ℕ) (file : List ℕ) (copy : DirectoryValue)
-    (state : DiskState) → HasCopy asked file copy state → EachImage state (IsCopyOf asked file)
+EachCrashLeavesACopy = (asked : Option ℕ) (version : Option Layout) (file : List ℕ)
+    (copy : DirectoryValue) (state : DiskState) → HasCopy asked version file copy state
+    → EachImage state (IsCopyOf asked version file)
+
+-- in version 3 each segment of a copy has a checksum of all its bytes
+abbrev pub EachSegmentIsSummed : Type 0
+EachSegmentIsSummed = (asked : Option ℕ) (version : Option Layout) (file : List ℕ)
+    (copy : DirectoryValue) (state : DiskState) → HasCopy asked version file copy state
+    → copy.layout ≡ layouts.Three
+    → All (λ entry. (sum : ℕ) × (entry.sums ≡ sums.Whole sum)) copy.entries
 
 -- the first imports of a history are those of the first releases
 abbrev pub FirstImportsAreReleases : Type 0

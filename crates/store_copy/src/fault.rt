@@ -20,6 +20,9 @@ pub enum CopyFault {
     Damaged(Damage),
     #[error("the store has fewer imports")]
     NoSuchImport,
+    /// The layout version that was asked for is below the store's.
+    #[error("the store has a later layout")]
+    LowerLayout,
     /// The target disk isn't empty.
     #[error("the disk of the copy isn't empty")]
     NotEmpty,

@@ -1,10 +1,12 @@
 //! Laws of the definitions, each the contract of a function that does nothing.
 
 ghost use Rattle.store_copy.specs.Laws.{CopyRepresents, EachCrashLeavesACopy};
+ghost use Rattle.store_copy.specs.Laws.{EachSegmentIsSummed};
 ghost use Rattle.store_copy.specs.Laws.{AllImportsAreAll, FirstImportsAreReleases};
 ghost use Rattle.store_copy.specs.Laws.{PinsStay, ReceiptsStay};
 
-/// A copy represents the history of the first imports, in the layout version of the store.
+/// A copy represents the history of the first imports, in the layout version of the store or in the
+/// higher one that was asked for.
 pub fn copy_represents()
     ensures { CopyRepresents }
 {}
@@ -12,6 +14,11 @@ pub fn copy_represents()
 /// Every image that a crash may leave of a disk with a copy is a copy.
 pub fn each_crash_leaves_a_copy()
     ensures { EachCrashLeavesACopy }
+{}
+
+/// In version 3 each segment of a copy has a checksum of all its bytes.
+pub fn each_segment_is_summed()
+    ensures { EachSegmentIsSummed }
 {}
 
 /// The first imports of a history are those of the first releases.

@@ -1,21 +1,22 @@
-//! The directory of a copy.
+//! The extents and the entries of a copy's segments.
 
-ghost use Rattle.std.specs.Prelude.{◌≡◌, ◌⊎◌, ◌+◌, ◌<◌, ◌≤◌, List, length};
-ghost use Rattle.std.specs.Prelude.{IfOk, IfErr};
+ghost use Rattle.std.specs.Prelude.{◌≡◌, ◌+◌, ◌<◌, ◌≤◌, length, IfErr, OnOk};
 ghost use Rattle.std.specs.Int.{div_ceil};
 ghost use Rattle.std.specs.List.{AllByRecursion};
 ghost use Rattle.blocks.specs.Extents.{block_limit};
-ghost use Rattle.directory.specs.Listings.{IsListing, with_entry, most_entries};
+ghost use Rattle.directory.specs.Listings.{IsListing, with_entry};
 ghost use Rattle.segment.specs.Records.{segment_of};
 ghost use Rattle.store_copy.specs.declared.fault.CopyFault.TheVariants as faults;
-ghost use Rattle.store_copy.specs.Copying.{copied_listing, end_from, lists_up_to, up_to};
+ghost use Rattle.store_copy.specs.Copying.{end_from, lists_up_to, up_to};
 ghost use Rattle.store_copy.specs.Private.Writing.{MayBeSegment, next_entry};
 
 use crate::fault::CopyFault;
-use blocks::BLOCK_LIMIT;
-use directory::{Directory, Entry, Layout};
-use std::alloc::Global;
+use blocks::{BLOCK_LIMIT, Extent};
+use directory::{Directory, Entry};
 use store_image::SegmentPlaces;
+
+/// The first block of a copy's segments: the one after the slots.
+pub(crate) const DATA_START: u32 = 4;
 
 /// How many bytes and rows of a segment are copied.
 #[derive(Clone, Copy)]
@@ -40,52 +41,39 @@ pub(crate) fn size_up_to(imports: u32, segment: &SegmentPlaces) -> Size
     size
 }
 
-/// Adds the entry of one more segment, from block `first` on, and returns the block after it.
-fn list_next(copied: &mut Directory, first: u32, size: Size) -> Result<u32, CopyFault>
-    requires { first + div_ceil size.bytes 4096 ≤ block_limit
-        → IsListing (with_entry copied.old (next_entry copied.old.layout first size)) }
-    ensures listed { IfOk result (λ end. (end ≡ first + div_ceil size.bytes 4096)
-        × (end ≤ block_limit)
-        × (copied.new ≡ with_entry copied.old (next_entry copied.old.layout first size))) }
-    ensures full { IfErr result (λ e. (e ≡ faults.NoRoom)
-        × (block_limit < first + div_ceil size.bytes 4096)) }
+/// Checks that the segments of a copy, one directly after the other, go onto a disk.
+pub(crate) fn check_room(imports: u32, segments: &[SegmentPlaces]) -> Result<(), CopyFault>
+    requires { AllByRecursion MayBeSegment segments.now }
+    ensures fits { OnOk result (end_from 4 (lists_up_to imports segments.now) ≤ block_limit) }
+    ensures refused { IfErr result (λ e. (e ≡ faults.NoRoom)
+        × (block_limit < end_from 4 (lists_up_to imports segments.now))) }
+{
+    let mut first = DATA_START;
+    for segment in segments {
+        let bytes = size_up_to(imports, segment).bytes;
+        let end = Extent { first, bytes }.end();
+        if end > u64::from(BLOCK_LIMIT) {
+            return Err(CopyFault::NoRoom);
+        }
+        first = end as u32;
+    }
+    Ok(())
+}
+
+/// Adds the entry of a segment from block `first` on, all of whose bytes have this CRC-32C, and
+/// returns the block after it.
+pub(crate) fn list_segment(copy: &mut Directory, first: u32, size: Size, crc: u32) -> u32
+    requires fits { first + div_ceil size.bytes 4096 ≤ block_limit }
+    requires listing { IsListing (with_entry copy.old (next_entry copy.old.layout first size crc)) }
+    ensures listed { copy.new ≡ with_entry copy.old (next_entry copy.old.layout first size crc) }
+    ensures end { result ≡ first + div_ceil size.bytes 4096 }
 {
     let entry = Entry {
         first,
         bytes: size.bytes,
         rows: size.rows,
-        form: copied.layout().form(),
+        sums: copy.layout().sums(crc),
     };
-    let end = entry.extent().end();
-    if end > u64::from(BLOCK_LIMIT) {
-        return Err(CopyFault::NoRoom);
-    }
-    copied.add(entry);
-    Ok(end as u32)
-}
-
-/// The directory of a copy with this many imports: its segments are one directly after the other.
-pub(crate) fn plan(
-    alloc: Global,
-    layout: Layout,
-    imports: u32,
-    segments: &[SegmentPlaces],
-) -> Result<Directory, CopyFault>
-    requires small { AllByRecursion MayBeSegment segments.now }
-    requires few { length segments.now ≤ most_entries layout }
-    ensures planned { IfOk result (λ d. d ≡ copied_listing layout imports segments.now) }
-    ensures listing { IfOk result IsListing }
-    ensures refused { IfErr result (λ e. (e ≡ faults.OutOfMemory)
-        ⊎ ((e ≡ faults.NoRoom) × (block_limit < end_from 4 (lists_up_to imports segments.now)))) }
-{
-    let mut copied = Directory::new(alloc, layout)?;
-    copied.advance(imports);
-    let mut first = 4;
-    for i in 0..segments.len() {
-        let size = size_up_to(imports, &segments[i]);
-        if size.rows > 0 {
-            first = list_next(&mut copied, first, size)?;
-        }
-    }
-    Ok(copied)
+    copy.add(entry);
+    entry.extent().end() as u32
 }

@@ -1,85 +1,60 @@
-//! Reads a row at its place.
+//! Reads the rows of a segment, each of which has to be the one of its place.
 
-ghost use Rattle.std.specs.Prelude.{◌≡◌, ◌≢◌, ◌↔◌, ◌+◌, ◌*◌, ◌<◌, ◌≤◌, length, take, drop, IsTrue};
-ghost use Rattle.std.specs.Prelude.{IfOk, IfErr, MatchResult};
-ghost use Rattle.disk_model.specs.View.{OnlyReads, AtMost};
+ghost use Rattle.std.specs.Prelude.{◌≡◌, ◌≢◌, ◌↔◌, ◌+◌, ◌≤◌};
+ghost use Rattle.std.specs.Prelude.{IfOk, IsTrue, MatchResult, OnOk};
+ghost use Rattle.disk_model.specs.View.{OnlyReads};
+ghost use Rattle.directory.specs.declared.entry.Entry.{Entry};
+ghost use Rattle.directory.specs.Listings.{form_in};
 ghost use Rattle.fault_counts.specs.Counting.{Counts, CountsDiskFault};
 ghost use Rattle.fault_counts.specs.declared.fault.ReadFault.TheVariants as readfault;
 ghost use Rattle.history_model.specs.declared.stamped.StampedRow.{StampedRow};
-ghost use Rattle.store_image.specs.Private.Reading.{IsRowOf, IsOfPlace};
-ghost use Rattle.store_copy.specs.Private.Writing.{IsThere};
+ghost use Rattle.segment.specs.Standing.{IsPlaceIn};
+ghost use Rattle.store_image.specs.Private.Reading.{IsOfPlace};
+ghost use Rattle.store_image.specs.Reader.{HasSeen, Reads, bytes_asked, next_place, segment_bytes};
 
-use blocks::BLOCK;
-use directory::Entry;
 use disk_model::Disk;
 use fault_counts::ReadFault;
 use history_model::StampedRow;
-use segment::{RowPlace, SegmentFault, record_at};
+use segment::RowPlace;
 use std::alloc::Global;
+use store_image::SegmentReader;
 
-/// Whether the row has the key and the import number of the place.
-fn is_row_of(s: &StampedRow, at: RowPlace) -> bool
-    ensures { IsTrue result ↔ IsRowOf s.now at }
+/// Whether a row that has one place has the key, the import number and the length of the other.
+fn is_alike(place: RowPlace, at: RowPlace) -> bool
+    ensures { IsTrue result
+        ↔ ((place.key ≡ at.key) × (place.import ≡ at.import) × (place.bytes ≡ at.bytes)) }
 {
-    s.row.key() == at.key && s.import == at.import
+    place.key == at.key && place.import == at.import && place.bytes == at.bytes
 }
 
-/// Reads `len` bytes from offset `from` on.
-fn read_bytes<S: Disk>(
-    alloc: Global,
-    source: &mut S,
-    from: u64,
-    len: u32,
-) -> Result<Vec<u8>, ReadFault>
-    ensures bytes { (S.view source.old).is_honest → IfOk result (λ bytes. bytes.items
-        ≡ take len (drop from (S.view source.old).moments.state.now)) }
-    ensures len { IfOk result (λ bytes. length bytes.items ≡ len) }
-    ensures short { (S.view source.old).is_honest → IfErr result (λ e. e ≡ readfault.Damaged
-        → length (take len (drop from (S.view source.old).moments.state.now)) < len) }
-    ensures meters { OnlyReads (Counts CountsDiskFault result) (AtMost len)
-        (S.view source.old) (S.view source.new) }
-{
-    let mut bytes = vec![in alloc; 0u8; len as usize]?;
-    match source.read_at(from, bytes.as_mut_slice()) {
-        Ok(count) => {
-            if count < len as usize {
-                return Err(ReadFault::Damaged);
-            }
-            Ok(bytes)
-        }
-        Err(_) => Err(ReadFault::DiskFault),
-    }
-}
-
-/// Reads the row at a place of a segment: decodes its record, and checks that the row is the one of
-/// the place.
+/// Reads the next row of a segment, and checks that it has the key, the import number and the
+/// length of the place.
 pub(crate) fn read_row<S: Disk>(
     alloc: Global,
     source: &mut S,
-    entry: Entry,
+    reader: &mut SegmentReader,
     at: RowPlace,
 ) -> Result<StampedRow, ReadFault>
-    ensures found { (S.view source.old).is_honest → (s : StampedRow)
-        → IsThere entry.form (4096 * entry.first + at.at) s at (S.view source.old).moments.state.now
+    ensures found { (S.view source.old).is_honest
+        → HasSeen reader.old (S.view source.old).moments.state.now
+        → (entry : Entry) (s : StampedRow) → Reads reader.old entry → next_place reader.old ≡ at.at
+        → IsPlaceIn (form_in entry.sums)
+        (segment_bytes entry (S.view source.old).moments.state.now) at s
         → MatchResult result (λ row. row ≡ s) (λ e. e ≢ readfault.Damaged) }
-    // Whatever the disk returned, the row has the key, the import number and the length of its
-    // place.
+    // Whatever the disk returned, the row is the one of the place.
     ensures of_place { IfOk result (λ row. IsOfPlace row at) }
-    ensures meters { OnlyReads (Counts CountsDiskFault result) (AtMost at.bytes)
+    ensures place { OnOk result (next_place reader.new ≡ next_place reader.old + at.bytes) }
+    ensures reads { (entry : Entry) → Reads reader.old entry → Reads reader.new entry }
+    ensures seen { (S.view source.old).is_honest
+        → HasSeen reader.old (S.view source.old).moments.state.now
+        → OnOk result (HasSeen reader.new (S.view source.old).moments.state.now) }
+    ensures meters { OnlyReads (Counts CountsDiskFault result)
+        (λ before after. after + bytes_asked reader.old ≤ before + bytes_asked reader.new)
         (S.view source.old) (S.view source.new) }
 {
-    let from = BLOCK * u64::from(entry.first) + u64::from(at.at);
-    let len = at.bytes;
-    let form = entry.form;
-    let bytes = read_bytes(alloc, source, from, len)?;
-    match record_at(alloc, form, bytes.as_slice(), 0) {
-        Ok((row, next)) => {
-            if next != len as usize || !is_row_of(&row, at) {
-                return Err(ReadFault::Damaged);
-            }
-            Ok(row)
-        }
-        Err(SegmentFault::OutOfMemory) => Err(ReadFault::OutOfMemory),
-        Err(SegmentFault::BadSegment) => Err(ReadFault::Damaged),
+    let row = reader.read_next(alloc, source)?;
+    if !is_alike(RowPlace::new(&row, at.at), at) {
+        return Err(ReadFault::Damaged);
     }
+    Ok(row)
 }

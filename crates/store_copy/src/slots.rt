@@ -9,7 +9,7 @@ ghost use Rattle.blocks.specs.declared.slots.Slot.TheVariants.{A};
 ghost use Rattle.history_model.specs.declared.stamped.StampedRow.{StampedRow};
 ghost use Rattle.store_image.specs.Images.{IsStore};
 ghost use Rattle.store_image.specs.Pieces.{HoldsAll};
-ghost use Rattle.store_image.specs.Kept.{IsKept, pieces_of};
+ghost use Rattle.store_image.specs.Kept.{AreSummed, IsKept, pieces_of};
 ghost use Rattle.store_image.specs.OnDisk.{HasStore, IsOnDisk};
 ghost use Rattle.store_copy.specs.Private.Writing.{IsShut};
 
@@ -43,6 +43,7 @@ pub(crate) fn open_slot<T: Disk>(target: &mut T, directory: &Directory) -> Resul
     // A crash at any moment leaves no store, or the whole copy.
     ensures any_moment { (T.view target.old).is_honest
         → (lists : List (List StampedRow)) → IsKept directory.now lists
+        → AreSummed directory.now.entries lists
         → EachImage (T.view target.old).moments.state IsShut
         → 16384 ≤ length (T.view target.old).moments.state.now
         → HoldsAll (pieces_of directory.now.entries lists) (T.view target.old).moments.state.now
@@ -51,6 +52,7 @@ pub(crate) fn open_slot<T: Disk>(target: &mut T, directory: &Directory) -> Resul
     // After `Ok` every crash leaves the copy.
     ensures on_disk { (T.view target.old).is_honest
         → (lists : List (List StampedRow)) → IsKept directory.now lists
+        → AreSummed directory.now.entries lists
         → EachImage (T.view target.old).moments.state IsShut
         → 16384 ≤ length (T.view target.old).moments.state.now
         → HoldsAll (pieces_of directory.now.entries lists) (T.view target.old).moments.state.now

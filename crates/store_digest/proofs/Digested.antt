@@ -12,7 +12,7 @@ use Rattle.rf2_values.specs.declared.key.Key.{Key}
 use Rattle.rf2_values.specs.Row.{RowValue}
 use Rattle.rf2_values.specs.Key.{key_of}
 use Rattle.history_model.specs.InOrder.{IsAscending}
-use Rattle.history_model.specs.History.{History, row_cmp, rows_at}
+use Rattle.history_model.specs.History.{History, IsHistory, row_cmp, rows_at}
 use Rattle.history_model.specs.KeyOrder.{is_after, rows_after}
 use Rattle.history_model.proofs.Snapshots.{IsAscending-rows_at, IsAscending-listed}
 use Rattle.disk_model.specs.Disk.{IsImage}
@@ -135,14 +135,14 @@ module _ {D : Type 0} (view : D → DiskView) (pin : ℕ) where
           omega arith
 
     -- no row was left
-    pub ended : IsNextAdded (Ok None) last pin hasher more view now new → (digest : List ℕ) → ((m : List ℕ) → Holds256 more m → digest ≡ sha256 m) → IsDigestQuery (Ok digest) pin view old new
-    ended q digest is =
+    pub ended : IsNextAdded (Ok None) last pin hasher more view now new → IsHistory now.history → (digest : List ℕ) → ((m : List ℕ) → Holds256 more m → digest ≡ sha256 m) → IsDigestQuery (Ok digest) pin view old new
+    ended q history digest is =
         let none = none_answered last (shown_of pin old) (subst (λ (h : History). [] ≡ map key_of (rows_after last 1 (rows_at pin h.rows))) d.asked.history q.key) in
         let all = fed_all (view old.disk).is_honest hasher more last (shown_of pin old) d.fed (hashed_of q.hashed) none.0 none.1 in
         let hash : digest ≡ digest_of d.fed.done = is (text_of d.fed.done) all.0 in
         record {
           found = λ h. hash ∙ ap digest_of (all.2 h);
-          keys = (d.fed.done, hash, all.1);
+          keys = (d.fed.done, hash, all.1 (subst (λ (h : History). IsAscending row_cmp (rows_at pin h.rows)) d.asked.history (IsAscending-rows_at pin now.history.rows history.ascending)));
           query = query_then view old now new d.asked (Ok digest) (answered_otherwise view now new None digest q.query);
           other_calls = q.other_calls ∙ d.asked.other_calls;
           looked_up = looked_up_then view old now new d.asked q.looked_up;

@@ -4,8 +4,7 @@ use Rattle.std.specs.List.{flat_map, sum_by}
 use Rattle.sha2.specs.Sha256.{sha256}
 use Rattle.rf2_values.specs.Row.{RowValue, kind_of, canonical}
 use Rattle.rf2_values.specs.Key.{key_of}
-use Rattle.history_model.specs.InOrder.{IsAscending}
-use Rattle.history_model.specs.History.{row_cmp, rows_at}
+use Rattle.history_model.specs.History.{rows_at}
 use Rattle.disk_model.specs.View.{DiskView}
 use Rattle.line_commands.specs.Questions.{letter}
 use Rattle.history_store.specs.declared.refusal.Refusal.{Refusal}
@@ -25,11 +24,10 @@ text_of rows = flat_map text_line rows
 abbrev pub digest_of : List RowValue → List ℕ
 digest_of rows = sha256 (text_of rows)
 
--- The digest is that of rows which have the same keys as these, if these are in key order, as the
--- rows of a history are.
+-- the digest is that of rows which have the same keys as these, in the same order
 abbrev pub IsDigestByKey : List ℕ → List RowValue → Type 0
 IsDigestByKey digest shown = (rows : List RowValue) × (digest ≡ digest_of rows)
-    × (IsAscending row_cmp shown → map key_of rows ≡ map key_of shown)
+    × (map key_of rows ≡ map key_of shown)
 
 -- On an honest disk the digest is that of all rows that the pin shows, in key order. On every disk
 -- it is that of rows with the same keys: no row is left out. On every disk no calls but reads are

@@ -2,6 +2,7 @@
 
 ghost use Rattle.std.specs.Prelude.{◌++◌, ◌≤◌, ℕ, List, OnOk};
 ghost use Rattle.sha2.specs.Hashers.{Holds256};
+ghost use Rattle.history_model.specs.History.{IsHistory};
 ghost use Rattle.store_digest.specs.Digest.{text_line, IsDigestQuery};
 ghost use Rattle.store_digest.specs.Private.{IsNextAdded};
 
@@ -34,6 +35,7 @@ fn add_next<D: Disk>(
 ) -> Result<Option<Key>, Refusal>
     requires { pin ≤ store.old.history.imports }
     ensures added { IsNextAdded result after pin hasher.old hasher.new D.view store.old store.new }
+    ensures history { IsHistory store.old.history }
 {
     let rows = store.rows_after(after, 1, pin)?;
     match rows.first() {

@@ -110,7 +110,7 @@ module _ (d : DirectoryValue) (is : IsListing d) (bytes_before bytes calls_befor
 pub within_slots : (file : List ℕ) (before after : ℕ) → after ≤ before + slots_read → AsksWithin file before after
 within_slots file before after read = record { listed = λ d has. omega (arith, read); none = λ none. read }
 
-pub within_listed : (file into : List ℕ) (current : Current) (d : DirectoryValue) (before after : ℕ) → IsCurrentWith current into file → Lists into d → OtherIsWhole d.layout current.slot file → after ≤ before + slots_read + bytes_listed d.entries → AsksWithin file before after
+pub within_listed : (file into : List ℕ) (current : Current) (d : DirectoryValue) (before after : ℕ) → IsCurrentWith current into file → Lists into d → OtherIsWhole d.layout d.epoch current.slot file → after ≤ before + slots_read + bytes_listed d.entries → AsksWithin file before after
 within_listed file into current d before after is lists whole read =
     let has : HasDirectory d file = record { current = current; content = into; slot = is; lists_it = lists; other_is_whole = whole } in
     record {

@@ -15,6 +15,8 @@ use Rattle.segment.specs.Records.{segment_in}
 use Rattle.segment.proofs.SegmentLaws.{length-segment_in}
 use Rattle.store_image.specs.Kept.{IsSegmentOf, AreSegments, pieces_of}
 use Rattle.store_image.proofs.Frames.{IsFree}
+use Rattle.store_image.specs.Kept.{segment_with}
+use Rattle.directory.specs.Listings.{form_in}
 
 -- the blocks of so many bytes have room for them
 pub blocks_cover : (bytes : ℕ) → bytes ≤ 4096 * div_ceil bytes 4096
@@ -35,17 +37,17 @@ one_ends a b some_a some_b beside = elim (cases_lt b.first (end_block a)) [
 
 -- a part of an extent, from one place to another
 module _ (extent : Extent) (from end : ℕ) (some : 1 ≤ extent.bytes) (lower : start_of extent ≤ from) (higher : end ≤ start_of extent + extent.bytes) where
-  one_free : (e : Entry) (x : List StampedRow) → IsEntry e → AreBeside extent (extent_of e) → IsSegmentOf e x → IsFree from end (start_of (extent_of e), segment_in e.form x)
+  one_free : (e : Entry) (x : List StampedRow) → IsEntry e → AreBeside extent (extent_of e) → IsSegmentOf e x → IsFree from end (start_of (extent_of e), segment_with e x)
   one_free e x is_e beside is = elim (one_ends extent (extent_of e) some is_e.bytes beside) [
     | inl below ↦ inl (omega (arith, below, blocks_cover extent.bytes, higher))
-    | inr above ↦ inr (omega (arith, above, is.bytes, length-segment_in e.form x, blocks_cover e.bytes, lower))
+    | inr above ↦ inr (omega (arith, above, is.bytes, length-segment_in (form_in e.sums) x, blocks_cover e.bytes, lower))
   ]
 
   pub all_free : (entries : List Entry) (lists : List (List StampedRow)) → AllByRecursion IsEntry entries → AllByRecursion (AreBeside extent) (extents_of entries) → AreSegments entries lists → All (IsFree from end) (pieces_of entries lists)
   all_free [] lists each beside are = All-nil (IsFree from end)
   all_free (e ∷ es) [] each beside are = absurd are
   all_free (e ∷ es) (x ∷ xs) each beside are =
-      All-cons (IsFree from end) (start_of (extent_of e), segment_in e.form x) (pieces_of es xs) (one_free e x each.0 beside.0 are.0) (all_free es xs each.1 beside.1 are.1)
+      All-cons (IsFree from end) (start_of (extent_of e), segment_with e x) (pieces_of es xs) (one_free e x each.0 beside.0 are.0) (all_free es xs each.1 beside.1 are.1)
 
 -- the last of extents that lie apart is beside those before it
 last_beside : (entries : List Entry) (a entry : Entry) → AllByRecursion (AreBeside (extent_of a)) (extents_of (entries ++ entry ∷ [])) → AreBeside (extent_of a) (extent_of entry)

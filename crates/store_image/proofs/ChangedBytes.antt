@@ -127,10 +127,10 @@ module _ (before after : List ℕ) (byte changed : ℕ) (is : IsChanged before b
         let listed : Lists (front ++ changed ∷ rest) d = subst (λ (b : List ℕ). Lists b d) (parts changed) lists in
         is.differs (noticed front rest byte changed small_bytes is.small marks_are sum_is d.layout (marked (front ++ changed ∷ rest) d listed) listed.sum)
 
-    precedes_none : (layout : Layout) → (layout ≡ layouts.Three) ⊎ (length before < content_at one + 8) → MayPrecede layout (content_of one new) → ⊥
-    precedes_none layout how may =
+    precedes_none : (layout : Layout) (epoch : ℕ) → (layout ≡ layouts.Three) ⊎ (length before < content_at one + 8) → MayPrecede layout epoch (content_of one new) → ⊥
+    precedes_none layout epoch how may =
         let short : (layout ≡ layouts.Three) ⊎ (length front < 8) = elim how [ inl three ↦ inl three | inr near ↦ inr (omega (arith, near, le, length-drop (content_at one) before)) ] in
-        is.differs (may_not_precede front rest byte changed small_bytes is.small marks_are sum_is layout short (subst (MayPrecede layout) (parts changed) may))
+        is.differs (may_not_precede front rest byte changed small_bytes is.small marks_are sum_is layout epoch short (subst (MayPrecede layout epoch) (parts changed) may))
 
     -- where it is the current one, and where the other is
     damaged_here : (IsOpen (other one) new → others < mine) → IsDamaged damages.Directory new
@@ -155,8 +155,8 @@ module _ (before after : List ℕ) (byte changed : ℕ) (is : IsChanged before b
         refl,
       ),
       λ d lists beside.
-          let may = subst (λ (s : Slot). IsOpen s new → MayPrecede d.layout (content_of s new)) (other-other one) beside in
-          precedes_none d.layout (how d lists) (may (open_still one opened)),
+          let may = subst (λ (s : Slot). IsOpen s new → MayPrecede d.layout d.epoch (content_of s new)) (other-other one) beside in
+          precedes_none d.layout d.epoch (how d lists) (may (open_still one opened)),
     )
 
     noticed_there : (content_at one + 8 ≤ length before → IsOpen (other one) new → IsBehind) → IsNoticed (content_at one) (length before) new
@@ -199,10 +199,10 @@ changed_directory_is_damaged before after byte changed h epoch entries stands is
     record { apart = λ e. omega (arith, mine, others, above, at, e); three = λ greater d lists. absurd (omega (arith, mine, others, above, at, greater)) })
 
 -- a block that may precede one of version 3 has its checksum, if it has the mark
-summed_three : (block : List ℕ) → HasMark layouts.Three block → MayPrecede layouts.Three block → HasSum layouts.Three block
-summed_three block marks (inl (inl one)) = absurd (not_three layouts.One block (λ e. cc) one marks)
-summed_three block marks (inl (inr two)) = absurd (not_three layouts.Two block (λ e. cc) two marks)
-summed_three block marks (inr sum) = sum
+summed_three : (epoch : ℕ) (block : List ℕ) → HasMark layouts.Three block → MayPrecede layouts.Three epoch block → HasSum layouts.Three block
+summed_three epoch block marks (at, inl (inl one)) = absurd (not_three layouts.One block (λ e. cc) one marks)
+summed_three epoch block marks (at, inl (inr two)) = absurd (not_three layouts.Two block (λ e. cc) two marks)
+summed_three epoch block marks (at, inr sum) = sum
 
 pub changed_other_is_damaged : ChangedOtherIsDamaged
 changed_other_is_damaged before after byte changed h epoch entries stands is opened marks le lt =
@@ -210,7 +210,7 @@ changed_other_is_damaged before after byte changed h epoch entries stands is ope
     let one = other slot in
     let current = stands.stands.slot.0 in
     let of_three : DirectoryValue = record { layout = layouts.Three; epoch = epoch; imports = h.imports; entries = entries } in
-    let sum = summed_three (content_of one (before ++ byte ∷ after)) marks (stands.other_is_whole opened) in
+    let sum = summed_three epoch (content_of one (before ++ byte ∷ after)) marks (stands.other_is_whole opened) in
     noticed_there before after byte changed is one le lt current.whole opened marks sum (λ far also.
     let mine = same_epoch before after byte changed is one le lt current.whole far in
     let still = other_still before after byte changed is one le lt current.whole ∙ ap (λ (s : Slot). content_of s (before ++ byte ∷ after)) (other-other slot) in

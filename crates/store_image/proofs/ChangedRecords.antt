@@ -35,18 +35,23 @@ use Rattle.store_image.specs.Reading.{IsAt}
 use Rattle.store_image.specs.Damage.{HasDirectory}
 use Rattle.store_image.specs.Changed.{ChangedRecordIsNoStore}
 use Rattle.store_image.proofs.Damaged.{one_directory}
+use Rattle.store_image.specs.Kept.{segment_with, IsSegmentOf}
+use Rattle.directory.specs.Listings.{form_in}
 
 -- ---- a listed segment
 
+abbrev IsSegmentAt : List ℕ → Entry → List StampedRow → Type 0
+IsSegmentAt file entry rows = IsSegmentOf entry rows × Holds (start_of (extent_of entry), segment_with entry rows) file
+
 segment_at : (file : List ℕ) (entries : List Entry) (lists : List (List StampedRow)) (k : ℕ) (entry : Entry) → AreSegments entries lists → HoldsAll (pieces_of entries lists) file → slice_get entries k ≡ Some entry
-    → (rows : List StampedRow) × (slice_get lists k ≡ Some rows) × IsAt file entry rows
+    → (rows : List StampedRow) × (slice_get lists k ≡ Some rows) × IsSegmentAt file entry rows
 segment_at file [] lists k entry are held is = absurd cc
 segment_at file (e ∷ entries) [] k entry are held is = absurd are
 segment_at file (e ∷ entries) (x ∷ lists) zero entry are held is =
     let same : e ≡ entry = cc in
-    (x, refl, subst (λ (d : Entry). IsAt file d x) same (are.0, All-head (λ piece. Holds piece file) (start_of (extent_of e), segment_in e.form x) (pieces_of entries lists) held))
+    (x, refl, subst (λ (d : Entry). IsSegmentAt file d x) same (are.0, All-head (λ piece. Holds piece file) (start_of (extent_of e), segment_with e x) (pieces_of entries lists) held))
 segment_at file (e ∷ entries) (x ∷ lists) (suc k) entry are held is =
-    segment_at file entries lists k entry are.1 (All-tail (λ piece. Holds piece file) (start_of (extent_of e), segment_in e.form x) (pieces_of entries lists) held) is
+    segment_at file entries lists k entry are.1 (All-tail (λ piece. Holds piece file) (start_of (extent_of e), segment_with e x) (pieces_of entries lists) held) is
 
 -- ---- bytes behind the slots leave the current directory
 
@@ -99,7 +104,7 @@ module _ (before after : List ℕ) (byte changed : ℕ) (h : History) (epoch : �
           same_content slot ∙ stands.stands.slot.1,
         );
         lists_it = stands.says.lists_it;
-        other_is_whole = λ is. subst (MayPrecede layouts.Three) (sym (same_content (other slot))) (stands.other_is_whole (was_opened (other slot) is));
+        other_is_whole = λ is. subst (MayPrecede layouts.Three epoch) (sym (same_content (other slot))) (stands.other_is_whole (was_opened (other slot) is));
       }
 
   -- whatever the changed bytes represent lists the same segments
@@ -171,7 +176,7 @@ changed_record_is_no_store before after byte changed h epoch entries s place sta
     let kept = stands.says.kept in
     let here = segment_at (before ++ byte ∷ after) entries stands.lists there.number there.entry kept.segments stands.stands.pieces_are there.entry_is in
     let rows_are : here.0 ≡ there.front ++ s ∷ there.behind = same_Some here.0 (there.front ++ s ∷ there.behind) (sym here.1 ∙ there.list_is) in
-    let at_here = subst (λ (l : List StampedRow). IsAt (before ++ byte ∷ after) there.entry l) rows_are here.2 in
+    let at_here = subst (λ (l : List StampedRow). IsSegmentAt (before ++ byte ∷ after) there.entry l) rows_are here.2 in
     let entry_is = each_entry entries there.number there.entry kept.listing.entries there.entry_is in
     let start = start_of (extent_of there.entry) in
     let far : 16384 ≤ length before = omega (arith, there.at_is, entry_is.first) in
@@ -179,7 +184,7 @@ changed_record_is_no_store before after byte changed h epoch entries s place sta
     let same = same_entries before after byte changed h epoch entries stands far store in
     let found = subst (λ (l : List Entry). slice_get l there.number ≡ Some there.entry) (sym same) there.entry_is in
     let other_one = segment_at (before ++ changed ∷ after) store.1.1.1 r.lists there.number there.entry r.says.kept.segments r.stands.pieces_are found in
-    let form = there.entry.form in
+    let form = form_in there.entry.sums in
     let n = there.entry.bytes in
     let part = drop start before in
     let past : start ≤ length before = omega (arith, there.at_is) in

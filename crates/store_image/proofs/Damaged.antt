@@ -17,7 +17,7 @@ use Rattle.directory.proofs.Spelled.{one_listing}
 use Rattle.history_model.specs.declared.stamped.StampedRow.{StampedRow}
 use Rattle.history_model.specs.Lists.{AreLists}
 use Rattle.segment.proofs.SegmentLaws.{one_segment}
-use Rattle.checksum.specs.declared.form.Form.TheVariants as forms
+use Rattle.directory.specs.declared.sums.Sums.TheVariants as sums
 use Rattle.store_image.specs.declared.fault.Damage.TheVariants as damages
 use Rattle.store_image.specs.declared.fault.LoadFault.{LoadFault}
 use Rattle.store_image.specs.declared.fault.LoadFault.TheVariants as loading
@@ -67,7 +67,7 @@ segments_count (entry ∷ entries) (rows ∷ lists) are = ap suc (segments_count
 -- ---- the first segment that is broken
 
 none : Entry
-none = record { first = 0; bytes = 0; rows = 0; form = forms.Plain }
+none = record { first = 0; bytes = 0; rows = 0; sums = sums.Nowhere }
 
 at_middle : (before behind : List Entry) (entry d : Entry) → get_or (before ++ entry ∷ behind) (length before) d ≡ entry
 at_middle [] behind entry d = refl
@@ -84,7 +84,7 @@ none_broken number imports file entries lists there b =
     let i = length b.before in
     let long : length entries ≡ length (b.before ++ b.entry ∷ b.behind) = ap length b.entries_are in
     let lt : i < length entries = omega (arith, long, length-append b.before (b.entry ∷ b.behind)) in
-    let is = entry_there imports file entries lists i none lt there.segments there.numbered there.held in
+    let is = entry_there imports file entries lists i none lt there.segments there.numbered there.held there.sums in
     let same : get_or entries i none ≡ b.entry = ap (λ (l : List Entry). get_or l i none) b.entries_are ∙ at_middle b.before b.behind b.entry none in
     b.broken is.rows (subst (λ (e : Entry). IsAt file e is.rows) same is.at) is.numbered
 
@@ -92,7 +92,7 @@ none_broken number imports file entries lists there b =
 not_before : (number other imports : ℕ) (file : List ℕ) (entries : List Entry) (a : IsFirstBroken number imports entries file) (b : IsFirstBroken other imports entries file) → length a.before < length b.before → ⊥
 not_before number other imports file entries a b lt =
     let i = length a.before in
-    let is = entry_there imports file b.before b.lists i none lt b.there.segments b.there.numbered b.there.held in
+    let is = entry_there imports file b.before b.lists i none lt b.there.segments b.there.numbered b.there.held b.there.sums in
     let same : get_or b.before i none ≡ a.entry =
     sym (in_front b.before (b.entry ∷ b.behind) i none lt) ∙ ap (λ (l : List Entry). get_or l i none) (sym b.entries_are ∙ a.entries_are) ∙ at_middle a.before a.behind a.entry none in
     a.broken is.rows (subst (λ (e : Entry). IsAt file e is.rows) same is.at) is.numbered
@@ -114,7 +114,7 @@ one_directory file d e x y =
 no_directory : (file : List ℕ) (d : DirectoryValue) → HasDirectory d file → IsDamaged damages.Directory file → ⊥
 no_directory file d has is =
     let slots = (one_slot file has.current.slot is.0.slot has.current.epoch is.0.epoch has.slot.0 is.2.0).0 in
-    is.3 d (subst (λ (b : List ℕ). Lists b d) (one_content file has.current is.0 has.content is.1 has.slot is.2) has.lists_it) (subst (λ (s : Slot). OtherIsWhole d.layout s file) slots has.other_is_whole)
+    is.3 d (subst (λ (b : List ℕ). Lists b d) (one_content file has.current is.0 has.content is.1 has.slot is.2) has.lists_it) (subst (λ (s : Slot). OtherIsWhole d.layout d.epoch s file) slots has.other_is_whole)
 
 -- ---- what bytes have that stand for something
 
@@ -129,12 +129,12 @@ sound : (file : List ℕ) → IsStore file → (d : DirectoryValue) × IsSound d
 sound file store =
     let s = store.1.1.2 in
     let d : DirectoryValue = record { layout = store.1.0; epoch = store.1.1.0; imports = store.0.imports; entries = store.1.1.1 } in
-    let read = kept_is_read d s.lists s.says.kept in (
+    let read = kept_is_read d s.lists s.says.kept s.says.sums in (
       d,
       record {
         has = record { current = record { slot = s.slot; epoch = store.1.1.0 }; content = s.content; slot = s.stands.slot; lists_it = s.says.lists_it; other_is_whole = s.other_is_whole };
         lists = s.lists;
-        there = record { segments = read.segments; numbered = read.numbered; held = s.stands.pieces_are };
+        there = record { segments = read.segments; numbered = read.numbered; held = s.stands.pieces_are; sums = read.sums };
         apart = read.apart;
         kinds = s.says.kept.kinds;
       },
@@ -258,15 +258,15 @@ bad_directory directories.BadDirectory file into current is only =
     (some_gate file current.slot current.epoch is.0, damaged, λ store. represented_is_undamaged file damages.Directory store damaged)
 
 -- the other slot isn't whole
-pub bad_other : (e : LoadFault) (file into : List ℕ) (current : Current) (d : DirectoryValue) → IsCurrentWith current into file → Lists into d → (e ≡ loading.DiskFault) ⊎ (e ≡ loading.Damaged damages.Directory) → (e ≡ loading.Damaged damages.Directory → OtherIsWhole d.layout current.slot file → ⊥) → IsNotOpened e file
+pub bad_other : (e : LoadFault) (file into : List ℕ) (current : Current) (d : DirectoryValue) → IsCurrentWith current into file → Lists into d → (e ≡ loading.DiskFault) ⊎ (e ≡ loading.Damaged damages.Directory) → (e ≡ loading.Damaged damages.Directory → OtherIsWhole d.layout d.epoch current.slot file → ⊥) → IsNotOpened e file
 bad_other e file into current d is lists (inl failed) why = subst (λ (f : LoadFault). IsNotOpened f file) (sym failed) tt
 bad_other e file into current d is lists (inr bad) why =
-    let one : (other : DirectoryValue) → Lists into other → OtherIsWhole other.layout current.slot file → ⊥ =
-    λ other also whole. why bad (subst (λ (l : DirectoryValue). OtherIsWhole l.layout current.slot file) (one_listing into other d also lists) whole) in
+    let one : (other : DirectoryValue) → Lists into other → OtherIsWhole other.layout other.epoch current.slot file → ⊥ =
+    λ other also whole. why bad (subst (λ (l : DirectoryValue). OtherIsWhole l.layout l.epoch current.slot file) (one_listing into other d also lists) whole) in
     let damaged : IsDamaged damages.Directory file = (current, into, is, one) in
     subst (λ (f : LoadFault). IsNotOpened f file) (sym bad) (some_gate file current.slot current.epoch is.0, damaged, λ store. represented_is_undamaged file damages.Directory store damaged)
 
-pub not_read : (e : LoadFault) (file into : List ℕ) (current : Current) (d : DirectoryValue) → IsCurrentWith current into file → Lists into d → OtherIsWhole d.layout current.slot file → AreNotRead e d.imports d.entries file → IsNotOpened e file
+pub not_read : (e : LoadFault) (file into : List ℕ) (current : Current) (d : DirectoryValue) → IsCurrentWith current into file → Lists into d → OtherIsWhole d.layout d.epoch current.slot file → AreNotRead e d.imports d.entries file → IsNotOpened e file
 not_read loading.OutOfMemory file into current d is lists whole why = some_gate file current.slot current.epoch is.0
 not_read loading.DiskFault file into current d is lists whole why = tt
 not_read loading.NotAStore file into current d is lists whole why = absurd why
@@ -283,11 +283,11 @@ not_read (loading.Damaged damages.SharedKey) file into current d is lists whole 
 not_read (loading.Damaged damages.Kind) file into current d is lists whole why = absurd why
 
 -- rows of a kind that the version doesn't have
-pub not_of_layout : (file into : List ℕ) (current : Current) (d : DirectoryValue) (lists : List (List StampedRow)) → IsCurrentWith current into file → Lists into d → OtherIsWhole d.layout current.slot file → AreRead d.imports d.entries lists → HoldsAll (pieces_of d.entries lists) file
+pub not_of_layout : (file into : List ℕ) (current : Current) (d : DirectoryValue) (lists : List (List StampedRow)) → IsCurrentWith current into file → Lists into d → OtherIsWhole d.layout d.epoch current.slot file → AreRead d.imports d.entries lists → HoldsAll (pieces_of d.entries lists) file
     → (All (AreOfLayout d.layout) lists → ⊥) → IsNotOpened (loading.Damaged damages.Kind) file
 not_of_layout file into current d lists is listed whole read hold strange =
     let has : HasDirectory d file = record { current = current; content = into; slot = is; lists_it = listed; other_is_whole = whole } in
-    let there : AreThere d.imports d.entries lists file = record { segments = read.segments; numbered = read.numbered; held = hold } in
+    let there : AreThere d.imports d.entries lists file = record { segments = read.segments; numbered = read.numbered; held = hold; sums = read.sums } in
     let kind : HasStrangeKind d file = record { lists = lists; there = there; apart = read.apart; strange = strange } in
     let damaged : IsDamaged damages.Kind file = (d, has, kind) in
     (some_gate file current.slot current.epoch is.0, damaged, λ store. represented_is_undamaged file damages.Kind store damaged)

@@ -1,14 +1,19 @@
 -- What stood for a history before there was a second version of the layout, or a third one.
 use Rattle.std.specs.Prelude.{take}
-use Rattle.std.proofs.Common.{◌≡◌, ℕ, List, length, refl, sym, subst}
+use Rattle.std.proofs.Common.{◌≡◌, ℕ, List, [], ◌∷◌, length, refl, sym, ap, subst}
 use Rattle.rf2_values.specs.declared.row.Kind.{Kind}
 use Rattle.rf2_values.specs.declared.row.Kind.TheVariants as kinds
 use Rattle.directory.specs.declared.entry.Entry.{Entry}
 use Rattle.directory.specs.declared.layout.Layout.{Layout}
 use Rattle.directory.specs.declared.layout.Layout.TheVariants as layouts
-use Rattle.directory.specs.Listings.{DirectoryValue, IsListing}
+use Rattle.directory.specs.Listings.{DirectoryValue, HasSumOf, IsListing, form_in}
 use Rattle.directory.specs.Content.{listing_bytes, header_bytes, mark}
-use Rattle.store_image.specs.Kept.{HasKind}
+use Rattle.std.specs.List.{AllByRecursion}
+use Rattle.checksum.specs.declared.form.Form.TheVariants as forms
+use Rattle.directory.specs.declared.sums.Sums.{Sums}
+use Rattle.directory.specs.declared.sums.Sums.TheVariants as sums
+use Rattle.history_model.specs.declared.stamped.StampedRow.{StampedRow}
+use Rattle.store_image.specs.Kept.{AreSegments, AreSummed, HasKind, segment_with}
 use Rattle.store_image.specs.First.{FirstStillRepresents, SecondStillRepresents, IsFirstKind, IsSecondKind, bytes_then}
 
 of_then : Layout → ℕ → ℕ → List Entry → DirectoryValue
@@ -52,12 +57,32 @@ is_second kinds.Association is = tt
 is_second kinds.Concrete is = tt
 is_second kinds.Member is = absurd is
 
+no_sums : (s : Sums) → form_in s ≡ forms.Plain → s ≡ sums.Nowhere
+no_sums sums.Nowhere is = refl
+no_sums sums.Records is = absurd cc
+no_sums (sums.Whole n) is = absurd cc
+
+-- segments without checksums are plain, and no others
+plain_forms : (entries : List Entry) → AllByRecursion (λ (e : Entry). e.sums ≡ sums.Nowhere) entries → AllByRecursion (λ (e : Entry). form_in e.sums ≡ forms.Plain) entries
+plain_forms [] all = tt
+plain_forms (e ∷ entries) all = (ap form_in all.0, plain_forms entries all.1)
+
+forms_plain : (entries : List Entry) → AllByRecursion (λ (e : Entry). form_in e.sums ≡ forms.Plain) entries → AllByRecursion (λ (e : Entry). e.sums ≡ sums.Nowhere) entries
+forms_plain [] all = tt
+forms_plain (e ∷ entries) all = (no_sums e.sums all.0, forms_plain entries all.1)
+
+plain_summed : (entries : List Entry) (lists : List (List StampedRow)) → AllByRecursion (λ (e : Entry). e.sums ≡ sums.Nowhere) entries → AreSegments entries lists → AreSummed entries lists
+plain_summed [] [] all are = tt
+plain_summed [] (x ∷ xs) all are = absurd are
+plain_summed (e ∷ es) [] all are = absurd are
+plain_summed (e ∷ es) (x ∷ xs) all are = (subst (λ (s : Sums). HasSumOf s (segment_with e x)) (sym all.0) tt, plain_summed es xs all.1 are.1)
+
 pub first_still_represents : FirstStillRepresents
 unfolding of_then mark
 first_still_represents file h epoch entries = (
   λ s.
       let P : List ℕ → Type 0 = λ bytes. take (length bytes) s.content ≡ bytes in
-      let listing : IsListing (of_then layouts.One epoch h.imports entries) = record { epoch = s.from_one; epoch_fits = s.epoch_fits; imports = s.imports_fit; count = s.few; entries = s.each; apart = s.entries_apart; forms = s.plain } in
+      let listing : IsListing (of_then layouts.One epoch h.imports entries) = record { epoch = s.from_one; epoch_fits = s.epoch_fits; imports = s.imports_fit; count = s.few; entries = s.each; apart = s.entries_apart; forms = plain_forms entries s.plain } in
       record {
         slot = s.slot;
         content = s.content;
@@ -67,6 +92,7 @@ first_still_represents file h epoch entries = (
         says = record {
           lists_it = record { is = listing; front = subst P (same_bytes layouts.One epoch h.imports entries) s.front; sum = tt };
           kept = record { listing = listing; segments = s.segments; apart = s.apart; history = s.history; kinds = λ i rows below. λ j row lower. was_kind _ (s.kinds_were i rows below j row lower) };
+          sums = plain_summed entries s.lists s.plain s.segments;
         };
         rows = s.rows;
       },
@@ -85,7 +111,7 @@ first_still_represents file h epoch entries = (
         few = is.count;
         each = is.entries;
         entries_apart = is.apart;
-        plain = is.forms;
+        plain = forms_plain entries is.forms;
         front = subst P (sym (same_bytes layouts.One epoch h.imports entries)) s.says.lists_it.front;
         segments = s.says.kept.segments;
         apart = s.says.kept.apart;
@@ -100,7 +126,7 @@ unfolding of_then mark
 second_still_represents file h epoch entries = (
   λ s.
       let P : List ℕ → Type 0 = λ bytes. take (length bytes) s.content ≡ bytes in
-      let listing : IsListing (of_then layouts.Two epoch h.imports entries) = record { epoch = s.from_one; epoch_fits = s.epoch_fits; imports = s.imports_fit; count = s.few; entries = s.each; apart = s.entries_apart; forms = s.plain } in
+      let listing : IsListing (of_then layouts.Two epoch h.imports entries) = record { epoch = s.from_one; epoch_fits = s.epoch_fits; imports = s.imports_fit; count = s.few; entries = s.each; apart = s.entries_apart; forms = plain_forms entries s.plain } in
       record {
         slot = s.slot;
         content = s.content;
@@ -110,6 +136,7 @@ second_still_represents file h epoch entries = (
         says = record {
           lists_it = record { is = listing; front = subst P (same_bytes layouts.Two epoch h.imports entries) s.front; sum = tt };
           kept = record { listing = listing; segments = s.segments; apart = s.apart; history = s.history; kinds = λ i rows below. λ j row lower. was_second _ (s.kinds_were i rows below j row lower) };
+          sums = plain_summed entries s.lists s.plain s.segments;
         };
         rows = s.rows;
       },
@@ -128,7 +155,7 @@ second_still_represents file h epoch entries = (
         few = is.count;
         each = is.entries;
         entries_apart = is.apart;
-        plain = is.forms;
+        plain = forms_plain entries is.forms;
         front = subst P (sym (same_bytes layouts.Two epoch h.imports entries)) s.says.lists_it.front;
         segments = s.says.kept.segments;
         apart = s.says.kept.apart;

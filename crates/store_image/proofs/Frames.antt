@@ -63,11 +63,11 @@ pieces_beside slot pieces d c same are k e lt =
 -- ---- the other slot
 
 -- a change behind the slots leaves it
-pub other_beyond : (from end : ℕ) (layout : Layout) (slot : Slot) (d c : List ℕ) → SameBut from end d c → 16384 ≤ from → 16384 ≤ length d → OtherIsWhole layout slot d → OtherIsWhole layout slot c
-other_beyond from end layout slot d c same beyond whole is opened =
+pub other_beyond : (from end : ℕ) (layout : Layout) (epoch : ℕ) (slot : Slot) (d c : List ℕ) → SameBut from end d c → 16384 ≤ from → 16384 ≤ length d → OtherIsWhole layout epoch slot d → OtherIsWhole layout epoch slot c
+other_beyond from end layout epoch slot d c same beyond whole is opened =
     let gate = gate_within (other slot) in
     let was = same_place from end d c same (gate_at (other slot)) (omega (arith, gate, whole)) (inr (omega (arith, gate, beyond))) in
-    subst (MayPrecede layout) (sym (content_beyond from end (other slot) d c same beyond whole)) (is (sym was ∙ opened))
+    subst (MayPrecede layout epoch) (sym (content_beyond from end (other slot) d c same beyond whole)) (is (sym was ∙ opened))
 
 -- what is shown still is, after a write behind the slots where no piece is
 pub write_shows : (s : DiskState) (slot : Slot) (d : DirectoryValue) (lists : List (List StampedRow)) (content : List ℕ) (at : ℕ) (bytes : List ℕ) → IsImage s s.now → EachImage s (Shows slot d lists content) → 16384 ≤ at → All (IsFree at (at + length bytes)) (pieces_of d.entries lists)
@@ -78,7 +78,7 @@ write_shows s slot d lists content at bytes now every beyond free c (inr image) 
     let was = every frame.0 frame.1 in
     let end = at + length bytes in record {
       has_pieces = stands_beyond at end (current_of slot d) content (pieces_of d.entries lists) frame.0 c frame.2 beyond free was.has_pieces;
-      other_is_whole = other_beyond at end d.layout slot frame.0 c frame.2 beyond was.has_pieces.slot.0.whole was.other_is_whole;
+      other_is_whole = other_beyond at end d.layout d.epoch slot frame.0 c frame.2 beyond was.has_pieces.slot.0.whole was.other_is_whole;
     }
 
 -- the old state or the new one, at each moment of a publication

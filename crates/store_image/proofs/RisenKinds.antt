@@ -14,7 +14,7 @@ use Rattle.history_model.proofs.InOrder.{Has-all, all_from_has}
 use Rattle.history_model.proofs.Listings.{Has-union_cases}
 use Rattle.directory.specs.declared.layout.Layout.{Layout}
 use Rattle.directory.specs.declared.layout.Layout.TheVariants as layouts
-use Rattle.directory.specs.Listings.{DirectoryValue, RisesTo, next_layout}
+use Rattle.directory.specs.Listings.{DirectoryValue, next_layout}
 use Rattle.store_image.specs.Kept.{HasKind, AreOfLayout}
 use Rattle.store_image.specs.Next.{merged}
 
@@ -30,14 +30,11 @@ has_next layouts.One kinds.Member has = absurd has
 has_next layouts.Two kind has = has
 has_next layouts.Three kind has = has
 
-has_risen : (old new : Layout) (kind : Kind) → RisesTo old new → HasKind old kind → HasKind new kind
-has_risen old new kind rises has = elim rises [
-  | inl same ↦ subst (λ (v : Layout). HasKind v kind) (sym same) (has_next old kind has)
-  | inr three ↦ subst (λ (v : Layout). HasKind v kind) (sym three) tt
-]
+has_risen : (old new : Layout) (kind : Kind) → new ≡ next_layout old → HasKind old kind → HasKind new kind
+has_risen old new kind same has = subst (λ (v : Layout). HasKind v kind) (sym same) (has_next old kind has)
 
-pub of_risen : (old : Layout) (e : DirectoryValue) (lists : List (List StampedRow)) → RisesTo old e.layout → All (AreOfLayout old) lists → All (AreOfLayout e.layout) lists
-of_risen old e lists rises all = λ k d lt. λ i s below. has_risen old e.layout _ rises (all k d lt i s below)
+pub of_risen : (old : Layout) (e : DirectoryValue) (lists : List (List StampedRow)) → e.layout ≡ next_layout old → All (AreOfLayout old) lists → All (AreOfLayout e.layout) lists
+of_risen old e lists same all = λ k d lt. λ i s below. has_risen old e.layout _ same (all k d lt i s below)
 
 -- ---- two lists replaced by the rows of both
 

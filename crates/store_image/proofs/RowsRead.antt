@@ -1,5 +1,5 @@
 -- The rows of a segment, read one after the other.
-use Rattle.std.proofs.Common.{◌≡◌, ℕ, ◌+◌, ◌<◌, ◌≤◌, ◌++◌, List, [], ◌∷◌, length, map, take, drop, refl, sym, ap, ◌∙◌, subst, arith, length-append}
+use Rattle.std.proofs.Common.{◌≡◌, ℕ, ◌+◌, ◌-◌, ◌<◌, ◌≤◌, ◌++◌, List, [], ◌∷◌, length, map, take, drop, refl, sym, ap, ◌∙◌, subst, arith, length-append}
 use Rattle.std.specs.Prelude.{Option, Some, None}
 use Rattle.std.specs.List.{AllByRecursion}
 use Rattle.std.specs.declared.cmp.Ordering.TheVariants.{Less}
@@ -19,12 +19,14 @@ use Rattle.segment.specs.Standing.{record_len, row_place, with_places, places_of
 use Rattle.segment.proofs.Ascending.{ascends_push, ascends_front, last_below}
 use Rattle.segment.proofs.Decoded.{reads_on}
 use Rattle.segment.proofs.RecordLaws.{same_records, length-record_in}
-use Rattle.segment.proofs.SegmentLaws.{push_plain, no_rows_plain, goes_on, length-segment_in}
+use Rattle.segment.proofs.SegmentLaws.{push_plain, no_rows_plain, goes_on, length-segment_in, segment_push}
 use Rattle.segment.proofs.Posting.{with_places_push, record_ends}
 use Rattle.store_image.specs.declared.fault.RowsFault.{RowsFault}
 use Rattle.store_image.specs.declared.fault.RowsFault.TheVariants as faults
 use Rattle.store_image.specs.declared.reading.ReadTo.{ReadTo}
 use Rattle.store_image.specs.Private.Reading.{HasRecord, IsNoRecord, IsLastKey, IsAbove, AreReadTo, BeginsWith, IsNotNext}
+use Rattle.checksum.specs.Crc32c.{crc32c, continued}
+use Rattle.store_image.proofs.Summed.{crc_goes_on}
 
 -- ---- places
 
@@ -82,10 +84,10 @@ more_bytes to imports next rows s read next_is =
     let long = ap length (push_plain rows s) ∙ length-append (segment_of rows) (record_of s) in
     omega (arith, next_is, read.at_is, long)
 
-pub more_are_read : (to : ReadTo) (imports next : ℕ) (key : Key) (rows more : List StampedRow) (s : StampedRow) → AreReadTo to imports rows → IsStamped s → next ≡ to.at + length (record_of s) → s.import ≤ imports
-    → key ≡ key_of s.row → IsAbove key to.last → more ≡ rows ++ s ∷ [] → AreReadTo (record { at = next; last = Some key }) imports more
-more_are_read to imports next key rows more s read is next_is low key_is above more_is =
-    subst (λ (r : List StampedRow). AreReadTo (record { at = next; last = Some key }) imports r) (sym more_is) (record {
+pub more_are_read : (to : ReadTo) (imports next crc : ℕ) (key : Key) (rows more : List StampedRow) (s : StampedRow) → AreReadTo to imports rows → IsStamped s → next ≡ to.at + length (record_of s) → s.import ≤ imports
+    → key ≡ key_of s.row → IsAbove key to.last → more ≡ rows ++ s ∷ [] → AreReadTo (record { at = next; last = Some key; crc = crc }) imports more
+more_are_read to imports next crc key rows more s read is next_is low key_is above more_is =
+    subst (λ (r : List StampedRow). AreReadTo (record { at = next; last = Some key; crc = crc }) imports r) (sym more_is) (record {
       last_is = (rows, s, refl, key_is);
       at_is = more_bytes to imports next rows s read next_is;
       each = each_of_pushed IsStamped rows s read.each is;
@@ -108,6 +110,18 @@ begins_more form at rows more s bytes is has more_is begins =
     let after = drop (length (record_of s)) (drop at bytes) in
     let here = sym (behind form at rows bytes begins.0 is begins.1) ∙ record_and_rest form at bytes s has in
     (after, reads_on form rows bytes begins.0 after s begins.1 here ∙ ap (λ (r : List StampedRow). segment_in form r ++ after) (sym more_is))
+
+-- the checksum of the records so far, and of one more that the window has
+pub summed_on : (form : Form) (rows more : List StampedRow) (s : StampedRow) (crc sum at next from : ℕ) (bytes : List ℕ) → crc ≡ crc32c (segment_in form rows) → next ≡ at + length (record_of s) → HasRecord form bytes (at - from) s → more ≡ rows ++ s ∷ []
+    → sum ≡ continued crc (take (next - at) (drop (at - from) bytes)) → sum ≡ crc32c (segment_in form more)
+summed_on form rows more s crc sum at next from bytes was next_is has more_is sum_is =
+    let long : next - at ≡ length (record_of s) = omega (arith, next_is) in
+    sum_is
+    ∙ ap (λ n. continued crc (take n (drop (at - from) bytes))) long
+    ∙ ap (continued crc) has.1
+    ∙ ap (λ n. continued n (record_in form s)) was
+    ∙ crc_goes_on (segment_in form rows) (record_in form s)
+    ∙ ap crc32c (sym (segment_push form rows s) ∙ ap (segment_in form) (sym more_is))
 
 -- ---- why no row is read
 

@@ -10,7 +10,7 @@ use Rattle.rf2_values.specs.declared.row.Kind.TheVariants as kinds
 use Rattle.rf2_values.specs.Row.{kind_of}
 use Rattle.history_model.specs.declared.stamped.StampedRow.{StampedRow}
 use Rattle.blocks.specs.declared.extent.Extent.{Extent}
-use Rattle.store_image.specs.Private.Reading.{bytes_of}
+use Rattle.store_image.specs.Reader.{bytes_of}
 use Rattle.checksum.specs.declared.form.Form.{Form}
 use Rattle.segment.specs.declared.fault.SegmentFault.{SegmentFault}
 use Rattle.segment.specs.declared.fault.SegmentFault.TheVariants as segments
@@ -19,7 +19,8 @@ use Rattle.segment.specs.Private.Reading.{fixed_len}
 use Rattle.segment.proofs.RecordLaws.{record_size, row_room, length-record, length-record_in}
 use Rattle.store_image.specs.declared.window.Window.{Window}
 use Rattle.store_image.specs.Private.Reading.{of_segment}
-use Rattle.store_image.specs.Private.Reading.{HasRecord, HasNoRecord, IsNoRecord, Sees, IsFull, bytes_in}
+use Rattle.store_image.specs.Reader.{Sees, bytes_in}
+use Rattle.store_image.specs.Private.Reading.{HasRecord, HasNoRecord, IsNoRecord, IsFull}
 
 -- ---- how long a record is
 

@@ -9,6 +9,7 @@ use Rattle.directory.specs.declared.entry.Entry.{Entry}
 use Rattle.checksum.specs.declared.form.Form.TheVariants as forms
 use Rattle.directory.specs.declared.layout.Layout.TheVariants as layouts
 use Rattle.directory.specs.Content.{HasMark}
+use Rattle.directory.specs.Listings.{form_in}
 use Rattle.directory.specs.Places.{extent_of}
 use Rattle.segment.specs.Records.{IsOfLength, record_of, segment_of}
 use Rattle.store_image.specs.declared.fault.Damage.TheVariants as damages
@@ -54,7 +55,7 @@ pub record IsInRecord (entries : List Entry) (lists : List (List StampedRow)) (s
   pub number : ℕ
   pub entry : Entry
   pub entry_is : slice_get entries number ≡ Some entry
-  pub checked : entry.form ≡ forms.Checked
+  pub checked : form_in entry.sums ≡ forms.Checked
   pub front : List StampedRow
   pub behind : List StampedRow
   pub list_is : slice_get lists number ≡ Some (front ++ s ∷ behind)

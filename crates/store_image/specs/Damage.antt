@@ -11,7 +11,7 @@ use Rattle.directory.specs.Content.{Lists}
 use Rattle.store_image.specs.declared.fault.Damage.{Damage}
 use Rattle.store_image.specs.declared.fault.Damage.TheVariants as damages
 use Rattle.store_image.specs.Pieces.{HoldsAll}
-use Rattle.store_image.specs.Kept.{AreOfLayout, AreSegments, pieces_of}
+use Rattle.store_image.specs.Kept.{AreOfLayout, AreSegments, AreSummed, pieces_of}
 use Rattle.store_image.specs.Images.{IsStore, OtherIsWhole}
 use Rattle.store_image.specs.Reading.{AreNumbered, IsAt}
 
@@ -21,14 +21,16 @@ pub record HasDirectory (d : DirectoryValue) (file : List ℕ) : Type 0 where
   pub content : List ℕ
   pub slot : IsCurrentWith current content file
   pub lists_it : Lists content d
-  pub other_is_whole : OtherIsWhole d.layout current.slot file
+  pub other_is_whole : OtherIsWhole d.layout d.epoch current.slot file
 
--- each entry's extent has the segment of these rows, and no import number is greater than `imports`
+-- each entry's extent has the segment of these rows, with the checksum that the entry has, and no
+-- import number is greater than `imports`
 pub record AreThere (imports : ℕ) (entries : List Entry) (lists : List (List StampedRow))
     (file : List ℕ) : Type 0 where
   pub segments : AreSegments entries lists
   pub numbered : AllByRecursion (AreNumbered imports) lists
   pub held : HoldsAll (pieces_of entries lists) file
+  pub sums : AreSummed entries lists
 
 -- the entry's extent has no segment of rows whose import numbers are at most `imports`
 abbrev pub IsBroken : ℕ → Entry → List ℕ → Type 0
@@ -68,7 +70,7 @@ IsDamaged damages.Slots file =
     (current : Current) (content : List ℕ) → IsCurrentWith current content file → ⊥
 IsDamaged damages.Directory file = (current : Current) × (content : List ℕ)
     × IsCurrentWith current content file
-    × ((d : DirectoryValue) → Lists content d → OtherIsWhole d.layout current.slot file → ⊥)
+    × ((d : DirectoryValue) → Lists content d → OtherIsWhole d.layout d.epoch current.slot file → ⊥)
 IsDamaged (damages.Segment number) file =
     (d : DirectoryValue) × HasDirectory d file × IsFirstBroken number d.imports d.entries file
 IsDamaged damages.SharedKey file =

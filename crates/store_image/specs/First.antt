@@ -13,7 +13,7 @@ use Rattle.rf2_values.specs.Row.{kind_of}
 use Rattle.history_model.specs.declared.stamped.StampedRow.{StampedRow}
 use Rattle.history_model.specs.History.{History, IsHistory}
 use Rattle.history_model.specs.Lists.{AreLists, listed}
-use Rattle.checksum.specs.declared.form.Form.TheVariants as forms
+use Rattle.directory.specs.declared.sums.Sums.TheVariants as sums
 use Rattle.directory.specs.declared.entry.Entry.{Entry}
 use Rattle.directory.specs.declared.layout.Layout.TheVariants as layouts
 use Rattle.directory.specs.Places.{AreApart, extents_of}
@@ -60,7 +60,7 @@ pub record DidRepresentBy (mark : List ℕ) (most : ℕ) (WasKind : Kind → Typ
   pub few : length entries ≤ most
   pub each : AllByRecursion IsEntry entries
   pub entries_apart : AreApart (extents_of entries)
-  pub plain : AllByRecursion (λ (entry : Entry). entry.form ≡ forms.Plain) entries
+  pub plain : AllByRecursion (λ (entry : Entry). entry.sums ≡ sums.Nowhere) entries
   pub front : take (length (bytes_then mark epoch h.imports entries)) content
       ≡ bytes_then mark epoch h.imports entries
   pub segments : AreSegments entries lists

@@ -12,11 +12,11 @@ use Rattle.store_image.specs.Pieces.{HasPieces}
 use Rattle.store_image.specs.Kept.{IsContentOf, pieces_of}
 
 -- If the other slot's gate is open, its content may have been published before a directory of this
--- version. A publication closes a gate before it writes the content, and so no crash tears the
--- content behind an open gate.
-abbrev pub OtherIsWhole : Layout → Slot → List ℕ → Type 0
-OtherIsWhole layout slot file =
-    IsOpen (other slot) file → MayPrecede layout (content_of (other slot) file)
+-- version and epoch. A publication closes a gate before it writes the content, and so no crash
+-- tears the content behind an open gate.
+abbrev pub OtherIsWhole : Layout → ℕ → Slot → List ℕ → Type 0
+OtherIsWhole layout epoch slot file =
+    IsOpen (other slot) file → MayPrecede layout epoch (content_of (other slot) file)
 
 -- The bytes represent the history, with this layout version, epoch and list of entries: the current
 -- slot's content lists them, the other slot is whole, each entry's extent has the segment of some
@@ -30,7 +30,7 @@ pub record Represents (file : List ℕ) (h : History) (layout : Layout) (epoch :
       HasPieces (record { slot = slot; epoch = epoch }) content (pieces_of entries lists) file
   pub says : IsContentOf content
       (record { layout = layout; epoch = epoch; imports = h.imports; entries = entries }) lists
-  pub other_is_whole : OtherIsWhole layout slot file
+  pub other_is_whole : OtherIsWhole layout epoch slot file
   pub rows : h.rows ≡ listed lists
 
 -- the bytes represent the history in this layout version, at some epoch and with some entries

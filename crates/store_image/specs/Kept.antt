@@ -8,12 +8,12 @@ use Rattle.history_model.specs.declared.stamped.StampedRow.{StampedRow}
 use Rattle.history_model.specs.History.{History, IsHistory}
 use Rattle.history_model.specs.Lists.{AreLists, listed}
 use Rattle.blocks.specs.Extents.{start_of}
-use Rattle.checksum.specs.declared.form.Form.{Form}
+use Rattle.checksum.specs.Crc32c.{crc32c}
 use Rattle.directory.specs.declared.entry.Entry.{Entry}
 use Rattle.directory.specs.declared.layout.Layout.{Layout}
 use Rattle.directory.specs.declared.layout.Layout.TheVariants as layouts
 use Rattle.directory.specs.Places.{extent_of}
-use Rattle.directory.specs.Listings.{DirectoryValue, IsListing}
+use Rattle.directory.specs.Listings.{DirectoryValue, HasSumOf, IsListing, form_in, form_of, sums_of}
 use Rattle.directory.specs.Content.{Lists}
 use Rattle.segment.specs.Records.{IsSegment, segment_in, segment_of}
 
@@ -23,10 +23,18 @@ pub record IsSegmentOf (entry : Entry) (rows : List StampedRow) : Type 0 where
   pub bytes : length (segment_of rows) ≡ entry.bytes
   pub count : length rows ≡ entry.rows
 
--- the entry of a segment of these rows in this form, from block `first` on
-abbrev pub entry_at : Form → ℕ → List StampedRow → Entry
-entry_at form first rows =
-    record { first = first; bytes = length (segment_of rows); rows = length rows; form = form }
+-- the bytes of a segment of these rows, with the checksums that its entry says
+abbrev pub segment_with : Entry → List StampedRow → List ℕ
+segment_with entry rows = segment_in (form_in entry.sums) rows
+
+-- the entry of a new segment of these rows in a layout version, from block `first` on
+abbrev pub entry_at : Layout → ℕ → List StampedRow → Entry
+entry_at layout first rows = record {
+  first = first;
+  bytes = length (segment_of rows);
+  rows = length rows;
+  sums = sums_of layout (crc32c (segment_in (form_of layout) rows));
+}
 
 -- the total length of the listed segments
 abbrev pub bytes_listed : List Entry → ℕ
@@ -35,6 +43,11 @@ bytes_listed entries = sum_by (λ entry. entry.bytes) entries
 -- the lists have the rows of the entries' segments, one list for each entry
 abbrev pub AreSegments : List Entry → List (List StampedRow) → Type 0
 AreSegments entries lists = AllZip IsSegmentOf entries lists
+
+-- the entries' checksums of whole segments are those of the bytes
+abbrev pub AreSummed : List Entry → List (List StampedRow) → Type 0
+AreSummed entries lists =
+    AllZip (λ entry rows. HasSumOf entry.sums (segment_with entry rows)) entries lists
 
 -- the layout version has rows of this kind: concrete values from version 2 on, members from version
 -- 3 on
@@ -55,7 +68,7 @@ abbrev pub pieces_of : List Entry → List (List StampedRow) → List (ℕ × Li
 pieces_of [] lists = []
 pieces_of (entry ∷ entries) [] = []
 pieces_of (entry ∷ entries) (rows ∷ lists) =
-    (start_of (extent_of entry), segment_in entry.form rows) ∷ pieces_of entries lists
+    (start_of (extent_of entry), segment_with entry rows) ∷ pieces_of entries lists
 
 -- the history of all lists' rows, with the directory's number of imports
 abbrev pub history_of : DirectoryValue → List (List StampedRow) → History
@@ -70,8 +83,9 @@ pub record IsKept (d : DirectoryValue) (lists : List (List StampedRow)) : Type 0
   pub history : IsHistory (history_of d lists)
   pub kinds : All (AreOfLayout d.layout) lists
 
--- the content block lists the directory
+-- the content block lists the directory, whose checksums are those of the segments
 pub record IsContentOf (content : List ℕ) (d : DirectoryValue) (lists : List (List StampedRow))
     : Type 0 where
   pub lists_it : Lists content d
   pub kept : IsKept d lists
+  pub sums : AreSummed d.entries lists

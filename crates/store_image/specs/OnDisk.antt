@@ -18,7 +18,7 @@ current_of slot d = record { slot = slot; epoch = d.epoch }
 pub record Shows (slot : Slot) (d : DirectoryValue) (lists : List (List StampedRow))
     (content file : List ℕ) : Type 0 where
   pub has_pieces : HasPieces (current_of slot d) content (pieces_of d.entries lists) file
-  pub other_is_whole : OtherIsWhole d.layout slot file
+  pub other_is_whole : OtherIsWhole d.layout d.epoch slot file
 
 -- the slot is the current one, its content lists the directory, and the directory's segments are of
 -- these rows

@@ -89,7 +89,7 @@ pub fn load<D: Disk, B: SegmentBuilder>(
     let mut content = [0; 4096];
     let current = read_current(disk, &mut content)?;
     let directory = Directory::decode(alloc, &content)?;
-    check_other(disk, current.slot, directory.layout())?;
+    check_other(disk, current.slot, &directory)?;
     let segments = read_segments::<D, B>(alloc, disk, directory.entries(), directory.imports())?;
     if !all_have_kinds::<B>(directory.layout(), segments.as_slice()) {
         return Err(LoadFault::Damaged(Damage::Kind));
@@ -101,14 +101,16 @@ pub fn load<D: Disk, B: SegmentBuilder>(
     })
 }
 
-/// Checks that the other slot is closed, or has a directory that may have been published before one
-/// of this version.
-fn check_other<D: Disk>(disk: &mut D, slot: Slot, layout: Layout) -> Result<(), LoadFault>
+/// Checks that the other slot is closed, or has a directory that may have been published before
+/// this one.
+fn check_other<D: Disk>(disk: &mut D, slot: Slot, current: &Directory) -> Result<(), LoadFault>
     ensures exact { (D.view disk.old).is_honest → 16384 ≤ length (D.view disk.old).moments.state.now
         → MatchResult result
-        (λ _. OtherIsWhole layout slot (D.view disk.old).moments.state.now)
+        (λ _. OtherIsWhole current.now.layout current.now.epoch slot
+        (D.view disk.old).moments.state.now)
         (λ e. e ≡ faults.Damaged damages.Directory
-        → OtherIsWhole layout slot (D.view disk.old).moments.state.now → ⊥) }
+        → OtherIsWhole current.now.layout current.now.epoch slot
+        (D.view disk.old).moments.state.now → ⊥) }
     ensures refused { IfErr result
         (λ e. (e ≡ faults.DiskFault) ⊎ (e ≡ faults.Damaged damages.Directory)) }
     ensures goes_on { raised_by (D.view disk.old).bytes_read 0 ≤ (D.view disk.new).bytes_read }
@@ -116,7 +118,8 @@ fn check_other<D: Disk>(disk: &mut D, slot: Slot, layout: Layout) -> Result<(), 
         (D.view disk.old) (D.view disk.new) }
 {
     let mut content = [0; 4096];
-    if read_other(disk, slot, &mut content)? && !may_precede(layout, &content) {
+    let (layout, epoch) = (current.layout(), current.epoch());
+    if read_other(disk, slot, &mut content)? && !may_precede(layout, epoch, &content) {
         return Err(LoadFault::Damaged(Damage::Directory));
     }
     Ok(())

@@ -5,13 +5,16 @@ ghost use Rattle.std.specs.Prelude.{IsTrue, IfOk, IfErr, OnOk, MatchResult};
 ghost use Rattle.std.specs.List.{AllByRecursion};
 ghost use Rattle.disk_model.specs.Disk.{raised_by};
 ghost use Rattle.disk_model.specs.View.{OnlyReads, Calls, Stays, AtMost};
-ghost use Rattle.store_image.specs.Private.Reading.{bytes_of};
-ghost use Rattle.directory.specs.Listings.{IsEntry};
+ghost use Rattle.store_image.specs.Reader.{bytes_of};
+ghost use Rattle.directory.specs.Listings.{HasSumOf, IsEntry, form_in};
 ghost use Rattle.directory.specs.Places.{extent_of};
+ghost use Rattle.checksum.specs.Crc32c.{crc32c};
+ghost use Rattle.segment.specs.Records.{segment_in};
 ghost use Rattle.store_image.specs.Pieces.{HoldsAll};
-ghost use Rattle.store_image.specs.Kept.{IsSegmentOf, bytes_listed, pieces_of};
+ghost use Rattle.store_image.specs.Kept.{IsSegmentOf, bytes_listed, pieces_of, segment_with};
 ghost use Rattle.store_image.specs.Reading.{AreNumbered, IsAt};
-ghost use Rattle.store_image.specs.Private.Reading.{CountsFault, Sees, BeginsWith};
+ghost use Rattle.store_image.specs.Reader.{Sees};
+ghost use Rattle.store_image.specs.Private.Reading.{CountsFault, BeginsWith};
 ghost use Rattle.store_image.specs.Private.Reading.{AreReadTo, IsAbove};
 ghost use Rattle.store_image.specs.Private.Reading.{IsNotNext, IsNotReadAt, AreRead};
 ghost use Rattle.store_image.specs.Private.Damage.{AreNotRead, StopsIn};
@@ -34,6 +37,8 @@ pub(crate) struct ReadTo {
     at: u32,
     /// The key of the last row that was read.
     last: Option<Key>,
+    /// The CRC-32C of the bytes of the records that were read.
+    crc: u32,
 }
 
 /// The smallest length of a record, in bytes.
@@ -91,6 +96,8 @@ fn read_segment<D: Disk, B: SegmentBuilder>(
 ) -> Result<B::Segment, RowsFault>
     requires { IsEntry entry }
     ensures found { IfOk result (λ segment. IsSegmentOf entry (B.sealed segment)) }
+    ensures sum { IfOk result
+        (λ segment. HasSumOf entry.sums (segment_with entry (B.sealed segment))) }
     ensures numbered { IfOk result (λ segment. AreNumbered imports (B.sealed segment)) }
     ensures exact { (D.view disk.old).is_honest → MatchResult result
         (λ segment. IsAt (D.view disk.old).moments.state.now entry (B.sealed segment))
@@ -102,7 +109,7 @@ fn read_segment<D: Disk, B: SegmentBuilder>(
         (D.view disk.old) (D.view disk.new) }
 {
     check_room(disk, entry)?;
-    window.begin(entry.extent(), entry.form);
+    window.begin(entry.extent(), entry.form());
     let builder = read_rows::<D, B>(alloc, disk, window, entry, imports)?;
     Ok(builder.seal())
 }
@@ -136,14 +143,16 @@ fn read_rows<D: Disk, B: SegmentBuilder>(
     imports: u32,
 ) -> Result<B, RowsFault>
     requires extent { window.old.extent ≡ extent_of entry }
-    requires form { window.old.form ≡ entry.form }
+    requires form { window.old.form ≡ form_in entry.sums }
     requires from { window.old.from ≡ 0 }
     requires sees { (file : List ℕ) → Sees window.old file }
     requires entry { IsEntry entry }
     ensures found { IfOk result (λ builder. IsSegmentOf entry (B.rows builder)) }
+    ensures sum { IfOk result
+        (λ builder. HasSumOf entry.sums (segment_with entry (B.rows builder))) }
     ensures numbered { IfOk result (λ builder. AreNumbered imports (B.rows builder)) }
     ensures exact { (D.view disk.old).is_honest → MatchResult result
-        (λ builder. BeginsWith entry.form (B.rows builder)
+        (λ builder. BeginsWith (form_in entry.sums) (B.rows builder)
         (bytes_of (extent_of entry) (D.view disk.old).moments.state.now))
         (λ e. IsNotReadAt e imports entry (D.view disk.old).moments.state.now) }
     ensures goes_on { raised_by (D.view disk.old).bytes_read 0 ≤ (D.view disk.new).bytes_read }
@@ -151,11 +160,18 @@ fn read_rows<D: Disk, B: SegmentBuilder>(
         (D.view disk.old) (D.view disk.new) }
 {
     let mut builder = B::with_capacity(alloc, entry.rows as usize)?;
-    let mut to = ReadTo { at: 0, last: None };
+    let mut to = ReadTo {
+        at: 0,
+        last: None,
+        crc: 0,
+    };
     'rows: for _count in 0..entry.rows {
         to = read_row(alloc, disk, window, to, imports, &mut builder)?;
     }
     if to.at != entry.bytes {
+        return Err(RowsFault::Damaged);
+    }
+    if !entry.has_sum(to.crc) {
         return Err(RowsFault::Damaged);
     }
     Ok(builder)
@@ -174,6 +190,8 @@ fn read_row<D: Disk, B: SegmentBuilder>(
     requires reached { to.at ≤ window.old.from + window.old.len }
     requires rows { AreReadTo to imports (B.rows builder.old) }
     ensures read { IfOk result (λ next. AreReadTo next imports (B.rows builder.new)) }
+    ensures summed { to.crc ≡ crc32c (segment_in window.old.form (B.rows builder.old)) → IfOk result
+        (λ next. next.crc ≡ crc32c (segment_in window.old.form (B.rows builder.new))) }
     ensures one { OnOk result (length (B.rows builder.new) ≡ length (B.rows builder.old) + 1) }
     ensures extent { window.new.extent ≡ window.old.extent }
     ensures form { window.new.form ≡ window.old.form }
@@ -208,6 +226,7 @@ fn read_row<D: Disk, B: SegmentBuilder>(
     Ok(ReadTo {
         at,
         last: Some(key),
+        crc: window.crc_to(to.crc, to.at, at),
     })
 }
 

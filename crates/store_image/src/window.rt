@@ -1,11 +1,12 @@
 //! Reads a segment's bytes through a buffer of fixed size.
 
-ghost use Rattle.std.specs.Prelude.{◌≡◌, ◌↔◌, ℕ, ◌+◌, ◌-◌, ◌^◌, ◌<◌, ◌≤◌, List, length, drop};
+ghost use Rattle.std.specs.Prelude.{◌≡◌, ◌↔◌, ℕ, ◌+◌, ◌-◌, ◌^◌, ◌<◌, ◌≤◌, List, length, take, drop};
 ghost use Rattle.std.specs.Prelude.{vec_len, IfOk, IfErr, OnOk, MatchResult};
 ghost use Rattle.disk_model.specs.View.{OnlyReads};
 
 use crate::fault::RowsFault;
 use blocks::{BLOCK, Extent};
+use checksum::append;
 use disk_model::{Disk, DiskFault};
 use segment::{Form, SegmentFault, StampedRow, record_at};
 use std::alloc::{AllocError, Global};
@@ -35,10 +36,13 @@ pub(crate) struct Window {
 impl Window {
     ghost use Rattle.disk_model.specs.Disk.{raised_by};
     ghost use Rattle.fault_counts.specs.Counting.{CountsEach};
-    ghost use Rattle.store_image.specs.Private.Reading.{bytes_of};
+    ghost use Rattle.store_image.specs.Reader.{bytes_of};
     ghost use Rattle.segment.specs.Records.{record_of, IsStamped};
-    ghost use Rattle.store_image.specs.Private.Reading.{CountsFault, bytes_in, HasRecord};
-    ghost use Rattle.store_image.specs.Private.Reading.{HasNoRecord, IsNoRecord, Sees, IsFull};
+    ghost use Rattle.checksum.specs.Crc32c.{continued};
+    ghost use Rattle.store_image.specs.Reader.{bytes_in};
+    ghost use Rattle.store_image.specs.Private.Reading.{CountsFault, HasRecord};
+    ghost use Rattle.store_image.specs.Reader.{Sees};
+    ghost use Rattle.store_image.specs.Private.Reading.{HasNoRecord, IsNoRecord, IsFull};
 
     /// A window without a segment, that is, on one without bytes.
     pub(crate) fn new(alloc: Global) -> Result<Window, AllocError> {
@@ -147,10 +151,15 @@ impl Window {
         ensures form { self.new.form ≡ self.old.form }
         ensures from { IfOk result (λ r. self.new.from ≤ r.1) }
         ensures reached { IfOk result (λ r. r.1 ≤ self.new.from + self.new.len) }
+        // Whatever the result, it has or reaches the offset as before.
+        ensures still { (self.new.from ≤ at) × (at ≤ self.new.from + self.new.len) }
         ensures asked { self.old.asked ≤ self.new.asked }
         ensures is { IfOk result (λ r. IsStamped r.0) }
         ensures next { IfOk result (λ r. r.1 ≡ at + length (record_of r.0)) }
         ensures within { IfOk result (λ r. r.1 ≤ self.old.extent.bytes) }
+        // Whatever the disk returned, the window has the row's record.
+        ensures seen { IfOk result (λ r. (self.new.from ≤ at)
+            × HasRecord self.old.form (bytes_in self.new) (at - self.new.from) r.0) }
         ensures exact { (D.view disk.old).is_honest
             → Sees self.old (D.view disk.old).moments.state.now
             → MatchResult result
@@ -177,5 +186,20 @@ impl Window {
                 Ok((row, next))
             }
         }
+    }
+
+    /// The CRC-32C of a segment's bytes before the offset `end`, from that of those before `at`.
+    pub(crate) fn crc_to(&self, crc: u32, at: u32, end: u32) -> u32
+        requires from { self.now.from ≤ at }
+        requires up { at ≤ end }
+        requires reached { end ≤ self.now.from + self.now.len }
+        ensures { result ≡ continued crc
+            (take (end - at) (drop (at - self.now.from) (bytes_in self.now))) }
+    {
+        let shown = &self.bytes.as_slice()[..self.len as usize];
+        append(
+            crc,
+            &shown[(at - self.from) as usize..(end - self.from) as usize],
+        )
     }
 }

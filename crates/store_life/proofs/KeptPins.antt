@@ -18,7 +18,7 @@ use Rattle.import_check.specs.declared.release.Release.{Release}
 use Rattle.history_store.specs.StoreValue.{StoreValue, IsAcknowledged}
 use Rattle.disk_model.specs.View.{DiskView}
 use Rattle.store_life.specs.Life.{TakesAll}
-use Rattle.store_life.specs.Laws.{BroughtAlike, EachLifeKeepsItsPins}
+use Rattle.store_life.specs.Laws.{BroughtAlike, EachLifeKeepsItsPins, WhatIsHeldIsAHistory}
 use Rattle.store_life.proofs.Living.{each_life_keeps}
 
 -- another release changes nothing of what an import brought
@@ -66,6 +66,9 @@ held_history view s image ack =
     subst (λ (rows : List StampedRow). IsHistory (record { imports = s.history.imports; rows = rows })) (sym stands.rows) stands.says.kept.history
 
 module _ (D : Type 0) (view : D → DiskView) (now_is_image : (disk : D) → (view disk).is_honest → IsImage (view disk).moments.state (view disk).moments.state.now) where
+  pub what_is_held_is_a_history : WhatIsHeldIsAHistory D view
+  what_is_held_is_a_history s up ack = held_history view s (now_is_image s.disk up) ack
+
   pub each_life_keeps_its_pins : EachLifeKeepsItsPins D view
   each_life_keeps_its_pins first last events pin up ack lives le =
       let l = each_life_keeps D view first last events up ack lives in

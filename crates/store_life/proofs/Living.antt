@@ -1,11 +1,10 @@
 -- What crashes leave of a store, one after the other, and what is opened of it.
 use Rattle.std.proofs.Common.{◌≡◌, ◌⊎◌, inl, inr, ⊎_elim, ℕ, ◌≤◌, ◌+◌, Bool, true, false, List, [], ◌∷◌, ◌++◌, length, map, Option, Some, None, Result, Ok, Err, refl, sym, ap, subst, ◌∙◌, arith, append_assoc, length-append}
 use Rattle.std.specs.Prelude.{All, MatchResult}
-use Rattle.std.specs.List.{Contains}
 use Rattle.std.specs.Option.{option_or, option_to_list}
 use Rattle.std.proofs.lemmas.Bool.{false≢true}
 use Rattle.std.proofs.lemmas.List.{append_cancel_right}
-use Rattle.std.proofs.lemmas.List.Elements.{All-cons, All-contains, Contains-append_cases, Contains-append_left, Contains-append_right}
+use Rattle.std.proofs.lemmas.List.Elements.{All-tail}
 use Rattle.disk_model.specs.Disk.{DiskState, IsImage, EachImage, Moments, LeavesOnly}
 use Rattle.disk_model.proofs.MomentSteps.{started, at_end}
 use Rattle.history_model.specs.History.{History, after_release}
@@ -32,13 +31,19 @@ opened_as : {D : Type 0} (h : History) (bytes : List ℕ) (P : History → Type 
 opened_as h bytes P stands p (Ok s) is = subst P (sym (opened_is_what_is_represented s bytes h stands.0 stands.1.0 stands.1.1 stands.1.2 is).0) p
 opened_as h bytes P stands p (Err e) is = represented_is_opened bytes h stands.0 stands.1.0 stands.1.1 stands.1.2 e.0 is
 
+-- those behind others
+all_behind : (P : DiskState → Type 0) (xs ys : List DiskState) → All P (xs ++ ys) → All P ys
+all_behind P [] ys all = all
+all_behind P (x ∷ xs) ys all = all_behind P xs ys (All-tail P x (xs ++ ys) all)
+
 -- what a crash left has what each crash leaves
-left_has : (old new : Moments) (P : List ℕ → Type 0) (bytes : List ℕ) → LeavesOnly old new P → CrashLeaves old new bytes → P bytes
-left_has old new P bytes run left =
-    let same = append_cancel_right run.since left.since (old.state ∷ old.past) (sym run.grows ∙ left.grows) in
-    let each = All-cons (λ (s : DiskState). EachImage s P) old.state run.since run.first run.each in
-    All-contains (λ (s : DiskState). EachImage s P) (old.state ∷ left.since) left.state
-    (subst (λ (l : List DiskState). All (λ (s : DiskState). EachImage s P) (old.state ∷ l)) same each) left.is_one bytes left.image
+left_has : (old new moment : Moments) (P : List ℕ → Type 0) (bytes : List ℕ) → LeavesOnly old new P → CrashLeaves old new moment bytes → P bytes
+left_has old new moment P bytes run left =
+    let all_since : new.state ∷ new.past ≡ (left.behind ++ left.before) ++ old.state ∷ old.past =
+    left.grows ∙ ap (λ (l : List DiskState). left.behind ++ l) left.since ∙ sym (append_assoc left.behind left.before (old.state ∷ old.past)) in
+    let same = append_cancel_right run.since (left.behind ++ left.before) (old.state ∷ old.past) (sym run.grows ∙ all_since) in
+    let each = subst (λ (l : List DiskState). All (λ (s : DiskState). EachImage s P) l) same run.each in
+    at_end old moment P (record { since = left.before; grows = left.since; first = run.first; each = all_behind (λ (s : DiskState). EachImage s P) left.behind left.before each }) bytes left.image
 
 -- ---- since an opening
 
@@ -73,13 +78,13 @@ module _ {D : Type 0} (view : D → DiskView) where
       up = is.honesty.0 up;
       acknowledged = is.acknowledged up ack;
       none_failed = λ still. absurd (false≢true (sym still ∙ is.needs_reopen));
-      left = subst (λ (h : History). EachImage (view new.disk).moments.state (RepresentsBut h (Some release))) (sym (is.history up)) (left_by (Failed release) is);
+      left = subst (λ (h : History). EachImage (view new.disk).moments.state (RepresentsBut h (Some release))) (sym (is.history (inr up))) (left_by (Failed release) is);
     }
     after_made Other is = record {
       up = is.honesty.0 up;
       acknowledged = is.acknowledged up ack;
       none_failed = λ still. refl;
-      left = subst (λ (h : History). EachImage (view new.disk).moments.state (RepresentsHistory h)) (sym (is.history up)) (left_by Other is);
+      left = subst (λ (h : History). EachImage (view new.disk).moments.state (RepresentsHistory h)) (sym (is.history (inr up))) (left_by Other is);
     }
 
   after_call : (old new : StoreValue D) (failed : Option Release) (call : Call) → IsSince old failed → IsCall view old call new → IsSince new (option_or failed (failing call))
@@ -128,21 +133,21 @@ module _ (failed : Option Release) (within : Option Call) (h : History) (bytes :
   cut_remains Other is s = none_remains s
 
 module _ {D : Type 0} (view : D → DiskView) where
-  module _ (s : StoreValue D) (failed : Option Release) (since : IsSince view s failed) (bytes : List ℕ) where
+  module _ (s : StoreValue D) (failed : Option Release) (since : IsSince view s failed) (moment : Moments) (bytes : List ℕ) where
     -- no call was made
-    stays_remains : (within : Option Call) → CrashLeaves (view s.disk).moments (view s.disk).moments bytes → Remains failed within s.history bytes
+    stays_remains : (within : Option Call) → CrashLeaves (view s.disk).moments (view s.disk).moments moment bytes → Remains failed within s.history bytes
     stays_remains within left =
         let m = (view s.disk).moments in
-        failed_remains failed within s.history bytes failed refl (left_has m m (RepresentsBut s.history failed) bytes (started m (RepresentsBut s.history failed) since.left) left)
+        failed_remains failed within s.history bytes failed refl (left_has m m moment (RepresentsBut s.history failed) bytes (started m (RepresentsBut s.history failed) since.left) left)
 
     -- the store is open when the crash comes, or it isn't
-    by_state : (call : Call) (end : StoreValue D) → IsCall view s call end → CrashLeaves (view s.disk).moments (view end.disk).moments bytes → (needs : Bool) → s.needs_reopen ≡ needs → Remains failed (Some call) s.history bytes
-    by_state call end is left true needs = stays_remains (Some call) (subst (λ (d : StoreValue D). CrashLeaves (view s.disk).moments (view d.disk).moments bytes) (is.closed needs).0 left)
+    by_state : (call : Call) (end : StoreValue D) → IsCall view s call end → CrashLeaves (view s.disk).moments (view end.disk).moments moment bytes → (needs : Bool) → s.needs_reopen ≡ needs → Remains failed (Some call) s.history bytes
+    by_state call end is left true needs = stays_remains (Some call) (subst (λ (d : StoreValue D). CrashLeaves (view s.disk).moments (view d.disk).moments moment bytes) (is.closed needs).0 left)
     by_state call end is left false still =
         cut_remains failed (Some call) s.history bytes call refl
-        (left_has (view s.disk).moments (view end.disk).moments (RepresentsAround s.history call) bytes (is.any_moment since.up (since.acknowledged still)) left)
+        (left_has (view s.disk).moments (view end.disk).moments moment (RepresentsAround s.history call) bytes (is.any_moment since.up (since.acknowledged still)) left)
 
-    crash_remains : (within : Option Call) → HasCrashed view s within bytes → Remains failed within s.history bytes
+    crash_remains : (within : Option Call) → HasCrashed view s within moment bytes → Remains failed within s.history bytes
     crash_remains None left = stays_remains None left
     crash_remains (Some call) stopped = by_state call stopped.0 stopped.1 stopped.2 s.needs_reopen refl
 
@@ -152,7 +157,7 @@ module _ {D : Type 0} (view : D → DiskView) where
   reopened : (openings : List (D × D)) (bytes : List ℕ) (s : StoreValue D) → IsReopened view bytes openings s → IsOpeningOf (Ok s) bytes × (view s.disk).is_honest × IsAcknowledged view s
   reopened [] bytes s r = (subst (λ (b : List ℕ). IsOpeningOf (Ok s) b) r.1.read r.1.exact, r.1.honesty, r.1.acknowledged)
   reopened (opening ∷ more) bytes s r =
-      let same : r.0 ≡ bytes = r.1.crash r.0 (left_has (view opening.0).moments (view opening.1).moments (IsImage (view opening.0).moments.state) r.0 r.1.any_moment r.1.is_left) in
+      let same : r.0 ≡ bytes = r.1.crash r.0 (left_has (view opening.0).moments (view opening.1).moments r.1.moment (IsImage (view opening.0).moments.state) r.0 r.1.any_moment r.1.is_left) in
       reopened more bytes s (subst (λ (b : List ℕ). IsReopened view b more s) same r.2)
 
   -- ---- lives
@@ -166,13 +171,13 @@ module _ {D : Type 0} (view : D → DiskView) where
 
   after_crash : (s next : StoreValue D) (failed : Option Release) (within : Option Call) → IsSince view s failed → IsEvent view s (Crashed within) next → HasReopened failed s.history within next
   after_crash s next failed within since e =
-      let opened = reopened e.1 e.0 next e.3 in
-      let r = crash_remains s failed since e.0 within e.2 in
+      let opened = reopened e.2 e.1 next e.4 in
+      let r = crash_remains s failed since e.0 e.1 within e.3 in
       record {
         since = since_opened view next opened.1 opened.2;
         other = r.0;
         may = r.1;
-        takes = opened_as r.2.0 e.0 (λ (k : History). TakesAll s.history r.0 k) r.2.2 r.2.1 (Ok next) opened.0;
+        takes = opened_as r.2.0 e.1 (λ (k : History). TakesAll s.history r.0 k) r.2.2 r.2.1 (Ok next) opened.0;
       }
 
   keeps : (events : List Event) (s last : StoreValue D) (failed : Option Release) → IsSince view s failed → IsLife view s events last
@@ -180,23 +185,23 @@ module _ {D : Type 0} (view : D → DiskView) where
   keeps [] s last failed since same = ([], refl, ap (λ (d : StoreValue D). d.history) same)
   keeps (Called call ∷ events) s last failed since l =
       let more = keeps events l.0 last (option_or failed (failing call)) (after_call view s l.0 failed call since l.1) l.2 in
-      (taken call ++ more.0, (more.0, refl, more.1), takes_more s.history l.0.history last.history (taken call) more.0 (l.1.history since.up) more.2)
+      (taken call ++ more.0, (more.0, refl, more.1), takes_more s.history l.0.history last.history (taken call) more.0 (l.1.history (inr since.up)) more.2)
   keeps (Crashed within ∷ events) s last failed since l =
       let r = after_crash s l.0 failed within since l.1 in
       let more = keeps events l.0 last None r.since l.2 in
       (r.other ++ more.0, (r.other, more.0, refl, r.may, more.1), takes_more s.history l.0.history last.history r.other more.0 r.takes more.2)
 
-  opens : (events : List Event) (s last : StoreValue D) (failed : Option Release) → IsSince view s failed → IsLife view s events last → (within : Option Call) (bytes : List ℕ) → HasCrashed view last within bytes
+  opens : (events : List Event) (s last : StoreValue D) (failed : Option Release) → IsSince view s failed → IsLife view s events last → (within : Option Call) (moment : Moments) (bytes : List ℕ) → HasCrashed view last within moment bytes
       → (releases : List Release) × AreKept failed (events ++ Crashed within ∷ []) releases × RepresentsAfter s.history releases bytes
-  opens [] s last failed since same within bytes stopped =
-      let r = crash_remains s failed since bytes within (subst (λ (d : StoreValue D). HasCrashed view d within bytes) same stopped) in
+  opens [] s last failed since same within moment bytes stopped =
+      let r = crash_remains s failed since moment bytes within (subst (λ (d : StoreValue D). HasCrashed view d within moment bytes) same stopped) in
       (r.0 ++ [], (r.0, [], refl, r.1, refl), more_after s.history r.2.0 r.0 [] bytes r.2.1 (r.2.0, refl, r.2.2))
-  opens (Called call ∷ events) s last failed since l within bytes stopped =
-      let more = opens events l.0 last (option_or failed (failing call)) (after_call view s l.0 failed call since l.1) l.2 within bytes stopped in
-      (taken call ++ more.0, (more.0, refl, more.1), more_after s.history l.0.history (taken call) more.0 bytes (l.1.history since.up) more.2)
-  opens (Crashed cut ∷ events) s last failed since l within bytes stopped =
+  opens (Called call ∷ events) s last failed since l within moment bytes stopped =
+      let more = opens events l.0 last (option_or failed (failing call)) (after_call view s l.0 failed call since l.1) l.2 within moment bytes stopped in
+      (taken call ++ more.0, (more.0, refl, more.1), more_after s.history l.0.history (taken call) more.0 bytes (l.1.history (inr since.up)) more.2)
+  opens (Crashed cut ∷ events) s last failed since l within moment bytes stopped =
       let r = after_crash s l.0 failed cut since l.1 in
-      let more = opens events l.0 last None r.since l.2 within bytes stopped in
+      let more = opens events l.0 last None r.since l.2 within moment bytes stopped in
       (r.other ++ more.0, (r.other, more.0, refl, r.may, more.1), more_after s.history l.0.history r.other more.0 bytes r.takes more.2)
 
   -- ---- a crash while calls are made
@@ -219,51 +224,43 @@ module _ {D : Type 0} (view : D → DiskView) where
       let m = (view s.disk).moments in
       (more.0 ++ first.0, more.1 ∙ ap (λ (l : List DiskState). more.0 ++ l) first.1 ∙ sym (append_assoc more.0 first.0 (m.state ∷ m.past)))
 
+  -- a list that ends in two ways ends in one and then in the other
+  ends_in : (xs ys zs ws : List DiskState) → xs ++ ys ≡ zs ++ ws → ((d : List DiskState) × (ws ≡ d ++ ys)) ⊎ ((d : List DiskState) × (ys ≡ d ++ ws))
+  ends_in [] ys zs ws e = inr (zs, e)
+  ends_in (x ∷ xs) ys [] ws e = inl (x ∷ xs, sym e)
+  ends_in (x ∷ xs) ys (z ∷ zs) ws e = ends_in xs ys zs ws (cc)
+
   -- where a crash came
-  abbrev Came : StoreValue D → List Call → List ℕ → Type 0
-  Came s calls bytes = (before : List Call) × (within : Option Call) × (behind : List Call) × (mid : StoreValue D)
-      × (calls ≡ before ++ option_to_list within ++ behind) × IsLife view s (map Called before) mid × HasCrashed view mid within bytes
+  abbrev Came : StoreValue D → List Call → Moments → List ℕ → Type 0
+  Came s calls moment bytes = (before : List Call) × (within : Option Call) × (behind : List Call) × (mid : StoreValue D)
+      × (calls ≡ before ++ option_to_list within ++ behind) × IsLife view s (map Called before) mid × HasCrashed view mid within moment bytes
 
-  module _ (s next last : StoreValue D) (call : Call) (calls : List Call) (bytes : List ℕ) (made : IsCall view s call next) (first : Since (view s.disk).moments (view next.disk).moments) (more : Since (view next.disk).moments (view last.disk).moments)
-      (left : CrashLeaves (view s.disk).moments (view last.disk).moments bytes) (later : CrashLeaves (view next.disk).moments (view last.disk).moments bytes → Came next calls bytes) where
-    abbrev m : Moments
-    m = (view s.disk).moments
+  module _ (s next last : StoreValue D) (call : Call) (calls : List Call) (moment : Moments) (bytes : List ℕ) (made : IsCall view s call next) (more : Since (view next.disk).moments (view last.disk).moments)
+      (left : CrashLeaves (view s.disk).moments (view last.disk).moments moment bytes) (later : CrashLeaves (view next.disk).moments (view last.disk).moments moment bytes → Came next calls moment bytes) where
+    abbrev then_on : List DiskState
+    then_on = moment.state ∷ moment.past
 
-    abbrev n : Moments
-    n = (view next.disk).moments
-
-    -- the states since are those of the first call and of the others
-    whole : left.since ≡ more.0 ++ first.0
-    whole = append_cancel_right left.since (more.0 ++ first.0) (m.state ∷ m.past)
-        (sym left.grows ∙ more.1 ∙ ap (λ (l : List DiskState). more.0 ++ l) first.1 ∙ sym (append_assoc more.0 first.0 (m.state ∷ m.past)))
+    abbrev next_on : List DiskState
+    next_on = (view next.disk).moments.state ∷ (view next.disk).moments.past
 
     -- the crash came in the first call or in one of the others
-    parts : Contains (m.state ∷ (more.0 ++ first.0)) left.state → Contains more.0 left.state ⊎ Contains (m.state ∷ first.0) left.state
-    parts h = ⊎_elim
-        (λ (at : Contains (m.state ∷ more.0) left.state). ⊎_elim
-        (λ (one : Contains (m.state ∷ []) left.state). inr (Contains-append_left (m.state ∷ []) first.0 left.state one))
-        (λ (late : Contains more.0 left.state). inl late)
-        (Contains-append_cases (m.state ∷ []) more.0 left.state at))
-        (λ (at : Contains first.0 left.state). inr (Contains-append_right (m.state ∷ []) first.0 left.state at))
-        (Contains-append_cases (m.state ∷ more.0) first.0 left.state h)
-
-    came_by : Contains more.0 left.state ⊎ Contains (m.state ∷ first.0) left.state → Came s (call ∷ calls) bytes
-    came_by (inr here) = ([], Some call, calls, s, refl, refl, (next, made, record { since = first.0; grows = first.1; state = left.state; is_one = here; image = left.image }))
-    came_by (inl late) =
-        let r = later (record { since = more.0; grows = more.1; state = left.state; is_one = Contains-append_right (n.state ∷ []) more.0 left.state late; image = left.image }) in
+    came_by : ((d : List DiskState) × (next_on ≡ d ++ then_on)) ⊎ ((d : List DiskState) × (then_on ≡ d ++ next_on)) → Came s (call ∷ calls) moment bytes
+    came_by (inl here) = ([], Some call, calls, s, refl, refl, (next, made, record { before = left.before; behind = here.0; since = left.since; grows = here.1; image = left.image }))
+    came_by (inr late) =
+        let r = later (record { before = late.0; behind = left.behind; since = late.1; grows = left.grows; image = left.image }) in
         (call ∷ r.0, r.1, r.2, r.3, ap (λ (cs : List Call). call ∷ cs) r.4, (next, made, r.5), r.6)
 
-    came_in : Came s (call ∷ calls) bytes
-    came_in = came_by (parts (subst (λ (l : List DiskState). Contains (m.state ∷ l) left.state) whole left.is_one))
+    came_in : Came s (call ∷ calls) moment bytes
+    came_in = came_by (ends_in left.behind then_on more.0 next_on (sym left.grows ∙ more.1))
 
-  came : (calls : List Call) (s last : StoreValue D) (failed : Option Release) (bytes : List ℕ) → IsSince view s failed → IsLife view s (map Called calls) last
-      → CrashLeaves (view s.disk).moments (view last.disk).moments bytes → Came s calls bytes
-  came [] s last failed bytes since same left =
-      ([], None, [], s, refl, refl, subst (λ (d : StoreValue D). CrashLeaves (view s.disk).moments (view d.disk).moments bytes) same left)
-  came (call ∷ calls) s last failed bytes since l left =
+  came : (calls : List Call) (s last : StoreValue D) (failed : Option Release) (moment : Moments) (bytes : List ℕ) → IsSince view s failed → IsLife view s (map Called calls) last
+      → CrashLeaves (view s.disk).moments (view last.disk).moments moment bytes → Came s calls moment bytes
+  came [] s last failed moment bytes since same left =
+      ([], None, [], s, refl, refl, subst (λ (d : StoreValue D). CrashLeaves (view s.disk).moments (view d.disk).moments moment bytes) same left)
+  came (call ∷ calls) s last failed moment bytes since l left =
       let next = after_call view s l.0 failed call since l.1 in
       let now = option_or failed (failing call) in
-      came_in s l.0 last call calls bytes l.1 (since_made s l.0 failed call since l.1) (since_all calls l.0 last now next l.2) left (came calls l.0 last now bytes next l.2)
+      came_in s l.0 last call calls moment bytes l.1 (since_all calls l.0 last now next l.2) left (came calls l.0 last now moment bytes next l.2)
 
 -- ---- what is kept holds what was acknowledged
 
@@ -312,17 +309,17 @@ module _ (D : Type 0) (view : D → DiskView) where
   each_life_keeps first last events up ack lives = keeps view events first last None (since_opened view first up ack) lives
 
   pub each_life_stands : EachLifeIsRepresented D view
-  each_life_stands first last events within bytes up ack lives stopped =
-      let r = opens view events first last None (since_opened view first up ack) lives within bytes stopped in
+  each_life_stands first last events within moment bytes up ack lives stopped =
+      let r = opens view events first last None (since_opened view first up ack) lives within moment bytes stopped in
       (r.0, r.2.0, r.1, r.2.1, r.2.2)
 
   pub each_life_opens : EachLifeIsOpened D view
-  each_life_opens first last events within bytes result up ack lives stopped is =
-      let r = each_life_stands first last events within bytes up ack lives stopped in
+  each_life_opens first last events within moment bytes result up ack lives stopped is =
+      let r = each_life_stands first last events within moment bytes up ack lives stopped in
       opened_as r.1 bytes (λ (k : History). (releases : List Release) × AreKept None (events ++ Crashed within ∷ []) releases × TakesAll first.history releases k) r.4 (r.0, r.2, r.3) result is
 
   pub each_crash_came : EachCrashIsOfALife D view
-  each_crash_came first last calls bytes up ack lives left = came view calls first last None bytes (since_opened view first up ack) lives left
+  each_crash_came first last calls moment bytes up ack lives left = came view calls first last None moment bytes (since_opened view first up ack) lives left
 
   pub lives_compose : LivesCompose D view
   lives_compose first mid last [] more same lives = subst (λ (s : StoreValue D). IsLife view s more last) same lives

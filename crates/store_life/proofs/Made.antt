@@ -7,20 +7,19 @@ use Rattle.history_model.specs.declared.receipt.Receipt.{Receipt}
 use Rattle.import_check.specs.declared.release.Release.{Release}
 use Rattle.import_check.specs.declared.contradicting.Contradictions.{Contradictions}
 use Rattle.directory.specs.declared.layout.Layout.{Layout}
-use Rattle.directory.specs.declared.layout.Layout.TheVariants as layouts
 use Rattle.directory.specs.Listings.{next_layout}
 use Rattle.history_model.specs.History.{History}
 use Rattle.store_image.specs.Images.{RepresentsAs, RepresentsHistory}
 use Rattle.history_store.specs.declared.refusal.Refusal.{Refusal}
 use Rattle.history_store.specs.declared.refusal.Refusal.TheVariants as store
 use Rattle.history_store.specs.StoreValue.{StoreValue, IsAcknowledged}
-use Rattle.history_store.specs.Answers.{IsStill, IsRefused, IsImportOf, IsImportOnAnyDisk, IsRefusedFor, IsNotTakenByKey, IsBeforeOrAfter, IsReadingOf}
+use Rattle.history_store.specs.Answers.{IsStill, IsRefused, IsImportOf, IsImportOnAnyDisk, IsBeforeOrAfter, IsReadingOf}
 use Rattle.history_store.specs.Crashes.{IsCrashSafe}
 use Rattle.history_store.specs.Checking.{IsCheckingOnAnyDisk}
 use Rattle.history_store.specs.MergeAnswers.{IsBeginningOf, IsSteppingOf, IsAbandoningOf, IsTrimmingOf}
 use Rattle.disk_model.specs.View.{DiskView}
 use Rattle.store_life.specs.Life.{Imported, Failed, Other, RepresentsAround, RepresentsNext, IsCall}
-use Rattle.store_life.specs.Calls.{ImportIsACall, CheckIsACall, ListingIsACall, QueryIsACall, UnchangedIsACall, MergeBeginIsACall, MergeStepIsACall, MergePublishIsACall, UpgradeIsACall, RewriteIsACall, MergeAbandonIsACall, TrimIsACall}
+use Rattle.store_life.specs.Calls.{ImportIsACall, CheckIsACall, ListingIsACall, QueryIsACall, UnchangedIsACall, MergeBeginIsACall, MergeStepIsACall, MergePublishIsACall, MergeAbandonIsACall, TrimIsACall}
 
 -- ---- calls that leave the history
 
@@ -30,11 +29,11 @@ held view s a c image = (s.catalog.layout, (s.catalog.epoch, s.catalog.entries, 
 
 module _ {D : Type 0} (view : D → DiskView) (old new : StoreValue D) where
   -- a crash at any moment leaves the history
-  kept : ((view old.disk).is_honest → new.history ≡ old.history) → (old.needs_reopen ≡ true → new ≡ old) → ((view old.disk).is_honest ↔ (view new.disk).is_honest)
+  kept : new.history ≡ old.history → (old.needs_reopen ≡ true → new ≡ old) → ((view old.disk).is_honest ↔ (view new.disk).is_honest)
       → ((view old.disk).is_honest → IsAcknowledged view old → LeavesOnly (view old.disk).moments (view new.disk).moments (RepresentsHistory old.history))
       → ((view old.disk).is_honest → IsAcknowledged view old → new.needs_reopen ≡ false → IsAcknowledged view new) → IsCall view old Other new
   kept history closed honesty any ack = record {
-    history = history;
+    history = λ of_any. history;
     needs_reopen = tt;
     closed = λ needs. (closed needs, refl);
     honesty = honesty;
@@ -46,7 +45,7 @@ module _ {D : Type 0} (view : D → DiskView) (old new : StoreValue D) where
   still : new.history ≡ old.history → (old.needs_reopen ≡ true → new ≡ old) → ((view old.disk).is_honest ↔ (view new.disk).is_honest)
       → ((view old.disk).is_honest → (view new.disk).moments ≡ (view old.disk).moments) → ((view old.disk).is_honest → new.needs_reopen ≡ false → IsAcknowledged view new) → IsCall view old Other new
   still history closed honesty same ack =
-      kept (λ h. history) closed honesty
+      kept history closed honesty
       (λ h a. stayed (view old.disk).moments (view new.disk).moments (RepresentsHistory old.history) (same h) (held view old a))
       (λ h a open_still. ack h open_still)
 
@@ -58,25 +57,19 @@ module _ {D : Type 0} (view : D → DiskView) (old new : StoreValue D) where
   -- it is, and a crash leaves the history in the version from before
   busy : new.history ≡ old.history → IsCrashSafe view (RepresentsAs old.catalog.layout old.history) old new → ((view old.disk).is_honest ↔ (view new.disk).is_honest) → IsCall view old Other new
   busy history crash honesty =
-      kept (λ h. history) crash.closed honesty
+      kept history crash.closed honesty
       (λ h a. weaker (view old.disk).moments (view new.disk).moments (RepresentsAs old.catalog.layout old.history) (RepresentsHistory old.history) (λ c s. (old.catalog.layout, s)) (crash.any_moment h a.open_still))
       (λ h a open_still. crash.acknowledged h open_still)
 
 -- no call at all
 pub unmade : {D : Type 0} (view : D → DiskView) (s : StoreValue D) → IsCall view s Other s
-unmade view s = kept view s s (λ h. refl) (λ needs. refl) (λ h. h, λ h. h) (λ h a. stayed (view s.disk).moments (view s.disk).moments (RepresentsHistory s.history) refl (held view s a)) (λ h a open_still. a)
+unmade view s = kept view s s refl (λ needs. refl) (λ h. h, λ h. h) (λ h a. stayed (view s.disk).moments (view s.disk).moments (RepresentsHistory s.history) refl (held view s a)) (λ h a open_still. a)
 
 -- ---- imports
 
 abbrev is_fault : Refusal → Bool
 is_fault store.DiskFault = true
 is_fault _ = false
-
--- a store that has to be opened again isn't blamed on the disk
-open_at_fault : {D : Type 0} (e : Refusal) (s : StoreValue D) (release : Release) → e ≡ store.DiskFault → IsRefusedFor (IsNotTakenByKey s.history s.catalog release) e s → s.needs_reopen ≡ false
-open_at_fault e s release is cause = at_fault (subst (λ (r : Refusal). IsRefusedFor (IsNotTakenByKey s.history s.catalog release) r s) is cause) where
-  at_fault : IsRefusedFor (IsNotTakenByKey s.history s.catalog release) store.DiskFault s → s.needs_reopen ≡ false
-  at_fault h = h.0
 
 module _ {D : Type 0} (view : D → DiskView) (old new : StoreValue D) (release : Release) (crash : IsCrashSafe view (IsBeforeOrAfter old.catalog.layout old.history release) old new) (honesty : (view old.disk).is_honest ↔ (view new.disk).is_honest) where
   before_or_after : (c : List ℕ) → IsBeforeOrAfter old.catalog.layout old.history release c → RepresentsHistory old.history c ⊎ RepresentsNext old.history release c
@@ -86,7 +79,7 @@ module _ {D : Type 0} (view : D → DiskView) (old new : StoreValue D) (release 
   -- the store took it
   imported : (receipt : Receipt) → IsImportOnAnyDisk (Ok receipt) old new release → ((view old.disk).is_honest → IsImportOf (Ok receipt) old new release) → IsCall view old (Imported release) new
   imported receipt at_all answer = record {
-    history = λ h. let t = (answer h).0 in (t.accepted, t.history);
+    history = λ of_any. elim of_any [ inl none ↦ absurd (cc) | inr h ↦ (let t = (answer h).0 in (t.accepted, t.history)) ];
     needs_reopen = at_all.2;
     closed = λ needs. absurd (false≢true (sym at_all.1 ∙ needs));
     honesty = honesty;
@@ -95,11 +88,10 @@ module _ {D : Type 0} (view : D → DiskView) (old new : StoreValue D) (release 
   }
 
   -- the disk failed
-  failed : (e : Refusal) → e ≡ store.DiskFault → IsRefusedFor (IsNotTakenByKey old.history old.catalog release) e old → IsRefused e old new → IsCall view old (Failed release) new
-  failed e is_fault cause r =
-      let open_before = open_at_fault e old release is_fault cause in
+  failed : (e : Refusal) → e ≡ store.DiskFault → old.needs_reopen ≡ false → IsRefused e old new → IsCall view old (Failed release) new
+  failed e is_fault open_before r =
       record {
-        history = λ h. r.history;
+        history = λ of_any. r.history;
         needs_reopen = r.closed is_fault;
         closed = λ needs. absurd (false≢true (sym open_before ∙ needs));
         honesty = honesty;
@@ -110,7 +102,7 @@ module _ {D : Type 0} (view : D → DiskView) (old new : StoreValue D) (release 
 module _ {D : Type 0} (view : D → DiskView) where
   pub import_made : ImportIsACall D view
   import_made old new release (Ok receipt) answer at_all crash same honesty = imported view old new release crash honesty receipt at_all answer
-  import_made old new release (Err store.DiskFault) answer at_all crash same honesty = failed view old new release crash honesty store.DiskFault refl at_all.0 at_all.1
+  import_made old new release (Err store.DiskFault) answer at_all crash same honesty = failed view old new release crash honesty store.DiskFault refl at_all.0.0 at_all.1
   import_made old new release (Err e) answer at_all crash same honesty =
       still view old new at_all.1.history crash.closed honesty (λ h. same h (λ is. false≢true (ap is_fault is))) crash.acknowledged
 
@@ -164,20 +156,10 @@ module _ {D : Type 0} (view : D → DiskView) where
 
   pub publish_made : MergePublishIsACall D view
   publish_made old new history crash honesty =
-      kept view old new (λ h. history) crash.closed honesty
+      kept view old new history crash.closed honesty
       (λ h a. weaker (view old.disk).moments (view new.disk).moments (λ c. RepresentsAs old.catalog.layout old.history c ⊎ RepresentsAs (next_layout old.catalog.layout) old.history c) (RepresentsHistory old.history)
       (either old.history old.catalog.layout (next_layout old.catalog.layout)) (crash.any_moment h a.open_still))
       (λ h a open_still. crash.acknowledged h open_still)
-
-  pub upgrade_made : UpgradeIsACall D view
-  upgrade_made old new history crash honesty =
-      kept view old new (λ h. history) crash.closed honesty
-      (λ h a. weaker (view old.disk).moments (view new.disk).moments (λ c. RepresentsAs old.catalog.layout old.history c ⊎ RepresentsAs layouts.Three old.history c) (RepresentsHistory old.history)
-      (either old.history old.catalog.layout layouts.Three) (crash.any_moment h a.open_still))
-      (λ h a open_still. crash.acknowledged h open_still)
-
-  pub rewrite_made : RewriteIsACall D view
-  rewrite_made old new history crash honesty = busy view old new history crash honesty
 
   same_abandoned : (result : Result (Unit {0}) Refusal) (old new : StoreValue D) → IsAbandoningOf result old new → new.history ≡ old.history
   same_abandoned (Ok done) old new a = a.2.history

@@ -8,7 +8,6 @@ use Rattle.history_model.specs.History.{History, after_release}
 use Rattle.history_model.specs.Lists.{new_rows}
 use Rattle.import_check.specs.declared.release.Release.{Release}
 use Rattle.import_check.proofs.Receipts.{one_list}
-use Rattle.directory.specs.Listings.{form_of}
 use Rattle.store_image.specs.Kept.{entry_at}
 use Rattle.history_store.specs.declared.refusal.Refusal.{Refusal}
 use Rattle.history_store.specs.declared.refusal.Refusal.TheVariants as refusals
@@ -24,7 +23,7 @@ one_next : (rows : List StampedRow) (catalog next other : Catalog) → IsCatalog
 one_next [] catalog next other a b = b ∙ sym a
 one_next (s ∷ rows) catalog next other a b =
     let first : b.first ≡ a.first = one_value _ b.first a.first b.place a.place in
-    b.next_is ∙ ap (λ (k : ℕ). record (next_catalog catalog) { entries = catalog.entries ++ entry_at (form_of catalog.layout) k (s ∷ rows) ∷ [] }) first ∙ sym a.next_is
+    b.next_is ∙ ap (λ (k : ℕ). record (next_catalog catalog) { entries = catalog.entries ++ entry_at catalog.layout k (s ∷ rows) ∷ [] }) first ∙ sym a.next_is
 
 -- a store that is like another, with the other's parts
 like : {D : Type 0} (a b : StoreValue D) → b.history ≡ a.history → b.catalog ≡ a.catalog → b.needs_reopen ≡ a.needs_reopen → b ≡ record b { history = a.history; catalog = a.catalog; needs_reopen = a.needs_reopen }

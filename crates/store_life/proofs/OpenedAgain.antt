@@ -1,5 +1,5 @@
 -- What making, opening and closing a store are in its life.
-use Rattle.std.proofs.Common.{◌⊎◌, inl, inr, Ok, Err, [], refl, arith}
+use Rattle.std.proofs.Common.{◌⊎◌, inl, inr, Ok, Err, [], refl}
 use Rattle.std.specs.Prelude.{IfOk}
 use Rattle.disk_model.specs.Disk.{IsImage}
 use Rattle.history_store.specs.StoreValue.{IsAcknowledged}
@@ -27,12 +27,12 @@ pub each_life_begins : (D : Type 0) (view : D → DiskView) → EachLifeBegins D
 each_life_begins D view disk layout result up had = begins view disk up layout result had
 
 pub each_opening_is_of_a_life : (D : Type 0) (view : D → DiskView) → EachOpeningIsOfALife D view
-each_opening_is_of_a_life D view disk result up opening = (opened_from view disk up result opening, λ left crash is_left. record { is_honest = up; read = refl; crash = crash; any_moment = opening.any_moment up; is_left = is_left })
+each_opening_is_of_a_life D view disk result up opening = (opened_from view disk up result opening, λ moment left crash is_left. record { is_honest = up; read = refl; crash = crash; any_moment = opening.any_moment up; moment = moment; is_left = is_left })
 
 pub closed_store_is_opened : (D : Type 0) (view : D → DiskView) → ((disk : D) → (view disk).is_honest → IsImage (view disk).moments.state (view disk).moments.state.now) → ClosedStoreIsOpened D view
 closed_store_is_opened D view now_is_image old new up opening =
     let bytes = (view old.disk).moments.state.now in
     let image = now_is_image old.disk up in (
-      (bytes, [], record { since = []; grows = refl; state = (view old.disk).moments.state; is_one = (0, omega arith, refl); image = image }, (old.disk, opened_from view old.disk up (Ok new) opening)),
+      ((view old.disk).moments, bytes, [], record { before = []; behind = []; since = refl; grows = refl; image = image }, (old.disk, opened_from view old.disk up (Ok new) opening)),
       λ ack. opened_is_what_is_represented new bytes old.history old.catalog.layout old.catalog.epoch old.catalog.entries (ack.each bytes image) (opening.exact up),
     )

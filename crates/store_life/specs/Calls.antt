@@ -4,7 +4,6 @@ use Rattle.std.specs.Prelude.{◌≡◌, ◌⊎◌, ◌↔◌, true, false, ℕ,
 use Rattle.history_model.specs.declared.receipt.Receipt.{Receipt}
 use Rattle.import_check.specs.declared.release.Release.{Release}
 use Rattle.import_check.specs.declared.contradicting.Contradictions.{Contradictions}
-use Rattle.directory.specs.declared.layout.Layout.TheVariants as layouts
 use Rattle.directory.specs.Listings.{next_layout}
 use Rattle.store_image.specs.Images.{RepresentsAs}
 use Rattle.history_store.specs.declared.refusal.Refusal.{Refusal}
@@ -88,23 +87,6 @@ MergePublishIsACall D view = (old new : StoreValue D)
     → new.history ≡ old.history
     → IsCrashSafe view (λ c. RepresentsAs old.catalog.layout old.history c
     ⊎ RepresentsAs (next_layout old.catalog.layout) old.history c) old new
-    → ((view old.disk).is_honest ↔ (view new.disk).is_honest)
-    → IsCall view old Other new
-
--- by `Store::upgrade · history, crash, meters`
-abbrev pub UpgradeIsACall : (D : Type 0) → (D → DiskView) → Type 0
-UpgradeIsACall D view = (old new : StoreValue D)
-    → new.history ≡ old.history
-    → IsCrashSafe view (λ c. RepresentsAs old.catalog.layout old.history c
-    ⊎ RepresentsAs layouts.Three old.history c) old new
-    → ((view old.disk).is_honest ↔ (view new.disk).is_honest)
-    → IsCall view old Other new
-
--- by `Store::rewrite · history, crash, meters`
-abbrev pub RewriteIsACall : (D : Type 0) → (D → DiskView) → Type 0
-RewriteIsACall D view = (old new : StoreValue D)
-    → new.history ≡ old.history
-    → IsCrashSafe view (RepresentsAs old.catalog.layout old.history) old new
     → ((view old.disk).is_honest ↔ (view new.disk).is_honest)
     → IsCall view old Other new
 

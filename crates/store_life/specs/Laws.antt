@@ -2,8 +2,8 @@
 use Rattle.std.specs.Prelude.{◌≡◌, ◌⊎◌, ℕ, ◌++◌, ◌+◌, ◌≤◌, List, [], ◌∷◌, length, map, Option}
 use Rattle.std.specs.Prelude.{None, Result, Ok, IfOk, MatchResult}
 use Rattle.std.specs.Option.{option_to_list}
-use Rattle.disk_model.specs.Disk.{EachImage}
-use Rattle.history_model.specs.History.{History, rows_at}
+use Rattle.disk_model.specs.Disk.{EachImage, Moments}
+use Rattle.history_model.specs.History.{History, IsHistory, rows_at}
 use Rattle.history_model.specs.Brought.{brought_by}
 use Rattle.history_model.specs.declared.receipt.Receipt.{Receipt}
 use Rattle.import_check.specs.declared.release.Release.{Release}
@@ -39,9 +39,9 @@ EachOpeningIsOfALife D view =
     (disk : D) (result : StoreOr D) → (view disk).is_honest
     → IsOpening result view disk
     → IfOk result (IsOpenedFrom view (view disk).moments.state.now disk)
-    × ((left : List ℕ)
+    × ((moment : Moments) (left : List ℕ)
     → EachImage (view disk).moments.state (λ c. c ≡ (view disk).moments.state.now)
-    → CrashLeaves (view disk).moments (view (disk_of result)).moments left
+    → CrashLeaves (view disk).moments (view (disk_of result)).moments moment left
     → OpeningLeaves view (view disk).moments.state.now disk (disk_of result) left)
 
 -- Closing a store, and opening it again from its disk without a crash in between, is an event of a
@@ -60,18 +60,23 @@ LivesCompose D view = (first mid last : StoreValue D) (events more : List Event)
     → IsLife view first events mid → IsLife view mid more last
     → IsLife view first (events ++ more) last
 
--- A crash at any moment while calls are made, one after the other, comes between two of them or
--- interrupts one: those before it were made, and those after it weren't.
+-- A crash at a moment while calls are made, one after the other, comes between two of them or
+-- interrupts one, at that moment: those before it were made, and those after it weren't.
 abbrev pub EachCrashIsOfALife : (D : Type 0) → (D → DiskView) → Type 0
-EachCrashIsOfALife D view = (first last : StoreValue D) (calls : List Call) (bytes : List ℕ)
-    → (view first.disk).is_honest → IsAcknowledged view first
+EachCrashIsOfALife D view = (first last : StoreValue D) (calls : List Call) (moment : Moments)
+    (bytes : List ℕ) → (view first.disk).is_honest → IsAcknowledged view first
     → IsLife view first (map Called calls) last
-    → CrashLeaves (view first.disk).moments (view last.disk).moments bytes
+    → CrashLeaves (view first.disk).moments (view last.disk).moments moment bytes
     → (before : List Call) × (within : Option Call) × (behind : List Call) × (mid : StoreValue D)
     × (calls ≡ before ++ option_to_list within ++ behind)
-    × IsLife view first (map Called before) mid × HasCrashed view mid within bytes
+    × IsLife view first (map Called before) mid × HasCrashed view mid within moment bytes
 
 -- ---- what a life preserves
+
+-- what an acknowledged store holds is a history
+abbrev pub WhatIsHeldIsAHistory : (D : Type 0) → (D → DiskView) → Type 0
+WhatIsHeldIsAHistory D view = (s : StoreValue D) → (view s.disk).is_honest → IsAcknowledged view s
+    → IsHistory s.history
 
 -- Over any number of calls, crashes and openings the history is the one from the beginning with
 -- each release whose import was acknowledged, in order, and with at most one other for each crash.
@@ -94,9 +99,9 @@ KeptAreAcknowledged = (events : List Event) (releases : List Release)
 -- represents the history from the beginning with the releases that the life keeps.
 abbrev pub EachLifeIsRepresented : (D : Type 0) → (D → DiskView) → Type 0
 EachLifeIsRepresented D view = (first last : StoreValue D) (events : List Event)
-    (within : Option Call) (bytes : List ℕ)
+    (within : Option Call) (moment : Moments) (bytes : List ℕ)
     → (view first.disk).is_honest → IsAcknowledged view first
-    → IsLife view first events last → HasCrashed view last within bytes
+    → IsLife view first events last → HasCrashed view last within moment bytes
     → (releases : List Release) × (after : History)
     × AreKept None (events ++ Crashed within ∷ []) releases
     × TakesAll first.history releases after × RepresentsHistory after bytes
@@ -104,10 +109,10 @@ EachLifeIsRepresented D view = (first last : StoreValue D) (events : List Event)
 -- And it is opened with that history, unless memory runs out during the opening or the disk fails.
 abbrev pub EachLifeIsOpened : (D : Type 0) → (D → DiskView) → Type 0
 EachLifeIsOpened D view = (first last : StoreValue D) (events : List Event)
-    (within : Option Call) (bytes : List ℕ) (result : StoreOr D)
+    (within : Option Call) (moment : Moments) (bytes : List ℕ) (result : StoreOr D)
     → (view first.disk).is_honest → IsAcknowledged view first
     → IsLife view first events last
-    → HasCrashed view last within bytes → IsOpeningOf result bytes
+    → HasCrashed view last within moment bytes → IsOpeningOf result bytes
     → MatchResult result
     (λ s. (releases : List Release) × AreKept None (events ++ Crashed within ∷ []) releases
     × TakesAll first.history releases s.history)

@@ -1,7 +1,6 @@
 -- The life of a store: calls on it, and crashes after which it is opened again.
 use Rattle.std.specs.Prelude.{◌≡◌, ◌↔◌, ◌⊎◌, true, false, Bool, ℕ, ◌+◌, List, [], ◌∷◌, ◌++◌}
 use Rattle.std.specs.Prelude.{Option, Some, None, Ok}
-use Rattle.std.specs.List.{Contains}
 use Rattle.std.specs.Option.{option_or}
 use Rattle.disk_model.specs.Disk.{DiskState, IsImage, EachImage, Moments, LeavesOnly}
 use Rattle.history_model.specs.History.{History, after_release, full}
@@ -62,7 +61,9 @@ RepresentsAround h Other c = RepresentsHistory h c
 -- The call was made on the store.
 pub record IsCall {D : Type 0} (view : D → DiskView)
     (old : StoreValue D) (call : Call) (new : StoreValue D) : Type 0 where
-  pub history : (view old.disk).is_honest → TakesAll old.history (taken call) new.history
+  -- on every disk if nothing was imported, and otherwise on an honest one
+  pub history : (taken call ≡ []) ⊎ (view old.disk).is_honest
+      → TakesAll old.history (taken call) new.history
   pub needs_reopen : NeedsReopenAfter call new.needs_reopen
   -- a store that has to be opened again is unchanged, and so is its disk
   pub closed : old.needs_reopen ≡ true → (new ≡ old) × (call ≡ Other)
@@ -76,22 +77,23 @@ pub record IsCall {D : Type 0} (view : D → DiskView)
 
 -- ---- crashes
 
--- a crash at some moment from the old ones to the new ones may leave these bytes
-pub record CrashLeaves (old new : Moments) (bytes : List ℕ) : Type 0 where
-  -- the states of the disk since old, the newest first
-  pub since : List DiskState
-  pub grows : new.state ∷ new.past ≡ since ++ old.state ∷ old.past
-  -- the state at the moment of the crash; the bytes are an image of it
-  pub state : DiskState
-  pub is_one : Contains (old.state ∷ since) state
-  pub image : IsImage state bytes
+-- a crash at this moment, which is one from the old ones to the new ones, may leave these bytes
+pub record CrashLeaves (old new moment : Moments) (bytes : List ℕ) : Type 0 where
+  -- the states of the disk from old to the moment, and from there to new, the newest first
+  pub before : List DiskState
+  pub behind : List DiskState
+  pub since : moment.state ∷ moment.past ≡ before ++ old.state ∷ old.past
+  pub grows : new.state ∷ new.past ≡ behind ++ moment.state ∷ moment.past
+  pub image : IsImage moment.state bytes
 
--- A crash between two calls may leave these bytes, or one before, during or after the call, which
--- is named by the result that it would have had.
-abbrev pub HasCrashed : {D : Type 0} → (D → DiskView) → StoreValue D → Option Call → List ℕ → Type 0
-HasCrashed view s None bytes = CrashLeaves (view s.disk).moments (view s.disk).moments bytes
-HasCrashed {D} view s (Some call) bytes = (end : StoreValue D) × IsCall view s call end
-    × CrashLeaves (view s.disk).moments (view end.disk).moments bytes
+-- A crash at this moment between two calls may leave these bytes, or one before, during or after the
+-- call, which is named by the result that it would have had.
+abbrev pub HasCrashed : {D : Type 0} → (D → DiskView) → StoreValue D → Option Call → Moments
+    → List ℕ → Type 0
+HasCrashed view s None moment bytes =
+    CrashLeaves (view s.disk).moments (view s.disk).moments moment bytes
+HasCrashed {D} view s (Some call) moment bytes = (end : StoreValue D) × IsCall view s call end
+    × CrashLeaves (view s.disk).moments (view end.disk).moments moment bytes
 
 -- ---- openings
 
@@ -114,7 +116,8 @@ pub record OpeningLeaves {D : Type 0} (view : D → DiskView)
   pub crash : EachImage (view disk).moments.state (λ c. c ≡ bytes)
   pub any_moment : LeavesOnly (view disk).moments (view after).moments
       (IsImage (view disk).moments.state)
-  pub is_left : CrashLeaves (view disk).moments (view after).moments left
+  pub moment : Moments
+  pub is_left : CrashLeaves (view disk).moments (view after).moments moment left
 
 -- A store was opened from the bytes, perhaps after openings that were refused or interrupted by a
 -- crash. Of each of those the disk before and after it is given.
@@ -136,8 +139,9 @@ pub data Event : Type 0 where
 
 abbrev pub IsEvent : {D : Type 0} → (D → DiskView) → StoreValue D → Event → StoreValue D → Type 0
 IsEvent view old (Called call) new = IsCall view old call new
-IsEvent {D} view old (Crashed within) new = (bytes : List ℕ) × (openings : List (D × D))
-    × HasCrashed view old within bytes × IsReopened view bytes openings new
+IsEvent {D} view old (Crashed within) new = (moment : Moments) × (bytes : List ℕ)
+    × (openings : List (D × D)) × HasCrashed view old within moment bytes
+    × IsReopened view bytes openings new
 
 -- the events happened one after the other
 abbrev pub IsLife : {D : Type 0} → (D → DiskView) → StoreValue D → List Event → StoreValue D

@@ -2,14 +2,13 @@
 
 ghost use Rattle.store_life.specs.Calls.{ImportIsACall, CheckIsACall, QueryIsACall};
 ghost use Rattle.store_life.specs.Calls.{ListingIsACall, UnchangedIsACall};
-ghost use Rattle.store_life.specs.Calls.{MergeBeginIsACall, MergeStepIsACall, UpgradeIsACall};
+ghost use Rattle.store_life.specs.Calls.{MergeBeginIsACall, MergeStepIsACall};
 ghost use Rattle.store_life.specs.Calls.{MergePublishIsACall, MergeAbandonIsACall, TrimIsACall};
-ghost use Rattle.store_life.specs.Calls.{RewriteIsACall};
 ghost use Rattle.store_life.specs.Laws.{EachLifeBegins, EachOpeningIsOfALife};
 ghost use Rattle.store_life.specs.Laws.{ClosedStoreIsOpened, LivesCompose, EachCrashIsOfALife};
 ghost use Rattle.store_life.specs.Laws.{EachLifeKeepsItsImports, KeptAreAcknowledged};
 ghost use Rattle.store_life.specs.Laws.{EachLifeIsRepresented, EachLifeIsOpened};
-ghost use Rattle.store_life.specs.Laws.{EachLifeKeepsItsPins, OneImport};
+ghost use Rattle.store_life.specs.Laws.{EachLifeKeepsItsPins, OneImport, WhatIsHeldIsAHistory};
 
 use disk_model::Disk;
 
@@ -54,16 +53,6 @@ pub fn merge_publish_is_a_call<D: Disk>()
     ensures { MergePublishIsACall D D.view }
 {}
 
-/// What `Store::upgrade` ensures makes it such a call.
-pub fn upgrade_is_a_call<D: Disk>()
-    ensures { UpgradeIsACall D D.view }
-{}
-
-/// What `Store::rewrite` ensures makes it such a call.
-pub fn rewrite_is_a_call<D: Disk>()
-    ensures { RewriteIsACall D D.view }
-{}
-
 /// What `Store::merge_abandon` ensures makes it such a call.
 pub fn merge_abandon_is_a_call<D: Disk>()
     ensures { MergeAbandonIsACall D D.view }
@@ -97,6 +86,11 @@ pub fn lives_compose<D: Disk>()
 /// A crash while calls are made comes between two of them or interrupts one.
 pub fn each_crash_is_of_a_life<D: Disk>()
     ensures { EachCrashIsOfALife D D.view }
+{}
+
+/// What an acknowledged store holds is a history, to which the laws of histories apply.
+pub fn what_is_held_is_a_history<D: Disk>()
+    ensures { WhatIsHeldIsAHistory D D.view }
 {}
 
 /// Over any number of calls, crashes and openings no acknowledged import is lost, and of the others

@@ -55,21 +55,6 @@ impl Example {
         }
     }
 
-    /// Upgrades the store to version 3.
-    pub fn upgrade(&mut self) -> Result<(), Refusal> {
-        self.store.upgrade()
-    }
-
-    /// Rewrites the only segment of a store of version 3, if it has no checksums.
-    pub fn rewrite(&mut self) -> Result<bool, Refusal> {
-        self.store.rewrite()
-    }
-
-    /// How many segments have no checksums.
-    pub fn plain_segments(&self) -> u32 {
-        self.store.plain_segments()
-    }
-
     /// Opens the store that a disk represents, or returns the disk.
     pub fn open(alloc: Global, disk: MemDisk) -> Result<Example, (Refusal, MemDisk)> {
         put_in_box(alloc, Store::open(alloc, disk)?)

@@ -12,6 +12,7 @@ front of it.
 
 import argparse
 import asyncio
+import contextlib
 import re
 import signal
 import sys
@@ -21,10 +22,18 @@ from ..snomed import distinct, is_concept_id
 from . import http, limits
 from .app import App, refused_request
 from .fhir.versions import Edition
+from .hub import HubGone, HubRefused
 from .pool import Pool
+from .problems import NO_MEMBERS, Problem
+from .store import View
 
 # A URI that names a code system: a scheme, and no space or control character.
 SYSTEM = re.compile(r"[A-Za-z][A-Za-z0-9+.-]*:[\x21-\x7e]+\Z", re.ASCII)
+# Why a gateway isn't begun.
+NO_ROWS = (
+    "the store has no concept of the module %s: --edition has to be that of the edition in it, "
+    "since each answer says of which edition it is"
+)
 ORIGIN = re.compile(r"https?://[A-Za-z0-9.\[\]:-]+\Z", re.ASCII)
 
 
@@ -39,15 +48,16 @@ def options() -> argparse.Namespace:
     words.add_argument(
         "--languages", type=refsets_of, default=(), metavar="SCTID,..",
         help="the language reference sets whose preferred terms are shown, the most wanted first")
-    words.add_argument(
-        "--map", type=map_of, action="append", default=[], metavar="SCTID=URI",
-        help="the code system to which the simple map of this reference set leads")
+    words.add_argument("--map", type=map_of, action="append", default=[], metavar="SCTID=URI",
+                       help="the code system to which the simple map of this reference set leads")
     words.add_argument(
         "--cors", type=origin_of, action="append", default=[], metavar="ORIGIN",
         help="a site whose pages may read answers, such as https://forms.example.org, or *")
     words.add_argument(
-        "--log", action="store_true", help="a line of each request to standard error"
-    )
+        "--strict", action="store_true",
+        help="refuse parameters that can't change an answer, for all clients")
+    words.add_argument("--log", action="store_true",
+                       help="a line of each request to standard error")
     found = settings.parsed(words, "gateway", sys.argv[1:])
     if not is_concept_id(found.edition):
         words.error("the edition is the SCTID of a module, such as 900000000000207008")
@@ -91,14 +101,37 @@ async def listening(server: http.Server, place: str) -> asyncio.Server:
         server.connected, host.strip("[]"), int(port), backlog=limits.BACKLOG)
 
 
+async def is_of(pool: Pool, edition: Edition) -> bool:
+    """Whether the store has rows of the edition's module. Says on standard error if it has none,
+    or if its layout keeps no members of reference sets. Where no hub answers yet or what it says is
+    too much, or the store is empty, nothing is said."""
+    with contextlib.suppress(HubGone, HubRefused, Problem, TimeoutError):
+        async with asyncio.timeout(limits.BEGIN_SECONDS) as left, pool.session(None) as session:
+            view = View(session)
+            if not await view.keeps_members():
+                tell(NO_MEMBERS)
+            left.reschedule(asyncio.get_running_loop().time() + limits.EDITION_SECONDS)
+            if view.latest and not await view.has_module(edition.module):
+                tell(NO_ROWS % edition.module)
+                return False
+    return True
+
+
+def tell(text: str) -> None:
+    print("sctd-gateway: %s" % text, file=sys.stderr, flush=True)
+
+
 async def serve(found: argparse.Namespace) -> int:
     edition = Edition(found.edition, found.languages, dict(found.map))
-    app = App(Pool(found.socket), edition, found.cors)
+    pool = Pool(found.socket)
+    if not await is_of(pool, edition):
+        return 1
+    app = App(pool, edition, found.cors, found.strict)
     server = http.Server(app.answer, refused_request, [app.count, *[http.log] * found.log])
     try:
         listens = await listening(server, found.listen)
     except OSError as error:
-        print("sctd-gateway: %s: %s" % (found.listen, error), file=sys.stderr)
+        tell("%s: %s" % (found.listen, error))
         return 1
     own = sockets.identity_of(found.listen) if "/" in found.listen else None
     end = asyncio.Event()

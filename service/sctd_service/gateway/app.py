@@ -13,28 +13,28 @@ from urllib.parse import parse_qsl, unquote
 from .. import VERSION
 from ..logs import tell
 from . import delivery, http, limits, metrics, page
-from .fhir import OPERATIONS, Operation
-from .fhir.inputs import Given, Query, posted
-from .fhir.outputs import dumped, written
+from .fhir import Operation, batch, operation_at, operation_of
+from .fhir.inputs import Given, Query, parsed, posted
+from .fhir.outputs import dumped, text_in_parts, written
+from .fhir.parameters import with_warnings
 from .fhir.request import Request
 from .fhir.versions import Edition
-from .hub import OUT_OF_MEMORY, HubGone, HubRefused, Reply
+from .hub import NEEDS_LATER_LAYOUT, OUT_OF_MEMORY, HubGone, HubRefused, Reply
 from .pool import Pool
-from .problems import Json, Problem, invalid, missing, not_found, too_costly
+from .problems import (
+    NO_MEMBERS, Json, Problem, invalid, missing, not_found, not_now, not_supported, too_costly)
 from .store import View
 
-Headers = tuple[tuple[str, str], ...]
-JSON, FHIR, HTML = (
-    "%s; charset=utf-8" % kind
-    for kind in ("application/json", "application/fhir+json", "text/html"))
+JSON, FHIR, HTML = ("%s; charset=utf-8" % kind
+                    for kind in ("application/json", "application/fhir+json", "text/html"))
 POLICY = (
     "default-src 'none'; script-src 'self'; style-src 'self'; connect-src 'self'; "
-    "img-src data:; form-action 'self'; base-uri 'none'; frame-ancestors 'none'"
-)
-SAFE: Headers = (
+    "img-src data:; form-action 'self'; base-uri 'none'; frame-ancestors 'none'")
+SAFE: delivery.Headers = (
     ("Cache-Control", "private, no-store"), ("Content-Security-Policy", POLICY),
     ("Cross-Origin-Resource-Policy", "same-origin"), ("Referrer-Policy", "no-referrer"),
     ("X-Content-Type-Options", "nosniff"))
+VARIED: delivery.Headers = (*SAFE, ("Vary", "Prefer"))
 FOLDER = Path(__file__).parent
 FILES = {"/page.css": "text/css; charset=utf-8", "/page.js": "text/javascript; charset=utf-8"}
 # The pages, and the words that each of them knows.
@@ -52,20 +52,18 @@ PATH = re.compile(r"(?:/pin/([0-9]{1,10}))?(/[^?#]*)\Z", re.ASCII | re.DOTALL)
 ENCODED_SLASH = re.compile("%2f", re.I)
 FHIR_PATH = re.compile(r"(/pin/[0-9]+)?/fhir(/|\?|\Z)", re.ASCII)
 FHIR_BASE = "/fhir/"
+# As what a batch is counted, and where it is sent to.
+BATCH, BASES = "batch", ("", "/fhir")
+# What a client sends that wants nothing passed over.
+STRICT = re.compile(r"(?:^|[,; \t])handling[ \t]*=[ \t]*\"?strict\"?(?=$|[,; \t])", re.I)
 # How answers may be asked for, all of which are FHIR's JSON.
 BODIES = ("application/json", "application/fhir+json")
 ACCEPTED = {"*/*", "application/*", "json", "text/json", *BODIES}
 # What a client says that it doesn't take.
 UNWANTED = re.compile(r";[ \t]*q=0(\.0*)?[ \t]*(;|\Z)", re.I)
 # What FHIR calls a request that isn't one.
-ISSUES = {
-    408: "timeout",
-    413: "too-long",
-    415: "not-supported",
-    431: "too-long",
-    501: "not-supported",
-    503: "throttled",
-}
+ISSUES = {408: "timeout", 413: "too-long", 415: "not-supported", 431: "too-long",
+          501: "not-supported", 503: "throttled"}
 # Parameters of each request that say how its answer is written.
 FORMAT, PRETTY = "_format", "_pretty"
 
@@ -74,12 +72,13 @@ class App:
     """The answers to requests. `walks` are the places of those that may ask thousands of
     questions."""
 
-    def __init__(self, pool: Pool, edition: Edition, origins: Sequence[str] = ()) -> None:
+    def __init__(self, pool: Pool, edition: Edition, origins: Sequence[str] = (),
+                 is_strict: bool = False) -> None:
         self.pool, self.edition, self.origins = pool, edition, origins
+        self.is_strict = is_strict
         self.walks, self.metrics = asyncio.Semaphore(limits.WALKS), metrics.Metrics()
-        self.files = {
-            path: http.Response(200, kind, (FOLDER / path[1:]).read_bytes(), SAFE)
-            for path, kind in FILES.items()}
+        self.files = {path: http.Response(200, kind, (FOLDER / path[1:]).read_bytes(), SAFE)
+                      for path, kind in FILES.items()}
 
     async def answer(self, request: http.Request) -> http.Response:
         """An answer whatever happens, within the time that there is for one."""
@@ -144,32 +143,88 @@ class App:
 
     async def fhir(self, request: http.Request, pin: int | None, path: str,
                    given: list[Given]) -> http.Response:
-        operation = OPERATIONS.get(path)
-        if operation is None:
-            raise Problem(404, "not-supported", "%.80r isn't answered here; see metadata" % path)
-        if request.method == "POST" and operation.is_read:
-            raise Problem(405, "not-supported", "this is asked for by GET", READS)
+        if request.method == "POST" and path in BASES:
+            return await self.batched(request, pin, given)
+        found = self.found(request.method, path)
         check_format(request, given)
-        asked = [(name, value) for name, value in given if name not in (FORMAT, PRETTY)]
+        sent: list[Given] = []
         if request.method == "POST":
             check_body(request)
-            asked += posted(request.body)
-        query = Query(asked, operation.parameters)
+            sent = posted(parsed(request.body))
+        operation, query = self.understood(found, given, sent, self.wants_all(request))
         async with self.view(request, pin, operation.is_walk) as view:
             # All that the answer follows from.
             whence = (VERSION, str(self.edition), view.receipt, str(view.pin), request.target)
             tag = None if request.method == "POST" else delivery.tag_of(whence)
             if tag and delivery.is_known(request, tag):
-                return http.Response(304, "", b"", delivery.kept(SAFE, tag, pin is not None))
+                return http.Response(304, "", b"", delivery.kept(VARIED, tag, pin is not None))
             response = await told_of(view, True, self.operated(operation, view, query))
         if not tag or response.status != 200:
             return response
         kept = delivery.kept(response.headers, tag, pin is not None)
         return response._replace(headers=kept)
 
-    async def operated(self, operation: Operation, view: View, query: Query) -> http.Response:
+    def wants_all(self, request: http.Request) -> bool:
+        """Whether nothing may be passed over."""
+        return self.is_strict or STRICT.search(request.headers.get("prefer", "")) is not None
+
+    def found(self, method: str, path: str) -> tuple[Operation, list[Given]]:
+        """The operation of a path, and what the path says of it."""
+        found = operation_of(path, self.edition)
+        if found is None:
+            raise Problem(404, "not-supported", "%.80r isn't answered here; see metadata" % path)
+        if method == "POST" and found[0].is_read:
+            raise Problem(405, "not-supported", "this is asked for by GET", READS)
+        return found
+
+    def understood(self, found: tuple[Operation, list[Given]], given: list[Given],
+                   sent: list[Given], is_strict: bool) -> tuple[Operation, Query]:
+        """An operation with its parameters: those of its path, of its address, and of its body."""
+        operation, of_path = found
+        named = [one for one in given if one[0] not in (FORMAT, PRETTY)] + sent
+        asked = [one for one in of_path if one not in named] + named
+        return operation, Query(asked, operation.ways, is_strict)
+
+    async def resource(self, operation: Operation, view: View, query: Query) -> Json:
         resource = await operation.answer(Request(self.edition, view, query))
-        return http.Response(200, FHIR, await written(resource), SAFE)
+        return with_warnings(resource, query.passed)
+
+    async def operated(self, operation: Operation, view: View, query: Query) -> http.Response:
+        resource = await self.resource(operation, view, query)
+        return http.Response(200, FHIR, await written(resource), VARIED)
+
+    async def batched(self, request: http.Request, pin: int | None,
+                      given: list[Given]) -> http.Response:
+        """The answers to several requests, all as of one pin."""
+        check_format(request, given)
+        check_body(request)
+        entries, is_strict = batch.entries_of(request.body), self.wants_all(request)
+        async with self.view(request, pin, is_walk=True) as view:
+            return await told_of(view, True, self.of_batch(view, entries, is_strict))
+
+    async def of_batch(self, view: View, entries: Sequence[batch.Entry],
+                       is_strict: bool) -> http.Response:
+        texts, size = list[str](), 0
+        for entry in entries:
+            try:
+                answer = batch.answered(await self.of_entry(view, entry, is_strict))
+            except (Problem, HubRefused) as error:
+                answer = batch.refused(problem_of(error))
+            texts.append(await text_in_parts(answer))
+            size += len(texts[-1])
+            if size > limits.ANSWER_BYTES:
+                raise too_large()
+            await asyncio.sleep(0)
+        return http.Response(200, FHIR, (batch.FORM % ",".join(texts)).encode(), SAFE)
+
+    async def of_entry(self, view: View, entry: batch.Entry, is_strict: bool) -> Json:
+        if entry.method not in METHODS:
+            raise Problem(405, "not-supported", "only GET, HEAD and POST are answered", METHODS)
+        path, _, words = entry.url.partition("?")
+        found, given = self.found(entry.method, unquote(path, errors="replace")), pairs_of(words)
+        sent = posted(entry.resource) if entry.method == "POST" else []
+        operation, query = self.understood(found, given, sent, is_strict)
+        return await self.resource(operation, view, query)
 
     async def page(self, request: http.Request, pin: int | None, path: str,
                    given: list[Given]) -> http.Response:
@@ -205,7 +260,7 @@ class App:
 
     def count(self, request: http.Request | None, response: http.Response, seconds: float) -> None:
         """Counts an answer."""
-        operation = operation_of(request.target) if request else UNREAD
+        operation = counted_as(request.target) if request else UNREAD
         self.metrics.answered(operation, response.status, seconds)
 
     async def shown(self, view: View, path: str, words: dict[str, str],
@@ -224,7 +279,7 @@ def health_of(status: int, state: Json) -> http.Response:
     return http.Response(status, JSON, dumped(state), safe(status))
 
 
-def safe(status: int) -> Headers:
+def safe(status: int) -> delivery.Headers:
     """The headers of an answer with this status."""
     return (*SAFE, ("Retry-After", str(limits.RETRY_SECONDS))) if status == 503 else SAFE
 
@@ -234,21 +289,25 @@ async def told_of(view: View, fhir: bool, answer: Awaitable[http.Response]) -> h
     try:
         response = await answer
         if len(response.body) > limits.ANSWER_BYTES:
-            raise too_costly(
-                "the answer would have more than %d bytes: ask for fewer concepts"
-                % limits.ANSWER_BYTES
-            )
+            raise too_large()
     except Problem as problem:
         response = refusal(problem, fhir)
     pin = (("X-Sctd-Pin", str(view.pin)), ("X-Sctd-Receipt", view.receipt))
     return response._replace(headers=response.headers + pin)
 
 
-def operation_of(target: str) -> str:
+def too_large() -> Problem:
+    return too_costly("the answer would have more than %d bytes: ask for fewer concepts"
+                      % limits.ANSWER_BYTES)
+
+
+def counted_as(target: str) -> str:
     """What a request is counted as: an operation, a page, or one of all others."""
     found = PATH.match(target.partition("?")[0])
-    path = unquote(found[2]).removeprefix(FHIR_BASE) if found else ""
-    return path if path in OPERATIONS or path in PATHS else OTHER
+    path = unquote(found[2]).removeprefix(FHIR_BASE) if found else OTHER
+    if path in BASES:
+        return BATCH
+    return path if path in PATHS else operation_at(path) or OTHER
 
 
 def pairs_of(words: str) -> list[Given]:
@@ -285,8 +344,10 @@ def problem_of(error: Exception) -> Problem:
         return error
     if isinstance(error, (HubGone, TimeoutError)):
         why = str(error) or "it is busy, perhaps with an import"
-        return Problem(503, "transient", "the terminology can't be asked at the moment: %s" % why)
+        return not_now("the terminology can't be asked at the moment: %s" % why)
     if isinstance(error, HubRefused):
+        if error.number == NEEDS_LATER_LAYOUT:
+            return not_supported(NO_MEMBERS)
         tell("sctd-gateway: the hub said %s" % error)
         return Problem(503 if error.number == OUT_OF_MEMORY else 500, "exception", str(error))
     tell("".join(traceback.format_exception(error)).rstrip("\n"))

@@ -20,7 +20,8 @@ PACKED_LEVEL = 2
 FOR_GOOD = "private, max-age=31536000, immutable"
 # Any other one may be kept, and has to be asked for again.
 ASKED_AGAIN = "private, no-cache"
-PAGES_METHODS, PAGES_SEND = "GET, HEAD, POST, OPTIONS", "Accept, Content-Type, If-None-Match"
+PAGES_METHODS = "GET, HEAD, POST, OPTIONS"
+PAGES_SEND = "Accept, Content-Type, If-None-Match, Prefer"
 PAGES_READ = "ETag, X-Sctd-Pin, X-Sctd-Receipt, Retry-After"
 PREFLIGHT_SECONDS = 600
 

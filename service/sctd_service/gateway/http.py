@@ -23,8 +23,10 @@ READ_BYTES = 1 << 16
 END_OF_HEAD = b"\r\n\r\n"
 METHODS_WITH_BODY = ("POST", "PUT", "PATCH")
 VERSIONS = (b"1.0", b"1.1")
-BODY = (limits.BODY_BYTES, limits.BODY_CHUNKS)
 WITHOUT_BODY = (204, 304)
+# Where a batch of requests is sent to, whose body may be longer than others.
+BATCH = re.compile(
+    rb"(?:https?://[^/?#]+)?(?:/pin/[0-9]{1,10})?/fhir/?(?:\?|\Z)")
 CONTINUE = b"HTTP/1.1 100 Continue\r\n\r\n"
 # A path, behind a scheme and an authority where a client sends them too.
 TARGET = re.compile(rb"(?:https?://[^/?#\x00-\x20\x7f-\xff]+)?(/[\x21-\x7e]*)\Z", re.I)
@@ -106,8 +108,14 @@ def check_request(request: h11.Request) -> None:
         if request.method.decode() in METHODS_WITH_BODY:
             raise Bad(411, "a body needs the header Content-Length")
         return
-    if int(length) > limits.BODY_BYTES:
-        raise Bad(413, "a body may have %d bytes" % limits.BODY_BYTES)
+    if int(length) > (most := room_for(request)):
+        raise Bad(413, "a body may have %d bytes" % most)
+
+
+def room_for(request: h11.Request) -> int:
+    """How many bytes the body of a request may have."""
+    is_batch = request.method == b"POST" and BATCH.match(request.target)
+    return limits.BATCH_BYTES if is_batch else limits.BODY_BYTES
 
 
 class Client:
@@ -151,7 +159,7 @@ class Client:
         head, self.rest = self.rest[:end], self.rest[end:]
         return head
 
-    async def body(self, parser: h11.Connection) -> bytes:
+    async def body(self, parser: h11.Connection, most: int) -> bytes:
         """What follows the head. Bytes behind it are those of the next request."""
         if self.rest:
             parser.receive_data(self.rest)
@@ -161,8 +169,9 @@ class Client:
                 parser.receive_data(await self.more())
             elif isinstance(event, h11.Data):
                 found, chunks = found + event.data, chunks + event.chunk_start
-                if len(found) > limits.BODY_BYTES or chunks > limits.BODY_CHUNKS:
-                    raise Bad(413, "a body may have %d bytes in %d chunks" % BODY)
+                if len(found) > most or chunks > limits.BODY_CHUNKS:
+                    raise Bad(413, "a body may have %d bytes in %d chunks" % (
+                        most, limits.BODY_CHUNKS))
         if list(event.headers):
             raise Bad(400, "headers behind a body")
         self.rest = parser.trailing_data[0]
@@ -183,7 +192,7 @@ class Client:
             if parser.they_are_waiting_for_100_continue:
                 self.writer.write(CONTINUE)
             async with asyncio.timeout(limits.BODY_SECONDS):
-                body = await self.body(parser)
+                body = await self.body(parser, room_for(event))
         except h11.RemoteProtocolError as error:
             raise Bad(error.error_status_hint, str(error)) from None
         except TimeoutError:
@@ -194,9 +203,8 @@ class Client:
         return Request(method, target, headers, body, self.reader.at_eof)
 
     async def send(self, response: Response, stays: bool, with_body: bool) -> None:
-        lines = [
-            "HTTP/1.1 %d %s" % (response.status, HTTPStatus(response.status).phrase),
-            "Date: " + formatdate(usegmt=True)]
+        lines = ["HTTP/1.1 %d %s" % (response.status, HTTPStatus(response.status).phrase),
+                 "Date: " + formatdate(usegmt=True)]
         if response.status not in WITHOUT_BODY:
             lines += ["Content-Type: " + response.kind, "Content-Length: %d" % len(response.body)]
         lines += ["%s: %s" % header for header in response.headers]
@@ -267,8 +275,7 @@ class Server:
             head = await client.head()
             with_body = not head.startswith(b"HEAD ")
             # One that sends its body has waited since its head.
-            self.waiting.pop(client, None)
-            self.waiting[client] = None
+            self.waiting[client] = self.waiting.pop(client, None)
             request = await client.request(head)
             began = time.monotonic()
             self.waiting.pop(client, None)
@@ -333,6 +340,5 @@ def joined(headers: Iterable[tuple[bytes, bytes]]) -> dict[str, str]:
 def log(request: Request | None, response: Response, seconds: float) -> None:
     """A line of a request to standard error. The words of the query aren't told."""
     method, target = (request.method, request.target) if request else ("-", "-")
-    tell(
-        "%s %.200s %d %d bytes %.1f ms" % (
-            method, target.partition("?")[0], response.status, len(response.body), seconds * 1e3))
+    tell("%s %.200s %d %d bytes %.1f ms"
+         % (method, target.partition("?")[0], response.status, len(response.body), seconds * 1e3))

@@ -4,16 +4,22 @@ A tag of BCP 47, such as `en-GB`, means the reference set that DIALECTS has for 
 without its last parts. A language alone, such as `en`, means those reference sets of the house that
 are of this language, or else those of LANGUAGES. `en-x-sctlang-90000000-00005080-04` names its
 reference set itself, by the digits of its SCTID in parts of up to eight. Any other language has no
-reference set: a concept is shown by the descriptions that are in it.
+reference set: a concept is shown by the descriptions that are in it. Of a list, such as
+`de-CH, de, en;q=0.5`, the first language that has a term of the concept shows it, and `*` means the
+languages of the house.
 """
 
 import re
 from collections.abc import Sequence
 
+from . import limits
 from .problems import invalid
 from ..snomed import Language, is_concept_id
 
 TAG = re.compile(r"([A-Za-z]{2,8})(-[A-Za-z0-9]{1,8})*\Z", re.ASCII)
+# A tag of a list, or any other language, and how much it is wanted.
+RANGE = re.compile(
+    r"[ \t]*([A-Za-z0-9-]+|\*)[ \t]*(?:;[ \t]*q=([01](?:\.[0-9]{0,3})?)[ \t]*)?\Z", re.ASCII)
 # Behind it stand the digits of a reference set.
 BY_REFSET = "-x-sctlang-"
 DIGITS = re.compile(r"[0-9]+(-[0-9]+)*\Z", re.ASCII)
@@ -40,11 +46,25 @@ LANGUAGES = {
 FOLDED = {tag.lower(): refset for tag, refset in DIALECTS.items()}
 
 
-def language_of(tag: str, house: Sequence[str]) -> Language:
-    """The language that is asked for by a tag, where the house prefers these reference sets."""
+def language_of(tags: str, house: Sequence[str]) -> Language:
+    """The language that is asked for by a list of tags, with those that are wanted if there is no
+    term in it. The house prefers these reference sets."""
+    found = [RANGE.match(part) for part in tags.split(",")]
+    if not all(found) or len(found) > limits.LANGUAGES:
+        raise invalid("displayLanguage must be languages, such as de-CH or de, en;q=0.5")
+    ranges = [(one[1], float(one[2] or 1)) for one in found if one]
+    ordered = sorted(ranges, key=lambda one: -one[1])
+    of_house = Language("", tuple(house))
+    first, *others = dict.fromkeys(
+        of_house if tag == "*" else one_language_of(tag, house)
+        for tag, quality in ordered if quality) or [of_house]
+    return first._replace(others=tuple(others))
+
+
+def one_language_of(tag: str, house: Sequence[str]) -> Language:
     found = TAG.match(tag)
     if not found:
-        raise invalid("displayLanguage must be one language, such as de or de-CH")
+        raise invalid("displayLanguage must be a language, such as de or de-CH")
     code, tag = found[1].lower(), tag.lower()
     _, by_refset, digits = tag.partition(BY_REFSET)
     if by_refset:

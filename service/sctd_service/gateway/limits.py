@@ -33,6 +33,10 @@ PACKED_APART_BYTES = 64 << 10
 SLICE_CONCEPTS = 50
 # How long /health may take, whatever hangs.
 HEALTH_SECONDS = 2.0
+# For how long a hub is waited for at the start, and is asked whether its store has rows of the
+# edition's module.
+BEGIN_SECONDS = 5.0
+EDITION_SECONDS = 20.0
 # When a client that is answered 503 is told to ask again.
 RETRY_SECONDS = 5
 # Expansions and records, which may ask thousands of questions, that go on at once.
@@ -40,6 +44,11 @@ WALKS = 3
 PARAMETERS = 60
 # Of a concept, each of which is asked about by itself.
 CODINGS = 60
+# Parts of a value set that a client defines, each of which may be a walk.
+COMPOSED_PARTS = 20
+# Requests of a batch, and the length of one.
+BATCH_ENTRIES = 1_000
+BATCH_BYTES = 256 << 10
 
 # Of the hub.
 HUB_CONNECTIONS = 8
@@ -69,8 +78,9 @@ FILTER_CHARACTERS = 200
 # Members of a reference set that are read for one expansion, and reference sets that are looked at
 # to see which have members.
 REFSET_MEMBERS = 200_000
+ASSOCIATIONS = 250_000
 REFSET_CHOICE = 4_000
-# Of more concepts it is asked which lie below another one, and of fewer what lies above them.
+# Above this many codes the gateway asks DESCENDANTS once, and otherwise ANCESTORS of each.
 ASKED_UPWARDS = 40
 # `sctd` answers at most so many rows of one SEARCH or PAGE.
 QUESTION_ROWS = 1_000

@@ -21,9 +21,8 @@ def joined(*parts: str) -> Markup:
 
 def tag(name: str, *inner: str, **attributes: str) -> Markup:
     """An element. `class_` and `for_` are the attributes `class` and `for`."""
-    words = Markup().join(
-        Markup(' %s="%s"') % (key.strip("_").replace("_", "-"), value)
-        for key, value in attributes.items())
+    words = Markup().join(Markup(' %s="%s"') % (key.strip("_").replace("_", "-"), value)
+                          for key, value in attributes.items())
     return Markup("<%s%s>%s</%s>") % (name, words, joined(*inner), name)
 
 

@@ -12,7 +12,7 @@ from markupsafe import Markup
 from . import limits
 from .fhir.versions import Edition
 from .markup import address, aside, joined, tag, term, time, verdict
-from .page_record import Question, record
+from .page_record import Question, nothing_known, record
 from ..snomed import distinct, is_concept_id, is_day, names_of, with_hyphens
 from .problems import invalid
 from .store import FIRST, SEARCHED, View
@@ -53,7 +53,9 @@ async def answer(edition: Edition, view: View, form: Form, is_pinned: bool) -> b
     elif not form.q:
         content = verdict("Type a code or the first letters of a term.")
     elif not DIGITS.match(form.q):
-        content = await results(view, form, min(date, view.latest))
+        known = view.in_force(date)
+        content = await results(view, form, min(date, view.latest)) if known else verdict(
+            *nothing_known(date, view.days[0]))
     elif is_concept_id(form.q):
         content = await record(view, Question(edition, form.q, date, other, is_pinned))
     else:
@@ -66,19 +68,18 @@ async def results(view: View, form: Form, day: str) -> Markup:
     """The terms that begin with what was typed."""
     if not SEARCHED.match(form.q):
         return verdict("A term\u2019s beginning has 1 to %d characters." % limits.FILTER_CHARACTERS)
-    searched = await view.search(day, FIRST, limits.RESULT_TERMS, form.q)
+    release = view.in_force(day)
+    searched = await view.search(release, FIRST, limits.RESULT_TERMS, form.q)
     found = names_of(searched)
-    rows = await view.concepts(distinct(row.concept for row in found), day)
+    rows = await view.concepts(distinct(row.concept for row in found), release)
     concepts = {row.id: row for row in rows if row}
     entries = []
     for row in sorted(found, key=lambda row: (len(row.term), row.term)):
         if row.concept in concepts:
-            link = tag(
-                "a", term(row.term),
-                href=address(q=row.concept, date=with_hyphens(day), other=form.other))
-            inactive = (
-                [] if concepts[row.concept].is_active
-                else [" ", tag("span", "inactive", class_="inactive")])
+            link = tag("a", term(row.term),
+                       href=address(q=row.concept, date=with_hyphens(day), other=form.other))
+            is_active = concepts[row.concept].is_active
+            inactive = [] if is_active else [" ", tag("span", "inactive", class_="inactive")]
             entries.append(tag("li", link, " ", aside(row.concept), *inactive))
     said = counted(len(found), len(searched) < limits.RESULT_TERMS)
     head = verdict(said, " with \u201c", term(form.q), "\u201d on ", time(day), ".")
@@ -97,13 +98,14 @@ async def suggestions(view: View, text: str, date: str) -> list[dict[str, str | 
     """The shortest terms that begin with the text, as the page's script shows them."""
     if not SEARCHED.match(text) or not view.latest:
         raise invalid("a term\u2019s beginning has 1 to %d characters" % limits.FILTER_CHARACTERS)
-    day = min(day_of(date, view.latest), view.latest)
+    day = view.in_force(day_of(date, view.latest))
+    if not day:
+        return []
     rows = names_of(await view.search(day, FIRST, limits.SUGGESTION_TERMS, text))
     found = sorted(rows, key=lambda row: (len(row.term), row.term))[: limits.SUGGESTED_TERMS]
     concepts = await view.concepts([row.concept for row in found], day)
-    return [
-        {"code": row.concept, "term": row.term, "active": concept.is_active}
-        for row, concept in zip(found, concepts) if concept]
+    return [{"code": row.concept, "term": row.term, "active": concept.is_active}
+            for row, concept in zip(found, concepts) if concept]
 
 
 def refused(text: str) -> bytes:

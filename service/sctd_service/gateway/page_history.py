@@ -6,9 +6,8 @@ from typing import NamedTuple
 from markupsafe import Markup
 
 from .markup import joined, tag, term, time
-from ..snomed import (
-    DEFINED, FULLY_SPECIFIED_NAME, IS_A, TEXT_DEFINITION, Association, Concept, Description,
-    RefsetMember, Relationship, is_concept_id)
+from ..snomed import (DEFINED, FULLY_SPECIFIED_NAME, IS_A, TEXT_DEFINITION, Association, Concept,
+                      Description, RefsetMember, Relationship, is_concept_id)
 from .store import AnyRow, Versions, View
 
 ARROW = " \u2192 "
@@ -42,12 +41,8 @@ class Names:
         return BESIDE.join(map(self.of_metadata, further))
 
 
-async def history(
-    view: View,
-    timeline: Iterable[Versions],
-    marks: Mapping[str, str],
-    refsets: Mapping[str, str],
-) -> Markup:
+async def history(view: View, timeline: Iterable[Versions], marks: Mapping[str, str],
+                  refsets: Mapping[str, str]) -> Markup:
     """The changes by day, oldest first, with the days that are marked among them."""
     names = Names(await view.names(other_codes(timeline), view.latest), refsets)
     events: dict[str, list[Markup]] = {day: [tag("em", said)] for day, said in marks.items()}
@@ -57,9 +52,8 @@ async def history(
             events.setdefault(row.time, []).extend(changes(before, row, names))
             before = row
     # A row that changed nothing that is told, such as its module, makes no entry.
-    entries = [
-        tag("li", time(day), tag("ul", *(tag("li", said) for said in events[day])))
-        for day in sorted(events) if events[day]]
+    entries = [tag("li", time(day), tag("ul", *(tag("li", said) for said in events[day])))
+               for day in sorted(events) if events[day]]
     return tag("ol", *entries, class_="timeline")
 
 

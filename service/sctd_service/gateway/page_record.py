@@ -19,9 +19,7 @@ from ..snomed import (
 from .store import Versions, View
 
 REFSETS = {refset: one.name.capitalize() for refset, one in MAPS.items()} | {
-    MOVED_FROM: "Moved from",
-    REFERS_TO: "Refers to",
-}
+    MOVED_FROM: "Moved from", REFERS_TO: "Refers to"}
 REFSET_ORDER = {refset: place for place, refset in enumerate(REFSETS)}
 ATTRIBUTE_TAG = " (attribute)"
 # Rows of the table that are left out where there is nothing on either day.
@@ -44,9 +42,11 @@ class Question(NamedTuple):
 
 
 class Side(NamedTuple):
-    """A concept on one day, with the names that those it is told by had on that day."""
+    """A concept on one day, of which the store may know nothing, with the names that those it is
+    told by had on that day."""
 
     day: str
+    is_known: bool
     facts: Facts | None
     names: dict[str, str]
     members: list[Membership]
@@ -74,7 +74,7 @@ class Side(NamedTuple):
     @property
     def status(self) -> str:
         if self.facts is None:
-            return "absent"
+            return "absent" if self.is_known else "not known"
         return "active" if self.facts.concept.is_active else "inactive"
 
     def entries(self) -> dict[str, Entries]:
@@ -122,9 +122,8 @@ class Side(NamedTuple):
         for row in sorted(chosen, key=lambda row: (int(row.group), row.type)):
             if row.type != IS_A:
                 name = self.names[row.type].removesuffix(ATTRIBUTE_TAG)
-                value = (
-                    tag("strong", row.target.removeprefix("#")) if have_values
-                    else self.link(row.target))
+                value = (tag("strong", row.target.removeprefix("#")) if have_values
+                         else self.link(row.target))
                 group = aside(" group %s" % row.group) if row.group != "0" else ""
                 key = "\t".join((row.type, row.target, row.group))
                 found[key] = joined(term(name), ": ", value, group)
@@ -142,9 +141,10 @@ def linked(code: str, name: str, day: str) -> Markup:
 
 async def side_of(view: View, code: str, day: str, language: Language,
                   timeline: Sequence[Versions]) -> Side:
-    facts = await view.facts(code, day, language)
+    release = view.in_force(day)
+    facts = await view.facts(code, release, language) if release else None
     if facts is None:
-        return Side(day, None, {}, [])
+        return Side(day, bool(release), None, {}, [])
     members = memberships(timeline, code, day)
     codes = [facts.concept.module, *facts.called]
     for row in facts.relationships:
@@ -152,49 +152,55 @@ async def side_of(view: View, code: str, day: str, language: Language,
     codes += [row.type for row in facts.values]
     for member in members:
         codes += codes_of_member(member.row)
-    return Side(day, facts, await view.names(codes, day), members)
+    return Side(day, True, facts, await view.names(codes, release), members)
 
 
 async def record(view: View, question: Question) -> Markup:
     code, latest = question.code, view.latest
     language, timeline = Language("", question.edition.languages), await view.timeline(code)
-    then, now = [
-        await side_of(view, code, min(day, latest), language, timeline)
-        for day in (question.date, question.other)]
-    if then.facts is None and now.facts is None:
-        last = max(then.day, now.day)
-        return verdict(
-            "The code ", tag("code", code), " isn\u2019t in the store by ", time(last), ".")
+    then, now = [await side_of(view, code, min(day, latest), language, timeline)
+                 for day in (question.date, question.other)]
     sides = [then, now] if then.day != now.day else [then]
+    if then.facts is None and now.facts is None:
+        unknown = [nothing_known(side.day, view.days[0]) for side in sides if not side.is_known]
+        known = [side.day for side in sides if side.is_known]
+        absent = [
+            "The code ", tag("code", code), " isn\u2019t in the store by ", time(max(known)), "."
+        ] if known else []
+        return verdict(*(part for parts in unknown for part in parts), *absent)
     versions = await view.versions(code)
     parts = [
         tag("h2", term(then.name or now.name), " ", aside(code)),
         verdict(
-            *not_known_yet(question.date, latest), *(sentence(side, versions) for side in sides)),
+            *not_known_yet(question.date, latest),
+            *(sentence(side, versions, view.days[0]) for side in sides)),
         compared(then, now, latest)]
     for side in sides:
         if side.status == "inactive":
-            parts.append(
-                tag(
-                    "section", tag("h3", "What took its place, by ", time(side.day)),
-                    await replacements(view, code, side.day)))
+            parts.append(tag("section", tag("h3", "What took its place, by ", time(side.day)),
+                             await replacements(view, code, side.day)))
     marks = {now.day: "The day compared with", then.day: "The record\u2019s day"}
     told = await history(view, timeline, marks, REFSETS)
     parts.append(tag("section", tag("h3", "History"), told))
-    parts.append(report(view, question, then))
+    parts.append(report(view, question, then, versions))
     return joined(*parts)
 
 
 def not_known_yet(date: str, latest: str) -> list[str]:
     if date <= latest:
         return []
-    return [
-        "The store\u2019s latest release is of ", time(latest), "; what was said on ", time(date),
-        " isn\u2019t known to it. "]
+    return ["The store\u2019s latest release is of ", time(latest), "; what was said on ",
+            time(date), " isn\u2019t known to it. "]
 
 
-def sentence(side: Side, versions: Iterable[Concept]) -> Markup:
+def nothing_known(day: str, first: str) -> list[str]:
+    return ["The store knows nothing of ", time(day), ": its first day is ", time(first), ". "]
+
+
+def sentence(side: Side, versions: Iterable[Concept], first: str) -> Markup:
     """What the code was on a day, and since when where it was retired."""
+    if not side.is_known:
+        return joined(*nothing_known(side.day, first))
     if side.facts is None:
         return joined(
             "On ", time(side.day), " the code ", tag("strong", "wasn\u2019t there yet"), ". ")
@@ -218,50 +224,44 @@ def compared(then: Side, now: Side, latest: str) -> Markup:
     for title in left or right:
         if title in OPTIONAL and not left.get(title) and not right.get(title):
             continue
-        cells = [
-            cell(left.get(title, {}), right.get(title, {}), bool(left and right), "only then"),
-            cell(right.get(title, {}), left.get(title, {}), bool(left and right), "not then")]
+        cells = [cell(left.get(title, {}), right.get(title, {}), bool(left and right), "only then"),
+                 cell(right.get(title, {}), left.get(title, {}), bool(left and right), "not then")]
         body.append(tag("tr", tag("th", title, scope="row"), *cells))
+    said = "the same day" if now.day == then.day else "later" if now.day > then.day else "earlier"
     if now.day == latest:
         said = "latest"
-    elif now.day == then.day:
-        said = "the same day"
-    else:
-        said = "later" if now.day > then.day else "earlier"
     heads = [column_head(then, "then"), column_head(now, said)]
-    return tag(
-        "table", tag("caption", "The concept on both days; marked is what differs"),
-        tag("thead", tag("tr", tag("td"), *heads)), tag("tbody", *body))
+    return tag("table", tag("caption", "The concept on both days; marked is what differs"),
+               tag("thead", tag("tr", tag("td"), *heads)), tag("tbody", *body))
 
 
 def column_head(side: Side, said: str) -> Markup:
-    return tag(
-        "th", time(side.day), " ", aside(said if side.facts else "the code isn\u2019t there"),
-        scope="col")
+    if side.facts is None:
+        said = "the code isn\u2019t there" if side.is_known else "not known"
+    return tag("th", time(side.day), " ", aside(said), scope="col")
 
 
 def cell(own: Entries, other: Entries, is_marked: bool, said: str) -> Markup:
-    entries = []
-    for key, shown in own.items():
-        if is_marked and key not in other:
-            entries.append(tag("li", tag("mark", shown), " ", tag("span", said, class_="differs")))
-        else:
-            entries.append(tag("li", shown))
+    differs = joined(" ", tag("span", said, class_="differs"))
+    entries = [
+        tag("li", tag("mark", shown), differs) if is_marked and key not in other
+        else tag("li", shown) for key, shown in own.items()]
     return tag("td", tag("ul", *entries) if entries else aside("none"))
 
 
 async def replacements(view: View, code: str, day: str) -> Markup:
     """What took the concept's place by then, step by step."""
     steps: list[Markup] = []
-    seen, turn = {code}, [code]
+    seen, turn, release = {code}, [code], view.in_force(day)
     while turn and len(steps) < limits.REPLACEMENT_STEPS:
-        told = await view.associations(turn, day)
-        links = sorted((row for rows in told for row in rows), key=refset_place)
+        told = await view.associations(turn, release)
+        links = sorted((row for rows in told for row in rows),
+                       key=lambda row: REFSET_ORDER.get(row.refset, len(REFSET_ORDER)))
         targets = distinct(row.target for row in links)
         # A release may name another component there, which isn't asked for as a concept.
         concepts = filter(is_concept_id, targets)
-        known = {row.id: row for row in await view.concepts([*concepts], day) if row}
-        names = await view.names(targets + [row.source for row in links], day)
+        known = {row.id: row for row in await view.concepts([*concepts], release) if row}
+        names = await view.names(targets + [row.source for row in links], release)
         steps += [replacement(row, code, day, known.get(row.target), names) for row in links]
         turn = [
             one for one in targets if one not in seen and one in known and not known[one].is_active]
@@ -269,10 +269,6 @@ async def replacements(view: View, code: str, day: str) -> Markup:
     if not steps:
         return tag("p", "No association says what took its place.")
     return joined(tag("ul", *steps), *([tag("p", aside(MORE_STEPS))] if turn else []))
-
-
-def refset_place(row: Association) -> int:
-    return REFSET_ORDER.get(row.refset, len(REFSET_ORDER))
 
 
 def replacement(row: Association, code: str, day: str, target: Concept | None,
@@ -286,11 +282,26 @@ def replacement(row: Association, code: str, day: str, target: Concept | None,
         linked(row.target, names[row.target], day), " ", tag("span", said, class_=status), *source)
 
 
-def report(view: View, question: Question, then: Side) -> Markup:
+def reported(view: View, question: Question, then: Side, versions: Sequence[Concept]) -> str:
+    """What a report says of the code on the record's day, and by which release."""
+    code, day = question.code, with_hyphens(then.day)
+    if not then.is_known:
+        first = with_hyphens(view.days[0])
+        return "SNOMED CT %s on %s: not known, since the store's first day is %s" % (
+            code, day, first)
+    version = question.edition.version(view.in_force(then.day))
+    if then.facts is None:
+        first = with_hyphens(versions[0].time)
+        return "SNOMED CT %s on %s: no such code then, its first row is of %s. %s" % (
+            code, day, first, version)
+    name = visible(then.name)
+    return "SNOMED CT %s |%s| on %s: %s. %s" % (code, name, day, then.status, version)
+
+
+def report(view: View, question: Question, then: Side, versions: Sequence[Concept]) -> Markup:
     """A line to be copied into a report, and the address under which the page stays as it is."""
-    line = "SNOMED CT %s |%s| on %s: %s. %s; pin %d; %s; read on %s" % (
-        question.code, visible(then.name), with_hyphens(then.day), then.status,
-        question.edition.version(then.day), view.pin, view.receipt,
+    line = "%s; pin %d; %s; read on %s" % (
+        reported(view, question, then, versions), view.pin, view.receipt,
         datetime.date.today().isoformat())
     days = address(
         q=question.code, date=with_hyphens(question.date), other=with_hyphens(question.other))

@@ -13,7 +13,7 @@ import asyncio
 import math
 import re
 from collections import OrderedDict
-from collections.abc import AsyncIterator, Callable, Sequence
+from collections.abc import AsyncIterator, Awaitable, Callable, Sequence
 from contextlib import asynccontextmanager
 from typing import Generic, NamedTuple, TypeVar, cast
 
@@ -21,7 +21,7 @@ from .. import sockets
 from ..protocol import NotAReply, Replies
 from . import limits
 from .hub import Connection, HubGone, Reply, refusal
-from .problems import not_found
+from .problems import not_now
 
 DAMAGED = " Damaged"
 STATUS = re.compile(
@@ -194,28 +194,29 @@ class Pool:
         """The same without waiting for a place."""
         watch = await self.watched()
         if pin is not None and pin > watch.imports:
-            raise not_found("there aren't so many imports")
-        connection = await self.connection(watch)
-        try:
+            # Another machine may have them, or this one later. A balancer asks the next one.
+            raise not_now("there are %d imports here so far, not %d" % (watch.imports, pin))
+        async with self.connected(watch) as connection:
             session = Session(self, connection, watch.imports if pin is None else pin)
             await session.begin()
             yield session
-        finally:
-            self.give_back(connection)
 
     async def asked(self, line: str) -> Reply:
         """The hub's own reply to a line, which isn't as of any pin."""
-        connection = await self.connection(await self.watched())
-        try:
+        async with self.connected(await self.watched()) as connection:
             return (await connection.ask([line]))[0]
-        finally:
-            self.give_back(connection)
 
-    def give_back(self, connection: Connection) -> None:
-        if connection.whole and self.is_of_this_hub(connection):
-            self.idle.append(connection)
-        else:
-            connection.close()
+    @asynccontextmanager
+    async def connected(self, watch: Watch) -> AsyncIterator[Connection]:
+        """A connection, which is kept afterwards where nothing is outstanding."""
+        connection = await self.connection(watch)
+        try:
+            yield connection
+        finally:
+            if connection.whole and self.is_of_this_hub(connection):
+                self.idle.append(connection)
+            else:
+                connection.close()
 
 
 class Session:
@@ -262,13 +263,21 @@ class Session:
         return [reply for reply in known if reply is not None]
 
     def remembered_set(self, sets: Recent[Kept], day: str, code: str) -> Kept | None:
-        if not self.pool.is_of_this_hub(self.connection):
-            return None
-        return sets.get((self.pin, day, code))
+        remembers = self.pool.is_of_this_hub(self.connection)
+        return sets.get((self.pin, day, code)) if remembers else None
 
     def remember_set(self, sets: Recent[Kept], day: str, code: str, found: Kept) -> None:
         if self.pool.is_of_this_hub(self.connection):
             sets.put((self.pin, day, code), found, len(found))
+
+    async def recalled(self, sets: Recent[Kept], day: str, code: str,
+                       make: Callable[[], Awaitable[Kept]]) -> Kept:
+        """A set that is remembered, or else is made and remembered."""
+        found = self.remembered_set(sets, day, code)
+        if found is None:
+            found = await make()
+            self.remember_set(sets, day, code, found)
+        return found
 
 
 def size_of(reply: Reply) -> int:

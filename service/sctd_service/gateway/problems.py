@@ -1,5 +1,6 @@
 """A request that isn't answered, as the program of a client and a person are told."""
 
+from collections.abc import Iterable
 from functools import partial
 from typing import Any
 
@@ -15,18 +16,26 @@ class Problem(Exception):
         self.status, self.code, self.text, self.methods = status, code, text, methods
 
     def outcome(self) -> Json:
-        return {
-            "resourceType": "OperationOutcome",
-            "issue": [
-                {
-                    "severity": "error", "code": self.code, "diagnostics": self.text,
-                    "details": {"text": self.text}}]}
+        return outcome_of("error", self.code, [self.text])
+
+
+def outcome_of(severity: str, code: str, texts: Iterable[str]) -> Json:
+    issues = [{"severity": severity, "code": code, "diagnostics": text, "details": {"text": text}}
+              for text in texts]
+    return {"resourceType": "OperationOutcome", "issue": issues}
 
 
 # The usual ones, of which only the text is to be said.
 invalid = partial(Problem, 400, "invalid")
 missing = partial(Problem, 400, "required")
 conflict = partial(Problem, 400, "conflict")
+unknown = partial(Problem, 400, "not-supported")
 not_found = partial(Problem, 404, "not-found")
 too_costly = partial(Problem, 422, "too-costly")
 not_supported = partial(Problem, 422, "not-supported")
+not_now = partial(Problem, 503, "transient")
+
+# Why there is no answer from a store below layout 3.
+NO_MEMBERS = (
+    "the store's layout keeps no members of reference sets, which this needs: "
+    "sctd copy --layout 3 makes a store that does")

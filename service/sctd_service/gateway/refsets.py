@@ -6,7 +6,8 @@ from collections.abc import Sequence
 from . import limits
 from .pool import Codes
 from .problems import too_costly
-from ..snomed import REFERENCE_SET, distinct, is_id_of_concept
+from ..snomed import (
+    ASSOCIATIONS, REFERENCE_SET, Association, RefsetMember, distinct, is_id_of_concept)
 from .store import FIRST, View
 
 # The reference set of only its active concepts, among those that are remembered.
@@ -15,13 +16,12 @@ ACTIVE = "%s active"
 
 async def codes_of(view: View, refset: str, day: str) -> Codes:
     """The concepts that active members of a reference set refer to, each once, ascending."""
-    session = view.session
-    known = session.remembered_set(session.pool.refsets, day, refset)
-    if known is not None:
-        return known
-    found = tuple(filter(is_id_of_concept, await components_of(view, refset, day)))
-    session.remember_set(session.pool.refsets, day, refset, found)
-    return found
+    async def made() -> Codes:
+        if refset in ASSOCIATIONS:
+            return tuple((await associated(view, day)).get(refset, ()))
+        return tuple(filter(is_id_of_concept, await components_of(view, refset, day)))
+
+    return await view.session.recalled(view.session.pool.refsets, day, refset, made)
 
 
 async def components_of(view: View, refset: str, day: str) -> list[str]:
@@ -33,9 +33,8 @@ async def components_of(view: View, refset: str, day: str) -> list[str]:
         found += distinct(row.component for row in page)
         count += len(page)
         if count > limits.REFSET_MEMBERS:
-            raise too_costly(
-                "the reference set %s has more than %d members: ask with a filter" % (
-                    refset, limits.REFSET_MEMBERS))
+            raise too_costly("the reference set %s has more than %d members: ask with a filter"
+                             % (refset, limits.REFSET_MEMBERS))
         if len(page) < limits.QUESTION_ROWS:
             return found
         after = found[-1]
@@ -43,20 +42,16 @@ async def components_of(view: View, refset: str, day: str) -> list[str]:
 
 async def active_codes_of(view: View, refset: str, day: str) -> Codes:
     """Those of its concepts that are active themselves."""
-    session, name = view.session, ACTIVE % refset
-    known = session.remembered_set(session.pool.refsets, day, name)
-    if known is not None:
-        return known
-    codes = await codes_of(view, refset, day)
-    if len(codes) > limits.WALK_CONCEPTS:
-        raise too_costly(
-            "of more than %d concepts it isn't asked which are active: ask without activeOnly"
-            % limits.WALK_CONCEPTS
-        )
-    members = await view.members(codes, day, keep=False)
-    found = tuple(member.code for member in members if member.is_active)
-    session.remember_set(session.pool.refsets, day, name, found)
-    return found
+    async def made() -> Codes:
+        codes = await codes_of(view, refset, day)
+        if len(codes) > limits.WALK_CONCEPTS:
+            raise too_costly(
+                "of more than %d concepts it isn't asked which are active: ask without activeOnly"
+                % limits.WALK_CONCEPTS)
+        members = await view.members(codes, day, keep=False)
+        return tuple(member.code for member in members if member.is_active)
+
+    return await view.session.recalled(view.session.pool.refsets, day, ACTIVE % refset, made)
 
 
 async def those_in(view: View, refset: str, codes: Sequence[str], day: str) -> set[str]:
@@ -64,20 +59,64 @@ async def those_in(view: View, refset: str, codes: Sequence[str], day: str) -> s
     known = view.session.remembered_set(view.session.pool.refsets, day, refset)
     if known is not None:
         return set(known).intersection(codes)
-    told = zip(codes, await view.members_about(codes, day))
-    return {code for code, members in told if any(row.refset == refset for row in members)}
+    told: Sequence[Sequence[Association | RefsetMember]]
+    if refset in ASSOCIATIONS:
+        told = await view.associations(codes, day)
+    else:
+        told = await view.members_about(codes, day)
+    return {
+        code for code, rows in zip(codes, told) if any(row.refset == refset for row in rows)}
+
+
+async def was_kept(view: View, refset: str) -> bool:
+    """Whether the store has a member of a reference set, of whichever day."""
+    if refset in ASSOCIATIONS:
+        return refset in await associated(view, view.latest)
+    return await view.was_kept(refset)
+
+
+async def associated(view: View, day: str) -> dict[str, list[str]]:
+    """The concepts that active members of each association reference set refer to, ascending. They
+    are kept apart from other members, so all of them are read, and remembered one by one."""
+    session, found = view.session, dict[str, set[str]]()
+    known = {one: session.remembered_set(session.pool.refsets, day, one) for one in ASSOCIATIONS}
+    if None not in known.values():
+        return {refset: [*codes] for refset, codes in known.items() if codes}
+    count, after = 0, FIRST
+    while True:
+        page = await view.page_of_associations(day, after)
+        for row in page:
+            if row.active == "1" and is_id_of_concept(row.source):
+                found.setdefault(row.refset, set()).add(row.source)
+        count += len(page)
+        if count > limits.ASSOCIATIONS:
+            raise too_costly("there are more than %d associations" % limits.ASSOCIATIONS)
+        if len(page) < limits.QUESTION_ROWS:
+            break
+        after = page[-1].id
+    for refset in ASSOCIATIONS:
+        codes = tuple(sorted(found.get(refset, ()), key=int))
+        session.remember_set(session.pool.refsets, day, refset, codes)
+    return {refset: sorted(codes, key=int) for refset, codes in found.items()}
 
 
 async def with_members(view: View, day: str) -> list[str]:
-    """The reference sets that have active members, ascending. Those of historical associations are
-    kept apart, and aren't among them."""
+    """The reference sets that have active members, ascending."""
     below = await view.descendants(REFERENCE_SET, day)
     if len(below) > limits.REFSET_CHOICE:
         raise too_costly("there are more than %d reference sets" % limits.REFSET_CHOICE)
-    return await view.have_values(below, day)
+    return await which_have_members(view, below, day)
+
+
+async def which_have_members(view: View, found: Sequence[str], day: str) -> list[str]:
+    """Those of the reference sets that have active members, in their order."""
+    having = set(await view.have_values(found, day))
+    if having.union(ASSOCIATIONS).intersection(found) - having:
+        having.update(await associated(view, day))
+    return [one for one in found if one in having]
 
 
 async def which_of(view: View, codes: Sequence[str], day: str) -> set[str]:
     """Those of the concepts that are such reference sets."""
     found = await view.those_within(codes, REFERENCE_SET, day) - {REFERENCE_SET}
-    return set(await view.have_values(sorted(found, key=int), day))
+    return set(await which_have_members(view, sorted(found, key=int), day))

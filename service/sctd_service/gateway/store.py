@@ -2,18 +2,19 @@
 receipts are made elsewhere, in pool.py."""
 
 import asyncio
+import bisect
 import itertools
 import re
 from collections.abc import Iterable, Sequence
 from typing import TypeVar
 
 from . import limits
-from .hub import HubGone, Reply
+from .hub import NEEDS_LATER_LAYOUT, HubGone, HubRefused, Reply
 from .pool import Member, Members, Session
 from .problems import too_costly
 from ..snomed import (
     Association, Called, Concept, Description, Facts, Language, RefsetMember, Relationship,
-    distinct, display_of, is_concept_id, names_of, preferred_term)
+    distinct, display_of, has_name_in, is_concept_id, names_of, preferred_term)
 
 Row = TypeVar("Row", Concept, Description, Relationship, Association)
 # A row of any kind, and all versions of one component, oldest first.
@@ -27,8 +28,10 @@ SEARCHED = re.compile(
     "[^\x00-\x1f\x7f-\x9f\u2028\u2029\ud800-\udfff]{1,%d}\\Z" % limits.FILTER_CHARACTERS)
 # The identifier of a member, where that of any other row but an association has digits alone.
 MEMBER_ID = re.compile(r"[0-9a-f]{8}(-[0-9a-f]{4}){3}-[0-9a-f]{12}\Z", re.ASCII)
-# The columns that each member has.
-MEMBER_COLUMNS = 6
+# The identifier of no member.
+NO_MEMBER_ID = "00000000-0000-0000-0000-000000000000"
+# The columns that each member has, and the one that says of which module a row of any kind is.
+MEMBER_COLUMNS, MODULE = 6, 3
 # Of the languages of no house.
 ANY = Language()
 
@@ -86,8 +89,18 @@ class View:
         self.session, self.pin, self.receipt = session, session.pin, session.receipt
         self.days, self.latest = session.days, session.days[-1] if session.days else ""
 
+    def in_force(self, day: str) -> str:
+        """The day of the release in force on a day: the greatest one up to it that has rows.
+        Nothing where there is none, since the store knows nothing of such a day."""
+        place = bisect.bisect_right(self.days, day)
+        return self.days[place - 1] if place else ""
+
     async def ask(self, lines: Sequence[str], keep: bool = True) -> list[Reply]:
         return await self.session.ask(lines, keep)
+
+    async def told(self, line: str, keep: bool = True) -> Reply:
+        """The reply to one line."""
+        return (await self.ask([line], keep))[0]
 
     async def facts(self, code: str, day: str, language: Language = ANY,
                     with_members: bool = False) -> Facts | None:
@@ -96,7 +109,7 @@ class View:
             return None
         questions = ["GET C", "ABOUT D", "ABOUT R", "ABOUT V", *["ABOUT M"] * with_members]
         lines = ["%s %s %s" % (question, code, day) for question in questions]
-        told = await self.ask(lines + [called(code, day, one) for one in language.refsets])
+        told = await self.ask(lines + [called(code, day, one) for one in language.every_refset])
         concept, descriptions, relationships, values, *others = told
         found = rows(Concept, concept)
         if not found:
@@ -104,7 +117,7 @@ class View:
         return Facts(
             found[0], rows(Description, descriptions), rows(Relationship, relationships),
             rows(Relationship, values),
-            dict(zip(language.refsets, map(called_of, others[with_members:]))),
+            dict(zip(language.every_refset, map(called_of, others[with_members:]))),
             members_of(others[0]) if with_members else [])
 
     async def concepts(self, codes: Sequence[str], day: str,
@@ -136,11 +149,19 @@ class View:
         codes = distinct(codes)
         left = [code for code in codes if is_concept_id(code)]
         found: dict[str, str] = dict(zip(codes, codes))
-        for refset in language.refsets:
-            told = zip(left, await self.called(left, day, refset))
-            preferred = {code: term for code, one in told if (term := preferred_term(one))}
-            found |= preferred
-            left = [code for code in left if code not in preferred]
+        for wanted in language.each:
+            for refset in wanted.refsets:
+                told = zip(left, await self.called(left, day, refset))
+                preferred = {code: term for code, one in told if (term := preferred_term(one))}
+                found |= preferred
+                left = [code for code in left if code not in preferred]
+            if language.others:
+                terms_of = zip(left, await self.descriptions(left, day))
+                named = {
+                    code: display_of(code, terms, wanted.code) for code, terms in terms_of
+                    if has_name_in(wanted.code, terms)}
+                found |= named
+                left = [code for code in left if code not in named]
         described = zip(left, await self.descriptions(left, day))
         return found | {code: display_of(code, terms, language.code) for code, terms in described}
 
@@ -148,6 +169,16 @@ class View:
         """What took the place of each of the concepts."""
         replies = await self.ask(["REPLACED %s %s" % (code, day) for code in codes])
         return [rows(Association, reply) for reply in replies]
+
+    async def replaced_by(self, codes: Sequence[str], day: str) -> list[list[Association]]:
+        """Whose place each of the concepts took."""
+        replies = await self.ask(["REPLACES %s %s" % (code, day) for code in codes])
+        return [rows(Association, reply) for reply in replies]
+
+    async def page_of_associations(self, day: str, after: str) -> list[Association]:
+        """Members of association reference sets by their ids, inactive ones too."""
+        line = "PAGE A %s %s %d" % (day, after, limits.QUESTION_ROWS)
+        return rows(Association, (await self.ask([line], keep=False))[0])
 
     async def members_about(self, codes: Sequence[str], day: str) -> list[list[RefsetMember]]:
         """The active members of all reference sets that refer to each of the components."""
@@ -159,7 +190,7 @@ class View:
         """Active members of a reference set by what they refer to, from the first behind `after`
         on: with the last of so many all that refer to the same."""
         line = "VALUES %s %s %s %d" % (refset, day, after, limits.QUESTION_ROWS)
-        return members_of((await self.ask([line], keep))[0])
+        return members_of(await self.told(line, keep))
 
     async def have_values(self, refsets: Sequence[str], day: str) -> list[str]:
         """Those of the reference sets that have an active member."""
@@ -168,34 +199,58 @@ class View:
 
     async def was_kept(self, refset: str) -> bool:
         """Whether the store has any member of a reference set, of whichever day."""
-        line = "MEMBERS %s %s %s 1" % (refset, self.latest, FIRST)
-        return bool(members_of((await self.ask([line]))[0]))
+        told = await self.told("MEMBERS %s %s %s 1" % (refset, self.latest, FIRST))
+        return bool(members_of(told))
+
+    async def keeps_members(self) -> bool:
+        """Whether the store's layout keeps members of reference sets."""
+        try:
+            await self.told("HISTORY M %s" % NO_MEMBER_ID)
+        except HubRefused as refused:
+            if refused.number == NEEDS_LATER_LAYOUT:
+                return False
+            raise
+        return True
 
     async def has_members(self) -> bool:
         """Whether the store has a member of any reference set."""
-        line = "PAGE M %s %s 1" % (self.latest, FIRST)
-        return bool(members_of((await self.ask([line]))[0]))
+        return bool(members_of(await self.told("PAGE M %s %s 1" % (self.latest, FIRST))))
+
+    async def has_module(self, module: str) -> bool:
+        """Whether a concept is of the module, or one of the first rows of other kinds."""
+        first = "PAGE %%s %s %s %d" % (self.latest, FIRST, limits.QUESTION_ROWS)
+        lines = ["HISTORY C %s" % module, *(first % kind for kind in "DRA"), first % "C"]
+        while True:
+            told = [columns_of(reply) for reply in await self.ask(lines, keep=False)]
+            if any(columns[MODULE] == module for page in told for columns in page):
+                return True
+            if len(told[-1]) < limits.QUESTION_ROWS:
+                return False
+            # (All concepts are more than one request may be told.)
+            self.session.connection.received = 0
+            after = told[-1][-1][0]
+            lines = ["PAGE C %s %s %d" % (self.latest, after, limits.QUESTION_ROWS)]
 
     async def children(self, code: str, day: str) -> list[str]:
-        return ids((await self.ask(["CHILDREN %s %s" % (code, day)]))[0])
+        return ids(await self.told("CHILDREN %s %s" % (code, day)))
 
     async def ancestors(self, codes: Sequence[str], day: str) -> list[list[str]]:
         replies = await self.ask(["ANCESTORS %s %s" % (code, day) for code in codes])
         return [ids(reply) for reply in replies]
 
     async def descendants(self, code: str, day: str) -> list[str]:
-        return ids((await self.ask(["DESCENDANTS %s %s" % (code, day)], keep=False))[0])
+        return ids(await self.told("DESCENDANTS %s %s" % (code, day), keep=False))
 
     async def versions(self, code: str) -> list[Concept]:
         """All versions of the concept's own row, oldest first."""
-        return rows(Concept, (await self.ask(["HISTORY C %s" % code]))[0])
+        return rows(Concept, await self.told("HISTORY C %s" % code))
 
     async def search(self, day: str, after: str, limit: int, text: str) -> list[Description]:
         """The descriptions whose term begins with the text."""
         if not SEARCHED.match(text):
             raise ValueError("a text that can't be looked for")
-        reply = (await self.ask(["SEARCH %s %s %d %s" % (day, after, limit, text)]))[0]
-        return rows(Description, reply)
+        return rows(
+            Description, await self.told("SEARCH %s %s %d %s" % (day, after, limit, text)))
 
     async def with_a_term(self, text: str, day: str) -> list[str]:
         """The concepts with a term that begins so, the shortest terms first."""
@@ -207,9 +262,8 @@ class View:
                 shortest[row.concept] = min(shortest.get(row.concept, len(row.term)), len(row.term))
             count += len(page)
             if count > limits.FILTER_TERMS:
-                raise too_costly(
-                    "more than %d terms begin with %.60r: give more letters" % (
-                        limits.FILTER_TERMS, text))
+                raise too_costly("more than %d terms begin with %.60r: give more letters"
+                                 % (limits.FILTER_TERMS, text))
             if len(page) < limits.QUESTION_ROWS:
                 return sorted(shortest, key=lambda code: (shortest[code], int(code)))
             after = page[-1].id
@@ -227,7 +281,7 @@ class View:
         after = FIRST
         while len(found) < count:
             line = "PAGE C %s %s %d" % (day, after, limits.QUESTION_ROWS)
-            page = rows(Concept, (await self.ask([line]))[0])
+            page = rows(Concept, await self.told(line))
             found += [
                 Member(row.id, row.is_active) for row in page if row.is_active or not active_only]
             if len(page) < limits.QUESTION_ROWS:
@@ -254,25 +308,21 @@ class View:
 
     async def subtree(self, top: str, day: str) -> Members:
         """The concept and all below it, by id."""
-        known = self.session.remembered_set(self.session.pool.subtrees, day, top)
-        if known is not None:
-            return known
-        codes = {top, *await self.descendants(top, day)}
-        if len(codes) > limits.WALK_CONCEPTS:
-            raise too_costly(
-                "there are more than %d concepts below %s: ask with a filter" % (
+        async def made() -> Members:
+            codes = {top, *await self.descendants(top, day)}
+            if len(codes) > limits.WALK_CONCEPTS:
+                raise too_costly("there are more than %d concepts below %s: ask with a filter" % (
                     limits.WALK_CONCEPTS, top))
-        found = tuple(await self.members(sorted(codes, key=int), day, keep=False))
-        self.session.remember_set(self.session.pool.subtrees, day, top, found)
-        return found
+            return tuple(await self.members(sorted(codes, key=int), day, keep=False))
+
+        return await self.session.recalled(self.session.pool.subtrees, day, top, made)
 
     async def timeline(self, code: str) -> list[Versions]:
         """What was ever said of the concept and about it: all versions of each component, those
         that were said first before others of their kind."""
         told = await self.ask(["TIMELINE %s %s" % (kind, code) for kind in ABOUT], keep=False)
-        about = [
-            versions for kind, reply in zip(ABOUT, told)
-            for versions in sorted(by_component(rows_about(kind, reply)), key=first_said)]
+        about = [versions for kind, reply in zip(ABOUT, told)
+                 for versions in sorted(by_component(rows_about(kind, reply)), key=first_said)]
         return [await self.versions(code), *about]
 
 

@@ -6,12 +6,12 @@ sctd-hub --program SCTD --store FILE --releases DIR [--socket PATH]
 
 The hub starts `sctd serve` and listens on the sockets, of which there has to be one. Each
 connection is a session of its own: a client sends lines without the session's number, such as
-`GET C 138875005 20250101`, and reads the replies as `docs/GUIDE.md` describes them. When a client
+`GET C 138875005 20250101`, and reads the replies as `docs/ASK.md` describes them. When a client
 leaves, its pin is undone; a last line without an end isn't carried out.
 
-The socket of `--socket` takes every line, and is its owner's alone. On the socket of `--questions`
-the store can only be asked: whatever isn't a question is answered `ERR hub NotAQuestion` there. It
-is its owner's alone, too, or with `--group` that group's.
+The socket of `--socket` takes every line. On that of `--questions` the store can only be asked:
+whatever isn't a question is answered `ERR hub NotAQuestion` there. Each is its owner's alone, or
+with `--group` the second one is that group's, too.
 
 The program answers one line after the other, and is sent the next ones meanwhile, at most 32 of a
 client. An import or a DIGEST goes alone and keeps the others waiting. `WATCH` is answered `OK` and
@@ -23,24 +23,20 @@ where the store is full, an import waits for a merge.
 
 Once the store is open, the hub prints `OK ready` (and tells systemd, where that started it). An
 opening that is refused ends the hub with the `ERR` line and the program's status. The hub ends with
-status 1 when the program ends, or after the program answered `ERR 2 DiskFault`: what started the
-hub should then start it again; so it does when another file takes the place of FILE. SIGTERM and
-SIGINT end it with status 0, after the lines that are on their way. Standard error has a line for
-each import, published merge and backup, and for each line that took over a second. Once somebody is
-answered `ERR 8 Damaged`, it says that the store is damaged, STATUS ends with `Damaged`, and the
-hub's status at its end isn't 0.
+status 1 when the program ends, after the program answered `ERR 2 DiskFault`, and when another file
+takes the place of FILE: what started the hub should then start it again. SIGTERM and SIGINT end it
+with status 0, after the lines that are on their way. Standard error has a line for each import,
+published merge and backup, and for each line that took over a second. Once somebody is answered
+`ERR 8 Damaged`, it says so, STATUS ends with `Damaged`, and the hub's status at its end isn't 0.
 
 On the socket of `--questions` a user has at most so many connections as `--connections-a-user`
-says (250 if it isn't said), and one that says nothing for ten minutes is closed.
+says (250 if it isn't said), and one that says nothing for ten minutes is closed. The socket that an
+earlier hub left behind is replaced. Anything else at its path, such as a file or the socket of a
+program that runs, stays, and the hub ends with status 1.
 
-PATH may name the socket that an earlier hub left behind, which is replaced. Anything else that
-stands there, such as a file or the socket of a program that runs, stays, and the hub ends with
-status 1.
-
-Before the program opens FILE, its pages are dropped from memory, since after a failed write Linux
-may keep there what the disk doesn't have. With `--make-store` a first start makes the store, in
-layout 3: where there is no FILE, and nothing but folders is beside it. Options may also stand in
-the table `[hub]` of the file of `--config`. Standard library alone.
+With `--make-store` a first start makes the store: where there is no FILE, and nothing but folders
+is beside it. Options may also stand in the table `[hub]` of the file of `--config`. Standard
+library alone.
 """
 
 import argparse
@@ -108,15 +104,6 @@ class Listener:
         sockets.remove(self.path, self.identity)
 
 
-async def end_duties(duties: list["asyncio.Task[None]"]) -> None:
-    """Ends what the hub does beside its clients, and tells what failed of it."""
-    for duty in duties:
-        duty.cancel()
-    for fault in await asyncio.gather(*duties, return_exceptions=True):
-        if isinstance(fault, Exception):
-            tell("hub: %r" % fault)
-
-
 async def serve_clients(hub: Hub, listeners: list[Listener]) -> int:
     """Serves all clients, and answers the status to end with."""
     for number in (signal.SIGTERM, signal.SIGINT):
@@ -125,7 +112,8 @@ async def serve_clients(hub: Hub, listeners: list[Listener]) -> int:
         await hub.loop.create_unix_server(
             functools.partial(Client, hub, one.may_change), sock=one.socket, backlog=BACKLOG)
         for one in listeners]
-    duties = [asyncio.create_task(duty) for duty in (hub.follow(), hub.merge(), hub.look())]
+    work = (hub.follow(), hub.store.merge_in_time(), hub.look())
+    duties = [asyncio.create_task(hub.done(duty)) for duty in work]
     print("OK ready", flush=True)
     tell_systemd()
     first: list["asyncio.Future[Any]"] = [hub.ended, *duties]
@@ -138,7 +126,9 @@ async def serve_clients(hub: Hub, listeners: list[Listener]) -> int:
         server.close()
         listener.remove()
     await hub.stop()
-    await end_duties(duties)
+    for duty in duties:
+        duty.cancel()
+    await asyncio.gather(*duties, return_exceptions=True)
     if hub.program.damaged_at:
         log("the store is damaged, as was told at %s" % hub.program.damaged_at)
         return max(hub.ended.result(), 1)
@@ -228,10 +218,7 @@ def main() -> int:
         resource.setrlimit(resource.RLIMIT_NOFILE, (most_files, most_files))
     try:
         return asyncio.run(serve(options))
-    except opening.NoStore as why:
-        print("hub: %s: %s" % (options.store, why), file=sys.stderr)
-        return 1
-    except OSError as why:
+    except (opening.NoStore, OSError) as why:
         print("hub: %s" % why, file=sys.stderr)
         return 1
 

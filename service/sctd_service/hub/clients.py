@@ -258,6 +258,7 @@ class Hub:
         task.add_done_callback(self.tasks.discard)
 
     async def done(self, work: Coroutine[None, None, None]) -> None:
+        """Does it, and ends the hub where that fails."""
         try:
             await work
         except Ended as ended:
@@ -330,13 +331,6 @@ class Hub:
             for client in list(self.clients):
                 if not client.may_change and client.is_idle(seconds):
                     client.transport.close()
-
-    async def merge(self) -> None:
-        """Merges in time, as long as the hub runs."""
-        try:
-            await self.store.merge_in_time()
-        except Ended as ended:
-            self.end(ended.status)
 
     async def stop(self) -> None:
         """Ends the program after the lines that it answers, and then the clients."""

@@ -54,9 +54,8 @@ class Metrics:
     def text(self, now: Iterable[tuple[str, str, float]]) -> str:
         """All of it, with what is so now: names, what they mean, values."""
         times = [('line="%s"' % kind, one) for kind, one in sorted(self.times.items())]
-        results = [
-            ('{command="%s",result="%s"}' % one, count)
-            for one, count in sorted(self.results.items())]
+        results = [('{command="%s",result="%s"}' % one, count)
+                   for one, count in sorted(self.results.items())]
         return "".join((
             *(family(name, "gauge", what, [("", value)]) for name, what, value in now),
             family("start_time_seconds", "gauge", "When the hub began.", [("", self.began)]),

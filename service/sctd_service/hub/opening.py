@@ -13,8 +13,6 @@ from pathlib import Path
 
 from ..logs import tell
 
-# The layout that a new store has: with checksums, and for whole packages.
-LAYOUT = "3"
 # The note that is left beside the store. While it is there, no store is made.
 NOTE = "first-start"
 NOTED = "%s: %s\nWhile this file is here, no start makes a store in this folder.\n"
@@ -30,11 +28,12 @@ def make(program: str, store: str) -> None:
     if not os.path.lexists(store):
         beside = [entry.name for entry in os.scandir(folder) if not entry.is_dir()]
         if beside:
-            raise NoStore("there is no such file, and no store is made beside %s" % min(beside))
-        done = subprocess.run([program, "init", "--layout", LAYOUT, "--store", store],
-                              stdin=subprocess.DEVNULL, stdout=subprocess.PIPE, check=False)
+            raise NoStore("%s: there is no such file, and no store is made beside %s" % (
+                store, min(beside)))
+        done = subprocess.run([program, "init", "--store", store], stdin=subprocess.DEVNULL,
+                              stdout=subprocess.PIPE, check=False)
         if done.returncode:
-            raise NoStore("it can't be made: %s" % done.stdout.decode().strip())
+            raise NoStore("%s: it can't be made: %s" % (store, done.stdout.decode().strip()))
         tell("hub: %s: a new store" % store)
     leave_note(folder / NOTE, os.path.basename(store))
 

@@ -14,7 +14,7 @@ from collections.abc import Sequence
 from typing import Optional, Protocol, cast
 
 from ..logs import log, tell
-from ..protocol import DAMAGED, DISK_FAULT, REFUSED, NotAReply, Replies
+from ..protocol import DAMAGED, DISK_FAULT, REFUSED, NotAReply, Replies, last_line
 from .lines import shown
 from .metrics import Metrics
 
@@ -189,9 +189,8 @@ class Program(asyncio.SubprocessProtocol):
             self.metrics.took(line, took)
         if took > SLOW_SECONDS:
             log("%.1f s for %s of %s" % (took, without_session(line), asker.user))
-        at = reply.rfind(b"\n", 0, -1) + 1
-        if reply.startswith(REFUSED, at):
-            self.look_at_refusal(asker, line, reply[at:-1])
+        if (last := last_line(reply)).startswith(REFUSED):
+            self.look_at_refusal(asker, line, last)
 
     def look_at_refusal(self, asker: Asker, line: bytes, last: bytes) -> None:
         if (last + b" ").startswith(DISK_FAULT):

@@ -4,7 +4,7 @@ use Rattle.rf2_values.specs.Row.{RowValue}
 use Rattle.history_model.specs.History.{History}
 use Rattle.import_check.specs.declared.release.Release.{Release}
 use Rattle.import_check.specs.declared.fault.ImportFault.{ImportFault}
-use Rattle.import_check.specs.NewRows.{IsRefusal}
+use Rattle.import_check.specs.NewRows.{IsRefusal, IsRefusalByKey}
 use Rattle.history_store.specs.declared.refusal.Refusal.{Refusal}
 use Rattle.history_store.specs.declared.refusal.Refusal.TheVariants as refusals
 use Rattle.history_store.specs.Refusals.{refusal_of}
@@ -21,8 +21,10 @@ IsStep (Ok done) old new after next =
 IsStep (Err e) old new after next =
     (e ≡ refusals.DiskFault) × IsRefused e old new
 
--- why the new rows of a release can't be found: a fault of the files on every disk, and on an
--- honest one a contradiction but no damage
+-- why the new rows of a release can't be found: a fault of the files, a contradiction that is
+-- possible by the keys, or a stored row that can't be read; and on an honest disk a contradiction
+-- but no damage
 abbrev pub IsNotFresh : Type 0 → Refusal → List RowValue → Release → Type 0
 IsNotFresh honest e known release =
     (fault : ImportFault) × (e ≡ refusal_of fault) × IsRefusal honest known release fault
+    × IsRefusalByKey known release fault

@@ -4,11 +4,13 @@ use Rattle.history_model.specs.declared.stamped.StampedRow.{StampedRow}
 use Rattle.history_model.specs.History.{IsHistory}
 use Rattle.history_model.specs.Lists.{AreLists}
 use Rattle.directory.specs.declared.entry.Entry.{Entry}
-use Rattle.directory.specs.Listings.{DirectoryValue, IsListing, IsEntry, form_of, most_entries}
-use Rattle.directory.specs.Listings.{next_layout, with_entry}
+use Rattle.blocks.specs.declared.extent.Extent.{Extent}
+use Rattle.directory.specs.Listings.{DirectoryValue, HasSumOf, IsListing, IsEntry, form_in}
+use Rattle.directory.specs.Listings.{most_entries, next_layout, with_entry}
+use Rattle.directory.specs.Places.{extent_of}
 use Rattle.directory.specs.Private.{after_import}
 use Rattle.segment.specs.Records.{segment_in, segment_of}
-use Rattle.store_image.specs.Kept.{IsSegmentOf, AreOfLayout, entry_at}
+use Rattle.store_image.specs.Kept.{IsSegmentOf, AreOfLayout}
 use Rattle.history_store.specs.declared.refusal.Refusal.{Refusal}
 use Rattle.history_store.specs.declared.refusal.Refusal.TheVariants as refusals
 use Rattle.history_store.specs.declared.preparing.Prepared.{Prepared}
@@ -17,25 +19,26 @@ use Rattle.history_store.specs.Catalog.{catalog_of, place_for}
 use Rattle.history_store.specs.StoreValue.{StoreValue}
 use Rattle.history_store.specs.Private.StoreValue.{directory_of, with_rows}
 
--- the entry of a segment of these rows, at the first extent with room for it
+-- the first extent with room for a segment of these rows
 pub record IsPlacedAt (d : DirectoryValue) (merge : Option Merge) (rows : List StampedRow)
-    (entry : Entry) : Type 0 where
+    (extent : Extent) : Type 0 where
   pub few : length d.entries < most_entries d.layout
   pub short : length (segment_of rows) < 2 ^ 32
-  pub place : place_for rows (catalog_of d merge) ≡ Some entry.first
-  pub entry_is : entry ≡ entry_at (form_of d.layout) entry.first rows
+  pub bytes : extent.bytes ≡ length (segment_of rows)
+  pub place : place_for rows (catalog_of d merge) ≡ Some extent.first
 
 -- the segment of these rows, and the directory that also lists it
 pub record IsPrepared (d : DirectoryValue) (merge : Option Merge) (rows : List StampedRow)
     (p : Prepared) : Type 0 where
   pub index_is : p.index ≡ rows
-  pub bytes_are : p.bytes.items ≡ segment_in p.entry.form rows
+  pub bytes_are : p.bytes.items ≡ segment_in (form_in p.entry.sums) rows
   pub entry_is : IsEntry p.entry
   pub segment : IsSegmentOf p.entry rows
+  pub sum : HasSumOf p.entry.sums (segment_in (form_in p.entry.sums) rows)
   pub listing : IsListing p.directory
   pub directory_is : p.directory ≡ with_entry (after_import d) p.entry
   pub placed : IsPlaced rows (catalog_of d merge) (catalog_of p.directory merge)
-  pub at_fit : IsPlacedAt d merge rows p.entry
+  pub at_fit : IsPlacedAt d merge rows (extent_of p.entry)
 
 -- why no segment of these rows is prepared
 abbrev pub IsUnprepared : Refusal → List StampedRow → Catalog → Type 0

@@ -1,6 +1,6 @@
 -- Rows on a disk, and what reading them leaves unchanged.
-use Rattle.std.specs.Prelude.{◌≡◌, ◌↔◌, ℕ, ◌+◌, ◌^◌, ◌≤◌, List, length, map, take, drop}
-use Rattle.std.specs.List.{AllByRecursion}
+use Rattle.std.specs.Prelude.{◌≡◌, ◌↔◌, ℕ, ◌+◌, ◌*◌, ◌^◌, ◌≤◌, List, Some, length, map, take, drop}
+use Rattle.std.specs.List.{AllByRecursion, slice_get}
 use Rattle.std.proofs.Common.{refl, subst, ◌∙◌}
 use Rattle.rf2_values.specs.Key.{key_of}
 use Rattle.rf2_values.specs.Row.{RowValue}
@@ -11,7 +11,7 @@ use Rattle.lru.specs.LruCache.{LruCache}
 use Rattle.blocks.specs.Cache.{LooksUpSome}
 use Rattle.blocks.proofs.Looked.{some_more}
 use Rattle.directory.specs.declared.entry.Entry.{Entry}
-use Rattle.directory.specs.Listings.{IsEntry}
+use Rattle.directory.specs.Listings.{IsEntry, form_in}
 use Rattle.segment.specs.declared.place.RowPlace.{RowPlace}
 use Rattle.checksum.specs.declared.form.Form.{Form}
 use Rattle.segment.specs.Records.{record_in, IsStamped}
@@ -56,6 +56,14 @@ pub record IsThere (form : Form) (from : ℕ) (s : StampedRow) (p : RowPlace) (f
   pub stamped : IsStamped s
   pub key : key_of s.row ≡ p.key
   pub import : s.import ≡ p.import
+
+-- the row's record is at its place within the segment with this number, in the form of the segment
+pub record IsRecordOf (entries : List Entry) (segment : ℕ) (s : StampedRow) (p : RowPlace)
+    (file : List ℕ) : Type 0 where
+  pub entry : Entry
+  pub listed : slice_get entries segment ≡ Some entry
+  pub within : p.at + p.bytes ≤ entry.bytes
+  pub there : IsThere (form_in entry.sums) (4096 * entry.first + p.at) s p file
 
 -- the rows of the lists
 abbrev pub rows_of : List (List StampedRow) → List RowValue

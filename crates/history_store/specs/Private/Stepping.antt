@@ -76,5 +76,6 @@ UnlessFault _ P = P
 
 -- the result of a step, and the merge after it
 abbrev pub IsStepOf : Result (Unit {0}) Refusal → MergeInProgress → MergeInProgress → ℕ → Type 0
-IsStepOf (Ok done) m next n = next ≡ record m { output = with_more n m.output }
+IsStepOf (Ok done) m next n =
+    (crc : ℕ) × (next ≡ record m { output = with_more n m.output; crc = crc })
 IsStepOf (Err e) m next n = IsUnread e × (1 ≤ n) × (1 ≤ left_count m.output) × (next ≡ m)

@@ -21,9 +21,9 @@ use Rattle.import_check.specs.declared.found.NewRows.{NewRows}
 use Rattle.import_check.specs.declared.fault.ImportFault.{ImportFault}
 use Rattle.import_check.specs.declared.fault.ImportFault.TheVariants as importfault
 use Rattle.fault_counts.specs.declared.fault.ReadFault.TheVariants as readfault
-use Rattle.import_check.specs.Release.{IsFirstContradiction}
+use Rattle.import_check.specs.Release.{IsFirstContradiction, IsPossibleContradiction}
 use Rattle.import_check.specs.Contradictions.{rank_cmp}
-use Rattle.import_check.specs.Known.{IsUnknown}
+use Rattle.import_check.specs.Known.{IsUnknown, already_known}
 use Rattle.import_check.specs.Release.{rows_of}
 
 -- a line is the other one, or comes before it in the release
@@ -185,13 +185,16 @@ KeepsApart known line old new =
     → IsOwn known rest new
 
 -- The new rows are rows of the lines so far. If no line contradicts, each row of the lines whose
--- key is unknown is among them. `known_row` is only set if a known row has the last key.
+-- key is unknown is among them. `known_row` is only set if a known row has the last key; otherwise
+-- the row that counts is that of a line with this key.
 pub record IsGathered (known : List RowValue) (done : List PlacedLine) (s : Sweep) : Type 0 where
   pub from_lines : (row : RowValue) → Has s.fresh.items row → Has (rows_of done) row
   pub each : s.first ≡ None → (row : RowValue) → Has (rows_of done) row
       → IsUnknown known (key_of row) → Has s.fresh.items row
   pub known_key : (row : RowValue) → s.known_row ≡ Some row
       → IsSomeAnd s.key (λ key. IsUnknown known key → ⊥)
+  pub new_key : s.known_row ≡ None → IfSome s.key (λ key. (first : PlacedLine) × Has done first
+      × (standing_row None s.fresh.items ≡ Some first.row) × (key_of first.row ≡ key))
 
 -- the same holds after one more line is taken
 abbrev pub Gathers : List RowValue → PlacedLine → Sweep → Sweep → Type 0
@@ -213,3 +216,32 @@ IsRefusalOf honest known lines (importfault.Known fault) = honest → fault ≢ 
 IsRefusalOf honest known lines (importfault.Row file line fault) = ⊥
 IsRefusalOf honest known lines (importfault.Contradiction file line key) =
     honest → IsFirstContradiction known lines file line key
+
+-- a line whose key is known, or whose row isn't that of a line with its key that comes no later
+pub record IsBlameable (known : List RowValue) (lines : List PlacedLine) (c : Contradiction)
+    : Type 0 where
+  pub line : PlacedLine
+  pub there : Has lines line
+  pub cause : (IsUnknown known (key_of line.row) → ⊥) ⊎ ((first : PlacedLine) × Has lines first
+      × StandsBy first.file first.line line.file line.line × (key_of first.row ≡ key_of line.row)
+      × (first.row ≢ line.row))
+  pub is : c ≡ contradiction_at line
+
+-- after one more line is taken, a contradiction is still such a line
+abbrev pub Blames : List RowValue → PlacedLine → Sweep → Sweep → Type 0
+Blames known line old new = (lines done rest : List PlacedLine) → lines ≡ done ++ line ∷ rest
+    → IsRising rank_cmp lines → IsGathered known done old
+    → IfSome old.first (IsBlameable known lines) → IfSome new.first (IsBlameable known lines)
+
+-- if a known row couldn't be read, only because memory ran out
+abbrev pub IsWithoutRead : ImportFault → Type 0
+IsWithoutRead (importfault.Known fault) = fault ≡ readfault.OutOfMemory
+IsWithoutRead _ = ⊤
+
+-- why lines give no new rows, whatever rows are returned for known keys
+abbrev pub IsRefusalOfByKey : List RowValue → List PlacedLine → ImportFault → Type 0
+IsRefusalOfByKey known lines (importfault.Known fault) =
+    already_known known (rows_of lines) ≡ [] → fault ≡ readfault.OutOfMemory
+IsRefusalOfByKey known lines (importfault.Contradiction file line key) =
+    IsPossibleContradiction known lines file line key
+IsRefusalOfByKey known lines _ = ⊤

@@ -169,8 +169,8 @@ impl Run {
             };
             let mut faults = Vec::new(rt.alloc());
             let (status, _, _) = command_line::run(
-                &mut command_line::FileDisks::new(rt),
-                rt,
+                &command_line::FileHost::new(rt),
+                &mut 0,
                 rt.alloc(),
                 self.words.as_slice(),
                 &mut input,

@@ -2,6 +2,7 @@
 
 use crate::lines::releases::Examples;
 use crate::lines::spoiled::Spoiled;
+use directory::Layout;
 use disk_model::MemDisk;
 use history_store::{Refusal, Store};
 use line_server::{ServeFault, serve};
@@ -28,9 +29,9 @@ impl Server {
         }
     }
 
-    /// A new store on an empty disk.
-    pub(crate) fn new(alloc: Global) -> Result<Server, Refusal> {
-        match Store::create(alloc, Spoiled::sound(MemDisk::new(alloc))) {
+    /// A new store of this layout on an empty disk.
+    pub(crate) fn new(alloc: Global, layout: Layout) -> Result<Server, Refusal> {
+        match Store::create_in(alloc, Spoiled::sound(MemDisk::new(alloc)), layout) {
             Ok(store) => Server::put_in_box(alloc, store),
             Err((refusal, _)) => Err(refusal),
         }
@@ -59,11 +60,6 @@ impl Server {
             &mut self.store,
             reads,
         )
-    }
-
-    /// Upgrades the store to version 3 of the layout.
-    pub(crate) fn upgrade(&mut self) -> Result<(), Refusal> {
-        self.store.upgrade()
     }
 
     /// Returns the disk.

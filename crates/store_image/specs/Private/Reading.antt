@@ -10,8 +10,6 @@ use Rattle.history_model.specs.declared.stamped.StampedRow.{StampedRow}
 use Rattle.history_model.specs.InOrder.{IsAscending}
 use Rattle.history_model.specs.History.{stamped_cmp}
 use Rattle.history_model.specs.Lists.{AreLists}
-use Rattle.blocks.specs.declared.extent.Extent.{Extent}
-use Rattle.blocks.specs.Extents.{start_of}
 use Rattle.directory.specs.declared.entry.Entry.{Entry}
 use Rattle.directory.specs.declared.layout.Layout.{Layout}
 use Rattle.checksum.specs.declared.form.Form.{Form}
@@ -25,7 +23,8 @@ use Rattle.store_image.specs.declared.fault.RowsFault.{RowsFault}
 use Rattle.store_image.specs.declared.fault.RowsFault.TheVariants as faults
 use Rattle.store_image.specs.declared.reading.ReadTo.{ReadTo}
 use Rattle.store_image.specs.declared.window.Window.{Window}
-use Rattle.store_image.specs.Kept.{HasKind, AreSegments}
+use Rattle.store_image.specs.Kept.{HasKind, AreSegments, AreSummed}
+use Rattle.store_image.specs.Reader.{bytes_of}
 use Rattle.store_image.specs.Reading.{AreNumbered, IsAt}
 
 -- the count of failures has risen if the disk failed, and otherwise is unchanged
@@ -42,10 +41,6 @@ of_segment segments.BadSegment = faults.Damaged
 
 -- ---- records
 
--- the bytes of an extent, as far as the file has them
-abbrev pub bytes_of : Extent → List ℕ → List ℕ
-bytes_of extent file = take extent.bytes (drop (start_of extent) file)
-
 -- the row's record begins at this offset
 abbrev pub HasRecord : Form → List ℕ → ℕ → StampedRow → Type 0
 HasRecord form bytes at s = IsStamped s
@@ -61,16 +56,6 @@ abbrev pub IsNoRecord : Form → RowsFault → List ℕ → ℕ → Type 0
 IsNoRecord form faults.OutOfMemory bytes at = Unit {0}
 IsNoRecord form faults.DiskFault bytes at = Unit {0}
 IsNoRecord form faults.Damaged bytes at = (s : StampedRow) → HasRecord form bytes at s → ⊥
-
--- the bytes in the window
-abbrev pub bytes_in : Window → List ℕ
-bytes_in w = take w.len w.bytes.items
-
--- the window's bytes are the segment's from its offset on, and if fewer were read than requested,
--- the file ends there
-pub record Sees (w : Window) (file : List ℕ) : Type 0 where
-  pub bytes : bytes_in w ≡ take w.len (drop w.from (bytes_of w.extent file))
-  pub ended : w.from + w.len < w.asked → length (bytes_of w.extent file) ≤ w.from + w.len
 
 -- the window reaches to the segment's end, or its buffer is full
 abbrev pub IsFull : Window → List ℕ → Type 0
@@ -136,10 +121,11 @@ AreOfKinds layout places = All (λ (p : RowPlace). HasKind layout p.key.kind) pl
 
 -- ---- the rows of all segments
 
--- each entry's segment has its rows, no key is in two segments, and no import number is greater
--- than `imports`
+-- each entry's segment has its rows and its checksum, no key is in two segments, and no import
+-- number is greater than `imports`
 pub record AreRead (imports : ℕ) (entries : List Entry)
     (lists : List (List StampedRow)) : Type 0 where
   pub segments : AreSegments entries lists
+  pub sums : AreSummed entries lists
   pub apart : AreLists lists
   pub numbered : AllByRecursion (AreNumbered imports) lists

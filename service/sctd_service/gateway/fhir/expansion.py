@@ -8,19 +8,18 @@ from dataclasses import astuple, dataclass
 
 from .. import limits, refsets
 from ..pool import Member
-from ..problems import Json, invalid, too_costly
+from ..problems import Json, invalid, not_supported, too_costly
 from ..store import SEARCHED
-from ...snomed import Language
-from .inputs import SCT, Query, not_here
-from .outputs import designations, parameter
+from ...snomed import Language, with_hyphens
+from .inputs import SCT
+from .outputs import ASKED, designations, parameter
 from .request import Request
-from .valuesets import Sort, ValueSet, inside, must_be_kept, refsets_there, value_set_of
+from .valuesets import (
+    Sort, ValueSet, codes_in, inside, refset_codes, versions_of, wanted_value_set)
 from .versions import Moment
 
-PARAMETERS = frozenset(
-    "url date filter offset count activeOnly includeDesignations displayLanguage system-version "
-    "excludeNested".split()
-)
+# How a designation is asked for by its language.
+LANGUAGE_SYSTEM = "urn:ietf:bcp:47"
 
 
 @dataclass(frozen=True)
@@ -33,6 +32,7 @@ class Wanted:
     count: int | None
     language: Language
     with_designations: bool
+    designations: tuple[str, ...]
 
     @property
     def most(self) -> int:
@@ -42,48 +42,36 @@ class Wanted:
 
 
 async def expand(request: Request) -> Json:
-    value_set = value_set_of(request.query.needed("url"))
-    moment = request.moment(value_set.version, *system_versions(request.query))
-    wanted = wanted_of(request)
+    value_set = wanted_value_set(request.query)
+    moment = request.moment(*versions_of(request.query, value_set))
+    wanted = wanted_of(request, value_set.active_only)
     request.query.flag("excludeNested")  # Expansions are flat.
+    if SCT in [system.partition("|")[0] for system in request.query.all("exclude-system")]:
+        raise not_supported("without %s nothing would be left" % SCT)
     found, total = await members(request, value_set, moment, wanted)
     if wanted.count is None and len(found) > limits.PAGE_CONCEPTS:
         raise too_costly(
             "there are more than %d concepts: ask with count and offset" % limits.PAGE_CONCEPTS)
     entries = await entries_of(request, found, moment, wanted)
-    return {
-        "resourceType": "ValueSet", "url": value_set.url, "status": "active",
-        "expansion": expansion(request, value_set, moment, wanted, entries, total)}
+    named = {"url": value_set.url} if value_set.url else {}
+    return {"resourceType": "ValueSet", **named, "status": "active",
+            "expansion": expansion(request, value_set, moment, wanted, entries, total)}
 
 
-def system_versions(query: Query) -> list[str]:
-    """The versions that `system-version` asks for, as `http://snomed.info/sct|VERSION`."""
-    found = []
-    for text in query.all("system-version"):
-        system, bar, version = text.partition("|")
-        if not bar or not version:
-            raise invalid("system-version must be SYSTEM|VERSION")
-        if system != SCT:
-            raise not_here(system)
-        found.append(version)
-    return found
-
-
-def wanted_of(request: Request) -> Wanted:
+def wanted_of(request: Request, active_only: bool) -> Wanted:
     query = request.query
     text, count = query.text("filter"), query.number("count")
     if text is not None:
         text = text.strip()
         if not SEARCHED.match(text):
-            raise invalid(
-                "filter must be 1 to %d characters, none of them a control character"
-                % limits.FILTER_CHARACTERS
-            )
+            raise invalid("filter must be 1 to %d characters, none of them a control character"
+                          % limits.FILTER_CHARACTERS)
     if count is not None and count > limits.PAGE_CONCEPTS:
         raise too_costly("count may be %d at most" % limits.PAGE_CONCEPTS)
+    designations = tuple(query.all("designation"))
     return Wanted(
-        text, query.flag("activeOnly"), query.number("offset") or 0, count, request.language(),
-        query.flag("includeDesignations"))
+        text, query.flag("activeOnly") or active_only, query.number("offset") or 0, count,
+        request.language(), query.flag("includeDesignations") or bool(designations), designations)
 
 
 async def members(request: Request, value_set: ValueSet, moment: Moment,
@@ -98,10 +86,10 @@ async def members(request: Request, value_set: ValueSet, moment: Moment,
         found = await view.members([code for code in codes if code in among], moment.day)
     elif value_set.sort is Sort.WITHIN:
         found = [*await view.subtree(value_set.code, moment.day)]
-    elif value_set.sort is Sort.ARE_REFSETS:
-        found = await view.members(await refsets_there(request, moment), moment.day)
     elif value_set.sort is Sort.IN_REFSET:
         return await members_of_refset(request, value_set.code, moment, wanted)
+    elif value_set.sort is not Sort.ANY:
+        found = await view.members(await codes_in(request, value_set, moment), moment.day)
     else:
         end = wanted.offset + wanted.most
         found = await view.first_concepts(moment.day, end, wanted.active_only)
@@ -115,10 +103,9 @@ async def members_of_refset(request: Request, refset: str, moment: Moment,
                             wanted: Wanted) -> tuple[Sequence[Member], int]:
     """A page of a reference set, of whose other concepts nothing has to be known. A code that the
     store has no concept of is told as the reference set has it."""
-    choose = refsets.active_codes_of if wanted.active_only else refsets.codes_of
-    codes = await choose(request.view, refset, moment.day)
-    if not codes:
-        await must_be_kept(request, refset, moment)
+    codes: Sequence[str] = await refset_codes(request, refset, moment)
+    if wanted.active_only:
+        codes = await refsets.active_codes_of(request.view, refset, moment.day)
     page = codes[wanted.offset : wanted.offset + wanted.most]
     there = {one.code: one for one in await request.view.members(page, moment.day)}
     return [there.get(code, Member(code, True)) for code in page], len(codes)
@@ -143,36 +130,44 @@ async def slice_of_entries(request: Request, found: Sequence[Member], moment: Mo
     entries = [entry(member, displays[member.code]) for member in found]
     if wanted.with_designations:
         described = await view.descriptions(codes, moment.day)
-        told = [await view.called(codes, moment.day, one) for one in wanted.language.refsets]
+        refsets_asked = wanted.language.every_refset
+        told = [await view.called(codes, moment.day, one) for one in refsets_asked]
         for place, terms in enumerate(described):
-            called = {refset: one[place] for refset, one in zip(wanted.language.refsets, told)}
-            if terms:
-                entries[place]["designation"] = designations(terms, called)
+            called = {refset: one[place] for refset, one in zip(refsets_asked, told)}
+            found_terms = designations(terms, called)
+            if chosen := [one for one in found_terms if is_chosen(one, wanted.designations)]:
+                entries[place]["designation"] = chosen
     return entries
 
 
+def is_chosen(designation: Json, wanted: Sequence[str]) -> bool:
+    """Whether a designation is of a use or a language that is asked for, as SYSTEM|CODE."""
+    use = "%s|%s" % (SCT, designation["use"]["code"])
+    language = "%s|%s" % (LANGUAGE_SYSTEM, designation["language"])
+    return not wanted or use in wanted or language in wanted
+
+
 def entry(member: Member, display: str) -> Json:
-    found: Json = {"system": SCT, "code": member.code, "display": display}
-    if not member.is_active:
-        found["inactive"] = True
-    return found
+    inactive = {} if member.is_active else {"inactive": True}
+    return {"system": SCT, "code": member.code, "display": display, **inactive}
 
 
-def expansion(
-    request: Request,
-    value_set: ValueSet,
-    moment: Moment,
-    wanted: Wanted,
-    entries: list[Json],
-    total: int | None,
-) -> Json:
+def expansion(request: Request, value_set: ValueSet, moment: Moment, wanted: Wanted,
+              entries: list[Json], total: int | None) -> Json:
     view = request.view
     named = " ".join(map(str, (value_set.url, view.pin, moment.day, *astuple(wanted))))
-    shown = [
-        parameter("version", valueUri="%s|%s" % (SCT, moment.version)),
-        parameter("sctd-pin", valueInteger=view.pin)]
-    if wanted.filter is not None:
-        shown.append(parameter("filter", valueString=wanted.filter))
+    shown = [parameter("version", valueUri="%s|%s" % (SCT, moment.version)),
+             parameter("sctd-pin", valueInteger=view.pin)]
+    if moment.asked:
+        shown.append(parameter(ASKED, valueDateTime=with_hyphens(moment.asked)))
+    heard: dict[str, Json] = {
+        "filter": {"valueString": wanted.filter}, "count": {"valueInteger": wanted.count},
+        "offset": {"valueInteger": wanted.offset},
+        "activeOnly": {"valueBoolean": wanted.active_only},
+        "includeDesignations": {"valueBoolean": wanted.with_designations},
+        "displayLanguage": {"valueString": request.query.text("displayLanguage")}}
+    shown += [
+        parameter(name, **value) for name, value in heard.items() if name in request.query.given]
     now = datetime.datetime.now(datetime.timezone.utc)
     found: Json = {
         "identifier": "urn:uuid:%s" % uuid.uuid5(uuid.NAMESPACE_URL, named),

@@ -2,11 +2,12 @@
 
 import json
 import re
-from collections.abc import Collection, Iterable
+from collections.abc import Iterable
 from typing import Any, NamedTuple
 
 from .. import limits
-from ..problems import Json, Problem, conflict, invalid, missing, not_found
+from ..problems import Json, Problem, conflict, invalid, missing, not_found, unknown
+from .parameters import Ways
 
 SCT = "http://snomed.info/sct"
 NUMBER = re.compile(r"[0-9]{1,9}\Z", re.ASCII)
@@ -34,14 +35,26 @@ class CodeNames(NamedTuple):
 
 class Query:
     """The parameters by their names. One that the operation doesn't know is refused, since an
-    answer that passes over it would be the answer to another question."""
+    answer that passes over it would be the answer to another question. `passed` says what was
+    passed over, which is refused where that is wanted; `canonical` are the versions that stand
+    behind the address of the code system."""
 
-    def __init__(self, given: Iterable[Given], known: Collection[str]) -> None:
+    def __init__(self, given: Iterable[Given], ways: Ways, is_strict: bool = False) -> None:
         self.given: dict[str, list[Any]] = {}
+        self.is_strict, self.passed, self.canonical = is_strict, list[str](), list[str]()
         for name, value in given:
-            if name not in known:
-                raise Problem(400, "not-supported", "the parameter %.60r isn't known here" % name)
-            self.given.setdefault(name, []).append(value)
+            if name in ways.taken:
+                self.given.setdefault(name, []).append(value)
+            elif name in ways.passed:
+                self.pass_over("the parameter %s is passed over: it changes no answer here" % name)
+            else:
+                raise unknown("the parameter %.60r isn't known here" % name)
+
+    def pass_over(self, text: str) -> None:
+        if self.is_strict:
+            raise unknown(text)
+        if text not in self.passed:
+            self.passed.append(text)
 
     def all(self, name: str) -> list[str]:
         values = self.given.get(name, [])
@@ -56,10 +69,8 @@ class Query:
         return values[0] if values else None
 
     def text(self, name: str) -> str | None:
-        value = self.one(name)
-        if value is not None and (not isinstance(value, str) or value == ""):
-            raise invalid("%s must be a text" % name)
-        return value
+        self.one(name)
+        return next(iter(self.all(name)), None)
 
     def needed(self, name: str) -> str:
         value = self.text(name)
@@ -85,9 +96,16 @@ class Query:
 
     def code_system(self, name: str) -> None:
         """Refuses another code system under this name."""
-        system = self.text(name)
-        if system is not None and system != SCT:
+        text = self.text(name)
+        if text is not None and (system := self.system_of(text)) != SCT:
             raise not_here(system)
+
+    def system_of(self, text: str) -> str:
+        """The code system that an address names, behind which a version may stand."""
+        system, _, version = text.partition("|")
+        if system == SCT and version:
+            self.canonical.append(version)
+        return system
 
     def coding(self, names: CodeNames) -> Coding:
         """The one code of SNOMED CT that is meant."""
@@ -105,8 +123,9 @@ class Query:
         if len(forms) > 1:
             raise conflict("%s and %s are two ways to name the code" % (forms[0], forms[1]))
         if forms == [names.code]:
-            system, code = self.needed(names.system), self.needed(names.code)
-            return [Coding(system, code, None, self.text("display"))]
+            inferred = names.system not in self.given and self.flag("inferSystem")
+            system = SCT if inferred else self.system_of(self.needed(names.system))
+            return [Coding(system, self.needed(names.code), None, self.text("display"))]
         self.code_system(names.system)
         if "display" in self.given:
             raise missing("%s is missing, whose display is given" % names.code)
@@ -131,8 +150,7 @@ def coding_of(value: Any) -> Coding:
     """A coding of FHIR."""
     parts = ("system", "code", "version", "display")
     if not isinstance(value, dict) or not all(
-        isinstance(value[part], str) and value[part] for part in parts if part in value
-    ):
+            isinstance(value[part], str) and value[part] for part in parts if part in value):
         raise invalid("a coding has system, code, version and display as texts")
     for part in ("system", "code"):
         if part not in value:
@@ -140,17 +158,29 @@ def coding_of(value: Any) -> Coding:
     return Coding(value["system"], value["code"], value.get("version"), value.get("display"))
 
 
-def posted(body: bytes) -> list[Given]:
-    """The parameters of a body: a resource `Parameters` of FHIR, as JSON."""
+def not_json() -> Problem:
+    return Problem(400, "structure", "the body isn't a resource Parameters in JSON")
+
+
+def parsed(body: bytes) -> Any:
+    """What a body has, in JSON."""
     try:
         resource = json.loads(body.decode(), object_pairs_hook=object_of)
         # Half a character, which JSON can write, is no text.
         json.dumps(resource, ensure_ascii=False).encode()
+    except (ValueError, TypeError, RecursionError):
+        raise not_json() from None
+    return resource
+
+
+def posted(resource: Any) -> list[Given]:
+    """The parameters of a resource `Parameters` of FHIR."""
+    try:
         if resource["resourceType"] != "Parameters":
             raise ValueError
         given = [given_part(part) for part in resource.get("parameter", [])]
-    except (ValueError, KeyError, TypeError, AttributeError, RecursionError):
-        raise Problem(400, "structure", "the body isn't a resource Parameters in JSON") from None
+    except (ValueError, KeyError, TypeError, AttributeError):
+        raise not_json() from None
     if len(given) > limits.PARAMETERS:
         raise invalid("the body has more than %d parameters" % limits.PARAMETERS)
     return given

@@ -4,21 +4,18 @@ from collections.abc import Iterable
 from typing import Any
 
 from ..problems import Json
-from ...snomed import DEFINED, IS_A, Facts
+from ...snomed import DEFINED, IS_A, Facts, is_concept_id
 from .inputs import CodeNames
-from .outputs import concrete, designations, parameter, parameters
+from .outputs import concrete, dated, designations, parameter, parameters
 from .request import Request
 
-PARAMETERS = frozenset("code system version coding date displayLanguage property".split())
-ALL = "*"
-CHILD = "child"
-DESIGNATION = "designation"
-INACTIVATION = "inactivationIndicator"
-NORMAL_FORM = "normalFormTerse"
+ALL, CHILD, DESIGNATION = "*", "child", "designation"
+INACTIVATION, NORMAL_FORM = "inactivationIndicator", "normalFormTerse"
 # Those that have a name. An attribute is the property of its code.
-PROPERTIES = (
-    "inactive", "sufficientlyDefined", "moduleId", "effectiveTime", INACTIVATION, "parent", CHILD,
-    NORMAL_FORM)
+PROPERTIES = ("inactive", "sufficientlyDefined", "moduleId", "effectiveTime", INACTIVATION,
+              "parent", CHILD, NORMAL_FORM)
+# What else R4 calls properties, some of which each answer has.
+ALWAYS = (ALL, DESIGNATION, "url", "name", "version", "display", "code", "system")
 
 
 async def lookup(request: Request) -> Json:
@@ -26,13 +23,14 @@ async def lookup(request: Request) -> Json:
     coding = query.coding(CodeNames())
     moment = request.moment(coding.version, query.text("version"))
     language, wanted = request.language(), set(query.all("property"))
+    for name in sorted(wanted.difference(PROPERTIES, ALWAYS)):
+        if not is_concept_id(name):
+            query.pass_over("no concept has the property %.60r here" % name)
     facts = await request.facts(coding.code, moment, language, is_wanted(INACTIVATION, wanted))
-    children: list[str] = []
-    if wanted & {CHILD, ALL}:
-        children = await request.view.children(coding.code, moment.day)
+    asks = wanted & {CHILD, ALL}
+    children = await request.view.children(coding.code, moment.day) if asks else []
     parts = [
-        parameter("name", valueString="SNOMED CT"),
-        parameter("version", valueString=moment.version),
+        parameter("name", valueString="SNOMED CT"), *dated(moment),
         parameter("display", valueString=facts.display(language))]
     if is_wanted(DESIGNATION, wanted):
         found = designations(facts.descriptions, facts.called)
@@ -48,11 +46,9 @@ def is_wanted(name: str, wanted: set[str]) -> bool:
 
 def designation_parts(one: Json) -> Json:
     said = {"extension": one["extension"]} if "extension" in one else {}
-    return parameter(
-        DESIGNATION, **said,
-        part=[
-            parameter("language", valueCode=one["language"]),
-            parameter("use", valueCoding=one["use"]), parameter("value", valueString=one["value"])])
+    return parameter(DESIGNATION, **said, part=[
+        parameter("language", valueCode=one["language"]),
+        parameter("use", valueCoding=one["use"]), parameter("value", valueString=one["value"])])
 
 
 def properties(facts: Facts, children: Iterable[str], wanted: set[str]) -> list[Json]:

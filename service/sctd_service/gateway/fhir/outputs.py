@@ -10,17 +10,18 @@ from typing import Any
 from .. import limits
 from ..problems import Json
 from ...snomed import (
-    ACCEPTABLE, FULLY_SPECIFIED_NAME, PREFERRED, SYNONYM, TEXT_DEFINITION, Called, Description)
+    ACCEPTABLE, FULLY_SPECIFIED_NAME, PREFERRED, SYNONYM, TEXT_DEFINITION, Called, Description,
+    with_hyphens)
 from .inputs import SCT
+from .versions import Moment
 
-USES = {
-    FULLY_SPECIFIED_NAME: "Fully specified name",
-    SYNONYM: "Synonym",
-    TEXT_DEFINITION: "Definition",
-}
+USES = {FULLY_SPECIFIED_NAME: "Fully specified name", SYNONYM: "Synonym",
+        TEXT_DEFINITION: "Definition"}
 ROLES = {PREFERRED: "Preferred", ACCEPTABLE: "Acceptable"}
 # How SNOMED International says for FHIR in which language a designation is what.
 CONTEXT = "http://snomed.info/fhir/StructureDefinition/designation-use-context"
+# The parameter of an answer that says for which day it was asked.
+ASKED = "sctd-date"
 # FHIR's integer has 32 bits.
 INTEGER = re.compile(r"#-?(0|[1-9][0-9]{0,8})\Z", re.ASCII)
 DECIMAL = re.compile(r"#-?(0|[1-9][0-9]{0,30})(\.[0-9]{1,30})?\Z", re.ASCII)
@@ -62,6 +63,12 @@ def parameter(name: str, **value: Any) -> Json:
     return {"name": name, **value}
 
 
+def dated(moment: Moment) -> list[Json]:
+    """The version that an answer is of, and the day that was asked for beside it."""
+    asked = [parameter(ASKED, valueDate=with_hyphens(moment.asked))] if moment.asked else []
+    return [parameter("version", valueString=moment.version), *asked]
+
+
 def parameters(parts: Iterable[Json]) -> Json:
     return {"resourceType": "Parameters", "parameter": list(parts)}
 
@@ -94,12 +101,10 @@ def designation(row: Description, contexts: list[Json]) -> Json:
 
 
 def context(refset: str, role: str, kind: str) -> Json:
-    parts = {
-        "context": {"system": SCT, "code": refset},
-        "role": {"system": SCT, "code": role, "display": ROLES[role]}, "type": use_of(kind)}
-    return {
-        "url": CONTEXT,
-        "extension": [{"url": name, "valueCoding": one} for name, one in parts.items()]}
+    parts = {"context": {"system": SCT, "code": refset},
+             "role": {"system": SCT, "code": role, "display": ROLES[role]}, "type": use_of(kind)}
+    return {"url": CONTEXT,
+            "extension": [{"url": name, "valueCoding": one} for name, one in parts.items()]}
 
 
 def use_of(code: str) -> Json:

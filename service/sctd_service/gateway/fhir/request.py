@@ -19,7 +19,8 @@ class Request(NamedTuple):
 
     def moment(self, *versions: str | None) -> Moment:
         """The moment of the answer; `date` is that of the record where the operation knows it."""
-        return self.edition.moment(self.view, versions, self.query.text("date"))
+        named = [*versions, *self.query.canonical]
+        return self.edition.moment(self.view, named, self.query.text("date"))
 
     def language(self) -> Language:
         """The language of `displayLanguage`, or those of the house where none is given."""

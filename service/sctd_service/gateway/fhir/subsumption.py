@@ -2,18 +2,13 @@
 
 from ..problems import Json
 from .inputs import CodeNames
-from .outputs import parameter, parameters
+from .outputs import dated, parameter, parameters
 from .request import Request
 
-PARAMETERS = frozenset("codeA codeB codingA codingB system version".split())
 # By whether the first code is the second or above it, and whether it is the second or below it. Two
 # codes that are both, as on a cycle of a faulty release, are kinds of each other.
-OUTCOMES = {
-    (True, True): "equivalent",
-    (True, False): "subsumes",
-    (False, True): "subsumed-by",
-    (False, False): "not-subsumed",
-}
+OUTCOMES = {(True, True): "equivalent", (True, False): "subsumes", (False, True): "subsumed-by",
+            (False, False): "not-subsumed"}
 
 
 async def subsumes(request: Request) -> Json:
@@ -26,4 +21,4 @@ async def subsumes(request: Request) -> Json:
     is_above = await view.is_within(second.code, first.code, moment.day)
     is_below = await view.is_within(first.code, second.code, moment.day)
     outcome = OUTCOMES[is_above, is_below]
-    return parameters([parameter("outcome", valueCode=outcome)])
+    return parameters([parameter("outcome", valueCode=outcome), *dated(moment)])

@@ -1,23 +1,23 @@
-"""ConceptMap/$translate, as far as it was said by a day: what took the place of a retired code, and
-what a simple map has for a code."""
+"""ConceptMap/$translate, as far as it was said by a day: what took the place of a retired code, or
+whose place a code took, and what a simple or extended map has for a code."""
 
 from collections.abc import Sequence
 from typing import NamedTuple
 
 from ... import snomed
-from ...snomed import SIMPLE_MAP, Language, distinct, is_concept_id
+from ...snomed import SIMPLE_MAP, Language, is_concept_id
 from ..problems import Json, Problem, not_found, not_supported
 from .inputs import SCT, CodeNames
-from .outputs import parameter, parameters
+from .outputs import concrete, dated, parameter, parameters
 from .request import Request
-from .valuesets import is_of_snomed, must_be_kept
+from .valuesets import CANONICAL, ValueSet, inside, is_of_snomed, must_be_kept, value_set_of
 from .versions import Moment
-
-PARAMETERS = frozenset("url code system version coding reverse targetsystem date".split())
 
 # What a target means beside the code, as R4's ConceptMapEquivalence has it.
 EQUAL, EQUIVALENT, INEXACT, RELATED = "equal", "equivalent", "inexact", "relatedto"
-WIDER, DISJOINT = "wider", "disjoint"
+WIDER, NARROWER, DISJOINT, UNMATCHED = "wider", "narrower", "disjoint", "unmatched"
+# What is meant the other way round.
+REVERSED = {WIDER: NARROWER}
 
 
 class Map(NamedTuple):
@@ -45,108 +45,193 @@ MAPS = {
     snomed.POSSIBLY_REPLACED_BY: Map("POSSIBLY REPLACED BY", INEXACT),
     snomed.PARTIALLY_EQUIVALENT_TO: Map("PARTIALLY EQUIVALENT TO", INEXACT),
 }
-FORM = "fhir_cm="
+FORM, BARE = "fhir_cm=", "fhir_cm"
 # Of a simple map the release says nothing but that code and target belong together.
 OF_SIMPLE_MAPS = RELATED
-# The one column of its own that a member of a simple map has.
-MAP_COLUMNS = 1
+# The map to ICD-10, and its code system where the house names no other.
+ICD_10, ICD_10_SYSTEM = "447562003", "http://hl7.org/fhir/sid/icd-10"
+# What the columns of a map's members are called that are its own, by how many there are.
+TARGET, CORRELATION = "mapTarget", "correlationId"
+SHAPES = {
+    names.count(" ") + 1: names.split() for names in (
+        TARGET,
+        "mapGroup mapPriority mapRule mapAdvice mapTarget correlationId mapCategoryId")}
+# What a member of an extended map says beside its target.
+SAID = ("mapGroup", "mapPriority", "mapRule", "mapAdvice")
+# How target and source are said to belong together.
+CORRELATIONS = {
+    "447557004": EQUAL, "447558009": NARROWER, "447559001": WIDER, "447560006": INEXACT,
+    "447556008": UNMATCHED}
 
 
 class Asked(NamedTuple):
-    """A code that is to be translated, by which map, on which day."""
+    """A code that is to be translated, by maps of which version, on which day, the other way round
+    or not, and among which concepts the targets have to be."""
 
-    url: str
-    refset: str
+    base: str
+    refsets: Sequence[str]
     code: str
     moment: Moment
+    is_reverse: bool
+    target: ValueSet | None
+
+    def url(self, refset: str) -> str:
+        return "%s?%s%s" % (self.base, FORM, refset)
 
 
 async def translate(request: Request) -> Json:
     query = request.query
-    url = query.needed("url")
-    version, refset = map_of(url)
-    if query.flag("reverse"):
-        raise not_supported("what a code took the place of isn't answered here")
-    if refset in MAPS:
-        query.code_system("targetsystem")
-    coding = query.coding(CodeNames())
-    moment = request.moment(coding.version, query.text("version"), version)
-    asked = Asked(url, refset, coding.code, moment)
-    if refset not in MAPS:
+    base, version, refset = map_of(query.text("url") or SCT + "?" + BARE)
+    codings = [one for one in query.codings(CodeNames()) if one.system == SCT]
+    if not codings:
+        raise not_found("no code is one of %s" % SCT)
+    # The value set in which the code was chosen is all of SNOMED CT, or a part of it.
+    _, target = (
+        value_set_of(text) if (text := query.text(name)) else None for name in ("source", "target"))
+    versions = (codings[0].version, *map(query.text, ("version", "conceptMapVersion")))
+    moment = request.moment(*versions, base, version, *(target.versions if target else ()))
+    asked = Asked(
+        base, refsets_for(request, refset), codings[0].code, moment, query.flag("reverse"), target)
+    if not MAPS.keys() >= set(asked.refsets):
         return await mapped(request, asked)
-    await request.must_have(coding.code, moment)
+    if refset:
+        query.code_system("targetsystem")
+    await request.must_have(asked.code, moment)
     return await replaced(request, asked)
 
 
+def systems_of(request: Request) -> dict[str, str]:
+    """The code systems to which maps lead."""
+    return {ICD_10: ICD_10_SYSTEM, **request.edition.maps}
+
+
+def refsets_for(request: Request, refset: str) -> Sequence[str]:
+    """The maps that are asked for: one, or all that lead to a code system. The associations lead to
+    SNOMED CT."""
+    system = request.query.text("targetsystem") or SCT
+    if refset:
+        return (refset,)
+    if system == SCT:
+        return tuple(MAPS)
+    found = [one for one, leads_to in systems_of(request).items() if leads_to == system]
+    if not found:
+        raise not_found("no map is said to lead to the code system %.100r" % system)
+    return found
+
+
 async def replaced(request: Request, asked: Asked) -> Json:
-    """What took the place of a code, by one of the historical associations."""
-    view, day, used = request.view, asked.moment.day, MAPS[asked.refset]
-    said = (await view.associations([asked.code], day))[0]
-    targets = [row.target for row in said if row.refset == asked.refset]
-    names = await view.names(targets, day, Language("", request.edition.languages))
-    version = asked.moment.version
-    concepts = [
-        {"system": SCT, "version": version, "code": target, "display": names[target]}
-        for target in targets]
-    return translated(asked, used.equivalence, concepts, why_not(used, bool(targets)))
+    """What took the place of a code, or whose place it took, by historical associations."""
+    view, day, code = request.view, asked.moment.day, asked.code
+    ask = view.replaced_by if asked.is_reverse else view.associations
+    rows = [row for row in (await ask([code], day))[0] if row.refset in asked.refsets]
+    found = [(row.refset, row.source if asked.is_reverse else row.target) for row in rows]
+    if asked.target:
+        among = [other for _, other in found if is_concept_id(other)]
+        inner = await inside(request, asked.target, among, asked.moment)
+        found = [one for one in found if one[1] in inner]
+    names = await view.names(
+        [other for _, other in found], day, Language("", request.edition.languages))
+    matches, version = [], asked.moment.version
+    for refset, other in sorted(found, key=lambda one: [*MAPS].index(one[0])):
+        means = MAPS[refset].equivalence
+        concept = {"system": SCT, "version": version, "code": other, "display": names[other]}
+        means = REVERSED.get(means, means) if asked.is_reverse else means
+        matches.append(match(asked.url(refset), means, concept))
+    return translated(asked, matches, why_not(asked, {refset for refset, _ in found}))
 
 
-def why_not(used: Map, has_targets: bool) -> str:
-    """Why a code isn't translated by this map, or nothing."""
-    if not has_targets:
-        return "the code has no %s association on that day" % used.name
-    if used.equivalence == DISJOINT:
-        return "%s names a namespace, which is no meaning of the code" % used.name
+def why_not(asked: Asked, found: set[str]) -> str:
+    """Why a code isn't translated by these maps, or nothing."""
+    used = MAPS[asked.refsets[0]].name + " " if len(asked.refsets) == 1 else ""
+    if not found:
+        to = " to it" if asked.is_reverse else ""
+        return "the code has no %sassociation%s on that day" % (used, to)
+    if all(MAPS[refset].equivalence == DISJOINT for refset in found):
+        return "MOVED TO names a namespace, which is no meaning of the code"
     return ""
 
 
 async def mapped(request: Request, asked: Asked) -> Json:
-    """What a simple map has for a code. The release doesn't say of which code system that is, so an
-    answer says it only where the house has said it."""
-    view, day, refset = request.view, asked.moment.day, asked.refset
-    system = request.edition.maps.get(refset)
-    if system is None and not await view.is_within(refset, SIMPLE_MAP, day):
-        raise not_a_map(asked.url)
+    """What simple and extended maps have for a code. The release doesn't say of which code system
+    that is, so but for ICD-10 an answer says it only where the house has said it."""
+    if asked.is_reverse or asked.target:
+        raise not_supported("reverse and target are answered of historical associations alone")
+    matches, told, kept = [], [], False
+    members = None
+    for refset in asked.refsets:
+        system = systems_of(request).get(refset)
+        await must_be_a_map(request, asked, refset, system)
+        if members is None:
+            await request.must_have(asked.code, asked.moment)
+            members = (await request.view.members_about([asked.code], asked.moment.day))[0]
+        of_map = [row.further for row in members if row.refset == refset]
+        if not of_map and len(asked.refsets) == 1:
+            await must_be_kept(request, refset, asked.moment)
+        for row in rows_of_map(refset, of_map):
+            kept = kept or bool(row[TARGET])
+            told += [row["mapAdvice"]] if row.get("mapAdvice") else []
+            matches += target_of(asked.url(refset), row, system)
+    why = "" if kept else "the map has no target for the code on that day"
+    return translated(asked, matches, why, told)
+
+
+async def must_be_a_map(request: Request, asked: Asked, refset: str, system: str | None) -> None:
+    if system is None and not await request.view.is_within(refset, SIMPLE_MAP, asked.moment.day):
+        raise not_a_map(asked.url(refset))
     wanted = request.query.text("targetsystem")
     if wanted not in (None, system):
         raise not_found("the code system %.100r isn't said to be that of the map" % wanted)
-    await request.must_have(asked.code, asked.moment)
-    members = (await view.members_about([asked.code], day))[0]
-    of_map = [row.further for row in members if row.refset == refset]
-    if not of_map:
-        await must_be_kept(request, refset, asked.moment)
-    if any(len(further) != MAP_COLUMNS for further in of_map):
-        raise not_supported("the members of %s have other columns than a simple map" % refset)
-    targets = distinct(further[0] for further in of_map if further[0])
+
+
+def rows_of_map(refset: str, members: Sequence[Sequence[str]]) -> list[dict[str, str]]:
+    """The members of a map by the names of their columns, each once: those of an extended map by
+    group and priority."""
+    if any(len(further) not in SHAPES for further in members):
+        raise not_supported("the members of %s have other columns than a map" % refset)
+    once = dict.fromkeys(tuple(further) for further in members)
+    rows = [dict(zip(SHAPES[len(further)], further)) for further in once]
+    return sorted(rows, key=lambda row: [int(row.get(name) or 0) for name in SAID[:2]])
+
+
+def target_of(url: str, row: dict[str, str], system: str | None) -> list[Json]:
+    """What a member of a map says: nothing if it has no target and no rule."""
     named = {"system": system} if system else {}
-    why = "" if targets else "the map has no target for the code on that day"
-    return translated(asked, OF_SIMPLE_MAPS, [{**named, "code": one} for one in targets], why)
+    concept = {**named, "code": row[TARGET]} if row[TARGET] else {}
+    if not concept and CORRELATION not in row:
+        return []
+    means = CORRELATIONS.get(row.get(CORRELATION, ""), OF_SIMPLE_MAPS)
+    said = [
+        parameter(name, **concrete("#" + row[name] if row[name].isdecimal() else row[name]))
+        for name in SAID if row.get(name)]
+    return [match(url, means if concept else UNMATCHED, concept, said)]
 
 
-def map_of(url: str) -> tuple[str, str]:
-    """The version that the address of a map names, and its reference set."""
+def map_of(address: str) -> tuple[str, str | None, str]:
+    """What the address of a map names: its version, one behind it, and its reference set, which is
+    nothing for all historical associations."""
+    canonical = CANONICAL.match(address)
+    url, *named = canonical.groups() if canonical else (address,)
     base, _, what = url.partition("?")
     refset = what.removeprefix(FORM)
-    if not is_of_snomed(base) or refset == what or not is_concept_id(refset):
+    if not is_of_snomed(base) or what != BARE and (refset == what or not is_concept_id(refset)):
         raise not_a_map(url)
-    return base, refset
+    return base, next(iter(named), None), "" if what == BARE else refset
 
 
 def not_a_map(url: str) -> Problem:
-    return not_found(
-        "the map %.100r isn't known: %s?%s a simple map, or one of %s" % (
-            url, SCT, FORM, ", ".join(MAPS)))
+    return not_found("the map %.100r isn't known: %s?%s and a simple map, %s, or one of %s"
+                     % (url, SCT, FORM, ICD_10, ", ".join(MAPS)))
 
 
-def translated(asked: Asked, equivalence: str, concepts: Sequence[Json], why: str) -> Json:
-    message = [parameter("message", valueString=why)] if why else []
-    matches = [match(asked.url, equivalence, concept) for concept in concepts]
-    return parameters([parameter("result", valueBoolean=not why), *message, *matches])
+def translated(asked: Asked, matches: Sequence[Json], why: str, advice: Sequence[str] = ()) -> Json:
+    texts = [why] if why else list(advice)
+    message = [parameter("message", valueString="; ".join(texts))] if texts else []
+    said = [parameter("result", valueBoolean=not why), *message]
+    return parameters([*said, *dated(asked.moment), *matches])
 
 
-def match(url: str, equivalence: str, concept: Json) -> Json:
-    return parameter(
-        "match",
-        part=[
-            parameter("equivalence", valueCode=equivalence),
-            parameter("concept", valueCoding=concept), parameter("source", valueUri=url)])
+def match(url: str, equivalence: str, concept: Json, said: Sequence[Json] = ()) -> Json:
+    target = [parameter("concept", valueCoding=concept)] if concept else []
+    return parameter("match", part=[
+        parameter("equivalence", valueCode=equivalence), *target,
+        parameter("source", valueUri=url), *said])

@@ -4,22 +4,15 @@ right on the day of a record."""
 from ..problems import Json
 from ...snomed import is_concept_id, is_display
 from .inputs import SCT, CodeNames, Coding
-from .outputs import parameter, parameters
+from .outputs import dated, parameter, parameters
 from .request import Request
-from .valuesets import Sort, ValueSet, inside, value_set_of
+from .valuesets import Sort, ValueSet, inside, versions_of, wanted_value_set
 from .versions import Moment
 
-OF_A_CODE = "code version display coding codeableConcept date displayLanguage"
-CODE_PARAMETERS = frozenset(("url " + OF_A_CODE).split())
-MEMBER_PARAMETERS = frozenset(
-    ("url system systemVersion " + OF_A_CODE).replace(" version", "").split())
-
 # What a code isn't that is outside a value set.
-OUTSIDE = {
-    Sort.WITHIN: "%s and isn't below it",
-    Sort.IN_REFSET: "in the reference set %s",
-    Sort.ARE_REFSETS: "a reference set with members%s",
-}
+OUTSIDE = {Sort.WITHIN: "%s and isn't below it", Sort.IN_REFSET: "in the reference set %s",
+           Sort.ARE_REFSETS: "a reference set with members%s",
+           Sort.COMPOSED: "in the value set%s"}
 
 
 async def validate_code(request: Request) -> Json:
@@ -28,18 +21,17 @@ async def validate_code(request: Request) -> Json:
 
 
 async def validate_member(request: Request) -> Json:
-    value_set = value_set_of(request.query.needed("url"))
+    value_set = wanted_value_set(request.query)
     return await validated(request, CodeNames(version="systemVersion"), value_set)
 
 
 async def validated(request: Request, names: CodeNames, value_set: ValueSet | None) -> Json:
     """The answer for the first code that is valid, or else for the last of SNOMED CT."""
     query = request.query
-    versions = [query.text(names.version), value_set.version if value_set else None]
-    answer = parameters(
-        [
-            parameter("result", valueBoolean=False),
-            parameter("message", valueString="no code is one of %s" % SCT)])
+    of_set = versions_of(query, value_set) if value_set else []
+    versions = [query.text(names.version), *of_set]
+    answer = parameters([parameter("result", valueBoolean=False),
+                         parameter("message", valueString="no code is one of %s" % SCT)])
     for coding in query.codings(names):
         # The version of another code system's coding is none of SNOMED CT.
         is_own = coding.system == SCT
@@ -47,9 +39,8 @@ async def validated(request: Request, names: CodeNames, value_set: ValueSet | No
         if not is_own:
             continue
         wrong, parts = await checked(request, coding, moment, value_set)
-        if wrong:
-            parts.append(parameter("message", valueString=wrong))
-        answer = parameters([parameter("result", valueBoolean=not wrong), *parts])
+        message = [parameter("message", valueString=wrong)] if wrong else []
+        answer = parameters([parameter("result", valueBoolean=not wrong), *parts, *message])
         if not wrong:
             break
     return answer
@@ -58,19 +49,18 @@ async def validated(request: Request, names: CodeNames, value_set: ValueSet | No
 async def checked(request: Request, coding: Coding, moment: Moment,
                   value_set: ValueSet | None) -> tuple[str, list[Json]]:
     """What is wrong with a code, or nothing, and what there is to say of it."""
-    parts = [
-        parameter("code", valueCode=coding.code), parameter("system", valueUri=SCT),
-        parameter("version", valueString=moment.version)]
+    parts = [parameter("code", valueCode=coding.code), parameter("system", valueUri=SCT),
+             *dated(moment)]
     codes = [coding.code] if is_concept_id(coding.code) else []
     among = await inside(request, value_set, codes, moment) if value_set else set(codes)
     language = request.language()
     facts = await request.view.facts(coding.code, moment.day, language)
     if facts is None:
         return "the code %.60r isn't in %s" % (coding.code, moment.version), parts
-    terms = [row for row in facts.descriptions if language.code in ("", row.language)]
-    parts += [
-        parameter("display", valueString=facts.display(language)),
-        parameter("inactive", valueBoolean=not facts.concept.is_active)]
+    wanted = {one.code for one in language.each}
+    terms = [row for row in facts.descriptions if wanted.intersection(("", row.language))]
+    parts += [parameter("display", valueString=facts.display(language)),
+              parameter("inactive", valueBoolean=not facts.concept.is_active)]
     if value_set and coding.code not in among:
         return "the code isn't %s on that day" % (OUTSIDE[value_set.sort] % value_set.code), parts
     if coding.display and not is_display(coding.display, terms):

@@ -1,19 +1,23 @@
-"""The implicit value sets: all of SNOMED CT, a concept and all below it, a reference set, or the
-reference sets that there are."""
+"""The value sets: the implicit ones, which are all of SNOMED CT, a concept and all below it, a
+reference set, or the reference sets that there are; and those that a client defines, of such parts
+and of lists of codes."""
 
 import enum
-from collections.abc import Sequence
-from typing import NamedTuple
+import re
+from collections.abc import Collection, Sequence
+from typing import Any, NamedTuple
 
-from .. import refsets
-from ..problems import Problem, invalid, not_found, not_supported
-from ...snomed import REFERENCE_SET, is_concept_id
-from .inputs import SCT
+from .. import limits, refsets
+from ..problems import Json, Problem, conflict, invalid, not_found, not_supported, too_costly
+from ...snomed import REFERENCE_SET, distinct, is_concept_id
+from .inputs import SCT, Query, not_here
 from .request import Request
 from .versions import Moment
 
 ALL, IS_A, REFSETS, REFSET = "fhir_vs", "fhir_vs=isa/", "fhir_vs=refset", "fhir_vs=refset/"
 ECL = "fhir_vs=ecl/"
+# An address with a version of SNOMED CT behind it.
+CANONICAL = re.compile(r"(.*)\|(http://snomed\.info/sct[^|]*)\Z", re.DOTALL)
 
 
 class Sort(enum.Enum):
@@ -21,31 +25,81 @@ class Sort(enum.Enum):
 
     ANY = enum.auto()
     WITHIN = enum.auto()
+    BELOW = enum.auto()
+    ABOVE = enum.auto()
     IN_REFSET = enum.auto()
     ARE_REFSETS = enum.auto()
+    LISTED = enum.auto()
+    COMPOSED = enum.auto()
+
+
+# The filters of a concept that a client's value set may have.
+FILTERS = {
+    "is-a": Sort.WITHIN, "descendent-of": Sort.BELOW, "generalizes": Sort.ABOVE,
+    "in": Sort.IN_REFSET}
 
 
 class ValueSet(NamedTuple):
-    """Its address, the version that the address names, and the top or the reference set of its
-    concepts if it has one."""
+    """Its address, the versions that it names, and the top or the reference set of its concepts if
+    it has one, or their list. A composed one has the codes that are in all parts of one of
+    `included`, but for those that are so in `excluded`."""
 
     url: str
-    version: str | None
+    versions: tuple[str, ...]
     sort: Sort
     code: str = ""
+    listed: tuple[str, ...] = ()
+    included: tuple[tuple["ValueSet", ...], ...] = ()
+    excluded: tuple[tuple["ValueSet", ...], ...] = ()
+    active_only: bool = False
 
 
-def value_set_of(url: str) -> ValueSet:
+def wanted_value_set(query: Query) -> ValueSet:
+    """The value set that is asked for, by its address or as the client has it."""
+    version = query.text("valueSetVersion")
+    if "valueSet" not in query.given:
+        found = value_set_of(query.needed("url"))
+    elif "url" in query.given:
+        raise conflict("url and valueSet are two ways to name the value set")
+    else:
+        found = composed(query.one("valueSet"))
+    return found._replace(versions=(*found.versions, version)) if version else found
+
+
+def versions_of(query: Query, value_set: ValueSet) -> list[str]:
+    """The versions that an answer about a value set has to be of."""
+    forced = system_versions(query, "force-system-version")
+    own = [*value_set.versions, *system_versions(query, "system-version")]
+    return [*(forced or own), *system_versions(query, "check-system-version")]
+
+
+def system_versions(query: Query, name: str) -> list[str]:
+    """The versions that a parameter names, as `http://snomed.info/sct|VERSION`."""
+    found = []
+    for text in query.all(name):
+        system, bar, version = text.partition("|")
+        if not bar or not version:
+            raise invalid("%s must be SYSTEM|VERSION" % name)
+        if system != SCT:
+            raise not_here(system)
+        found.append(version)
+    return found
+
+
+def value_set_of(address: str) -> ValueSet:
+    canonical = CANONICAL.match(address)
+    url, *named = canonical.groups() if canonical else (address,)
     base, _, what = url.partition("?")
+    versions = (base, *named)
     if not is_of_snomed(base) or not what.startswith(ALL):
         raise not_found("the value set %.100r isn't known: only those of %s?fhir_vs" % (url, SCT))
     for name, sort in ((ALL, Sort.ANY), (REFSETS, Sort.ARE_REFSETS)):
         if what == name:
-            return ValueSet(url, base, sort)
+            return ValueSet(url, versions, sort)
     for name, sort in ((IS_A, Sort.WITHIN), (REFSET, Sort.IN_REFSET)):
         code = what.removeprefix(name)
         if code != what and is_concept_id(code):
-            return ValueSet(url, base, sort, code)
+            return ValueSet(url, versions, sort, code)
     if what.startswith(ECL):
         raise not_supported("there is no ECL here")
     raise invalid(
@@ -57,35 +111,147 @@ def is_of_snomed(base: str) -> bool:
     return base == SCT or base.startswith(SCT + "/")
 
 
-async def inside(request: Request, value_set: ValueSet, codes: Sequence[str],
+def composed(resource: Any) -> ValueSet:
+    """A value set that a client defines."""
+    compose = resource.get("compose") if isinstance(resource, dict) else None
+    if not isinstance(compose, dict) or resource.get("resourceType") != "ValueSet":
+        raise invalid("valueSet has to be a resource ValueSet with compose")
+    if "lockedDate" in compose:
+        raise not_supported("lockedDate isn't read: give the date beside the value set")
+    included, excluded = (
+        tuple(parts_of(one) for one in entries(compose, name)) for name in ("include", "exclude"))
+    parts = [part for some in (*included, *excluded) for part in some]
+    if not included or len(parts) > limits.COMPOSED_PARTS:
+        raise invalid("valueSet has to include 1 to %d parts" % limits.COMPOSED_PARTS)
+    url, is_all = resource.get("url"), [part.sort for part in parts] == [Sort.ANY]
+    return ValueSet(
+        url if isinstance(url, str) else "", tuple(one for part in parts for one in part.versions),
+        Sort.ANY if is_all else Sort.COMPOSED, included=included, excluded=excluded,
+        active_only=compose.get("inactive") is False)
+
+
+def entries(of: Json, name: str) -> list[Json]:
+    found = of.get(name, [])
+    if not isinstance(found, list) or not all(isinstance(one, dict) for one in found):
+        raise invalid("%s of valueSet isn't a list" % name)
+    return found
+
+
+def parts_of(one: Json) -> tuple[ValueSet, ...]:
+    """The value sets in all of which the codes of an `include` or `exclude` are."""
+    urls, system, version = one.get("valueSet", []), one.get("system"), one.get("version")
+    if not isinstance(urls, list) or not all(isinstance(url, str) for url in urls):
+        raise invalid("valueSet of an include isn't a list of addresses")
+    parts = [value_set_of(url) for url in urls]
+    if system is None:
+        if not parts or {"concept", "filter", "version"}.intersection(one):
+            raise invalid("an include of valueSet has no system")
+        return tuple(parts)
+    if system != SCT:
+        raise not_here(str(system))
+    versions = () if version is None else (str(version),)
+    # A code that isn't one is none of SNOMED CT.
+    codes = [str(concept.get("code")) for concept in entries(one, "concept")]
+    listed = tuple(filter(is_concept_id, distinct(codes)))
+    own = [filter_of(each, versions) for each in entries(one, "filter")]
+    if codes:
+        own.append(ValueSet("", versions, Sort.LISTED, listed=listed))
+    return (*parts, *(own or [ValueSet("", versions, Sort.ANY)]))
+
+
+def filter_of(each: Json, versions: tuple[str, ...]) -> ValueSet:
+    named, op, code = each.get("property"), each.get("op"), each.get("value")
+    if named != "concept" or op not in FILTERS:
+        raise not_supported(
+            "of filters concept with %s is answered, and no ECL" % ", ".join(FILTERS))
+    if not isinstance(code, str) or not is_concept_id(code):
+        raise invalid("the value of a filter has to be a concept's code")
+    return ValueSet("", versions, FILTERS[op], code)
+
+
+async def inside(request: Request, value_set: ValueSet, codes: Collection[str],
                  moment: Moment) -> set[str]:
     """Those of the concepts that are in the value set, which has to be there."""
-    view, day = request.view, moment.day
-    if value_set.sort is Sort.WITHIN:
+    view, day, sort, asked = request.view, moment.day, value_set.sort, list(codes)
+    if sort in (Sort.WITHIN, Sort.BELOW):
         await request.must_have(value_set.code, moment)
-        return await view.those_within(codes, value_set.code, day)
-    if value_set.sort is Sort.IN_REFSET:
-        found = await refsets.those_in(view, value_set.code, codes, day)
+        within = await view.those_within(asked, value_set.code, day)
+        return within - {value_set.code} if sort is Sort.BELOW else within
+    if sort is Sort.IN_REFSET:
+        found = await refsets.those_in(view, value_set.code, asked, day)
         if not found:
             await must_be_kept(request, value_set.code, moment)
         return found
-    if value_set.sort is Sort.ARE_REFSETS:
-        found = await refsets.which_of(view, codes, day)
+    if sort is Sort.ARE_REFSETS:
+        found = await refsets.which_of(view, asked, day)
         if not found and not await view.has_members():
             raise no_refsets()
         return found
-    return set(codes)
+    if sort is Sort.COMPOSED:
+        found = set()
+        for parts in value_set.included:
+            found |= await inside_all(request, parts, asked, moment)
+        for parts in value_set.excluded:
+            found -= await inside_all(request, parts, found, moment)
+        return found
+    if sort is Sort.ANY:
+        return set(asked)
+    return set(asked).intersection(await codes_in(request, value_set, moment))
+
+
+async def inside_all(request: Request, parts: Sequence[ValueSet], codes: Collection[str],
+                     moment: Moment) -> set[str]:
+    found = set(codes)
+    for part in parts:
+        found = await inside(request, part, found, moment)
+    return found
+
+
+async def codes_in(request: Request, value_set: ValueSet, moment: Moment) -> Sequence[str]:
+    """The codes of a value set. Some may not be there on that day."""
+    view, day, sort, code = request.view, moment.day, value_set.sort, value_set.code
+    if sort is Sort.LISTED:
+        return value_set.listed
+    if sort is Sort.IN_REFSET:
+        return await refset_codes(request, code, moment)
+    if sort is Sort.ARE_REFSETS:
+        return await refsets_there(request, moment)
+    if sort is Sort.COMPOSED:
+        found = set[str]()
+        for parts in value_set.included:
+            # The codes of a part that has the fewest, as a rule, that are in the others.
+            first, *others = sorted(parts, key=lambda part: SMALLEST_FIRST.index(part.sort))
+            codes = await codes_in(request, first, moment)
+            found |= await inside_all(request, others, codes, moment)
+        for parts in value_set.excluded:
+            found -= await inside_all(request, parts, found, moment)
+        return sorted(found, key=int)
+    if sort is Sort.ANY:
+        raise too_costly("all of SNOMED CT is listed page by page, and not as a part of a set")
+    await request.must_have(code, moment)
+    if sort is Sort.ABOVE:
+        return [code, *(await view.ancestors([code], day))[0]]
+    within = [member.code for member in await view.subtree(code, day)]
+    return [one for one in within if one != code] if sort is Sort.BELOW else within
+
+
+SMALLEST_FIRST = (
+    Sort.LISTED, Sort.ABOVE, Sort.ARE_REFSETS, Sort.IN_REFSET, Sort.BELOW, Sort.WITHIN, Sort.ANY)
+
+
+async def refset_codes(request: Request, refset: str, moment: Moment) -> Sequence[str]:
+    codes = await refsets.codes_of(request.view, refset, moment.day)
+    if not codes:
+        await must_be_kept(request, refset, moment)
+    return codes
 
 
 async def must_be_kept(request: Request, refset: str, moment: Moment) -> None:
     """Refuses a reference set of which the store has no member of any day: it isn't known to be
     empty."""
-    if not await request.view.was_kept(refset):
+    if not await refsets.was_kept(request.view, refset):
         await request.must_have(refset, moment)
-        raise not_supported(
-            "the store has no members of the reference set %s; historical associations are asked "
-            "for by $translate" % refset
-        )
+        raise not_supported("the store has no members of the reference set %s" % refset)
 
 
 async def refsets_there(request: Request, moment: Moment) -> list[str]:

@@ -1,9 +1,10 @@
 """Which day an answer is of.
 
-A version of SNOMED CT is `http://snomed.info/sct/EDITION/version/YYYYMMDD`. The day of an answer is
-that of the version, a release's or not, or the parameter `date`; with neither it is the latest day
-of the store. Nothing is guessed: another edition, a day after the latest of the store under the
-name of a version, and two days that differ are refused.
+A version of SNOMED CT is `http://snomed.info/sct/EDITION/version/YYYYMMDD`. The day that is asked
+for is that of the version, a release's or not, or the parameter `date`; with neither it is the
+latest day of the store. An answer is of the release in force on it, the greatest day of the store
+up to it, and says so in its version. Nothing is guessed: another edition, a day before the first of
+the store, one after the latest under the name of a version, and days of two releases are refused.
 """
 
 import re
@@ -21,16 +22,17 @@ VERSION = re.compile(r"http://snomed\.info/sct(?:/([0-9]+)(?:/version/([0-9]+))?
 DATE = re.compile(
     r"([0-9]{4})-([0-9]{2})-([0-9]{2})"
     r"(T([01][0-9]|2[0-3]):[0-5][0-9](:([0-5][0-9]|60)(\.[0-9]+)?)?"
-    r"(Z|[+-]((0[0-9]|1[0-3]):[0-5][0-9]|14:00))?)?\Z",
-    re.ASCII,
-)
+    r"(Z|[+-]((0[0-9]|1[0-3]):[0-5][0-9]|14:00))?)?\Z", re.ASCII)
+NOTHING_KNOWN = "the store knows nothing of the day %s: its first is %s"
 
 
 class Moment(NamedTuple):
-    """The day of an answer, and its version."""
+    """The day of the release that an answer is of, its version, and the day that was asked for, if
+    one was."""
 
     day: str
     version: str
+    asked: str = ""
 
 
 class Edition(NamedTuple):
@@ -59,27 +61,27 @@ class Edition(NamedTuple):
         if not is_day(day):
             raise invalid("%.20s isn't a day of the calendar" % day)
         if day > latest:
-            raise not_found(
-                "version %s isn't in this store, whose latest is %s" % (
-                    day, latest or "none, since it is empty"))
+            raise not_found("version %s isn't in this store, whose latest is %s"
+                            % (day, latest or "none, since it is empty"))
         return str(day)
 
     def moment(self, view: View, versions: Iterable[str | None], date: str | None = None) -> Moment:
         """The moment that the versions and the date of a record name together."""
         found = (self.day_of(version, view.latest) for version in versions if version)
-        days = {day for day in found if day}
+        days = [day for day in found if day]
         if date is not None:
-            recorded = day_of_record(date)
-            if days - {recorded}:
-                raise conflict("the date %s isn't that of the version" % date)
             # Of later days the store knows nothing yet, and the version of the answer says so.
-            days = {min(recorded, view.latest)}
-        if len(days) > 1:
-            raise conflict("the versions are of different days")
-        day = days.pop() if days else view.latest
-        if not day:
+            days.append(day_of_record(date))
+        if not view.latest:
             raise not_found("the store holds no release")
-        return Moment(day, self.version(day))
+        releases = {view.in_force(day) for day in days} or {view.latest}
+        if "" in releases:
+            raise not_found(NOTHING_KNOWN % (min(days), view.days[0]))
+        if len(releases) > 1:
+            what = "the versions are" if date is None else "the date %s and the version are" % date
+            raise conflict("%s of different releases" % what)
+        release = releases.pop()
+        return Moment(release, self.version(release), days[-1] if days else "")
 
 
 def day_of_record(date: str) -> str:

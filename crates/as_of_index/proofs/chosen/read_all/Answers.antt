@@ -1,5 +1,6 @@
 use Rattle.std.specs.List.{sum_by}
-use Rattle.std.proofs.Common.{Ok, ◌+◌, ◌++◌, [], ◌∷◌, sym, ap, subst, ◌∙◌, take, map, rules, arith}
+use Rattle.rf2_values.specs.Row.{RowValue}
+use Rattle.std.proofs.Common.{Ok, ℕ, ◌+◌, ◌++◌, [], ◌∷◌, sym, ap, subst, ◌∙◌, take, map, rules, arith}
 use Rattle.std.proofs.lemmas.List.Sums.{sum_by_push}
 use Rattle.std.proofs.lemmas.List.{map_push}
 use Rattle.history_model.specs.declared.stamped.StampedRow.{StampedRow}
@@ -59,6 +60,11 @@ returns-in_err-found-clause-answer g c = λ rows stand.
       found = λ honest. search rules;
       keys = search rules;
       undamaged = λ honest. (let other = c.in_err-found.ensures.undamaged (c.loop-k.invariant.reader.honesty honest) w.0 stands in search rules);
+      causes = λ none.
+          let one : RowValue → ℕ = λ row. 1 in
+          let count = ap (λ xs. sum_by one (map (λ (s : StampedRow). s.row) xs)) w.2 ∙ rows_push one (take k rows) w.0 in
+          let fewer = first_rows one (k + 1) rows in
+          absurd (omega (arith, count, fewer, ap (sum_by one) none));
       work_always = omega arith;
     }
 
@@ -79,6 +85,7 @@ returns-in_err-push-clause-answer g c = λ rows stand.
       found = λ honest. search rules;
       keys = search rules;
       undamaged = λ honest. search rules;
+      causes = λ none. search rules;
       work_always = omega arith;
     }
 
@@ -92,6 +99,7 @@ returns-clause-answer g c = λ rows stand.
       found = λ honest. so_far.rows honest rows stand ∙ ap (λ xs. map (λ (s : StampedRow). s.row) xs) end;
       keys = so_far.keys rows stand ∙ ap (λ xs. map key_of (map (λ (s : StampedRow). s.row) xs)) end;
       undamaged = λ honest. tt;
+      causes = λ none. tt;
       work_always = omega arith;
     }
 

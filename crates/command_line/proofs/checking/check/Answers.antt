@@ -1,18 +1,12 @@
-use Rattle.std.proofs.Common.{refl}
+use Rattle.line_commands.specs.Requests.{check_line}
 use Rattle.command_line.proofs.checking.check.Goals as goal
 
-pub returns-in-Ok : goal.returns-in-Ok
-returns-in-Ok g c =
-    record {
-      had = c.open.result;
-      opening = c.open.ensures.opened;
-      does = rw (c.in-Ok.is, c.close.ensures.disk) c.check_in-ended.ensures;
-    }
+pub answer_read-ended-requires : goal.answer_read-ended-requires
+answer_read-ended-requires g c = (check_line c.args.name.now, c.check_request.ensures)
 
-pub returns-in-Err : goal.returns-in-Err
-returns-in-Err g c =
-    record {
-      had = c.open.result;
-      opening = c.open.ensures.opened;
-      does = rw c.in-Err.is (c.refuse.ensures, refl);
-    }
+pub returns : goal.returns
+returns g c = (
+  c.answer_read-ended.new.store.disk,
+  c.answer_read-ended.ensures (check_line c.args.name.now) c.check_request.ensures,
+  c.tell_more.ensures,
+)

@@ -1,22 +1,8 @@
-use Rattle.std.proofs.Common.{refl}
-use Rattle.command_line.specs.Digests.{digest_line}
+use Rattle.command_line.specs.Tasks.{digest_line}
 use Rattle.command_line.proofs.digesting.digest.Goals as goal
 
-pub answer_read-ended-requires : goal.answer_read-ended-requires
-answer_read-ended-requires g c = (digest_line c.args.imports, c.digest_command.ensures)
+pub answer_read-requires : goal.answer_read-requires
+answer_read-requires g c = (digest_line c.args.imports, c.digest_command.ensures)
 
-pub returns-in-Ok : goal.returns-in-Ok
-returns-in-Ok g c =
-    record {
-      had = c.open.result;
-      opening = c.open.ensures.opened;
-      does = rw (c.in-Ok.is, c.close.ensures.disk) (c.answer_read-ended.ensures (digest_line c.args.imports) c.digest_command.ensures);
-    }
-
-pub returns-in-Err : goal.returns-in-Err
-returns-in-Err g c =
-    record {
-      had = c.open.result;
-      opening = c.open.ensures.opened;
-      does = rw c.in-Err.is (c.refuse.ensures, refl);
-    }
+pub returns : goal.returns
+returns g c = c.answer_read.ensures (digest_line c.args.imports) c.digest_command.ensures

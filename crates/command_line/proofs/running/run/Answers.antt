@@ -5,10 +5,9 @@ pub returns-in-Ok-clause-done : goal.returns-in-Ok-clause-done
 returns-in-Ok-clause-done g c = inl (record {
   task = c.in-Ok.task;
   asked = c.in-Ok.ensures.task;
-  disks = c.perform-ended.ensures.asked;
   ended = c.perform-ended.result.0;
   written = g.O.Write.contents c.perform-ended.new.output;
-  does = c.perform-ended.ensures.does;
+  does = c.perform-ended.ensures;
   kept = c.finish.ensures.written;
   at_most = c.finish.ensures.status;
   done = λ z. (c.finish.ensures.done z).0;

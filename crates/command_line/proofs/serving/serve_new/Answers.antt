@@ -6,7 +6,7 @@ returns-in-Ok g c =
     record {
       had = c.create.result;
       making = c.create.ensures.made;
-      serves = rw (c.in-Ok.is, c.close.ensures.disk) c.serve_all-ended.ensures;
+      does = rw (c.in-Ok.is, c.close.ensures.disk) c.serve_all-ended.ensures;
     }
 
 pub returns-in-Err : goal.returns-in-Err
@@ -14,5 +14,5 @@ returns-in-Err g c =
     record {
       had = c.create.result;
       making = c.create.ensures.made;
-      serves = rw c.in-Err.is (c.refuse.ensures, refl, refl);
+      does = rw c.in-Err.is (c.refuse.ensures, refl, refl);
     }

@@ -9,9 +9,6 @@ use Rattle.clap.specs.declared.parser.matches.ArgMatches.{ArgMatches}
 use Rattle.clap.specs.declared.parser.matches.ArgMatches.TheViews.{out-ArgMatches, out-SubCommand}
 use Rattle.clap.specs.declared.parser.matches.SubCommand.{SubCommand}
 use Rattle.clap.proofs.WalkLemmas.{first_value-rows}
-use Rattle.command_line.specs.declared.words.Task.{Task}
-use Rattle.command_line.specs.declared.words.Task.TheVariants as tasks
-use Rattle.command_line.specs.Words.{IsImportOf, IsInitOf, IsCopyTaskOf, IsDigestTaskOf, Reads}
 use Rattle.command_line.proofs.words.task_in.Goals as goal
 
 abbrev pair : Text → List Row → Option (Text × List Row)
@@ -40,122 +37,11 @@ met m n rows p q = met_so (out-ArgMatches m).subcommand n rows p q
 given : (f : Found) (id value : Text) → Some value ≡ first_value f id → first_of id (rows_of f) ≡ Some value
 given f id value is = sym (first_value-rows f id) ∙ sym is
 
--- the making of a store that was read
-init_read : (n : Text) (rows : List Row) (r : Option Task) → n ≡ codes "init" → IfSome r (IsInitOf rows) → IfSome r (Reads (pair n rows))
-init_read n rows None is h = tt
-init_read n rows (Some (tasks.Init store layout)) is h = (is, h)
-init_read n rows (Some (tasks.Import store folder name quiet)) is h = absurd h
-init_read n rows (Some (tasks.Check store folder name quiet)) is h = absurd h
-init_read n rows (Some (tasks.Serve store folder)) is h = absurd h
-init_read n rows (Some (tasks.Status store)) is h = absurd h
-init_read n rows (Some (tasks.Merge store segments)) is h = absurd h
-init_read n rows (Some (tasks.Copy store to imports)) is h = absurd h
-init_read n rows (Some (tasks.Digest store imports)) is h = absurd h
-init_read n rows (Some (tasks.Upgrade store)) is h = absurd h
-init_read n rows (Some tasks.Demo) is h = absurd h
-
-pub returns-in-init : goal.returns-in-init
-returns-in-init c =
-    let found = found_of c.in_ok-name.found.now in
-    let is = met c.args.matches.now c.in_ok-name.name.now (rows_of found) c.in_ok-name.ensures.name c.in_ok-name.ensures.rows in
-    rw is (init_read c.in_ok-name.name.now (rows_of found) c.init_of.result c.in-init.is c.init_of.ensures)
-
--- the import that was read, or the check of a release
-import_read : (n : Text) (rows : List Row) (r : Option Task) → n ≡ codes "import" → IfSome r (IsImportOf rows) → IfSome r (Reads (pair n rows))
-import_read n rows None is h = tt
-import_read n rows (Some (tasks.Init store layout)) is h = absurd h
-import_read n rows (Some (tasks.Import store folder name quiet)) is h = (is, h)
-import_read n rows (Some (tasks.Check store folder name quiet)) is h = (is, h)
-import_read n rows (Some (tasks.Serve store folder)) is h = absurd h
-import_read n rows (Some (tasks.Status store)) is h = absurd h
-import_read n rows (Some (tasks.Merge store segments)) is h = absurd h
-import_read n rows (Some (tasks.Copy store to imports)) is h = absurd h
-import_read n rows (Some (tasks.Digest store imports)) is h = absurd h
-import_read n rows (Some (tasks.Upgrade store)) is h = absurd h
-import_read n rows (Some tasks.Demo) is h = absurd h
-
-pub returns-in-import : goal.returns-in-import
-returns-in-import c =
-    let found = found_of c.in_ok-name.found.now in
-    let is = met c.args.matches.now c.in_ok-name.name.now (rows_of found) c.in_ok-name.ensures.name c.in_ok-name.ensures.rows in
-    rw is (import_read c.in_ok-name.name.now (rows_of found) c.import_of.result c.in-import.is c.import_of.ensures)
-
--- the copy that was read
-copy_read : (n : Text) (rows : List Row) (r : Option Task) → n ≡ codes "copy" → IfSome r (IsCopyTaskOf rows) → IfSome r (Reads (pair n rows))
-copy_read n rows None is h = tt
-copy_read n rows (Some (tasks.Init store layout)) is h = absurd h
-copy_read n rows (Some (tasks.Import store folder name quiet)) is h = absurd h
-copy_read n rows (Some (tasks.Check store folder name quiet)) is h = absurd h
-copy_read n rows (Some (tasks.Serve store folder)) is h = absurd h
-copy_read n rows (Some (tasks.Status store)) is h = absurd h
-copy_read n rows (Some (tasks.Merge store segments)) is h = absurd h
-copy_read n rows (Some (tasks.Copy store to imports)) is h = (is, h)
-copy_read n rows (Some (tasks.Digest store imports)) is h = absurd h
-copy_read n rows (Some (tasks.Upgrade store)) is h = absurd h
-copy_read n rows (Some tasks.Demo) is h = absurd h
-
-pub returns-in-copy : goal.returns-in-copy
-returns-in-copy c =
-    let found = found_of c.in_ok-name.found.now in
-    let is = met c.args.matches.now c.in_ok-name.name.now (rows_of found) c.in_ok-name.ensures.name c.in_ok-name.ensures.rows in
-    rw is (copy_read c.in_ok-name.name.now (rows_of found) c.copy_of.result c.in-copy.is c.copy_of.ensures)
-
--- the digest that was read
-digest_read : (n : Text) (rows : List Row) (r : Option Task) → n ≡ codes "digest" → IfSome r (IsDigestTaskOf rows) → IfSome r (Reads (pair n rows))
-digest_read n rows None is h = tt
-digest_read n rows (Some (tasks.Init store layout)) is h = absurd h
-digest_read n rows (Some (tasks.Import store folder name quiet)) is h = absurd h
-digest_read n rows (Some (tasks.Check store folder name quiet)) is h = absurd h
-digest_read n rows (Some (tasks.Serve store folder)) is h = absurd h
-digest_read n rows (Some (tasks.Status store)) is h = absurd h
-digest_read n rows (Some (tasks.Merge store segments)) is h = absurd h
-digest_read n rows (Some (tasks.Copy store to imports)) is h = absurd h
-digest_read n rows (Some (tasks.Digest store imports)) is h = (is, h)
-digest_read n rows (Some (tasks.Upgrade store)) is h = absurd h
-digest_read n rows (Some tasks.Demo) is h = absurd h
-
-pub returns-in-digest : goal.returns-in-digest
-returns-in-digest c =
-    let found = found_of c.in_ok-name.found.now in
-    let is = met c.args.matches.now c.in_ok-name.name.now (rows_of found) c.in_ok-name.ensures.name c.in_ok-name.ensures.rows in
-    rw is (digest_read c.in_ok-name.name.now (rows_of found) c.digest_of.result c.in-digest.is c.digest_of.ensures)
-
-pub returns-in_ok-get_str-in-serve-2 : goal.returns-in_ok-get_str-in-serve-2
-returns-in_ok-get_str-in-serve-2 c =
-    let found = found_of c.in_ok-name.found.now in
-    let is = met c.args.matches.now c.in_ok-name.name.now (rows_of found) c.in_ok-name.ensures.name c.in_ok-name.ensures.rows in
+pub returns : goal.returns
+returns c =
+    let found = found_of c.in_ok-command.found.now in
+    let is = met c.args.matches.now c.in_ok-command.command.now (rows_of found) c.in_ok-command.ensures.name c.in_ok-command.ensures.rows in
     rw is (
-      c.in-serve.is,
-      given found (codes "store") c.in_ok-get_str-in-serve.field-0.now c.in_ok-get_str-in-serve.ensures,
-      given found (codes "releases") c.in_ok-get_str-in-serve-2.field-0.now c.in_ok-get_str-in-serve-2.ensures,
-    )
-
-pub returns-in_ok-get_str-in-status : goal.returns-in_ok-get_str-in-status
-returns-in_ok-get_str-in-status c =
-    let found = found_of c.in_ok-name.found.now in
-    let is = met c.args.matches.now c.in_ok-name.name.now (rows_of found) c.in_ok-name.ensures.name c.in_ok-name.ensures.rows in
-    rw is (
-      c.in-status.is,
-      given found (codes "store") c.in_ok-get_str-in-status.field-0.now c.in_ok-get_str-in-status.ensures,
-    )
-
-pub returns-in_ok-get_str-in-upgrade : goal.returns-in_ok-get_str-in-upgrade
-returns-in_ok-get_str-in-upgrade c =
-    let found = found_of c.in_ok-name.found.now in
-    let is = met c.args.matches.now c.in_ok-name.name.now (rows_of found) c.in_ok-name.ensures.name c.in_ok-name.ensures.rows in
-    rw is (
-      c.in-upgrade.is,
-      given found (codes "store") c.in_ok-get_str-in-upgrade.field-0.now c.in_ok-get_str-in-upgrade.ensures,
-    )
-
-pub returns-in-Ok : goal.returns-in-Ok
-returns-in-Ok c =
-    let found = found_of c.in_ok-name.found.now in
-    let is = met c.args.matches.now c.in_ok-name.name.now (rows_of found) c.in_ok-name.ensures.name c.in_ok-name.ensures.rows in
-    rw is (
-      c.in-merge.is,
-      given found (codes "store") c.in_ok-store-in-merge.store.now c.in_ok-store-in-merge.ensures,
-      c.in_ok-get_str-in-merge.field-0.now,
-      given found (codes "segments") c.in_ok-get_str-in-merge.field-0.now c.in_ok-get_str-in-merge.ensures,
-      c.in-Ok.ensures.value.0.1,
+      given found (codes "store") c.in_ok-store.store.now c.in_ok-store.ensures,
+      c.in_ok-action.ensures,
     )

@@ -13,5 +13,5 @@ returns c =
     let one : IsWritten first 4 old c.write_u32.new.buf = record { now_is = c.write_u32.ensures; place_is = refl } in
     let two = put_front first bytes 4 4 old c.write_u32.new.buf c.write_u32-2.new.buf one refl (omega arith) c.write_u32-2.ensures in
     let three = put_front (first ++ bytes) rows 8 4 old _ c.write_u32-3.new.buf two refl (omega arith) c.write_u32-3.ensures in
-    let four = put_front ((first ++ bytes) ++ rows) (to_be_bytes w32 c.code_of_form.result) 12 4 old _ c.write_u32-4.new.buf three refl (omega arith) c.write_u32-4.ensures in
-    coded c.args.entry c.code_of_form.result old _ four c.code_of_form.ensures
+    let four = put_front ((first ++ bytes) ++ rows) (to_be_bytes w32 c.code.result) 12 4 old _ c.write_u32-4.new.buf three refl (omega arith) c.write_u32-4.ensures in
+    coded c.args.entry c.code.result old _ four c.code.ensures

@@ -5,7 +5,8 @@ use Rattle.std.proofs.lemmas.Option.{slice_get-get_or}
 use Rattle.std.proofs.lemmas.Result.{err_from_is_err_and}
 use Rattle.list_lemmas.proofs.Each.{each_at_number}
 use Rattle.directory.specs.declared.entry.Entry.{Entry}
-use Rattle.directory.specs.Listings.{form_of}
+use Rattle.directory.specs.declared.layout.Layout.{Layout}
+use Rattle.directory.specs.Listings.{sums_of}
 use Rattle.directory.specs.Fit.{fit}
 use Rattle.history_store.specs.Merging.{AreFewest}
 use Rattle.history_store.proofs.BegunMerge.{no_entry, lacks_output, both_short}
@@ -45,7 +46,8 @@ returns-clause-begun c =
       rows_are = refl;
       rows_fit = omega (arith, sum.0, each_at_number (λ e. e.rows ≤ e.bytes) c.args.directory.now.entries c.in-Some.i a a_is c.requires.long, each_at_number (λ e. e.rows ≤ e.bytes) c.args.directory.now.entries c.in-Some.j b b_is c.requires.long);
       place = ap (λ (x : List Entry). fit (div_ceil c.in-Some-checked_add.bytes 4096) x None) (sym same) ∙ ap (λ n. fit n l None) (sym c.blocks-2.ensures) ∙ c.in_ok-first.ensures.fit;
-      form = c.form.ensures ∙ ap form_of c.layout.ensures;
+      sums = c.sums.ensures ∙ ap (λ (l : Layout). sums_of l 0) c.layout.ensures;
+      crc = c.crc32c.ensures;
       none_taken = c.new.ensures.none;
     }
 

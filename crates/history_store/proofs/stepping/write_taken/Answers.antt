@@ -1,5 +1,5 @@
 use Rattle.std.specs.Prelude.{OnOk}
-use Rattle.std.proofs.Common.{inl, refl, sym, ap, subst, arith}
+use Rattle.std.proofs.Common.{ℕ, List, ◌++◌, inl, refl, sym, ap, subst, ◌∙◌, arith}
 use Rattle.std.proofs.lemmas.Result.{err_from_is_err_and}
 use Rattle.disk_model.specs.Disk.{Moments, LeavesOnly}
 use Rattle.blocks.specs.declared.extent.Extent.{Extent}
@@ -12,7 +12,9 @@ use Rattle.store_image.specs.Ahead.{IsAhead}
 use Rattle.history_store.specs.Answers.{Counts}
 use Rattle.history_store.specs.Meters.{UncalledIfRefused}
 use Rattle.history_store.proofs.KeptBlocks.{part_stepped}
-use Rattle.history_store.proofs.SteppedMerge.{not_called, on_still, agrees_still, unless_given, unless_written}
+use Rattle.checksum.specs.Crc32c.{continued, crc32c}
+use Rattle.store_image.proofs.Summed.{crc_goes_on}
+use Rattle.history_store.proofs.SteppedMerge.{on_ok, not_called, on_still, agrees_still, unless_given, unless_written}
 use Rattle.history_store.proofs.stepping.write_taken.Goals as goal
 
 pub returns-in_err-bytes-clause-undamaged : goal.returns-in_err-bytes-clause-undamaged
@@ -78,3 +80,8 @@ returns-clause-meters g c =
       looked_up = part_stepped c.write_part.result _ _ _ mid new _ _ _ c.in_ok-bytes.ensures.looked_up w.counts.bytes_read
           (subst (λ (e : Extent). OnOk c.write_part.result (Forgets (is_in e) mid new)) c.extent.ensures w.drops) w.keeps;
     }
+
+pub returns-clause-summed : goal.returns-clause-summed
+returns-clause-summed g c up agrees want read before is =
+    let found = c.in_ok-bytes.ensures.found up agrees want read in
+    on_ok c.write_part.result (c.append.ensures ∙ ap (λ (n : ℕ). continued n c.deref.result.now) is ∙ crc_goes_on before c.deref.result.now ∙ ap (λ (b : List ℕ). crc32c (before ++ b)) (c.deref.ensures.value ∙ found))

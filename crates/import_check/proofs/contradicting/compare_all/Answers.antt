@@ -1,4 +1,4 @@
-use Rattle.std.proofs.Common.{◌≡◌, ℕ, ◌+◌, ◌≤◌, List, ◌∷◌, [], ◌++◌, length, sym, ap, subst, ◌∙◌, append_assoc, arith}
+use Rattle.std.proofs.Common.{◌≡◌, ℕ, ◌+◌, ◌≤◌, List, ◌∷◌, [], ◌++◌, length, inl, refl, sym, ap, subst, ◌∙◌, append_assoc, arith}
 use Rattle.std.specs.Prelude.{Option, Some}
 use Rattle.std.specs.List.{sum_by}
 use Rattle.rf2_values.specs.declared.key.Key.{Key}
@@ -7,13 +7,18 @@ use Rattle.import_check.specs.declared.release.PlacedLine.{PlacedLine}
 use Rattle.import_check.specs.Known.{already_known}
 use Rattle.import_check.specs.Release.{rows_of}
 use Rattle.history_model.specs.InOrder.{Has}
-use Rattle.history_model.proofs.InOrder.{Has-append_left}
+use Rattle.history_model.proofs.InOrder.{Has-append_left, Has-append_right}
 use Rattle.import_check.specs.Contradictions.{rank_cmp}
 use Rattle.import_check.specs.Private.Sweep.{IsRising, IsAhead, AsksOnce}
 use Rattle.import_check.specs.Private.Contradictions.{IsNext, last_key}
 use Rattle.import_check.proofs.Asking.{ahead_more, asked_more, more_lines}
 use Rattle.import_check.proofs.Differing.{next_top, noted_more, rising_from_ascending}
 use Rattle.import_check.proofs.Knowing.{has_asked, asked_so, asked_in_vain}
+use Rattle.rf2_values.specs.Key.{key_of}
+use Rattle.import_check.specs.Known.{IsUnknown}
+use Rattle.history_model.proofs.Filtered.{Has-map_from}
+use Rattle.std.proofs.lemmas.Result.{err_from_is_err_and}
+use Rattle.import_check.proofs.Blaming.{none_asked}
 use Rattle.import_check.proofs.contradicting.compare_all.Goals as goal
 
 -- what a line takes when nothing is done after it
@@ -92,3 +97,14 @@ returns-clause-known g c = asked_so c.loop-line.invariant.known
 
 pub returns-in_err-counting-clause-known : goal.returns-in_err-counting-clause-known
 returns-in_err-counting-clause-known g c = asked_in_vain _ _ c.from_residual.ensures.1 c.loop-line.invariant.known c.in_err-counting.ensures.known
+
+pub returns-in_err-counting-clause-causes : goal.returns-in_err-counting-clause-causes
+returns-in_err-counting-clause-causes g c = λ sound strict none.
+    let before = c.loop-line.invariant in
+    let so = before.asked sound strict in
+    let line = c.in-Some.line in
+    let lines_are = so.1 ∙ ap (λ left. so.0 ++ left) c.in-Some.ensures.steps in
+    let there = subst (λ ls. Has ls line) (sym lines_are) (Has-append_right so.0 (line ∷ c.next.new.self) line (inl refl)) in
+    let unknown = none_asked (g.K.Known.view c.args.known.now).rows (rows_of c.args.lines.items) line.row none (Has-map_from (λ (l : PlacedLine). l.row) c.args.lines.items line there) in
+    let p = err_from_is_err_and c.from_residual.result c.from_residual.ensures.1 in
+    rw (p.1, p.2) (c.in_err-counting.ensures.causes (before.known.soundness sound) (subst (λ rows. IsUnknown rows (key_of line.row)) (sym before.known.rows) unknown))

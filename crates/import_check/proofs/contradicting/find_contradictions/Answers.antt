@@ -6,6 +6,7 @@ use Rattle.import_check.proofs.Asking.{more_sorted}
 use Rattle.import_check.proofs.Receipts.{one_list}
 use Rattle.import_check.proofs.Refusals.{ascending, of_release, was_read}
 use Rattle.import_check.proofs.Differing.{sorted_ascends, listed_of}
+use Rattle.import_check.proofs.Blaming.{refused_by_key, cut_short_by_key, none_sorted}
 use Rattle.import_check.proofs.contradicting.find_contradictions.Goals as goal
 
 pub returns-clause-found : goal.returns-clause-found
@@ -30,3 +31,13 @@ returns-clause-work g c = λ sound rows are.
 
 pub returns-clause-work_unread : goal.returns-clause-work_unread
 returns-clause-work_unread g c = λ unread. absurd (unread (was_read (g.K.Known.view c.args.known.now).is_honest (g.K.Known.view c.args.known.now).rows c.args.release c.in_ok-lines.lines.items c.in_ok-lines.ensures.ok))
+
+pub returns-clause-causes : goal.returns-clause-causes
+returns-clause-causes g c = λ sound.
+    let known = (g.K.Known.view c.args.known.now).rows in
+    let lines = c.in_ok-lines.lines.items in
+    let sorted = c.sort.new.lines.items in
+    let up = sorted_ascends lines sorted (ascending c.args.release lines c.in_ok-lines.ensures.ok) c.sort.ensures.permutation c.sort.ensures.rising in
+    refused_by_key known c.args.release lines c.in_ok-lines.ensures.ok c.compare_all.result
+    (cut_short_by_key (g.K.Known.view c.args.known.now).is_honest known lines c.compare_all.result c.compare_all.ensures.cut_short
+    (λ none. c.compare_all.ensures.causes sound up (none_sorted known lines sorted c.sort.ensures.permutation none)))

@@ -1,9 +1,10 @@
 use Rattle.std.proofs.Common.{◌≡◌, ◌+◌, ◌≤◌, length, List, ◌++◌}
 use Rattle.import_check.specs.declared.release.PlacedLine.{PlacedLine}
+use Rattle.std.specs.Prelude.{IfSome}
 use Rattle.std.specs.List.{sum_by}
 use Rattle.import_check.specs.Known.{already_known}
 use Rattle.import_check.specs.Release.{rows_of}
-use Rattle.import_check.specs.Private.Sweep.{IsInStep, IsAhead, IsSwept, IsOwn, IsGathered}
+use Rattle.import_check.specs.Private.Sweep.{IsInStep, IsAhead, IsSwept, IsOwn, IsGathered, IsBlameable}
 use Rattle.import_check.specs.Private.Sweep.{IsRising}
 use Rattle.import_check.specs.Contradictions.{rank_cmp}
 use Rattle.import_check.proofs.Knowing.{HasAsked}
@@ -15,7 +16,8 @@ invariant-loop-line g l = record {
       (done : List PlacedLine) × (l.fn.lines.items ≡ done ++ l.line-iterator) × IsSwept (g.K.Known.view l.fn.known).rows l.fn.lines.items done l.sweep;
   apart : (g.K.Known.view l.fn.known).is_sound → IsRising rank_cmp l.fn.lines.items → IsOwn (g.K.Known.view l.fn.known).rows l.line-iterator l.sweep × IsRising rank_cmp l.line-iterator;
   gathered : (g.K.Known.view l.fn.known).is_sound →
-      (done : List PlacedLine) × (l.fn.lines.items ≡ done ++ l.line-iterator) × IsGathered (g.K.Known.view l.fn.known).rows done l.sweep;
+      (done : List PlacedLine) × (l.fn.lines.items ≡ done ++ l.line-iterator) × IsGathered (g.K.Known.view l.fn.known).rows done l.sweep
+      × (IsRising rank_cmp l.fn.lines.items → IfSome l.sweep.first (IsBlameable (g.K.Known.view l.fn.known).rows l.fn.lines.items));
   in_step : (g.K.Known.view l.fn.known).is_honest → IsInStep l.sweep;
   asked : (g.K.Known.view l.fn.known).is_sound → IsRising rank_cmp l.fn.lines.items →
       (done : List PlacedLine) × (l.fn.lines.items ≡ done ++ l.line-iterator) × IsAhead done l.sweep.key l.line-iterator

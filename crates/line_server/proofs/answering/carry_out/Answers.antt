@@ -3,7 +3,7 @@ use Rattle.std.proofs.lemmas.Bool.{false≢true}
 use Rattle.line_server.specs.Sources.{source_view}
 use Rattle.line_commands.specs.Requests.{command_of}
 use Rattle.line_server.specs.Replies.{server}
-use Rattle.line_server.proofs.Responding.{nothing_asked, held_back}
+use Rattle.line_server.proofs.Responding.{nothing_asked, held_back, for_later}
 use Rattle.line_server.proofs.answering.carry_out.Goals as goal
 
 pub returns-in-Err-clause-turn : goal.returns-in-Err-clause-turn
@@ -37,3 +37,8 @@ pub returns-then-holds_back-clause-turn : goal.returns-then-holds_back-clause-tu
 returns-then-holds_back-clause-turn g c = λ line reads.
     let asks = rw c.in-Ok.is at reads in
     held_back (source_view (g.S.Source.is_honest c.args.source.now) (g.S.Source.releases c.args.source.now)) g.D.Disk.view line c.in-Ok.request.session (command_of c.in-Ok.request.command) (server c.args.state.now c.args.store.now) asks (c.holds_back.ensures.0 c.if-holds_back.true)
+
+pub returns-then-needs_later-clause-turn : goal.returns-then-needs_later-clause-turn
+returns-then-needs_later-clause-turn g c = λ line reads.
+    let asks = rw c.in-Ok.is at reads in
+    for_later (source_view (g.S.Source.is_honest c.args.source.now) (g.S.Source.releases c.args.source.now)) g.D.Disk.view line c.in-Ok.request.session (command_of c.in-Ok.request.command) (server c.args.state.now c.args.store.now) asks (c.needs_later.ensures.0 c.if-needs_later.true)

@@ -1,7 +1,7 @@
-use Rattle.std.proofs.Common.{Ok, ◌+◌, ◌++◌, List, ℕ, map, get_or, sym, ap, subst, ◌∙◌, take, take_all, rules, arith}
+use Rattle.std.proofs.Common.{◌≡◌, [], ◌∷◌, refl, Ok, ◌+◌, ◌++◌, List, ℕ, map, get_or, sym, ap, subst, ◌∙◌, take, take_all, rules, arith}
 use Rattle.std.specs.Prelude.{flat_map}
 use Rattle.std.specs.List.{sum_by}
-use Rattle.std.proofs.lemmas.List.Sums.{sum_by-append}
+use Rattle.std.proofs.lemmas.List.Sums.{sum_by-append, sum_by-cons}
 use Rattle.std.proofs.lemmas.List.{map-append}
 use Rattle.rf2_values.specs.Row.{RowValue}
 use Rattle.rf2_values.specs.Key.{key_of}
@@ -12,6 +12,10 @@ use Rattle.as_of_index.specs.Places.{Lists}
 use Rattle.as_of_index.proofs.Reading.{reads_on, has_read, read_so, fails_on}
 use Rattle.links.proofs.TimelineRows.{pieces_more, pieces_before}
 use Rattle.links.proofs.ever_about.versions_of.Goals as goal
+
+no_rows : (rows : List RowValue) → sum_by (λ (row : RowValue). 1) rows ≡ 0 → rows ≡ []
+no_rows [] zero = refl
+no_rows (row ∷ rows) zero = absurd (omega (arith, zero, sum_by-cons (λ (r : RowValue). 1) row rows))
 
 pub loop-id-preserved : goal.loop-id-preserved
 loop-id-preserved g c =
@@ -73,6 +77,14 @@ returns-in_err-versions-clause-answer g c =
             found = λ honest. search rules;
             keys = search rules;
             undamaged = λ honest. (let other = read.undamaged (so_far.reader.honesty honest) in search rules);
+            causes = λ none.
+                let one : RowValue → ℕ = λ row. 1 in
+                let id = get_or a.ids.now c.loop-id.id-index 0 in
+                let count = ap (sum_by one) (pieces_more piece a.ids.now c.loop-id.id-index c.loop-id-test.true) ∙ sum_by-append one (flat_map piece (take c.loop-id.id-index a.ids.now)) (piece id) in
+                let fewer = pieces_before one piece a.ids.now (c.loop-id.id-index + 1) in
+                let unwanted = no_rows (piece id) (omega (arith, count, fewer, ap (sum_by one) none)) in
+                let other = read.causes (ap (λ ls. versions a.kind id (rows_at a.pin (listed ls))) so_far.reader.lists ∙ unwanted) in
+                search rules;
             work_always = omega arith;
           };
       work = search rules;
@@ -98,6 +110,7 @@ returns-in_err-append-clause-answer g c =
             found = λ honest. search rules;
             keys = search rules;
             undamaged = λ honest. search rules;
+            causes = λ none. search rules;
             work_always = omega arith;
           };
       work = search rules;
@@ -119,6 +132,7 @@ returns-clause-answer g c =
             found = λ honest. so_far.rows honest listed_so ∙ ap (flat_map piece) end;
             keys = so_far.keys listed_so ∙ ap (λ ids. map key_of (flat_map piece ids)) end;
             undamaged = λ honest. tt;
+            causes = λ none. tt;
             work_always = omega arith;
           };
       work = so_far.work;

@@ -29,5 +29,5 @@ pub returns : goal.returns
 returns g c = record {
   answer =
       let d = g.D.Disk in
-      ended d.view c.args.pin c.args.store.now c.rows.store c.add_next.new.store c.rows.hasher c.add_next.new.hasher c.rows.last c.rows.invariant (rw c.in_default.is at c.in_ok-key.ensures.added) c.finalize.result c.finalize.ensures;
+      ended d.view c.args.pin c.args.store.now c.rows.store c.add_next.new.store c.rows.hasher c.add_next.new.hasher c.rows.last c.rows.invariant (rw c.in_default.is at c.in_ok-key.ensures.added) c.in_ok-key.ensures.history c.finalize.result c.finalize.ensures;
 }

@@ -20,7 +20,7 @@ returns-clause-any_moment g c honest d lists rows on added same =
     let first = old_stays _ _ c.args.slot d c.args.next.now lists c.args.entry rows _ c.args.bytes.now c.requires.entry c.requires.bytes place on added same now wrote in
     let on_mid = still_on_disk _ _ c.args.slot d c.args.next.now lists c.args.entry rows _ c.args.bytes.now c.requires.entry c.requires.bytes place on added same now wrote in
     let held = all_held _ _ c.args.slot d c.args.next.now lists c.args.entry rows _ c.args.bytes.now c.requires.entry c.requires.bytes place on added same now wrote (c.in_ok-write_and_sync.ensures.on_disk honest) in
-    joined _ _ _ _ first (c.publish_directory.ensures.any_moment still d lists (lists ++ rows ∷ []) on_mid (added_is_next d c.args.next.now lists c.args.entry rows on.1.kept added) held)
+    joined _ _ _ _ first (c.publish_directory.ensures.any_moment still d lists (lists ++ rows ∷ []) on_mid (added_is_next d c.args.next.now lists c.args.entry rows on.1.kept on.1.sums added) held)
 
 pub returns-clause-on_disk : goal.returns-clause-on_disk
 returns-clause-on_disk g c honest d lists rows on added same =
@@ -29,7 +29,7 @@ returns-clause-on_disk g c honest d lists rows on added same =
     let place = ap (λ n. 4096 * n) c.from.ensures in
     let on_mid = still_on_disk _ _ c.args.slot d c.args.next.now lists c.args.entry rows _ c.args.bytes.now c.requires.entry c.requires.bytes place on added same now wrote in
     let held = all_held _ _ c.args.slot d c.args.next.now lists c.args.entry rows _ c.args.bytes.now c.requires.entry c.requires.bytes place on added same now wrote (c.in_ok-write_and_sync.ensures.on_disk honest) in
-    c.publish_directory.ensures.on_disk (c.write_and_sync.ensures.meters.honesty.0 honest) d lists (lists ++ rows ∷ []) on_mid (added_is_next d c.args.next.now lists c.args.entry rows on.1.kept added) held
+    c.publish_directory.ensures.on_disk (c.write_and_sync.ensures.meters.honesty.0 honest) d lists (lists ++ rows ∷ []) on_mid (added_is_next d c.args.next.now lists c.args.entry rows on.1.kept on.1.sums added) held
 
 pub returns-clause-elsewhere : goal.returns-clause-elsewhere
 returns-clause-elsewhere g c honest =

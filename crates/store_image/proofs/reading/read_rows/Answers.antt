@@ -2,12 +2,17 @@ use Rattle.std.proofs.Common.{◌≡◌, ℕ, ◌≤◌, List, length, refl, sym
 use Rattle.std.proofs.lemmas.Result.{err_from_is_err_and}
 use Rattle.disk_model.specs.Disk.{Moments}
 use Rattle.blocks.specs.declared.extent.Extent.{Extent}
-use Rattle.store_image.specs.Private.Reading.{bytes_of}
+use Rattle.store_image.specs.Reader.{bytes_of}
 use Rattle.directory.specs.Places.{extent_of}
+use Rattle.directory.specs.Listings.{HasSumOf, form_in}
+use Rattle.checksum.specs.Crc32c.{crc32c}
+use Rattle.segment.specs.Records.{segment_in}
+use Rattle.store_image.specs.Kept.{segment_with}
 use Rattle.history_model.specs.declared.stamped.StampedRow.{StampedRow}
 use Rattle.checksum.specs.declared.form.Form.{Form}
-use Rattle.store_image.specs.Private.Reading.{Sees, BeginsWith, IsNotNext}
-use Rattle.store_image.proofs.Segments.{none_read, none_begins, not_next, wrong_end, segment_found}
+use Rattle.store_image.specs.Reader.{Sees}
+use Rattle.store_image.specs.Private.Reading.{BeginsWith, IsNotNext}
+use Rattle.store_image.proofs.Segments.{none_read, none_begins, none_summed, not_next, wrong_end, wrong_sum, segment_found}
 use Rattle.store_image.proofs.reading.read_rows.Goals as goal
 
 -- the bytes are those from before
@@ -20,6 +25,7 @@ rows-init g c =
     record {
       read = none_read c.args.imports _ none;
       count = subst (λ (rows : List StampedRow). ◌≡◌ {A = ℕ} (length rows) 0) (sym none) refl;
+      summed = none_summed (form_in c.args.entry.sums) _ none;
       extent = c.requires.extent;
       form = c.requires.form;
       from = omega (arith, c.requires.from);
@@ -43,10 +49,10 @@ returns-in_err-to-clause-exact g c honest =
     let e = c.in_err-to.field-0.0 in
     let same = same_now _ _ (inv.moments honest) in
     let sees = subst (Sees c.rows.window) (sym same) (inv.sees honest) in
-    let why = subst (λ (x : Extent). IsNotNext c.args.entry.form e c.args.imports rows (bytes_of x (g.D.Disk.view c.rows.disk).moments.state.now)) inv.extent (subst (λ (f : Form). IsNotNext f e c.args.imports rows (bytes_of c.rows.window.extent (g.D.Disk.view c.rows.disk).moments.state.now)) inv.form (c.in_err-to.ensures.exact (inv.honesty.0 honest) sees)) in
+    let why = subst (λ (x : Extent). IsNotNext (form_in c.args.entry.sums) e c.args.imports rows (bytes_of x (g.D.Disk.view c.rows.disk).moments.state.now)) inv.extent (subst (λ (f : Form). IsNotNext f e c.args.imports rows (bytes_of c.rows.window.extent (g.D.Disk.view c.rows.disk).moments.state.now)) inv.form (c.in_err-to.ensures.exact (inv.honesty.0 honest) sees)) in
     let left = c.rows-test.true in
     let count = inv.count in
-    rw (p.1, p.2) (not_next e c.args.imports c.args.entry rows _ (subst (λ (f : List ℕ). IsNotNext c.args.entry.form e c.args.imports rows (bytes_of (extent_of c.args.entry) f)) same why) (inv.begins honest) (omega (arith, left, count)))
+    rw (p.1, p.2) (not_next e c.args.imports c.args.entry rows _ (subst (λ (f : List ℕ). IsNotNext (form_in c.args.entry.sums) e c.args.imports rows (bytes_of (extent_of c.args.entry) f)) same why) (inv.begins honest) (omega (arith, left, count)))
 
 pub rows-preserved : goal.rows-preserved
 rows-preserved g c =
@@ -58,6 +64,7 @@ rows-preserved g c =
     record {
       read = read.read;
       count = omega (arith, one, count);
+      summed = subst (λ (f : Form). c.in_ok-to.to.crc ≡ crc32c (segment_in f (g.B.SegmentBuilder.rows c.read_row.new.builder))) inv.form (read.summed (subst (λ (f : Form). c.rows.to.crc ≡ crc32c (segment_in f (g.B.SegmentBuilder.rows c.rows.builder))) (sym inv.form) inv.summed));
       extent = read.extent ∙ inv.extent;
       form = read.form ∙ inv.form;
       from = read.from;
@@ -69,7 +76,7 @@ rows-preserved g c =
       begins = λ honest.
           let same = same_now _ _ (inv.moments honest) in
           let later : List ℕ = (g.D.Disk.view c.rows.disk).moments.state.now in
-          let P : List StampedRow → Extent → List ℕ → Type 0 = λ rows x f. BeginsWith entry.form rows (bytes_of x f) in
+          let P : List StampedRow → Extent → List ℕ → Type 0 = λ rows x f. BeginsWith (form_in entry.sums) rows (bytes_of x f) in
           let before = subst (λ (x : Extent). P (g.B.SegmentBuilder.rows c.rows.builder) x later) (sym inv.extent) (subst (λ (f : List ℕ). P (g.B.SegmentBuilder.rows c.rows.builder) (extent_of entry) f) (sym same) (inv.begins honest)) in
           let after = subst (λ (f : Form). BeginsWith f (g.B.SegmentBuilder.rows c.rows.builder) (bytes_of c.rows.window.extent later) → BeginsWith f (g.B.SegmentBuilder.rows c.read_row.new.builder) (bytes_of c.rows.window.extent later)) inv.form (read.exact (inv.honesty.0 honest) (subst (Sees c.rows.window) (sym same) (inv.sees honest))) before in
           subst (λ (f : List ℕ). P (g.B.SegmentBuilder.rows c.read_row.new.builder) (extent_of entry) f) same (subst (λ (x : Extent). P (g.B.SegmentBuilder.rows c.read_row.new.builder) x later) inv.extent after);
@@ -103,6 +110,31 @@ returns-in_err-to-clause-meters g c = record {
 
 pub returns-then-to-entry-clause-meters : goal.returns-then-to-entry-clause-meters
 returns-then-to-entry-clause-meters g c = record {
+  moments = search rules;
+  honesty = search rules;
+  failures = search rules;
+  bytes_read =
+      let inv = c.rows.invariant in
+      let extent = ap (λ (x : Extent). x.bytes) inv.extent in
+      omega (arith, inv.bytes_read, c.rows.window.within, extent);
+  other_calls = search rules;
+}
+
+pub returns-then-not-has_sum-clause-exact : goal.returns-then-not-has_sum-clause-exact
+returns-then-not-has_sum-clause-exact g c honest =
+    let inv = c.rows.invariant in
+    let ended = c.rows-test.false in
+    let most = c.rows.auto._count-end in
+    let count = inv.count in
+    let differs : HasSumOf c.args.entry.sums (segment_with c.args.entry (g.B.SegmentBuilder.rows c.rows.builder)) → ⊥ =
+    λ has. let yes = (c.has_sum.ensures _ inv.summed).1 has in let no = c.if-not-has_sum.true in absurd cc in
+    wrong_sum c.rows.to c.args.imports c.args.entry (g.B.SegmentBuilder.rows c.rows.builder) _ inv.read (omega (arith, ended, most, count)) differs (inv.begins honest)
+
+pub returns-clause-sum : goal.returns-clause-sum
+returns-clause-sum g c = (c.has_sum.ensures _ c.rows.invariant.summed).0 c.if-not-has_sum.false
+
+pub returns-then-not-has_sum-clause-meters : goal.returns-then-not-has_sum-clause-meters
+returns-then-not-has_sum-clause-meters g c = record {
   moments = search rules;
   honesty = search rules;
   failures = search rules;

@@ -8,14 +8,14 @@ use Rattle.history_model.specs.declared.stamped.StampedRow.{StampedRow}
 use Rattle.history_model.specs.InOrder.{IsAscending}
 use Rattle.rf2_values.specs.Key.{key_cmp}
 use Rattle.segment.specs.Standing.{places_of}
-use Rattle.checksum.specs.declared.form.Form.TheVariants as forms
+use Rattle.directory.specs.declared.sums.Sums.TheVariants as sums
 use Rattle.store_image.specs.Pieces.{HoldsAll}
-use Rattle.store_image.specs.Kept.{AreSegments, pieces_of}
+use Rattle.store_image.specs.Kept.{AreSegments, AreSummed, pieces_of}
 use Rattle.store_image.specs.Reading.{IsAt}
 use Rattle.store_image.specs.Private.Reading.{IsNotReadAt}
 use Rattle.store_image.specs.Damage.{AreThere}
 use Rattle.store_image.specs.Private.Keys.{keys_of, EachKeyOnce}
-use Rattle.store_image.proofs.Segments.{bytes_more, bytes_up_to, bytes_within, more_segments, more_numbered, more_held}
+use Rattle.store_image.proofs.Segments.{bytes_more, bytes_up_to, bytes_within, more_segments, more_summed, more_numbered, more_held}
 use Rattle.store_image.proofs.Damaged.{not_read_at, segments_count}
 use Rattle.store_image.proofs.Asked.{stops_in}
 use Rattle.store_image.proofs.KeyLists.{ascending_keys, lists_from_once, once_from_lists}
@@ -23,7 +23,7 @@ use Rattle.store_image.proofs.reading.read_segments.Goals as goal
 
 -- what an entry is read from where there is none
 none : Entry
-none = record { first = 0; bytes = 0; rows = 0; form = forms.Plain }
+none = record { first = 0; bytes = 0; rows = 0; sums = sums.Nowhere }
 
 -- the bytes are those from before
 same_now : (old new : Moments) → new ≡ old → new.state.now ≡ old.state.now
@@ -41,7 +41,7 @@ returns-in-Err-clause-exact g c honest =
     let lt = c.loop-entry-test.true in
     let now : List ℕ = (g.D.Disk.view c.args.disk.now).moments.state.now in
     let why = subst (IsNotReadAt e c.args.imports (get_or entries i none)) (same_now _ _ (inv.moments honest)) (c.in-Err.ensures.exact (inv.honesty.0 honest)) in
-    let there : AreThere c.args.imports (take i entries) lists now = record { segments = inv.segments; numbered = inv.numbered; held = inv.held honest } in
+    let there : AreThere c.args.imports (take i entries) lists now = record { segments = inv.segments; numbered = inv.numbered; held = inv.held honest; sums = inv.sums } in
     let count = segments_count (take i entries) lists inv.segments in
     let long = length-map c.loop-entry.segments.items g.B.SegmentBuilder.sealed in
     let front = length-take i entries in
@@ -62,6 +62,7 @@ loop-entry-preserved g c =
     let lt = c.loop-entry-test.true in
     record {
       segments = more_segments entries i none lists more rows lt more_is inv.segments read.found;
+      sums = more_summed entries i none lists more rows lt more_is inv.sums read.sum;
       numbered = more_numbered entries i none lists more rows lt more_is c.args.imports inv.numbered read.numbered;
       held = λ honest.
           let there = subst (λ (f : List ℕ). IsAt f (get_or entries i none) rows) (same_now _ _ (inv.moments honest)) (read.exact (inv.honesty.0 honest)) in
@@ -91,7 +92,8 @@ returns-then-not-branch-clause-exact g c honest =
     let are = subst (λ (l : List Entry). AreSegments l lists) whole inv.segments in
     let now : List ℕ = (g.D.Disk.view c.args.disk.now).moments.state.now in
     let held = subst (λ (l : List Entry). HoldsAll (pieces_of l lists) now) whole (inv.held honest) in
-    let there : AreThere c.args.imports entries lists now = record { segments = are; numbered = inv.numbered; held = held } in
+    let summed = subst (λ (l : List Entry). AreSummed l lists) whole inv.sums in
+    let there : AreThere c.args.imports entries lists now = record { segments = are; numbered = inv.numbered; held = held; sums = summed } in
     record {
       lists = lists;
       there = there;
@@ -115,6 +117,7 @@ returns-clause-read g c =
     record {
       segments = are;
       apart = lists_from_once lists entries are once;
+      sums = subst (λ (l : List Entry). AreSummed l lists) whole inv.sums;
       numbered = inv.numbered;
     }
 

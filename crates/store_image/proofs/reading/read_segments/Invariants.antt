@@ -3,7 +3,7 @@ use Rattle.std.specs.List.{AllByRecursion}
 use Rattle.std.proofs.Common.{◌≡◌, ◌↔◌, ◌+◌, ◌≤◌, take}
 use Rattle.disk_model.specs.Disk.{raised_by}
 use Rattle.store_image.specs.Pieces.{HoldsAll}
-use Rattle.store_image.specs.Kept.{AreSegments, bytes_listed, pieces_of}
+use Rattle.store_image.specs.Kept.{AreSegments, AreSummed, bytes_listed, pieces_of}
 use Rattle.store_image.specs.Reading.{AreNumbered}
 use Rattle.store_image.proofs.reading.read_segments.Given as goal
 
@@ -15,6 +15,7 @@ invariant-loop-entry g l =
     let done = take l.entry-index l.entries in
     record {
       segments : AreSegments done lists;
+      sums : AreSummed done lists;
       numbered : AllByRecursion (AreNumbered l.fn.imports) lists;
       held : (g.D.Disk.view l.fn.disk).is_honest → HoldsAll (pieces_of done lists) old.state.now;
       moments : (g.D.Disk.view l.fn.disk).is_honest → (g.D.Disk.view l.disk).moments ≡ old;

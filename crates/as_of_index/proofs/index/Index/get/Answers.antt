@@ -1,10 +1,15 @@
 use Rattle.std.specs.Option.{option_to_list}
 use Rattle.std.specs.List.{sum_by}
-use Rattle.std.proofs.Common.{sym, ap, ◌∙◌, Some, rules, arith}
+use Rattle.std.proofs.Common.{◌≡◌, [], Option, Some, None, sym, ap, ◌∙◌, rules, arith}
+use Rattle.rf2_values.specs.Row.{RowValue}
 use Rattle.history_model.specs.declared.stamped.StampedRow.{StampedRow}
 use Rattle.as_of_index.proofs.Reading.{not_read, fails_on}
 use Rattle.as_of_index.proofs.SameKeys.{key_there, one_key}
 use Rattle.as_of_index.proofs.index.Index.get.Goals as goal
+
+wanted_row : (row : RowValue) (found : Option RowValue) → found ≡ Some row → option_to_list found ≡ [] → ⊥
+wanted_row row None same none = absurd (cc)
+wanted_row row (Some x) same none = absurd (cc)
 
 pub returns-in_ok-stamped-in-Some-clause-answer : goal.returns-in_ok-stamped-in-Some-clause-answer
 returns-in_ok-stamped-in-Some-clause-answer g c =
@@ -18,6 +23,7 @@ returns-in_ok-stamped-in-Some-clause-answer g c =
             found = λ honest. ap (λ (s : StampedRow). option_to_list (Some s.row)) (read.ensures.found honest w.0 w.1) ∙ ap option_to_list (sym w.2);
             keys = one_key read.stamped.row w.0.row _ (key_there lists c.in-Some.segment c.in-Some.at w.0 read.stamped.row w.1 read.ensures.keyed) w.2;
             undamaged = λ honest. tt;
+            causes = λ none. tt;
             work_always = omega arith;
           };
       work = (let more = read.ensures.work in omega arith);
@@ -36,6 +42,7 @@ returns-in_err-stamped-in-Some-clause-answer g c =
             found = λ honest. search rules;
             keys = search rules;
             undamaged = λ honest. (let other = read.ensures.undamaged honest w.0 w.1 in search rules);
+            causes = λ none. absurd (wanted_row w.0.row _ w.2 none);
             work_always = omega arith;
           };
       work = search rules;

@@ -10,7 +10,7 @@ use Rattle.segment.specs.Standing.{StandsAt}
 use Rattle.as_of_index.proofs.Standing.{are_lists}
 use Rattle.as_of_index.proofs.SameKeys.{key_there, keys_push, same_count}
 use Rattle.as_of_index.proofs.KeyOrder.{row_next, fewer_after, after_more, after_cost, after_hidden, after_done, after_full}
-use Rattle.as_of_index.proofs.Reading.{not_read, reads_on, has_read, read_so, fails_on}
+use Rattle.as_of_index.proofs.Reading.{not_read, reads_on, has_read, read_so, fails_on, row_wanted}
 use Rattle.as_of_index.proofs.index.Index.rows_after.Goals as goal
 use Rattle.as_of_index.proofs.index.Index.rows_after.Goals.{then-is_shown+in_ok-found-in-Some+in_ok-push-in-Some, else-is_shown}
 
@@ -124,6 +124,10 @@ returns-in_err-found-in-Some-clause-answer g c =
             found = λ honest. search rules;
             keys = search rules;
             undamaged = λ honest. (let other = c.in_err-found-in-Some.ensures.undamaged (so_far.reader.honesty honest) w.0 stands in search rules);
+            causes = λ none.
+                let k = so_far.keys listed_so in
+                let count = same_count c.loop-self.rows.items k.0 k.1 in
+                absurd (row_wanted k.0 _ _ w.0.row (after_more a.pin lists are c.loop-self.last (c.in-Some.segment, c.in-Some.at) w.0 a.limit k.0 _ (omega arith) next w.2 w.3 w.4 (c.is_shown.ensures.0 c.if-is_shown.true) k.2) none);
             work_always = omega arith;
           };
       work = search rules;
@@ -148,6 +152,7 @@ returns-in_err-push-in-Some-clause-answer g c =
             found = λ honest. search rules;
             keys = search rules;
             undamaged = λ honest. search rules;
+            causes = λ none. search rules;
             work_always = omega arith;
           };
       work = search rules;
@@ -169,6 +174,7 @@ returns-in-None-clause-answer g c =
             found = λ honest. after_done a.pin lists are c.loop-self.last _ c.loop-self.rows.items _ none (so_far.rows honest listed_so);
             keys = k.1 ∙ ap (map key_of) (after_done a.pin lists are c.loop-self.last _ k.0 _ none k.2);
             undamaged = λ honest. tt;
+            causes = λ none. tt;
             work_always = omega arith;
           };
       work = so_far.work;
@@ -190,6 +196,7 @@ returns-clause-answer g c =
             found = λ honest. after_full a.pin lists are c.loop-self.last a.limit c.loop-self.rows.items _ (omega arith) (so_far.rows honest listed_so);
             keys = k.1 ∙ ap (map key_of) (after_full a.pin lists are c.loop-self.last a.limit k.0 _ (omega arith) k.2);
             undamaged = λ honest. tt;
+            causes = λ none. tt;
             work_always = omega arith;
           };
       work = so_far.work;

@@ -11,7 +11,7 @@ use Rattle.as_of_index.proofs.Standing.{are_lists}
 use Rattle.as_of_index.proofs.Later.{version_row, versions_push, versions_skip, versions_end, versions_cost, fewer_versions}
 use Rattle.rf2_values.specs.Key.{key_of}
 use Rattle.as_of_index.proofs.SameKeys.{key_there, keys_push}
-use Rattle.as_of_index.proofs.Reading.{not_read, reads_on, has_read, read_so, fails_on}
+use Rattle.as_of_index.proofs.Reading.{not_read, reads_on, has_read, read_so, fails_on, row_wanted}
 use Rattle.as_of_index.proofs.index.Index.versions.Goals as goal
 use Rattle.as_of_index.proofs.index.Index.versions.Goals.{then-is_shown+in_ok-version+in_ok-push, else-is_shown}
 
@@ -111,6 +111,9 @@ returns-in_err-version-clause-answer g c =
             found = λ honest. search rules;
             keys = search rules;
             undamaged = λ honest. (let other = c.in_err-version.ensures.undamaged (so_far.reader.honesty honest) r.0 stands in search rules);
+            causes = λ none.
+                let k = so_far.keys listed_so in
+                absurd (row_wanted k.0 _ _ r.0.row (versions_push a.kind a.id a.pin lists are c.loop-segment.after (c.in-Some.segment, c.in-Some.at) k.0 _ r.0 next r.1 (c.is_shown.ensures.0 c.if-is_shown.true) k.2) none);
             work_always = omega arith;
           };
       work = search rules;
@@ -135,6 +138,7 @@ returns-in_err-push-clause-answer g c =
             found = λ honest. search rules;
             keys = search rules;
             undamaged = λ honest. search rules;
+            causes = λ none. search rules;
             work_always = omega arith;
           };
       work = search rules;
@@ -156,6 +160,7 @@ returns-clause-answer g c =
             found = λ honest. versions_end a.kind a.id a.pin lists are c.loop-segment.after c.loop-segment.rows.items _ last (so_far.rows honest listed_so);
             keys = k.1 ∙ ap (map key_of) (versions_end a.kind a.id a.pin lists are c.loop-segment.after k.0 _ last k.2);
             undamaged = λ honest. tt;
+            causes = λ none. tt;
             work_always = omega arith;
           };
       work = so_far.work;

@@ -13,7 +13,7 @@ use Rattle.as_of_index.proofs.Walking.{id_above, versions_ahead, others_ahead}
 use Rattle.as_of_index.proofs.Paging.{walk_more, walk_cost, walk_same, walk_done, walk_full, fewer_left}
 use Rattle.rf2_values.specs.Key.{key_of}
 use Rattle.as_of_index.proofs.SameKeys.{key_there, keys_push, same_count}
-use Rattle.as_of_index.proofs.Reading.{not_read, reads_on, has_read, read_so, fails_on}
+use Rattle.as_of_index.proofs.Reading.{not_read, reads_on, has_read, read_so, fails_on, row_wanted}
 use Rattle.as_of_index.proofs.index.Index.walk.Goals as goal
 use Rattle.as_of_index.specs.Current.{rows_seen}
 
@@ -144,6 +144,10 @@ returns-in_err-found-in-Some-clause-answer g c =
             found = λ honest. search rules;
             keys = search rules;
             undamaged = λ honest. (let other = c.in_err-found-in-Some.ensures.undamaged (so_far.reader.honesty honest) w.0 stands in search rules);
+            causes = λ none.
+                let k = so_far.keys listed_so in
+                let count = same_count c.loop-lists.rows.items k.0 k.1 in
+                absurd (row_wanted k.0 _ _ w.0.row (walk_more a.kind a.from a.as_of.now lists c.loop-lists.last c.in-Some.id a.limit k.0 _ w.0.row (omega arith) next w.2 w.3 k.2) none);
             work_always = omega arith;
           };
       work = search rules;
@@ -169,6 +173,7 @@ returns-in_err-push-in-Some-clause-answer g c =
             found = λ honest. search rules;
             keys = search rules;
             undamaged = λ honest. search rules;
+            causes = λ none. search rules;
             work_always = omega arith;
           };
       work = search rules;
@@ -189,6 +194,7 @@ returns-in-None-clause-answer g c =
             found = λ honest. walk_done a.kind a.from a.as_of.now lists c.loop-lists.last _ c.loop-lists.rows.items _ none (so_far.rows honest listed_so);
             keys = k.1 ∙ ap (map key_of) (walk_done a.kind a.from a.as_of.now lists c.loop-lists.last _ k.0 _ none k.2);
             undamaged = λ honest. tt;
+            causes = λ none. tt;
             work_always = omega arith;
           };
       work = so_far.work;
@@ -209,6 +215,7 @@ returns-clause-answer g c =
             found = λ honest. walk_full a.kind a.from a.as_of.now lists c.loop-lists.last a.limit c.loop-lists.rows.items _ (omega arith) (so_far.rows honest listed_so);
             keys = k.1 ∙ ap (map key_of) (walk_full a.kind a.from a.as_of.now lists c.loop-lists.last a.limit k.0 _ (omega arith) k.2);
             undamaged = λ honest. tt;
+            causes = λ none. tt;
             work_always = omega arith;
           };
       work = so_far.work;

@@ -8,7 +8,7 @@ use Rattle.history_store.proofs.store.Store.create_in.Goals as goal
 pub invariant_of-result : goal.invariant_of-result
 invariant_of-result g c = (
   held_first _ _ _ _ _ _ c.args.layout c.in-Ok.ensures.empty.0 c.in-Ok.ensures.empty.1 c.in-Ok.ensures.empty.2 (λ honest. c.in-Ok.ensures.on_disk (c.start.ensures.meters.counts.honesty.1 honest)),
-  record { merging = tt; written = λ up still. tt },
+  record { merging = tt; written = λ up still. tt; summed = λ up still. tt },
 )
 
 pub returns-in-Ok-clause-made : goal.returns-in-Ok-clause-made

@@ -3,7 +3,7 @@ use Rattle.std.proofs.Common.{◌≡◌, false, ap, sym, subst, arith}
 use Rattle.std.specs.List.{sum_by}
 use Rattle.import_check.specs.Known.{already_known}
 use Rattle.history_store.specs.Reading.{row_cost}
-use Rattle.import_check.specs.NewRows.{IsAcceptedAs, IsRefusal}
+use Rattle.import_check.specs.NewRows.{IsAcceptedAs, IsRefusal, IsRefusalByKey}
 use Rattle.import_check.specs.NewRows.{BringsByKey}
 use Rattle.history_store.specs.StoreValue.{StoreValue}
 use Rattle.history_store.specs.Answers.{CountsRefusal}
@@ -44,6 +44,8 @@ returns-after-matches-clause-refused g c =
       c.from.ensures,
       subst (λ l. IsRefusal (g.D.Disk.view c.self.inside.disk).is_honest (rows_of l) c.args.release c.in-Err.fault) c.new-reader.ensures.shown
           (refused_less _ _ _ _ c.in-Err.fault (λ up. ((reader_honest g.D.Disk.view _ _ _ _ _ _ _ _ _ _ c.self.invariant.0 c.new-reader.ensures.disk c.new-reader.ensures.cache c.new-reader.ensures.entries c.new-reader.ensures.shown up still (g.met.D.Disk.now_is_image c.self.inside.disk up)), (lent_sound _ _ _ _ _ _ _ c.self.invariant.0 c.places.result.now c.new-reader.result.shown.now c.imports-pin.result c.places.ensures c.new-reader.ensures.shown c.imports-pin.ensures).0, (lent_sound _ _ _ _ _ _ _ c.self.invariant.0 c.places.result.now c.new-reader.result.shown.now c.imports-pin.result c.places.ensures c.new-reader.ensures.shown c.imports-pin.ensures).1)) c.in-Err.ensures.refused),
+      (let sound = lent_sound _ _ _ _ _ _ _ c.self.invariant.0 c.places.result.now c.new-reader.result.shown.now c.imports-pin.result c.places.ensures c.new-reader.ensures.shown c.imports-pin.ensures in
+          subst (λ l. IsRefusalByKey (rows_of l) c.args.release c.in-Err.fault) c.new-reader.ensures.shown (c.in-Err.ensures.causes sound.0 sound.1)),
     )
 
 pub returns-in-Ok-clause-meters : goal.returns-in-Ok-clause-meters

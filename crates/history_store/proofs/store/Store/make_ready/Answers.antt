@@ -72,7 +72,7 @@ returns-in_err-prepared-clause-checking g c =
     (λ honest.
     let at = at_mid _ c.args.self.now _ c.find_new_rows.new.self c.args.release c.in_ok-fresh.fresh c.self.view_is (admitted _ _ _ _ (c.if-is_spent.ensures.left refl) c.if-is_for_later.ensures refl) c.self-2.view_is c.self-2.invariant.0.kept.history e.still (e.accepted honest) in
     (not_prepared c.args.self.now _ c.find_new_rows.new.self c.args.release c.in_ok-fresh.fresh _ c.self-2.view_is e.still at why, refused))
-    (not_prepared_at_all _ c.args.self.now _ c.find_new_rows.new.self c.args.release c.in_ok-fresh.fresh _ c.self.view_is (admitted _ _ _ _ (c.if-is_spent.ensures.left refl) c.if-is_for_later.ensures refl) c.self-2.view_is e.still e.brings why, refused)
+    (not_prepared_at_all ⊥ _ c.args.self.now _ c.find_new_rows.new.self c.args.release c.in_ok-fresh.fresh _ c.self.view_is (admitted _ _ _ _ (c.if-is_spent.ensures.left refl) c.if-is_for_later.ensures refl) c.self-2.view_is e.still e.brings why, refused)
     (counted_but _ _ _ other e.meters.counts.failures))
 
 pub returns-in_err-fresh-clause-checking : goal.returns-in_err-fresh-clause-checking

@@ -2,7 +2,7 @@ use Rattle.std.proofs.Common.{◌≡◌, false, subst, sym, ap, ◌∙◌, refl,
 use Rattle.std.proofs.lemmas.Bool.{false≢true}
 use Rattle.blocks.specs.Slots.{other}
 use Rattle.blocks.specs.Cache.{is_in, Forgets}
-use Rattle.directory.specs.Listings.{DirectoryValue}
+use Rattle.directory.specs.Listings.{DirectoryValue, form_in}
 use Rattle.segment.specs.Records.{segment_in}
 use Rattle.segment.proofs.SegmentLaws.{length-segment_in}
 use Rattle.history_store.specs.StoreValue.{StoreValue}
@@ -30,14 +30,14 @@ add-requires-clause-lists g c =
 pub add_segment-requires-clause-bytes : goal.add_segment-requires-clause-bytes
 add_segment-requires-clause-bytes g c =
     let for = subst (λ (s : StoreValue g.row.D.Denot). IsPreparedFor s c.args.prepared) (sym c.self.view_is) c.requires.prepared in
-    ap length (c.deref.ensures.value ∙ for.prepared.bytes_are) ∙ length-segment_in c.args.prepared.entry.form c.args.prepared.index ∙ for.prepared.segment.bytes
+    ap length (c.deref.ensures.value ∙ for.prepared.bytes_are) ∙ length-segment_in (form_in c.args.prepared.entry.sums) c.args.prepared.index ∙ for.prepared.segment.bytes
 
 pub invariant_of-self : goal.invariant_of-self
 invariant_of-self g c =
     let for = subst (λ (s : StoreValue g.row.D.Denot). IsPreparedFor s c.args.prepared) (sym c.self.view_is) c.requires.prepared in
     let added = is_added _ c.self.inside.directory c.self.inside.index c.args.prepared c.self.invariant.0.kept refl refl refl refl refl for in (
       held_added _ (g.D.Disk.view c.add_segment.new.disk).is_honest _ (g.D.Disk.view c.add_segment.new.disk).moments.state c.self.inside.cache c.forget.new.self c.forget-in-Ok.new.self _ c.in-Ok.slot c.self.inside.directory c.args.prepared.directory c.args.prepared.entry c.self.inside.index c.add.new.self c.args.prepared.index c.self.inside.needs_reopen c.self.invariant.0 c.add_segment.ensures.meters.honesty.1 added c.in-Ok.ensures.next
-          (λ honest given lists segment on is same. c.in-Ok.ensures.on_disk honest given lists segment on is (c.deref.ensures.value ∙ for.prepared.bytes_are ∙ ap (segment_in c.args.prepared.entry.form) (sym same)))
+          (λ honest given lists segment on is same. c.in-Ok.ensures.on_disk honest given lists segment on is (c.deref.ensures.value ∙ for.prepared.bytes_are ∙ ap (segment_in (form_in c.args.prepared.entry.sums)) (sym same)))
           c.in-Ok.ensures.elsewhere (subst (λ x. Forgets (is_in x) c.self.inside.cache c.forget.new.self) c.extent.ensures c.forget.ensures) (subst (λ x. Forgets (is_in x) c.forget.new.self c.forget-in-Ok.new.self) c.extent-in-Ok.ensures c.forget-in-Ok.ensures)
           c.add.ensures,
       merge_added _ (g.D.Disk.view c.add_segment.new.disk).is_honest _ (g.D.Disk.view c.add_segment.new.disk).moments.state.now (other c.self.inside.slot) c.self.inside.directory c.args.prepared.directory c.args.prepared.entry c.self.inside.index c.add.new.self c.args.prepared.index c.self.inside.merge c.self.inside.needs_reopen c.self.invariant.1 c.add_segment.ensures.meters.honesty.1
@@ -68,13 +68,13 @@ returns-in-Ok-clause-crash g c =
     let for = subst (λ (s : StoreValue g.row.D.Denot). IsPreparedFor s c.args.prepared) (sym c.self.view_is) c.requires.prepared in
     let added = is_added _ c.self.inside.directory c.self.inside.index c.args.prepared c.self.invariant.0.kept refl refl refl refl refl for in
     let held = held_added _ (g.D.Disk.view c.add_segment.new.disk).is_honest _ (g.D.Disk.view c.add_segment.new.disk).moments.state c.self.inside.cache c.forget.new.self c.forget-in-Ok.new.self _ c.in-Ok.slot c.self.inside.directory c.args.prepared.directory c.args.prepared.entry c.self.inside.index c.add.new.self c.args.prepared.index c.self.inside.needs_reopen c.self.invariant.0 c.add_segment.ensures.meters.honesty.1 added c.in-Ok.ensures.next
-    (λ honest given lists segment on is same. c.in-Ok.ensures.on_disk honest given lists segment on is (c.deref.ensures.value ∙ for.prepared.bytes_are ∙ ap (segment_in c.args.prepared.entry.form) (sym same)))
+    (λ honest given lists segment on is same. c.in-Ok.ensures.on_disk honest given lists segment on is (c.deref.ensures.value ∙ for.prepared.bytes_are ∙ ap (segment_in (form_in c.args.prepared.entry.sums)) (sym same)))
     c.in-Ok.ensures.elsewhere (subst (λ x. Forgets (is_in x) c.self.inside.cache c.forget.new.self) c.extent.ensures c.forget.ensures) (subst (λ x. Forgets (is_in x) c.forget.new.self c.forget-in-Ok.new.self) c.extent-in-Ok.ensures c.forget-in-Ok.ensures)
     c.add.ensures in
     rw (← c.self.view_is) (record {
       closed = λ needs. absurd (false≢true (sym was_open ∙ needs));
       any_moment = λ honest still. leaves_added _ _ _ c.self.inside.cache _ c.self.inside.directory c.args.prepared.directory c.args.prepared.entry _ c.args.prepared.index _ c.self.invariant.0 honest still added for.apart (ap (λ (l : DirectoryValue). l.imports) for.prepared.directory_is) (ap (λ (l : DirectoryValue). l.layout) for.prepared.directory_is)
-          (λ honest given lists segment on is same. c.in-Ok.ensures.any_moment honest given lists segment on is (c.deref.ensures.value ∙ for.prepared.bytes_are ∙ ap (segment_in c.args.prepared.entry.form) (sym same)));
+          (λ honest given lists segment on is same. c.in-Ok.ensures.any_moment honest given lists segment on is (c.deref.ensures.value ∙ for.prepared.bytes_are ∙ ap (segment_in (form_in c.args.prepared.entry.sums)) (sym same)));
       acknowledged = λ honest still. record { open_still = still; each = held_stands _ _ _ _ _ _ _ held (c.add_segment.ensures.meters.honesty.0 honest) still };
     })
 
@@ -86,7 +86,7 @@ returns-in-Err-clause-crash g c =
     rw (← c.self.view_is) (record {
       closed = λ needs. absurd (false≢true (sym was_open ∙ needs));
       any_moment = λ honest still. leaves_added _ _ _ c.self.inside.cache _ c.self.inside.directory c.args.prepared.directory c.args.prepared.entry _ c.args.prepared.index _ c.self.invariant.0 honest still added for.apart (ap (λ (l : DirectoryValue). l.imports) for.prepared.directory_is) (ap (λ (l : DirectoryValue). l.layout) for.prepared.directory_is)
-          (λ honest given lists segment on is same. c.in-Err.ensures.any_moment honest given lists segment on is (c.deref.ensures.value ∙ for.prepared.bytes_are ∙ ap (segment_in c.args.prepared.entry.form) (sym same)));
+          (λ honest given lists segment on is same. c.in-Err.ensures.any_moment honest given lists segment on is (c.deref.ensures.value ∙ for.prepared.bytes_are ∙ ap (segment_in (form_in c.args.prepared.entry.sums)) (sym same)));
       acknowledged = λ honest still. absurd (false≢true (sym still));
     })
 

@@ -1,7 +1,7 @@
 use Rattle.std.proofs.Common.{refl, subst, ◌∙◌, arith}
 use Rattle.std.proofs.lemmas.Result.{err_from_is_err_and}
 use Rattle.checksum.specs.declared.form.Form.{Form}
-use Rattle.store_image.specs.Private.Reading.{bytes_of}
+use Rattle.store_image.specs.Reader.{bytes_of}
 use Rattle.store_image.specs.Private.Reading.{HasRecord, IsNoRecord, of_segment}
 use Rattle.store_image.proofs.Windowed.{found_in, not_found_in, sees_behind}
 use Rattle.store_image.proofs.window.Window.row_at.Goals as goal

@@ -1,0 +1,583 @@
+#!/usr/bin/env python3
+"""Tries one machine that imports and two that are fed by its backups, behind nginx.
+
+try_machines.py PROGRAM [--long]
+
+PROGRAM is the built `sctd`. Each machine is a network of its own, with a hub, its store and a
+gateway; nginx stands before them as packaging/nginx.conf has it. While clients ask, releases are
+imported on the first machine, and every few imports its BACKUP is fetched over the network by the
+two others, one after the other, and put in place by examples/take_copy.py. Meanwhile the machine
+that imports is killed in an import, another one is killed, one is left behind, and nginx is started
+again. Each answer has to be what the releases themselves say of the pin that it names, as
+service/tests reads them. One that isn't is counted as mixed where it has rows of several imports,
+and as wrong otherwise. What was refused is counted. A request may be refused only where no machine
+that ran all the time has its pin, or nginx was started again.
+
+With --long 200 imports and 100,000 requests are made in place of 20 and 3,000. It needs root,
+nginx, openssl, curl, commands of util-linux and iproute2, and what the gateway imports; where one
+of them is missing it says "not run" and ends with status 3. The status is 1 where something isn't
+as it has to be.
+"""
+
+from __future__ import annotations
+
+import contextlib
+import http.client
+import json
+import math
+import os
+import random
+import signal
+import subprocess
+import sys
+import tempfile
+import threading
+import time
+from collections import Counter
+from collections.abc import Iterator, Sequence
+from functools import lru_cache
+from pathlib import Path
+from typing import Any, NamedTuple, Optional
+from urllib.parse import urlencode
+
+from machines_releases import CODES, TOP, days_of, rows_of, wording_of, write
+from operators_harness import Wrong, same
+from proxy_harness import (
+    NOT_RUN, ROOT, SECONDS, Client, Process, Proxy, gateway_words, hub_words, missing, ready, stop)
+from sctd_service.protocol import HubClient, HubFailed
+from tests.compare_releases import Comparison, Differs
+from tests.house import SCT, Json, version
+from tests.release_files import Rows, Snapshot
+
+
+class Size(NamedTuple):
+    """How many imports are made while so many requests are made by so many clients."""
+
+    imports: int
+    requests: int
+    clients: int
+
+
+SHORT, LONG = Size(20, 3_000, 4), Size(200, 100_000, 8)
+# Of how many imports a round consists, every how many the others are fed, and when what is done.
+ROUND, FED_EVERY = 20, 4
+KILL_WRITER, START_BALANCER, KILL_READER, START_READER = 6, 10, 13, 15
+# The rounds' imports before which the last machine isn't fed.
+BEHIND = range(14, 20)
+MACHINES = ("writer", "near", "far")
+TOOLS = ("nginx", "openssl", "curl", "ip", "unshare", "nsenter")
+# The addresses of the bridge, of a machine by its number, and of what machines listen on.
+BRIDGE, ADDRESS, PORT, COPIES_PORT = "10.77.0.1", "10.77.0.%d", 8080, 8090
+# How a copy is fetched, also from a machine that is just being started.
+FETCH = ("curl", "--fail", "--silent", "--show-error", "--retry-connrefused", "--retry", "30",
+         "--retry-delay", "1", "--output")
+# How long a process that ended stays away, as under systemd, and how often that is looked at.
+AWAY_SECONDS, LOOK_SECONDS = 0.3, 0.05
+# What says that nobody could answer.
+REFUSED = (502, 503, 504)
+# A part of the requests names no pin, a part is an expansion, and of those at a pin a part is at
+# the latest one. A client waits so long until it asks again.
+WITHOUT_PIN, EXPANSIONS = 0.3, 0.15
+LATEST = 0.4
+BETWEEN_SECONDS = 0.03
+# How many Snapshots are remembered, and how many faults are told.
+SNAPSHOTS, TOLD = 1_000, 5
+INSIDE = "--inside"
+UNSHARED = ("unshare", "--net", "--pid", "--mount-proc", "--fork", "--kill-child")
+
+
+def run(*words: str) -> str:
+    done = subprocess.run(words, stdin=subprocess.DEVNULL, stdout=subprocess.PIPE,
+                          stderr=subprocess.STDOUT, timeout=SECONDS, check=False)
+    said = done.stdout.decode("utf-8", "replace").strip()
+    if done.returncode:
+        raise Wrong("%s: status %d: %s" % (" ".join(words), done.returncode, said))
+    return said
+
+
+class Machine:
+    """A network with a hub, which starts again what has ended, and a gateway. `levels` has from
+    when on it had how many imports, or none where it didn't run for sure."""
+
+    def __init__(self, program: str, place: Path, number: int) -> None:
+        self.program, self.name = program, MACHINES[number]
+        self.place, self.releases = place / self.name, place / "releases"
+        self.place.mkdir()
+        (self.place / "store").mkdir()
+        (self.place / "copies").mkdir()
+        self.address = ADDRESS % (number + 2)
+        self.store, self.own, self.questions = (
+            self.place / name for name in ("store/terms", "own", "questions"))
+        self.levels: list[tuple[float, int]] = [(0.0, -1)]
+        self.lock, self.is_off, self.is_over = threading.RLock(), False, False
+        self.processes: dict[str, Process] = {}
+        self.network = subprocess.Popen(["unshare", "--net", "sleep", "infinity"])
+        self.connect(number)
+        self.restarting = threading.Thread(target=self.start_again, daemon=True)
+
+    @property
+    def within(self) -> list[str]:
+        """What begins a command in its network."""
+        return ["nsenter", "--net=/proc/%d/ns/net" % self.network.pid]
+
+    def connect(self, number: int) -> None:
+        own = os.readlink("/proc/self/ns/net")
+        path = "/proc/%d/ns/net" % self.network.pid
+        wait(lambda: os.readlink(path) != own, "a network of its own")
+        outer, inner = "out%d" % number, "in%d" % number
+        run("ip", "link", "add", outer, "type", "veth", "peer", "name", inner, "netns",
+            str(self.network.pid))
+        run("ip", "link", "set", outer, "master", "bridge", "up")
+        run(*self.within, "ip", "address", "add", self.address + "/24", "dev", inner)
+        for name in (inner, "lo"):
+            run(*self.within, "ip", "link", "set", name, "up")
+
+    def words(self) -> dict[str, list[str]]:
+        sockets = ["--questions", str(self.questions)]
+        if self.name == MACHINES[0]:
+            sockets += ["--socket", str(self.own)]
+        copies = str(self.place / "copies")
+        served = [sys.executable, "-u", "-m", "http.server", "--bind", self.address, "--directory",
+                  copies, str(COPIES_PORT)]
+        return {
+            "hub": hub_words(self.program, self.store, self.releases, *sockets),
+            "gateway": gateway_words(self.questions, "%s:%d" % (self.address, PORT)),
+            "copies": served}
+
+    def start(self) -> None:
+        """Starts what it does, and answers once it does it."""
+        with self.lock:
+            for name in self.words():
+                self.begin(name)
+            self.is_off = False
+
+    def begin(self, name: str) -> None:
+        words, log = [*self.within, *self.words()[name]], self.place / "log"
+        if name != "copies":
+            self.processes[name] = ready(words, log)
+            return
+        with open(log, "ab") as faults:
+            self.processes[name] = subprocess.Popen(words, stdout=faults, stderr=faults)
+
+    def start_again(self) -> None:
+        """Starts what has ended, a while later, unless the whole machine is off."""
+        while not self.is_over:
+            time.sleep(LOOK_SECONDS)
+            with self.lock:
+                ended = [name for name, one in self.processes.items() if one.poll() is not None]
+                if ended and not self.is_off and not self.is_over:
+                    time.sleep(AWAY_SECONDS)
+                    for name in ended:
+                        self.begin(name)
+
+    def kill(self) -> None:
+        """Ends all its processes at once, the program among them."""
+        self.note(-1)
+        with self.lock:
+            self.is_off = True
+            for one in self.processes.values():
+                children = Path("/proc/%d/task/%d/children" % (one.pid, one.pid))
+                programs = children.read_text("ascii").split() if one.poll() is None else []
+                for pid in (one.pid, *map(int, programs)):
+                    with contextlib.suppress(ProcessLookupError):
+                        os.kill(pid, signal.SIGKILL)
+                one.wait()
+
+    def note(self, imports: int) -> None:
+        self.levels.append((time.monotonic(), imports))
+
+    def has_had(self, pin: int, since: float, until: float) -> bool:
+        """Whether it has answered at this pin for all of that time."""
+        first = max(at for at, (when, _) in enumerate(self.levels) if when <= since)
+        return all(imports >= pin for when, imports in self.levels[first:] if when <= until)
+
+    def asked(self, line: str, path: Optional[Path] = None) -> str:
+        """The last line of the hub's reply."""
+        client = HubClient(str(path or self.questions))
+        try:
+            client.send([line.encode()])
+            return client.reply().decode().splitlines()[-1]
+        finally:
+            client.close()
+
+    def imports(self) -> int:
+        return int(self.asked("STATUS").split()[1])
+
+    def end(self) -> None:
+        self.is_over = True
+        for one in [*self.processes.values(), self.network]:
+            stop(one)
+
+
+def wait(condition: Any, what: str) -> None:
+    end = time.monotonic() + SECONDS
+    while not condition():
+        if time.monotonic() > end:
+            raise Wrong("there is no %s after %d seconds" % (what, SECONDS))
+        time.sleep(LOOK_SECONDS)
+
+
+class Question(NamedTuple):
+    """What is asked: at a pin or without one, of the day of a release or of the latest, of a code
+    or of all below the top."""
+
+    pin: Optional[int]
+    day: Optional[str]
+    code: str
+
+    @property
+    def path(self) -> str:
+        named = version(self.day) if self.day else None
+        if self.code == TOP:
+            operation = "ValueSet/$expand"
+            words = {"url": "%s?fhir_vs=isa/%s" % (named or SCT, TOP)}
+        else:
+            operation, words = "CodeSystem/$lookup", {"system": SCT, "code": self.code}
+            words |= {"version": named} if named else {}
+        base = "/fhir" if self.pin is None else "/pin/%d/fhir" % self.pin
+        return "%s/%s?%s" % (base, operation, urlencode(words))
+
+
+@lru_cache(maxsize=SNAPSHOTS)
+def snapshot_of(pin: int, day: str) -> Snapshot:
+    """What the first so many releases say of a day."""
+    return Snapshot(rows_of(pin), day)
+
+
+class Judge(Comparison):
+    """Says of an answer whether it is what the releases say."""
+
+    def __init__(self) -> None:
+        self.rows, self.counts = Rows({}), Counter[str]()
+        self.languages: tuple[str, ...] = ()
+        self.answer: tuple[int, Json] = (0, {})
+        self.is_dated = False
+
+    def ask(self, path: str, **words: Any) -> tuple[int, Json]:
+        return self.answer
+
+    def asked(self, snapshot: Snapshot) -> list[str]:
+        return super().asked(snapshot) if self.is_dated else []
+
+    def fault(self, question: Question, pin: int, status: int, body: bytes) -> str:
+        """What is wrong about an answer; nothing where it is right."""
+        self.days, self.is_dated = days_of(pin), question.day is not None
+        snapshot = snapshot_of(pin, question.day or self.days[-1])
+        try:
+            self.answer = status, json.loads(body, parse_float=str, parse_int=str)
+            if question.code == TOP:
+                self.alike("status", status, 200)
+                self.expand(snapshot, TOP)
+            else:
+                self.lookup(snapshot, question.code)
+        except (Differs, ValueError, KeyError) as why:
+            is_mixed = len(set(wording_of(body.decode()))) > 1
+            return "%s: %r" % ("mixed" if is_mixed else "wrong", why)
+        return ""
+
+
+class House:
+    """The machines, nginx, and what is known of them."""
+
+    def __init__(self, program: str, place: Path, size: Size) -> None:
+        self.program, self.place, self.size = program, place, size
+        run("ip", "link", "add", "bridge", "type", "bridge")
+        run("ip", "address", "add", BRIDGE + "/24", "dev", "bridge")
+        for name in ("bridge", "lo"):
+            run("ip", "link", "set", name, "up")
+        write(place / "releases", size.imports)
+        self.machines = [Machine(program, place, number) for number in range(len(MACHINES))]
+        self.writer, self.near, self.far = self.machines
+        self.proxy = Proxy(place, ["%s:%d" % (one.address, PORT) for one in self.machines])
+        # Imports that were answered, and the times in which nginx wasn't there.
+        self.imports, self.gaps = 0, list[tuple[float, float]]()
+
+    def start(self) -> None:
+        for machine in self.machines:
+            machine.start()
+            machine.restarting.start()
+        self.proxy.start()
+
+    def import_next(self) -> None:
+        number = self.imports + 1
+        reply = self.writer.asked("IMPORT r%d" % number, self.writer.own)
+        same("an import", reply.split()[:2], ["OK", str(number)])
+        self.imported(number)
+
+    def imported(self, number: int) -> None:
+        self.imports = number
+        self.writer.note(number)
+
+    def kill_in_an_import(self) -> None:
+        """Kills the machine that imports while it does, and repeats what wasn't done."""
+        client = HubClient(str(self.writer.own))
+        client.send([b"IMPORT r%d" % (self.imports + 1)])
+        time.sleep(random.random() * LOOK_SECONDS)
+        self.writer.kill()
+        client.close()
+        time.sleep(AWAY_SECONDS)
+        self.writer.start()
+        if (found := self.writer.imports()) > self.imports:
+            same("the imports after a kill", found, self.imports + 1)
+            return self.imported(found)
+        self.writer.note(found)
+        self.import_next()
+
+    def back(self, machine: Machine) -> None:
+        """Starts a machine that was killed."""
+        machine.start()
+        machine.note(machine.imports())
+
+    def feed(self, readers: Sequence[Machine]) -> None:
+        """Has the readers take a backup, one after the other."""
+        name = "%d.store" % self.imports
+        copy = self.writer.place / "copies" / name
+        reply = self.writer.asked("BACKUP %s" % copy, self.writer.own)
+        same("a backup", reply.split()[:2], ["OK", str(self.imports)])
+        for reader in readers:
+            to = reader.place / "copies" / name
+            run(*reader.within, *FETCH, str(to),
+                "http://%s:%d/%s" % (self.writer.address, COPIES_PORT, name))
+            reader.note(-1)
+            file = to.stat().st_ino
+            said = run(*self.taking(reader, to)).splitlines()
+            same("what take_copy.py says", said[-1:], ["OK %d" % self.imports])
+            # (A file that was written over would be neither the one nor the other after a crash.)
+            same("whether the copy is the store", reader.store.stat().st_ino == file, True)
+            reader.note(self.imports)
+        copy.unlink()
+
+    def taking(self, reader: Machine, copy: Path) -> list[str]:
+        """The command that puts a copy in place on a machine."""
+        return [*reader.within, sys.executable, str(ROOT / "examples" / "take_copy.py"),
+                "--program", self.program, "--store", str(reader.store), "--questions",
+                str(reader.questions), str(copy), "kill", str(reader.processes["hub"].pid)]
+
+    def start_proxy_again(self) -> None:
+        began = time.monotonic()
+        self.gaps.append((began, math.inf))
+        self.proxy.end()
+        self.proxy.start()
+        self.gaps[-1] = began, time.monotonic()
+
+    def may_refuse(self, pin: Optional[int], since: float, until: float) -> bool:
+        """Whether nobody had to answer at a pin, or at any, for all of that time."""
+        if any(begin <= until and since <= end for begin, end in self.gaps):
+            return True
+        return not any(one.has_had(pin or 0, since, until) for one in self.machines)
+
+    def end(self) -> None:
+        self.proxy.end()
+        for machine in self.machines:
+            machine.end()
+
+
+class Asking:
+    """Clients that ask, and what came of it."""
+
+    def __init__(self, house: House) -> None:
+        self.house, self.counts = house, Counter[str]()
+        self.asked, self.faults, self.is_over = 0, list[str](), False
+        self.threads = [
+            threading.Thread(target=self.ask_all, args=(seed,))
+            for seed in range(house.size.clients)]
+
+    def ask_all(self, seed: int) -> None:
+        chance, judge = random.Random(seed), Judge()
+        client = Client(self.house.proxy, self.house.proxy.user)
+        while not self.is_over:
+            try:
+                self.ask(client, judge, self.question(chance))
+            except Exception as why:  # A fault of the trial ends it, too.
+                self.faults.append("a client: %r" % why)
+                raise
+            self.asked += 1
+            time.sleep(BETWEEN_SECONDS)
+
+    def question(self, chance: random.Random) -> Question:
+        latest = self.house.imports
+        asked = latest if chance.random() < LATEST else chance.randint(1, latest)
+        # (A day that a pin doesn't show is refused.)
+        days = days_of(asked)
+        day = chance.choice([None, days[0], days[len(days) // 2]])
+        code = TOP if chance.random() < EXPANSIONS else chance.choice(CODES)
+        if chance.random() < WITHOUT_PIN:
+            return Question(None, day if day == days[0] else None, code)
+        return Question(asked, day, code)
+
+    def ask(self, client: Client, judge: Judge, question: Question) -> None:
+        began = time.monotonic()
+        try:
+            status, headers, body = self.answer(client, question.path)
+        except (OSError, http.client.HTTPException) as why:
+            return self.refused(question, began, repr(why))
+        if status in REFUSED:
+            return self.refused(question, began, str(status))
+        kind = "at a pin" if question.pin is not None else "without a pin"
+        pin = int(headers.get("x-sctd-pin", "-1"))
+        if pin != question.pin if question.pin is not None else not 0 < pin <= self.newest():
+            fault = "wrong: pin %d, status %d: %r" % (pin, status, body[:200])
+        else:
+            fault = judge.fault(question, pin, status, body)
+        self.counts[fault.partition(":")[0] or "answered " + kind] += 1
+        if fault:
+            self.faults.append("%s: %s" % (question.path, fault))
+
+    def newest(self) -> int:
+        """How many imports there may be, with the one that is made."""
+        return self.house.imports + 1
+
+    def answer(self, client: Client, path: str) -> tuple[int, Any, bytes]:
+        """An answer. A connection that has ended before it came is made again, once, as each
+        client of HTTP does."""
+        try:
+            return client.told(path)
+        except (ConnectionError, http.client.RemoteDisconnected, http.client.CannotSendRequest):
+            client.connection.close()
+            self.counts["connections made again"] += 1
+        try:
+            return client.told(path)
+        except BaseException:
+            client.connection.close()
+            raise
+
+    def refused(self, question: Question, began: float, why: str) -> None:
+        self.counts["refused"] += 1
+        self.counts["refused: " + why] += 1
+        if not self.house.may_refuse(question.pin, began, time.monotonic()):
+            self.counts["refused without need"] += 1
+            self.faults.append("%s: refused without need: %s" % (question.path, why))
+
+    def wait_for(self, count: int) -> None:
+        """Waits until so many are asked."""
+        while self.asked < count and not self.faults:
+            time.sleep(LOOK_SECONDS)
+        if self.faults:
+            raise Wrong("; ".join(self.faults[:TOLD]))
+
+    def __enter__(self) -> Asking:
+        for thread in self.threads:
+            thread.start()
+        return self
+
+    def __exit__(self, *_: object) -> None:
+        self.is_over = True
+        for thread in self.threads:
+            thread.join(SECONDS * 2)
+
+
+def disturb(house: House) -> None:
+    """The next import, and what happens beside it."""
+    turn = (house.imports + 1) % ROUND
+    if turn == KILL_WRITER:
+        house.kill_in_an_import()
+    else:
+        house.import_next()
+    if turn == START_BALANCER:
+        house.start_proxy_again()
+    elif turn == KILL_READER:
+        house.near.kill()
+    elif turn == START_READER:
+        house.back(house.near)
+    if house.imports % FED_EVERY == 0:
+        house.feed([house.near] if turn in BEHIND else [house.near, house.far])
+
+
+def refused_copies(house: House) -> None:
+    """A copy that is cut short, one that is behind and one of other imports aren't taken."""
+    near, copies = house.near, house.near.place / "copies"
+    whole = copies / "whole"
+    house.writer.asked("BACKUP %s" % whole, house.writer.own)
+    short, behind, other = (copies / name for name in ("short", "behind", "other"))
+    short.write_bytes(whole.read_bytes()[:-1])
+    run(house.program, "copy", "--imports", "1", "--store", str(whole), "--to", str(behind))
+    run(house.program, "init", "--store", str(other))
+    for number in [2, 1, *range(3, house.imports + 1)]:
+        run(house.program, "import", "--quiet", "--store", str(other),
+            str(house.place / "releases" / ("r%d" % number)))
+    before = near.store.read_bytes()
+    for copy, why in ((short, "status"), (behind, "it has 1 imports"), (other, "has an import")):
+        done = subprocess.run(house.taking(near, copy), capture_output=True, check=False)
+        said = done.stderr.decode()
+        same("%s: status, why" % copy.name, (done.returncode, why in said), (1, True))
+        same("the store, the copy", (near.store.read_bytes() == before, copy.exists()),
+             (True, True))
+    same("the imports", near.imports(), house.imports)
+
+
+def tried(house: House) -> None:
+    size = house.size
+    house.import_next()
+    house.feed([house.near, house.far])
+    began = time.monotonic()
+    with Asking(house) as asking:
+        while house.imports < size.imports:
+            asking.wait_for(size.requests * house.imports // size.imports)
+            disturb(house)
+        asking.wait_for(size.requests)
+    counts = asking.counts
+    if asking.faults:
+        raise Wrong("; ".join(asking.faults[:TOLD]))
+    house.feed([house.near, house.far])
+    digests = {one.asked("DIGEST") for one in house.machines}
+    same("how many digests the machines have", len(digests), 1)
+    shown = ", ".join("%s: %d" % one for one in sorted(counts.items()))
+    print("%d imports, %d requests in %.0f s: 0 wrong, 0 mixed; %s" % (
+        house.imports, asking.asked, time.monotonic() - began, shown), flush=True)
+    for what in ("answered at a pin", "answered without a pin"):
+        same("whether some were " + what, counts[what] > 0, True)
+
+
+@contextlib.contextmanager
+def a_house(program: str, size: Size) -> Iterator[House]:
+    with tempfile.TemporaryDirectory(prefix="sctd-machines-") as place:
+        # (nginx's workers are another user's where it is started by root.)
+        os.chmod(place, 0o755)
+        house = House(program, Path(place), size)
+        try:
+            house.start()
+            yield house
+        finally:
+            house.end()
+
+
+def inside(program: str, size: Size) -> int:
+    """The trial, in networks that nobody else has."""
+    try:
+        with a_house(program, size) as house:
+            tried(house)
+            refused_copies(house)
+            print("copies that aren't taken: as it has to be", flush=True)
+    except (Wrong, HubFailed, OSError, http.client.HTTPException) as why:
+        print("WRONG: %s" % why)
+        return 1
+    return 0
+
+
+def lacking() -> Optional[str]:
+    if os.geteuid() != 0:
+        return "root"
+    if (lacks := missing(TOOLS)) is not None:
+        return lacks
+    done = subprocess.run([*UNSHARED, "true"], capture_output=True, check=False)
+    return "network of its own" if done.returncode else None
+
+
+def main(words: Sequence[str]) -> int:
+    options = [word for word in words if word.startswith("--")]
+    programs = [os.path.abspath(word) for word in words if not word.startswith("--")]
+    if len(programs) != 1 or not set(options) <= {"--long", INSIDE}:
+        print((__doc__ or "").strip(), file=sys.stderr)
+        return 2
+    if INSIDE in options:
+        return inside(programs[0], LONG if "--long" in options else SHORT)
+    if (lacks := lacking()) is not None:
+        print("not run: there is no %s" % lacks)
+        return NOT_RUN
+    # (With this process all that it starts is ended, too.)
+    words = [*UNSHARED, sys.executable, os.path.abspath(__file__), *programs, *options, INSIDE]
+    os.execvp(words[0], words)
+
+
+if __name__ == "__main__":
+    sys.exit(main(sys.argv[1:]))
