@@ -15,7 +15,7 @@ impl<D: Disk> Store<D> {
     ghost use Rattle.history_model.specs.Hierarchy.{AreDescendants};
     ghost use Rattle.history_model.specs.Queries.{replaces, timeline, delta, dates};
     ghost use Rattle.history_store.specs.Auditing.{IsAncestorsQuery};
-    ghost use Rattle.history_store.specs.Queries.{IsRowsQuery, IsIndexQuery};
+    ghost use Rattle.history_store.specs.Queries.{IsRowsQuery, IsOrderedQuery, IsIndexQuery};
 
     /// All concepts below a concept, ascending: those that are reached from it by one or more
     /// active "is a" relationships, each from a concept to a child. Reads no row.
@@ -69,7 +69,7 @@ impl<D: Disk> Store<D> {
     /// component and member: those that name it as a replacement of other components.
     pub fn replaces(&mut self, id: Sctid, as_of: AsOf) -> Result<Vec<Row>, Refusal>
         requires { as_of.pin ≤ self.old.history.imports }
-        ensures answer { IsRowsQuery result (λ rows. rows.items) (replaces id as_of.date) as_of.pin
+        ensures answer { IsOrderedQuery result (λ rows. rows.items) (replaces id as_of.date) as_of.pin
             D.view self.old self.new }
     {
         if self.needs_reopen {

@@ -1,5 +1,6 @@
 -- Definitions for private functions and proofs, of this crate or of one above it. No public clause
 -- cites them.
+pub mod Asking
 pub mod Memberships
 use Rattle.std.specs.Prelude.{◌≡◌, ◌≢◌, ◌≤◌, ◌⊎◌, ◌==◌, ℕ, Bool, true, false, nat_eq}
 use Rattle.std.specs.Prelude.{List, [], ◌∷◌, map}
@@ -19,24 +20,16 @@ use Rattle.history_model.specs.InOrder.{Has}
 use Rattle.segment.specs.declared.place.RowPlace.{RowPlace}
 use Rattle.as_of_index.specs.declared.as_of.AsOf.{AsOf}
 use Rattle.as_of_index.specs.declared.chosen.Chosen.{Chosen}
-use Rattle.as_of_index.specs.Private.Chosen.{chosen, chosen_cmp, ranked_cmp}
+use Rattle.as_of_index.specs.Private.Chosen.{chosen, chosen_cmp}
 use Rattle.as_of_index.specs.Private.Once.{AreOnce}
 use Rattle.as_of_index.specs.Current.{IsPlaceOfRow, IsCurrentAt}
+use Rattle.links.specs.declared.posting.Posting.{Posting}
 use Rattle.links.specs.declared.postings.Subject.{Subject}
-use Rattle.links.specs.declared.postings.Link.{Link}
-use Rattle.links.specs.declared.postings.Reference.{Reference}
-use Rattle.links.specs.declared.postings.Target.{Target}
 use Rattle.links.specs.Edges.{Edges, subject_rank}
 
--- the links, the references, the targets and the subjects of each list
-abbrev pub links_in : List Edges → List (List Link)
-links_in lists = map (λ e. e.links) lists
-
-abbrev pub references_in : List Edges → List (List Reference)
-references_in lists = map (λ e. e.references) lists
-
-abbrev pub targets_in : List Edges → List (List Target)
-targets_in lists = map (λ e. e.targets) lists
+-- the subjects, and the postings by two numbers, of each list
+abbrev pub postings_in : List Edges → List (List Posting)
+postings_in lists = map (λ e. e.postings) lists
 
 abbrev pub subjects_in : List Edges → List (List Subject)
 subjects_in lists = map (λ e. e.subjects) lists
@@ -62,48 +55,6 @@ pub record GivesAnswer {X Y : Type 0} (row : X → ℕ) (answer : ℕ → X → 
   pub at : RowPlace
   pub row_there : IsPlaceOfRow lists n (row x) at × IsCurrentAt lists as_of n at
   pub answer_is : answer n x at ≡ y
-
--- a link that is current gives its source
-abbrev pub GivesSource : List (List StampedRow) → AsOf → ℕ → Link → ℕ → Type 0
-GivesSource = GivesAnswer (λ l. l.row) (λ n l at. l.source)
-
-abbrev pub AreSourcesTaken : List (List StampedRow) → AsOf → ℕ → List (ℕ × Link) → List ℕ → Type 0
-AreSourcesTaken lists as_of = AreTaken (GivesSource lists as_of) (λ l. l.destination)
-
--- the row to read for a reference of list `n`: its place, with refset and target, by which the
--- result is sorted
-abbrev pub ranked : ℕ → Reference → RowPlace → Chosen
-ranked n r at = record { segment = n; at = at; refset = r.refset; target = r.target }
-
-abbrev pub GivesRanked : List (List StampedRow) → AsOf → ℕ → Reference → Chosen → Type 0
-GivesRanked = GivesAnswer (λ r. r.row) ranked
-
-abbrev pub AreRankedTaken : List (List StampedRow) → AsOf → ℕ → List (ℕ × Reference) → List Chosen
-    → Type 0
-AreRankedTaken lists as_of = AreTaken (GivesRanked lists as_of) (λ r. r.referenced)
-
-abbrev pub AreRanked : List (List StampedRow) → AsOf → ℕ → List (ℕ × Reference) → List Chosen
-    → Type 0
-AreRanked lists as_of d xs kept =
-    (all : List Chosen) × AreRankedTaken lists as_of d xs all × AreOnce ranked_cmp all kept
-
--- the row to read for a target of list `n`: its place, with refset and referenced component, by
--- which the result is sorted
-abbrev pub ranked_back : ℕ → Target → RowPlace → Chosen
-ranked_back n t at = record { segment = n; at = at; refset = t.refset; target = t.referenced }
-
-abbrev pub GivesRankedBack : List (List StampedRow) → AsOf → ℕ → Target → Chosen → Type 0
-GivesRankedBack = GivesAnswer (λ t. t.row) ranked_back
-
-abbrev pub AreReplacedTaken : List (List StampedRow) → AsOf → ℕ → List (ℕ × Target)
-    → List Chosen → Type 0
-AreReplacedTaken lists as_of = AreTaken (GivesRankedBack lists as_of) (λ t. t.target)
-
-abbrev pub AreReplaced : List (List StampedRow) → AsOf → ℕ → List (ℕ × Target) → List Chosen
-    → Type 0
-AreReplaced lists as_of target xs kept =
-    (all : List Chosen) × AreReplacedTaken lists as_of target xs all
-    × AreOnce ranked_cmp all kept
 
 -- a subject whose row is current gives a row to read
 abbrev pub GivesRow : List (List StampedRow) → AsOf → ℕ → Subject → Chosen → Type 0

@@ -1,7 +1,6 @@
-//! Finds the children of a concept, by the postings of links.
+//! Finds the children of a concept, by the postings of "is a" relationships.
 
 ghost use Rattle.std.specs.Prelude.{◌≡◌, ◌↔◌, ℕ, List, IfOk, OnOk};
-ghost use Rattle.std.specs.List.Sorted.{IsNonDecreasingBy};
 ghost use Rattle.std.specs.Ordering.{nat_cmp};
 ghost use Rattle.history_model.specs.declared.stamped.StampedRow.{StampedRow};
 ghost use Rattle.history_model.specs.InOrder.{Has};
@@ -9,41 +8,35 @@ ghost use Rattle.as_of_index.specs.Current.{rows_seen};
 ghost use Rattle.history_model.specs.Queries.{children};
 ghost use Rattle.as_of_index.specs.Places.{Lists};
 ghost use Rattle.as_of_index.specs.Private.Postings.{numbered};
-ghost use Rattle.links.specs.Laws.{EachPosted};
 ghost use Rattle.as_of_index.specs.Private.Once.{AreOnce};
-ghost use Rattle.links.specs.Private.{links_in, GivesSource, Takes, AreSourcesTaken};
+ghost use Rattle.links.specs.Laws.{EachPosted};
+ghost use Rattle.links.specs.Private.{postings_in, Takes};
+ghost use Rattle.links.specs.Private.Asking.{GivesSecond, AreGiven, asked_all};
+ghost use Rattle.links.specs.declared.posting.Tag.TheVariants.{Child};
 
 use crate::Links;
-use crate::postings::{Link, Sealed};
+use crate::finding::{Asked, asked_all, row_at};
+use crate::posting::{Posting, Tag};
+use crate::postings::Sealed;
+use crate::wanted::part;
 use as_of_index::{AsOf, Index};
 use rf2_values::Sctid;
 use std::alloc::{AllocError, Global};
 
-/// The links to a destination.
-fn links_to(list: &[Link], destination: u64) -> &[Link]
-    ensures { IsNonDecreasingBy (λ l. l.destination) list.now →
-        (l : _) → Has result.now l ↔ (Has list.now l × (l.destination ≡ destination)) }
-{
-    let first = list.partition_point(|l| l.destination < destination);
-    let rest = &list[first..];
-    let count = rest.partition_point(|l| l.destination <= destination);
-    &rest[..count]
-}
-
-/// Adds the sources of those links that are current.
-fn add_sources(
+/// Adds the second numbers of those of the postings whose rows are asked for.
+fn add_seconds(
     ids: &mut Vec<u64>,
-    links: &[Link],
+    postings: &[Posting],
     segment: usize,
     index: &Index,
-    as_of: &AsOf,
+    asked: &Asked,
 ) -> Result<(), AllocError>
     ensures { OnOk result ((lists : List (List StampedRow)) → Lists index.now lists
-        → Takes (GivesSource lists as_of.now segment) links.now ids.old.items ids.new.items) }
+        → Takes (GivesSecond lists asked.now segment) postings.now ids.old.items ids.new.items) }
 {
-    for link in links {
-        if let Some(_at) = index.current_at(segment, link.row, *as_of) {
-            ids.push(link.source)?;
+    for p in postings {
+        if let Some(_at) = row_at(p, segment, index, asked) {
+            ids.push(p.second)?;
         }
     }
     Ok(())
@@ -57,22 +50,22 @@ pub(crate) fn sort_once(ids: &mut Vec<u64>)
     ids.dedup();
 }
 
-/// Replaces what `ids` has by the sources of the current links to a destination, in any order.
-fn find_sources(
+/// Replaces what `ids` has by the second numbers of the postings whose rows are asked for, in any
+/// order.
+fn find_seconds(
     ids: &mut Vec<u64>,
     links: &[Sealed],
     index: &Index,
-    destination: u64,
-    as_of: &AsOf,
+    asked: &Asked,
 ) -> Result<(), AllocError>
     ensures { OnOk result ((lists : List (List StampedRow)) → Lists index.now lists
-        → AreSourcesTaken lists as_of.now destination (numbered 0 (links_in links.now))
+        → AreGiven (GivesSecond lists asked.now) (numbered 0 (postings_in links.now))
         ids.new.items) }
 {
     ids.clear();
     for (segment, list) in links.iter().enumerate() {
-        let those = links_to(list.links(), destination);
-        add_sources(ids, those, segment, index, as_of)?;
+        let those = part(list.postings(), &asked.wanted);
+        add_seconds(ids, those, segment, index, asked)?;
     }
     Ok(())
 }
@@ -92,7 +85,8 @@ pub(crate) fn find_children(
 {
     // The contract of `lists` says that no key is listed twice.
     let _listed = index.lists();
-    find_sources(ids, links.as_slice(), index, concept, as_of)
+    let asked = asked_all(Tag::Child, concept, as_of);
+    find_seconds(ids, links.as_slice(), index, &asked)
 }
 
 /// The distinct sources of active "is a" relationships to the concept at the date, ascending, among

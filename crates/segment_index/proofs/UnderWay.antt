@@ -169,11 +169,8 @@ module _ (lists : List (List StampedRow)) (places : List (List RowPlace)) (terms
       let x = postings_are_few a (edges_at links m.i) first in
       let y = postings_are_few b (edges_at links m.j) second in
       let none : AtMostEach 0 (edges_left (edges_at links m.i) (edges_at links m.j) m.links) = record {
-        links = omega (arith, ap (λ (n : EdgeCount). n.links) left, x.links, y.links, few);
-        references = omega (arith, ap (λ (n : EdgeCount). n.references) left, x.references, y.references, few);
-        targets = omega (arith, ap (λ (n : EdgeCount). n.targets) left, x.targets, y.targets, few);
         subjects = omega (arith, ap (λ (n : EdgeCount). n.subjects) left, x.subjects, y.subjects, few);
-        memberships = omega (arith, ap (λ (n : EdgeCount). n.memberships) left, x.memberships, y.memberships, few);
+        postings = omega (arith, ap (λ (n : EdgeCount). n.postings) left, x.postings, y.postings, few);
       } in
       merged_are_posted a b (edges_at links m.i) (edges_at links m.j) m.links both first second (subst (λ (l : TwoLists). IsMergeOf l (edges_at links m.i) (edges_at links m.j) m.links) two_are merged.links_are) none
 

@@ -50,9 +50,9 @@ ListingIsACall D view =
     (result : Result Contradictions Refusal)
     → IsListing result release limit view old new → IsCall view old Other new
 
--- by `query` of the answers of `get`, `versions`, `page`, `about`, `search`, `terms`,
--- `replacements`, `replaces`, `timeline`, `delta`, `members`, `values` and `called`
--- (`IsRowsQuery`), of `ancestors` (`IsAncestorsQuery`), and of `store_digest::digest`
+-- by `query` of the answers of `get`, `versions`, `page`, `about`, `search`, `terms`, `timeline`,
+-- `delta`, `members`, `values` and `called` (`IsRowsQuery`), of `replacements` and `replaces`
+-- (`IsOrderedQuery`), of `ancestors` (`IsAncestorsQuery`), and of `store_digest::digest`
 -- (`IsDigestQuery`)
 abbrev pub QueryIsACall : (T D : Type 0) → (D → DiskView) → Type 0
 QueryIsACall T D view = (result : Result T Refusal) (old new : StoreValue D)

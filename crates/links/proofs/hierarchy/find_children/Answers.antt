@@ -10,7 +10,7 @@ pub returns : goal.returns
 returns c =
     let a = c.args in
     record {
-      found = where_ok c.find_sources.result (λ found lists listed_so posts.
-          sources_are_children lists (rw listed_so at c.lists-listed.ensures.places) a.links.now posts a.concept a.as_of.now c.find_sources.new.ids.items
-          (rw c.as_slice.ensures at (found lists listed_so))) c.find_sources.ensures;
+      found = where_ok c.find_seconds.result (λ found lists listed_so posts.
+          sources_are_children lists (rw listed_so at c.lists-listed.ensures.places) a.links.now posts a.concept a.as_of.now c.find_seconds.new.ids.items
+          (rw (c.as_slice.ensures, c.asked_all-asked.ensures) at (found lists listed_so))) c.find_seconds.ensures;
     }
