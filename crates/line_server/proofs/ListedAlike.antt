@@ -96,9 +96,9 @@ module _ (c d : Catalog) (alike : without_sums d ≡ without_sums c) where
           next_is = refl;
         },
         bare_appended c (added c.layout)
-        ∙ ap (λ (k : Catalog). appended k (entry_without_sums (added d.layout))) (sym alike)
-        ∙ sym (bare_appended d (added d.layout))
-        ∙ ap without_sums (sym after.next_is),
+            ∙ ap (λ (k : Catalog). appended k (entry_without_sums (added d.layout))) (sym alike)
+            ∙ sym (bare_appended d (added d.layout))
+            ∙ ap without_sums (sym after.next_is),
       )
 
   admitted : (h : History) (release : Release) → IsAdmitted h d release → IsAdmitted h c release
