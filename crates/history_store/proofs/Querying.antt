@@ -10,8 +10,7 @@ use Rattle.history_model.specs.declared.stamped.StampedRow.{StampedRow}
 use Rattle.history_model.specs.History.{rows_at}
 use Rattle.history_model.specs.Lists.{listed}
 use Rattle.disk_model.specs.View.{DiskView}
-use Rattle.as_of_index.specs.Reader.{ReaderView, IsRowsRead}
-use Rattle.links.specs.Ordered.{IsRowsReadBy}
+use Rattle.as_of_index.specs.Reader.{ReaderView, AreSame, IsRowsReadBy, IsRowsRead}
 use Rattle.lru.specs.LruCache.{LruCache}
 use Rattle.blocks.specs.Cache.{AgreesWith, LooksUpSome}
 use Rattle.blocks.proofs.Looked.{none_looks_up}
@@ -25,7 +24,7 @@ use Rattle.history_store.specs.Reading.{row_cost}
 use Rattle.history_store.specs.Refusals.{of_read}
 use Rattle.history_store.specs.StoreValue.{StoreValue, IsAcknowledged}
 use Rattle.history_store.specs.Answers.{Counts, IsRefused, IsReadingOf}
-use Rattle.history_store.specs.Queries.{IsQuery, IsRowsQueryBy, IsRowsQuery, AreSame, IsWithoutRead, is_listed}
+use Rattle.history_store.specs.Queries.{IsQuery, IsRowsQueryBy, IsRowsQuery, IsWithoutRead, is_listed}
 use Rattle.history_store.proofs.Refusing.{read_undamaged}
 
 -- what was read, as the store answers it
@@ -101,14 +100,6 @@ closed_query view s needs = record {
   failures = refl;
 }
 
--- rows that have the same keys in the same order
-read_by : {T : Type 0} {read : Result T ReadFault} {rows_of : T → List RowValue} {wanted : List (List StampedRow) → List RowValue} {Kept : List (List StampedRow) → Type 0} {cost : RowValue → ℕ} {old new : ReaderView} → IsRowsRead read rows_of wanted Kept cost old new → IsRowsReadBy AreSame read rows_of wanted Kept cost old new
-read_by is = record {
-  rows = λ kept. (let answers = is.rows kept in record { found = answers.found; keys = answers.keys; undamaged = answers.undamaged; causes = answers.causes; work_always = answers.work_always });
-  work = is.work;
-  reader = is.reader;
-}
-
 -- the rows of a list that is answered
 abbrev pub row_items : Vec RowValue Global → List RowValue
 row_items rows = rows.items
@@ -171,7 +162,7 @@ module _ {T D : Type 0} (view : D → DiskView) (rows_of : T → List RowValue) 
         → ((view disk).is_honest → new.needs_reopen ≡ false → IsAcknowledged view new)
         → IsRowsQuery result rows_of wanted pin view old new
     rows_answered rows_are still lent_is lent_cache_is entries_are shown_is indexed lends read_so stays looked_up calls answers left same kept acknowledged =
-        rows_answered_by AreSame rows_are still lent_is lent_cache_is entries_are shown_is indexed lends (read_by read_so) stays looked_up calls answers left same kept acknowledged
+        rows_answered_by AreSame rows_are still lent_is lent_cache_is entries_are shown_is indexed lends read_so stays looked_up calls answers left same kept acknowledged
 
   -- a store that has to be opened again answers nothing, and isn't touched
   pub closed_rows_by : (SameKeys : List Key → List Key → Type 0) (s : StoreValue D) → s.needs_reopen ≡ true → IsRowsQueryBy SameKeys (Err refusals.ReopenNeeded) rows_of wanted pin view s s

@@ -14,7 +14,7 @@ use Rattle.blocks.specs.declared.slots.Slot.{Slot}
 use Rattle.blocks.specs.Slots.{slot_extent}
 use Rattle.directory.specs.declared.entry.Entry.{Entry}
 use Rattle.directory.specs.Places.{extent_of}
-use Rattle.links.specs.Ordered.{AreSameInAnyOrder}
+use Rattle.as_of_index.specs.Reader.{AreSame, AreSameInAnyOrder}
 use Rattle.history_store.specs.declared.refusal.Refusal.{Refusal}
 use Rattle.history_store.specs.declared.refusal.Refusal.TheVariants as refusals
 use Rattle.history_store.specs.Catalog.{reserved_by}
@@ -115,9 +115,6 @@ pub record IsRowsQueryBy {T D : Type 0} (SameKeys : List Key → List Key → Ty
       (λ x. (view new.disk).bytes_read ≤ (view old.disk).bytes_read + sum_by row_cost (rows_of x))
   pub bytes_read_always : (view new.disk).bytes_read
       ≤ (view old.disk).bytes_read + sum_by row_cost (wanted (rows_at pin old.history.rows))
-
-abbrev pub AreSame : List Key → List Key → Type 0
-AreSame given wanted = given ≡ wanted
 
 -- a query whose rows have the same keys in the same order on every disk
 abbrev pub IsRowsQuery : {T D : Type 0} → Result T Refusal → (T → List RowValue)

@@ -12,8 +12,7 @@ use Rattle.rf2_values.specs.Key.{key_of}
 use Rattle.history_model.specs.declared.stamped.StampedRow.{StampedRow}
 use Rattle.history_model.specs.InOrder.{in_order}
 use Rattle.fault_counts.specs.declared.fault.ReadFault.{ReadFault}
-use Rattle.as_of_index.specs.Reader.{ReaderView, IsRowsRead}
-use Rattle.links.specs.Ordered.{IsOrderedRead}
+use Rattle.as_of_index.specs.Reader.{ReaderView, IsRowsRead, IsOrderedRead}
 use Rattle.links.proofs.Arranged.{ApartBy, in_order_is, in_order_moved}
 
 pub ordered_read : {T : Type 0} (rows_of : T → List RowValue) {order : RowValue → RowValue → Ordering} (total : IsTotalOrder order) (wanted : List (List StampedRow) → List RowValue) (Kept : List (List StampedRow) → Type 0) (cost : RowValue → ℕ) (old new : ReaderView) (read after : T)

@@ -16,5 +16,4 @@ pub use Rattle.as_of_index.specs.Merging
 pub mod Edges
 pub mod Laws
 pub mod MergedEdges
-pub mod Ordered
 pub mod Private

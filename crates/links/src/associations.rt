@@ -8,8 +8,8 @@ ghost use Rattle.history_model.specs.Queries.{replacements, replacement_cmp};
 ghost use Rattle.history_model.specs.Queries.{replaces, replaced_cmp};
 ghost use Rattle.as_of_index.specs.Current.{rows_seen};
 ghost use Rattle.as_of_index.specs.Places.{Lists};
+ghost use Rattle.as_of_index.specs.Reader.{IsOrderedRead};
 ghost use Rattle.links.specs.Laws.{EachPosted};
-ghost use Rattle.links.specs.Ordered.{IsOrderedRead};
 
 use crate::Links;
 use crate::finding::{asked_all, select};

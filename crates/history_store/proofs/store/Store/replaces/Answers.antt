@@ -1,8 +1,8 @@
 use Rattle.std.proofs.Common.{refl}
 use Rattle.history_model.specs.Queries.{replaces}
 use Rattle.as_of_index.specs.Places.{Lists}
+use Rattle.as_of_index.specs.Reader.{AreSameInAnyOrder}
 use Rattle.links.specs.Laws.{EachPosted}
-use Rattle.links.specs.Ordered.{AreSameInAnyOrder}
 use Rattle.history_store.proofs.Lent.{reader_honest, held_after}
 use Rattle.history_store.proofs.Querying.{row_items, rows_answered_by, closed_rows_by}
 use Rattle.history_store.proofs.store.Store.replaces.Goals as goal
