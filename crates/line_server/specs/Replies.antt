@@ -117,17 +117,17 @@ HaveKeysFound question rows given =
 
 -- The answer is what the question finds: on every disk if the index alone finds it, and otherwise,
 -- when rows are read, on an honest disk. On every disk the answer consists of rows with the same
--- keys as those that the question finds (those of REPLACED and REPLACES in any order); for ANCESTORS of identifiers, and for DIGEST of the digits
--- of a digest of rows with the keys of all.
+-- keys as those that the question finds (those of REPLACED and REPLACES in any order), and for
+-- DIGEST of the digits of a digest of rows with the keys of all.
 abbrev pub IsFinding : Type 0 → Question → List RowValue → Answer → Type 0
 IsFinding honest (Children concept date) rows answer =
     IsFound (Children concept date) rows answer
+IsFinding honest (Ancestors concept date) rows answer =
+    IsFound (Ancestors concept date) rows answer
 IsFinding honest (Descendants concept date) rows answer =
     IsFound (Descendants concept date) rows answer
 IsFinding honest AskDates rows answer = IsFound AskDates rows answer
 IsFinding honest (AskReceipt number) rows answer = ⊥
-IsFinding honest (Ancestors concept date) rows answer =
-    (ids : List ℕ) × (answer ≡ Ids ids) × (honest → IsFound (Ancestors concept date) rows answer)
 IsFinding honest Digest rows answer = (digest : List ℕ) × (length digest ≡ 32)
     × (answer ≡ digits_of digest) × IsDigestByKey digest rows
     × (honest → IsFound Digest rows answer)
@@ -272,6 +272,8 @@ abbrev pub IsRefusalAt : {D : Type 0} → Type 0 → ℕ → Question → Refusa
 IsRefusalAt honest seen (AskReceipt number) refusal old new =
     (number ≤ seen) × IsClosed refusal old new
 IsRefusalAt honest seen (Children concept date) refusal old new =
+    IsClosed refusal old new ⊎ IsLacking refusal old new
+IsRefusalAt honest seen (Ancestors concept date) refusal old new =
     IsClosed refusal old new ⊎ IsLacking refusal old new
 IsRefusalAt honest seen (Descendants concept date) refusal old new =
     IsClosed refusal old new ⊎ IsLacking refusal old new

@@ -1,13 +1,12 @@
 pub mod Numbering
 pub mod Collected
 pub mod Ranked
-pub mod ChildRows
+pub mod NextOnes
 pub mod Posted
 pub mod TimelineRows
 pub mod SubjectOrder
 pub mod AboutRows
 pub mod MergedEdges
-pub mod ParentRows
 pub mod Seen
 pub mod MemberAnswers
 pub mod MemberPages

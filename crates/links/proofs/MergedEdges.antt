@@ -1,6 +1,6 @@
 -- What is merged of the postings of two segments' rows.
 use Rattle.std.proofs.Common.{◌≡◌, ℕ, ◌+◌, ◌≤◌, Bool, true, false, List, [], ◌∷◌, length, map, refl, arith, length-append, ◌∙◌}
-use Rattle.std.specs.Prelude.{◌==◌, ◌&&◌, Option, Some, None, if◌then◌else◌}
+use Rattle.std.specs.Prelude.{◌*◌, ◌==◌, ◌&&◌, Option, Some, None, if◌then◌else◌}
 use Rattle.std.specs.List.Sorted.{IsPermutation}
 use Rattle.std.proofs.lemmas.List.{length-map}
 use Rattle.std.proofs.lemmas.List.Sorted.{length_permutation}
@@ -20,17 +20,21 @@ use Rattle.links.specs.declared.posting.Tag.TheVariants as tags
 use Rattle.links.specs.Edges.{RowKey, row_key, keys_of_body, keys_of, posting, posted, subject_at, posted_subject}
 use Rattle.links.specs.MergedEdges.{subject_kind, posting_kind, AnyMergeBegins, PostingsAreFew, MergedArePosted}
 
--- ---- a row has one subject at most, and one posting
+-- ---- a row has one subject at most, and two postings
 
-keys_few : (active : Bool) (b : Body) → length (keys_of_body active b) ≤ 1
+few_if : {X : Type 0} (n : ℕ) (b : Bool) (xs : List X) → length xs ≤ n → length (if b then xs else []) ≤ n
+few_if n true xs le = le
+few_if n false xs le = omega arith
+
+keys_few : (active : Bool) (b : Body) → length (keys_of_body active b) ≤ 2
 keys_few active (body.Concept c) = omega arith
 keys_few active (body.Description d) = omega arith
-keys_few active (body.Relationship r) = elim (active && r.type_id == is_a) as (λ b. length (if b then row_key tags.Child r.destination r.source true ∷ [] else []) ≤ 1) [ true ↦ omega arith | false ↦ omega arith ]
-keys_few active (body.Association a) = elim active as (λ b. length (if b then row_key tags.Target a.target a.refset true ∷ [] else []) ≤ 1) [ true ↦ omega arith | false ↦ omega arith ]
+keys_few active (body.Relationship r) = few_if 2 (active && r.type_id == is_a) (row_key tags.Child r.destination r.source true ∷ row_key tags.Parent r.source r.destination true ∷ []) (omega arith)
+keys_few active (body.Association a) = few_if 2 active (row_key tags.Target a.target a.refset true ∷ []) (omega arith)
 keys_few active (body.Concrete c) = omega arith
 keys_few active (body.Member m) = omega arith
 
-posted_few : (row : RowValue) (i : ℕ) → length (posted row i) ≤ 1
+posted_few : (row : RowValue) (i : ℕ) → length (posted row i) ≤ 2
 posted_few row i =
     let few = keys_few row.active row.body in
     let same = length-map (keys_of row) (posting i) in
@@ -40,28 +44,31 @@ subject_at_few : (o : Option ℕ) (kind : Kind) (i : ℕ) → length (subject_at
 subject_at_few None kind i = omega arith
 subject_at_few (Some id) kind i = omega arith
 
-few_if : {X : Type 0} (b : Bool) (xs : List X) → length xs ≤ 1 → length (if b then xs else []) ≤ 1
-few_if true xs le = le
-few_if false xs le = omega arith
+module _ {X : Type 0} (posted : RowValue → ℕ → List X) where
+  permuted_few : (rows : List StampedRow) (xs : List X) (n : ℕ) → length (posted_all posted 0 rows) ≤ n → IsPermutation (posted_all posted 0 rows) xs → length xs ≤ n
+  permuted_few rows xs n few same = let long = length_permutation (posted_all posted 0 rows) xs same in omega (arith, few, long)
 
-all_few : {X : Type 0} (posted : RowValue → ℕ → List X) → ((row : RowValue) (i : ℕ) → length (posted row i) ≤ 1) → (from : ℕ) (rows : List StampedRow) → length (posted_all posted from rows) ≤ length rows
-all_few posted one from [] = omega arith
-all_few posted one from (s ∷ rows) =
-    let first = one s.row from in
-    let others = all_few posted one (from + 1) rows in
-    let both = length-append (posted s.row from) (posted_all posted (from + 1) rows) in
-    omega (arith, first, others, both)
+  one_each : ((row : RowValue) (i : ℕ) → length (posted row i) ≤ 1) → (from : ℕ) (rows : List StampedRow) → length (posted_all posted from rows) ≤ length rows
+  one_each one from [] = omega arith
+  one_each one from (s ∷ rows) =
+      let first = one s.row from in
+      let others = one_each one (from + 1) rows in
+      let both = length-append (posted s.row from) (posted_all posted (from + 1) rows) in
+      omega (arith, first, others, both)
 
-permuted_few : {X : Type 0} (posted : RowValue → ℕ → List X) → ((row : RowValue) (i : ℕ) → length (posted row i) ≤ 1) → (rows : List StampedRow) (xs : List X) → IsPermutation (posted_all posted 0 rows) xs → length xs ≤ length rows
-permuted_few posted one rows xs same =
-    let few = all_few posted one 0 rows in
-    let long = length_permutation (posted_all posted 0 rows) xs same in
-    omega (arith, few, long)
+  two_each : ((row : RowValue) (i : ℕ) → length (posted row i) ≤ 2) → (from : ℕ) (rows : List StampedRow) → length (posted_all posted from rows) ≤ 2 * length rows
+  two_each two from [] = omega arith
+  two_each two from (s ∷ rows) =
+      let first = two s.row from in
+      let others = two_each two (from + 1) rows in
+      let both = length-append (posted s.row from) (posted_all posted (from + 1) rows) in
+      omega (arith, first, others, both)
 
 pub postings_are_few : PostingsAreFew
 postings_are_few rows e are = record {
-  subjects = permuted_few posted_subject (λ row i. few_if row.active (subject_at (subject_of row) (kind_of row) i) (subject_at_few (subject_of row) (kind_of row) i)) rows e.subjects are.subjects;
-  postings = permuted_few posted posted_few rows e.postings are.postings;
+  subjects = permuted_few posted_subject rows e.subjects (length rows)
+      (one_each posted_subject (λ row i. few_if 1 row.active (subject_at (subject_of row) (kind_of row) i) (subject_at_few (subject_of row) (kind_of row) i)) 0 rows) are.subjects;
+  postings = permuted_few posted rows e.postings (2 * length rows) (two_each posted posted_few 0 rows) are.postings;
 }
 
 -- ---- what is posted of a row with another number

@@ -37,7 +37,7 @@ use Rattle.links.specs.Private.Memberships.{asked_values, IsCutAt}
 use Rattle.links.specs.Laws.{EachPosted}
 use Rattle.links.proofs.Between.{wanted_parts}
 use Rattle.links.proofs.FoundRows.{IsRowFound, row_kept, own_row, rows_from_found}
-use Rattle.links.proofs.Paths.{is_value_between, path_of_values, member_second}
+use Rattle.links.proofs.Paths.{is_value_between, path_of_values, second_at, second_is}
 use Rattle.links.proofs.Ranked.{one_id}
 use Rattle.links.proofs.MemberAnswers.{member_kind, values_up_to, values_up_to_all, values_up_to_ascend}
 use Rattle.links.proofs.MemberPages.{stand_take, enough_rows}
@@ -117,7 +117,7 @@ module _ (lists : List (List StampedRow)) (are : ArePlaces (map places_of lists)
     own_component k s h v =
         let r = value_kept k h in
         let own = own_row lists are edges posts asked test (path_of_values refset after last) ranked_cmp one_member kept a k s h v in
-        let second : component_of r.row.s.row ≡ k.target = member_second r.row.s.row.active r.row.s.row.body r.key r.row.key_there (wanted_parts asked.wanted r.key r.row.wanted_so).tag_is ∙ sym r.second_is in
+        let second : component_of r.row.s.row ≡ k.target = ap (λ n. second_at n r.row.s.row.body) (sym (wanted_parts asked.wanted r.key r.row.wanted_so).tag_is) ∙ second_is r.row.s.row.active r.row.s.row.body r.key r.row.key_there ∙ sym r.second_is in
         subst (λ (z : StampedRow). component_of z.row ≡ k.target) own second
 
     pub kept_rise : IsNonDecreasingBy (λ (k : Chosen). k.target) kept

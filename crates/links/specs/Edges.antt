@@ -30,14 +30,15 @@ abbrev pub row_key : Tag → ℕ → ℕ → Bool → RowKey
 row_key tag first second active =
     record { tag = tag; first = first; second = second; active = active }
 
--- an active "is a" relationship is found by its destination and its source, an active association by
--- its target and its reference set, and a member, active or not, by its reference set and the
--- component that it refers to
+-- an active "is a" relationship is found by its destination and its source, and the other way round;
+-- an active association by its target and its reference set; and a member, active or not, by its
+-- reference set and the component that it refers to
 abbrev pub keys_of_body : Bool → Body → List RowKey
 keys_of_body active (body.Concept c) = []
 keys_of_body active (body.Description d) = []
 keys_of_body active (body.Relationship r) = if active && r.type_id == is_a
-    then row_key tags.Child r.destination r.source true ∷ [] else []
+    then row_key tags.Child r.destination r.source true
+    ∷ row_key tags.Parent r.source r.destination true ∷ [] else []
 keys_of_body active (body.Association a) =
     if active then row_key tags.Target a.target a.refset true ∷ [] else []
 keys_of_body active (body.Concrete c) = []
@@ -110,8 +111,9 @@ subject_rank id kind = 6 * id + kind_place kind
 -- the place of a tag among them
 abbrev pub tag_place : Tag → ℕ
 tag_place tags.Child = 0
-tag_place tags.Target = 1
-tag_place tags.Member = 2
+tag_place tags.Parent = 1
+tag_place tags.Target = 2
+tag_place tags.Member = 3
 
 -- the rank of postings, by which they are sorted: by the tag, then by the first number, then by the
 -- second. Identifiers are less than 2^60 and than 2^64; greater numbers count as the greatest.

@@ -1,5 +1,5 @@
 -- Merging the postings of two segments' rows, in steps.
-use Rattle.std.specs.Prelude.{◌≤◌, ◌-◌, ℕ, List, [], ◌∷◌, length}
+use Rattle.std.specs.Prelude.{◌≤◌, ◌-◌, ◌*◌, ℕ, List, [], ◌∷◌, length}
 use Rattle.history_model.specs.declared.stamped.StampedRow.{StampedRow}
 use Rattle.history_model.specs.Lists.{AreLists, union}
 use Rattle.segment.specs.Standing.{places_of}
@@ -58,24 +58,24 @@ edges_left a b m =
       postings = count_left a.postings b.postings m.postings;
     }
 
--- each count reduced by `n`, or 0
-abbrev pub less_each : EdgeCount → ℕ → EdgeCount
-less_each count n =
-    record { subjects = count.subjects - n; postings = count.postings - n }
+-- the counts without the most that `n` rows have: one subject for each row, and two postings
+abbrev pub less_of_rows : ℕ → EdgeCount → EdgeCount
+less_of_rows n count =
+    record { subjects = count.subjects - n; postings = count.postings - 2 * n }
 
--- each count is at most `n`
-pub record AtMostEach (n : ℕ) (count : EdgeCount) : Type 0 where
+-- the counts are at most those of `n` rows
+pub record AtMostOfRows (n : ℕ) (count : EdgeCount) : Type 0 where
   pub subjects : count.subjects ≤ n
-  pub postings : count.postings ≤ n
+  pub postings : count.postings ≤ 2 * n
 
 -- a merge of any postings may begin with nothing merged
 abbrev pub AnyMergeBegins : Type 0
 AnyMergeBegins = (lists : TwoLists) (a b : Edges) → IsMergeOf lists a b nothing_merged
 
--- rows have at most as many subjects as there are rows, and at most as many postings
+-- rows have at most as many subjects as there are rows, and at most twice as many postings
 abbrev pub PostingsAreFew : Type 0
 PostingsAreFew = (rows : List StampedRow) (e : Edges)
-    → ArePostingsOf rows e → AtMostEach (length rows) (count_of e)
+    → ArePostingsOf rows e → AtMostOfRows (length rows) (count_of e)
 
 -- if no posting of two segments' rows is left, the merged ones are the postings of the rows of both
 -- segments in key order
@@ -83,5 +83,5 @@ abbrev pub MergedArePosted : Type 0
 MergedArePosted = (a_rows b_rows : List StampedRow) (a b : Edges) (m : MergedEdges)
     → AreLists (a_rows ∷ b_rows ∷ []) → ArePostingsOf a_rows a → ArePostingsOf b_rows b
     → IsMergeOf (record { first = places_of a_rows; second = places_of b_rows }) a b m
-    → AtMostEach 0 (edges_left a b m)
+    → AtMostOfRows 0 (edges_left a b m)
     → ArePostingsOf (union a_rows b_rows) m.edges

@@ -2,19 +2,13 @@
 -- cites them.
 pub mod Asking
 pub mod Memberships
-use Rattle.std.specs.Prelude.{◌≡◌, ◌≢◌, ◌≤◌, ◌⊎◌, ◌==◌, ℕ, Bool, true, false, nat_eq}
+use Rattle.std.specs.Prelude.{◌≡◌, ◌≤◌, ◌⊎◌, ℕ, true, nat_eq}
 use Rattle.std.specs.Prelude.{List, [], ◌∷◌, map}
-use Rattle.std.specs.List.{filter}
 use Rattle.std.specs.HashSet.{HashSet, contains}
 use Rattle.std.specs.Ordering.{nat_cmp}
-use Rattle.std.proofs.Common.{subst}
-use Rattle.fault_counts.specs.declared.fault.ReadFault.{ReadFault}
-use Rattle.fault_counts.specs.declared.fault.ReadFault.TheVariants as readfault
 use Rattle.rf2_values.specs.declared.row.Kind.{Kind}
-use Rattle.rf2_values.specs.declared.row.Body.{Body}
-use Rattle.rf2_values.specs.declared.row.Body.TheVariants as body
 use Rattle.rf2_values.specs.Row.{RowValue}
-use Rattle.history_model.specs.Queries.{is_a, destination_of}
+use Rattle.history_model.specs.Queries.{children, parents}
 use Rattle.history_model.specs.declared.stamped.StampedRow.{StampedRow}
 use Rattle.history_model.specs.InOrder.{Has}
 use Rattle.segment.specs.declared.place.RowPlace.{RowPlace}
@@ -23,8 +17,12 @@ use Rattle.as_of_index.specs.declared.chosen.Chosen.{Chosen}
 use Rattle.as_of_index.specs.Private.Chosen.{chosen, chosen_cmp}
 use Rattle.as_of_index.specs.Private.Once.{AreOnce}
 use Rattle.as_of_index.specs.Current.{IsPlaceOfRow, IsCurrentAt}
+use Rattle.links.specs.declared.posting.Tag.{Tag}
+use Rattle.links.specs.declared.posting.Tag.TheVariants as tags
 use Rattle.links.specs.declared.posting.Posting.{Posting}
 use Rattle.links.specs.declared.postings.Subject.{Subject}
+use Rattle.links.specs.declared.hierarchy.Direction.{Direction}
+use Rattle.links.specs.declared.hierarchy.Direction.TheVariants as directions
 use Rattle.links.specs.Edges.{Edges, subject_rank}
 
 -- the subjects, and the postings by two numbers, of each list
@@ -98,24 +96,12 @@ pub record AreSeen {S : Type 0} (seen : HashSet ℕ S) (found : List ℕ) : Type
   pub seen_is : (x : ℕ) → Has found x → contains nat_eq seen x ≡ true
   pub distinct : AreDistinct found
 
--- an "is a" relationship
-abbrev pub is_link : Body → Bool
-is_link (body.Concept c) = false
-is_link (body.Description d) = false
-is_link (body.Relationship r) = r.type_id == is_a
-is_link (body.Association a) = false
-is_link (body.Concrete c) = false
-is_link (body.Member m) = false
+-- the tag of the postings that lead from a concept this way
+abbrev pub tag_towards : Direction → Tag
+tag_towards directions.Down = tags.Child
+tag_towards directions.Up = tags.Parent
 
--- the destinations of the "is a" relationships among the rows
-abbrev pub parents_told : List RowValue → List ℕ
-parents_told rows = map (λ row. destination_of row.body) (filter (λ row. is_link row.body) rows)
-
--- memory ran out
-abbrev pub IsMemory : ReadFault → Type 0
-IsMemory readfault.OutOfMemory = Unit {0}
-IsMemory readfault.DiskFault = ⊥
-IsMemory readfault.Damaged = ⊥
-
-pub memory_is_no_damage : readfault.OutOfMemory ≢ readfault.Damaged
-memory_is_no_damage e = subst IsMemory e tt
+-- the concepts one step from each concept: its children, or its parents
+abbrev pub next_ones : Direction → ℕ → List RowValue → ℕ → List ℕ
+next_ones directions.Down date rows = λ concept. children concept date rows
+next_ones directions.Up date rows = λ concept. parents concept date rows

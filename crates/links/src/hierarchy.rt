@@ -1,4 +1,4 @@
-//! Finds the children of a concept, by the postings of "is a" relationships.
+//! Finds the children and the parents of a concept, by the postings of "is a" relationships.
 
 ghost use Rattle.std.specs.Prelude.{◌≡◌, ◌↔◌, ℕ, List, IfOk, OnOk};
 ghost use Rattle.std.specs.Ordering.{nat_cmp};
@@ -10,9 +10,8 @@ ghost use Rattle.as_of_index.specs.Places.{Lists};
 ghost use Rattle.as_of_index.specs.Private.Postings.{numbered};
 ghost use Rattle.as_of_index.specs.Private.Once.{AreOnce};
 ghost use Rattle.links.specs.Laws.{EachPosted};
-ghost use Rattle.links.specs.Private.{postings_in, Takes};
-ghost use Rattle.links.specs.Private.Asking.{GivesSecond, AreGiven, asked_all};
-ghost use Rattle.links.specs.declared.posting.Tag.TheVariants.{Child};
+ghost use Rattle.links.specs.Private.{postings_in, Takes, tag_towards, next_ones};
+ghost use Rattle.links.specs.Private.Asking.{GivesSecond, AreGiven};
 
 use crate::Links;
 use crate::finding::{Asked, asked_all, row_at};
@@ -70,22 +69,42 @@ fn find_seconds(
     Ok(())
 }
 
-/// Replaces what `ids` has by the children of a concept, in any order, where one may stand several
-/// times.
-pub(crate) fn find_children(
+/// Which way a step along an "is a" relationship goes.
+#[derive(Clone, Copy)]
+pub(crate) enum Direction {
+    /// From a concept to its children.
+    Down,
+    /// From a concept to its parents.
+    Up,
+}
+
+/// The tag of the postings that lead this way.
+fn tag_towards(direction: Direction) -> Tag
+    ensures { result ≡ tag_towards direction }
+{
+    match direction {
+        Direction::Down => Tag::Child,
+        Direction::Up => Tag::Parent,
+    }
+}
+
+/// Replaces what `ids` has by the concepts one step from a concept, in any order, where one may
+/// stand several times.
+pub(crate) fn find_next(
     ids: &mut Vec<u64>,
     links: &Links,
     index: &Index,
+    direction: Direction,
     concept: u64,
     as_of: &AsOf,
 ) -> Result<(), AllocError>
     ensures found { OnOk result ((lists : List (List StampedRow)) → Lists index.now lists
         → EachPosted lists links.now → (x : ℕ) → Has ids.new.items x
-        ↔ Has (children concept as_of.now.date (rows_seen as_of.now lists)) x) }
+        ↔ Has (next_ones direction as_of.now.date (rows_seen as_of.now lists) concept) x) }
 {
     // The contract of `lists` says that no key is listed twice.
     let _listed = index.lists();
-    let asked = asked_all(Tag::Child, concept, as_of);
+    let asked = asked_all(tag_towards(direction), concept, as_of);
     find_seconds(ids, links.as_slice(), index, &asked)
 }
 
@@ -106,7 +125,14 @@ pub fn children(
         → ids.items ≡ children concept as_of.date (rows_seen as_of lists)) }
 {
     let mut ids = Vec::new(alloc);
-    find_children(&mut ids, links, index, concept.value(), &as_of)?;
+    find_next(
+        &mut ids,
+        links,
+        index,
+        Direction::Down,
+        concept.value(),
+        &as_of,
+    )?;
     sort_once(&mut ids);
     Ok(ids)
 }

@@ -1,4 +1,4 @@
-//! Finds the children of a concept, what replaces a component, what is about a component, and the
+//! Finds what is above and below a concept, what replaces a component, what is about a component, and the
 //! members of reference sets, at a date and a pin.
 //!
 //! As rows are written, postings are made, each with the number of its row in the segment: of what
@@ -8,7 +8,6 @@
 #![tactic(auto)]
 
 mod associations;
-mod downwards;
 mod ever_about;
 mod finding;
 mod hierarchy;
@@ -20,13 +19,11 @@ mod posting;
 mod postings;
 mod reaching;
 mod subjects;
-mod upwards;
 mod value_sets;
 mod wanted;
 
 use as_of_index::PerList;
 pub use associations::{replacements, replaces};
-pub use downwards::descendants;
 pub use ever_about::timeline;
 pub use hierarchy::children;
 pub use languages::called;
@@ -34,9 +31,8 @@ pub use member_pages::members;
 pub use merging::Merging;
 pub use posting::{Posting, Tag};
 pub use postings::{Postings, Sealed, Subject};
-pub use reaching::{Steps, reached};
+pub use reaching::{ancestors, descendants};
 pub use subjects::about;
-pub use upwards::ancestors;
 pub use value_sets::values;
 
 /// The postings of several lists of rows, in the order of these lists.

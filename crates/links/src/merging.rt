@@ -3,7 +3,7 @@
 ghost use Rattle.std.specs.Prelude.{◌≡◌, [], OnOk, OnErr};
 ghost use Rattle.std.proofs.Common.{refl};
 ghost use Rattle.links.specs.MergedEdges.{subject_kind, posting_kind, none_taken, nothing_merged};
-ghost use Rattle.links.specs.MergedEdges.{IsMergeOf, edges_left, less_each};
+ghost use Rattle.links.specs.MergedEdges.{IsMergeOf, edges_left, less_of_rows};
 
 use crate::posting::{Posting, rank_of};
 use crate::postings::{Sealed, Subject, compare};
@@ -102,8 +102,9 @@ impl Merging {
         }
     }
 
-    /// Merges up to `n` more subjects, and up to `n` more postings. The first call allocates the
-    /// memory for all of them. An `Err` changes nothing.
+    /// Merges up to `n` more subjects, and up to twice as many more postings, since rows have one
+    /// subject and two postings at most. The first call allocates the memory for all of them. An
+    /// `Err` changes nothing.
     pub fn advance(
         &mut self,
         a: &Sealed,
@@ -114,12 +115,13 @@ impl Merging {
         requires { IsMergeOf numbers.now a.now b.now self.old }
         ensures merged { IsMergeOf numbers.now a.now b.now self.new }
         ensures ok { OnOk result
-            (edges_left a.now b.now self.new ≡ less_each (edges_left a.now b.now self.old) n) }
+            (edges_left a.now b.now self.new ≡ less_of_rows n (edges_left a.now b.now self.old)) }
         ensures err { OnErr result (self.new ≡ self.old) }
     {
         reserve_left(a.subjects(), b.subjects(), &mut self.subjects)?;
         reserve_left(a.postings(), b.postings(), &mut self.postings)?;
         merge_on(a.subjects(), b.subjects(), numbers, &mut self.subjects, n);
+        merge_on(a.postings(), b.postings(), numbers, &mut self.postings, n);
         merge_on(a.postings(), b.postings(), numbers, &mut self.postings, n);
         Ok(())
     }

@@ -8,6 +8,8 @@ ghost use Rattle.links.specs.Edges.{tag_place, posting_rank, rank_of};
 pub enum Tag {
     /// Of an active "is a" relationship: its destination and its source, as SCTIDs.
     Child,
+    /// Of an active "is a" relationship: its source and its destination, as SCTIDs.
+    Parent,
     /// Of an active association: its target and its reference set, as SCTIDs.
     Target,
     /// Of a member of a reference set, active or not: the reference set, and the component that the
@@ -33,12 +35,13 @@ pub struct Posting {
 /// The place of a tag among the tags.
 pub(crate) fn place_of(tag: Tag) -> u8
     ensures place { result ≡ tag_place tag }
-    ensures few { result ≤ 2 }
+    ensures few { result ≤ 3 }
 {
     match tag {
         Tag::Child => 0,
-        Tag::Target => 1,
-        Tag::Member => 2,
+        Tag::Parent => 1,
+        Tag::Target => 2,
+        Tag::Member => 3,
     }
 }
 

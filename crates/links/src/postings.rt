@@ -2,7 +2,8 @@
 //! and members of reference sets are found; in the order in which rows were pushed, or sealed, that
 //! is, sorted.
 
-ghost use Rattle.std.specs.Prelude.{◌≡◌, ◌≤◌, ◌<◌, ◌++◌, ◌∷◌, [], length, vec_capacity, OnOk, OnErr};
+ghost use Rattle.std.specs.Prelude.{◌≡◌, ◌≤◌, ◌<◌, ◌+◌, ◌++◌, ◌∷◌, [], length, vec_capacity};
+ghost use Rattle.std.specs.Prelude.{OnOk, OnErr};
 ghost use Rattle.std.specs.List.Sorted.{IsNonDecreasingBy, IsPermutation};
 ghost use Rattle.std.specs.Ordering.{nat_cmp};
 ghost use Rattle.links.specs.Edges.{no_edges, posting, row_key, posted, posted_subject, edges_of};
@@ -10,7 +11,7 @@ ghost use Rattle.links.specs.Edges.{AreSameEdges, IsSealed, joined_edges, subjec
 
 use crate::posting::{Posting, Tag, rank_of};
 use history_model::{IS_A, StampedRow, subject_of};
-use rf2_values::{Body, Kind};
+use rf2_values::{Body, Kind, Sctid};
 use std::alloc::{AllocError, Global};
 use std::cmp::Ordering;
 use std::marker::Model;
@@ -81,40 +82,50 @@ fn push_subject(subjects: &mut Vec<Subject>, row: &StampedRow, number: u32)
     }
 }
 
+/// A posting of the row with this number.
+fn posting(tag: Tag, first: Sctid, second: Sctid, number: u32, active: bool) -> Posting
+    ensures { result ≡ posting number (row_key tag first second active) }
+{
+    Posting {
+        first: first.value(),
+        second: second.value(),
+        row: number,
+        tag,
+        active,
+    }
+}
+
 /// Adds one posting. Allocates nothing.
 fn add(postings: &mut Vec<Posting>, posting: Posting)
     requires { length postings.old.items < vec_capacity postings.old }
-    ensures { postings.new.items ≡ postings.old.items ++ posting ∷ [] }
+    ensures posted { postings.new.items ≡ postings.old.items ++ posting ∷ [] }
+    ensures room { vec_capacity postings.old ≤ vec_capacity postings.new }
 {
     let Ok(()) = postings.push(posting) else {
         unreachable!()
     };
 }
 
-/// Adds the posting of the row with this number by two numbers, if it has one. Allocates nothing.
-fn push_posting(postings: &mut Vec<Posting>, row: &StampedRow, number: u32)
-    requires { length postings.old.items < vec_capacity postings.old }
+/// Adds the postings of the row with this number by two numbers, of which it has two at most.
+/// Allocates nothing.
+fn push_postings(postings: &mut Vec<Posting>, row: &StampedRow, number: u32)
+    requires { length postings.old.items + 1 < vec_capacity postings.old }
     ensures { postings.new.items ≡ postings.old.items ++ posted row.now.row number }
 {
     let active = row.row.active;
-    let (tag, first, second) = match &row.row.body {
+    match &row.row.body {
         Body::Relationship(r) if active && r.type_id.value() == IS_A => {
-            (Tag::Child, r.destination, r.source)
+            add(postings, posting(Tag::Child, r.destination, r.source, number, active));
+            add(postings, posting(Tag::Parent, r.source, r.destination, number, active));
         }
-        Body::Association(a) if active => (Tag::Target, a.target, a.refset),
-        Body::Member(m) => (Tag::Member, m.refset, m.referenced),
-        _ => return,
-    };
-    add(
-        postings,
-        Posting {
-            first: first.value(),
-            second: second.value(),
-            row: number,
-            tag,
-            active,
-        },
-    );
+        Body::Association(a) if active => {
+            add(postings, posting(Tag::Target, a.target, a.refset, number, active));
+        }
+        Body::Member(m) => {
+            add(postings, posting(Tag::Member, m.refset, m.referenced, number, active));
+        }
+        _ => {}
+    }
 }
 
 /// The order of subjects: by the component that the rows are about, and then by kind.
@@ -152,16 +163,16 @@ impl Postings {
         }
     }
 
-    /// Adds the postings of the row with this number: if it is active, what it is about; and the
-    /// two numbers by which it is found, if there are any. An `Err` changes nothing.
+    /// Adds the postings of the row with this number: if it is active, what it is about; and each
+    /// two numbers by which it is found. An `Err` changes nothing.
     pub fn push(&mut self, row: &StampedRow, number: u32) -> Result<(), AllocError>
         ensures ok { OnOk result (self.new ≡ joined_edges self.old (edges_of row.now.row number)) }
         ensures err { OnErr result (self.new ≡ self.old) }
     {
         self.subjects.reserve(1)?;
-        self.postings.reserve(1)?;
+        self.postings.reserve(2)?;
         push_subject(&mut self.subjects, row, number);
-        push_posting(&mut self.postings, row, number);
+        push_postings(&mut self.postings, row, number);
         Ok(())
     }
 

@@ -22,3 +22,9 @@ merge_on-requires-2-clause-first c = subst IsRisingByRank (sym c.postings-3.ensu
 
 pub merge_on-requires-2-clause-second : goal.merge_on-requires-2-clause-second
 merge_on-requires-2-clause-second c = subst IsRisingByRank (sym c.postings-4.ensures.postings) c.postings-4.ensures.rising
+
+pub merge_on-requires-3-clause-first : goal.merge_on-requires-3-clause-first
+merge_on-requires-3-clause-first c = subst IsRisingByRank (sym c.postings-5.ensures.postings) c.postings-5.ensures.rising
+
+pub merge_on-requires-3-clause-second : goal.merge_on-requires-3-clause-second
+merge_on-requires-3-clause-second c = subst IsRisingByRank (sym c.postings-6.ensures.postings) c.postings-6.ensures.rising
