@@ -115,14 +115,26 @@ fn push_postings(postings: &mut Vec<Posting>, row: &StampedRow, number: u32)
     let active = row.row.active;
     match &row.row.body {
         Body::Relationship(r) if active && r.type_id.value() == IS_A => {
-            add(postings, posting(Tag::Child, r.destination, r.source, number, active));
-            add(postings, posting(Tag::Parent, r.source, r.destination, number, active));
+            add(
+                postings,
+                posting(Tag::Child, r.destination, r.source, number, active),
+            );
+            add(
+                postings,
+                posting(Tag::Parent, r.source, r.destination, number, active),
+            );
         }
         Body::Association(a) if active => {
-            add(postings, posting(Tag::Target, a.target, a.refset, number, active));
+            add(
+                postings,
+                posting(Tag::Target, a.target, a.refset, number, active),
+            );
         }
         Body::Member(m) => {
-            add(postings, posting(Tag::Member, m.refset, m.referenced, number, active));
+            add(
+                postings,
+                posting(Tag::Member, m.refset, m.referenced, number, active),
+            );
         }
         _ => {}
     }

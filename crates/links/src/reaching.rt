@@ -98,12 +98,5 @@ pub fn ancestors(
         → EachPosted lists links.now
         → AreAncestors concept as_of.date (rows_seen as_of lists) ids.items) }
 {
-    reached(
-        alloc,
-        links,
-        index,
-        Direction::Up,
-        concept.value(),
-        &as_of,
-    )
+    reached(alloc, links, index, Direction::Up, concept.value(), &as_of)
 }
