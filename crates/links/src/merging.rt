@@ -122,6 +122,7 @@ impl Merging {
         reserve_left(a.postings(), b.postings(), &mut self.postings)?;
         merge_on(a.subjects(), b.subjects(), numbers, &mut self.subjects, n);
         merge_on(a.postings(), b.postings(), numbers, &mut self.postings, n);
+        // A row may have two postings.
         merge_on(a.postings(), b.postings(), numbers, &mut self.postings, n);
         Ok(())
     }
