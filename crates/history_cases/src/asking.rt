@@ -25,7 +25,7 @@
 use crate::examples::Examples;
 use crate::expanded::expanded;
 use crate::failing::fail_each_read;
-use crate::index_questions::{Request, ask_index, count_reads, rows_found};
+use crate::index_questions::{Request, ask_index, rows_found};
 use crate::indexed::{Indexed, by_date, list_of, lists_of, spread};
 use crate::plain_questions::ask_plainly;
 use crate::turns::{merge_posted, take_in_turns};
@@ -187,17 +187,6 @@ impl Examples {
             Ok(rows) => fail_each_read(self.alloc, made, request, prefix, rows.len() as u64),
             Err(_) => Err(NoAnswer::NoQuestion),
         }
-    }
-
-    /// How many rows are read for a question for concepts.
-    pub(crate) fn ask_for_reads(&self, text: &str) -> Answer {
-        let made = self.made.as_ref().ok_or(NoAnswer::NoQuestion)?;
-        let (pin, text) = first_word(text)?;
-        let request = Request {
-            question: read_question(self.alloc, text)?,
-            pin: number(pin)?,
-        };
-        count_reads(self.alloc, made, request)
     }
 
     /// Makes an index of lists.

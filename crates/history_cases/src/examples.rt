@@ -163,7 +163,6 @@ impl Answers for Examples {
             "at" => self.ask_at(rest),
             "all" => self.ask_all(rest),
             "fails" => self.ask_failing(rest),
-            "reads" => self.ask_for_reads(rest),
             "lists" | "spread" | "dates" => self.list(word, rest),
             "posted" | "post" | "link" | "merge" | "put" | "read" => self.change(word, rest),
             "taken" => self.taken(rest),

@@ -131,43 +131,18 @@ fn find_rows(alloc: Global, made: &Indexed, request: Request, prefix: &str) -> A
 }
 
 /// The concepts that are found, if the question asks for concepts.
-fn concepts_found<R: RowReader>(
+fn concepts_found(
     alloc: Global,
     made: &Indexed,
-    reader: &mut R,
     request: Request,
-) -> Result<Vec<u64>, ReadFault> {
+) -> Result<Vec<u64>, AllocError> {
     let (links, index) = (&made.links, &made.index);
     let Request { question, pin } = request;
     match question {
-        Question::Children(id, date) => Ok(children(alloc, links, index, id, AsOf { date, pin })?),
+        Question::Children(id, date) => children(alloc, links, index, id, AsOf { date, pin }),
         Question::Descendants(id, date) => descendants(alloc, links, index, id, AsOf { date, pin }),
-        Question::Ancestors(id, date) => {
-            ancestors(alloc, links, index, reader, id, AsOf { date, pin })
-        }
+        Question::Ancestors(id, date) => ancestors(alloc, links, index, id, AsOf { date, pin }),
         _ => Ok(Vec::new(alloc)),
-    }
-}
-
-/// Concepts that are found.
-fn find_concepts(alloc: Global, made: &Indexed, request: Request) -> Answer {
-    let mut reader = made.reader();
-    match concepts_found(alloc, made, &mut reader, request) {
-        Ok(ids) => spell_ids(alloc, &ids),
-        Err(ReadFault::OutOfMemory) => Err(NoAnswer::OutOfMemory),
-        Err(fault) => Ok(format!(in alloc; "{fault:?}")?),
-    }
-}
-
-/// How many rows are read for the concepts that are found.
-pub fn count_reads(alloc: Global, made: &Indexed, request: Request) -> Answer {
-    let mut reader = made.reader();
-    let found = concepts_found(alloc, made, &mut reader, request);
-    let reads = reader.reads;
-    match found {
-        Ok(_found) => Ok(format!(in alloc; "{reads}")?),
-        Err(ReadFault::OutOfMemory) => Err(NoAnswer::OutOfMemory),
-        Err(fault) => Ok(format!(in alloc; "{fault:?}")?),
     }
 }
 
@@ -175,7 +150,7 @@ pub fn count_reads(alloc: Global, made: &Indexed, request: Request) -> Answer {
 pub fn ask_index(alloc: Global, made: &Indexed, request: Request, prefix: &str) -> Answer {
     match request.question {
         Question::Children(_, _) | Question::Descendants(_, _) | Question::Ancestors(_, _) => {
-            find_concepts(alloc, made, request)
+            spell_ids(alloc, &concepts_found(alloc, made, request)?)
         }
         Question::Dates => spell_dates(alloc, &made.index.dates(request.pin)?),
         _ => find_rows(alloc, made, request, prefix),

@@ -66,7 +66,7 @@ fn merge_terms(
     Ok(merging.seal())
 }
 
-/// Merges this many links, references and subjects in each step.
+/// Merges this many subjects, and this many postings, in each step.
 fn advance_links(
     alloc: Global,
     a: &links::Sealed,

@@ -9,7 +9,6 @@ pub mod NewSegment
 pub mod Refusing
 pub mod Lent
 pub mod Querying
-pub mod AncestorsRead
 pub mod GoingOn
 pub mod FewestRows
 pub mod BegunMerge

@@ -1,6 +1,7 @@
 -- What is left of a store after a query.
 use Rattle.std.proofs.Common.{◌≡◌, ◌≢◌, ◌↔◌, ℕ, ◌+◌, ◌≤◌, List, false, true, Result, Ok, Err, IfOk, IfErr, MatchResult, map, refl, sym, ap, subst, ◌∙◌, arith, Vec, Global}
 use Rattle.std.specs.List.{sum_by}
+use Rattle.rf2_values.specs.declared.key.Key.{Key}
 use Rattle.rf2_values.specs.Row.{RowValue}
 use Rattle.rf2_values.specs.Key.{key_of}
 use Rattle.std.proofs.lemmas.Bool.{false≢true}
@@ -9,7 +10,7 @@ use Rattle.history_model.specs.declared.stamped.StampedRow.{StampedRow}
 use Rattle.history_model.specs.History.{rows_at}
 use Rattle.history_model.specs.Lists.{listed}
 use Rattle.disk_model.specs.View.{DiskView}
-use Rattle.as_of_index.specs.Reader.{ReaderView, IsRowsRead}
+use Rattle.as_of_index.specs.Reader.{ReaderView, AreSame, IsRowsReadBy, IsRowsRead}
 use Rattle.lru.specs.LruCache.{LruCache}
 use Rattle.blocks.specs.Cache.{AgreesWith, LooksUpSome}
 use Rattle.blocks.proofs.Looked.{none_looks_up}
@@ -23,7 +24,7 @@ use Rattle.history_store.specs.Reading.{row_cost}
 use Rattle.history_store.specs.Refusals.{of_read}
 use Rattle.history_store.specs.StoreValue.{StoreValue, IsAcknowledged}
 use Rattle.history_store.specs.Answers.{Counts, IsRefused, IsReadingOf}
-use Rattle.history_store.specs.Queries.{IsQuery, IsRowsQuery, IsWithoutRead, is_listed}
+use Rattle.history_store.specs.Queries.{IsQuery, IsRowsQueryBy, IsRowsQuery, IsWithoutRead, is_listed}
 use Rattle.history_store.proofs.Refusing.{read_undamaged}
 
 -- what was read, as the store answers it
@@ -116,22 +117,22 @@ module _ {T D : Type 0} (view : D → DiskView) (rows_of : T → List RowValue) 
     abbrev pub BoundOf : List (List StampedRow) → D → D → Type 0
     BoundOf ls before after = (view after).bytes_read ≤ (view before).bytes_read + sum_by row_cost (wanted (rows_at pin (listed ls)))
 
-    pub rows_answered : {left : List (List StampedRow)} {is_honest : Type 0} {m n : ℕ} → old.history.rows ≡ listed lists → old.needs_reopen ≡ false
+    pub rows_answered_by : (SameKeys : List Key → List Key → Type 0) {left : List (List StampedRow)} {is_honest : Type 0} {m n : ℕ} → old.history.rows ≡ listed lists → old.needs_reopen ≡ false
         → lent ≡ old.disk → lent_cache ≡ old.cache → entries ≡ old.catalog.entries → shown ≡ lists
         → Indexed lists → ((view old.disk).is_honest → IsHonestReader)
-        → IsRowsRead read rows_of (λ ls. wanted (rows_at pin (listed ls))) Indexed row_cost (shown_of lent shown IsHonestReader m) (shown_of disk left is_honest n)
+        → IsRowsReadBy SameKeys read rows_of (λ ls. wanted (rows_at pin (listed ls))) Indexed row_cost (shown_of lent shown IsHonestReader m) (shown_of disk left is_honest n)
         → MomentsStay (view lent).is_honest (view disk).is_honest (view lent).moments (view disk).moments
         → LooksUpSome (is_listed entries) lent_cache cache (view lent).bytes_read (view disk).bytes_read
         → (view disk).other_calls ≡ (view lent).other_calls
         → IsAnswerOf read result → IsReadingOf result (record old { disk = disk; cache = cache }) new → new.disk ≡ disk → new.cache ≡ cache
         → ((view disk).is_honest → new.needs_reopen ≡ false → IsAcknowledged view new)
-        → IsRowsQuery result rows_of wanted pin view old new
-    rows_answered rows_are still lent_is lent_cache_is entries_are shown_is indexed lends read_so stays looked_up calls answers left same kept acknowledged =
+        → IsRowsQueryBy SameKeys result rows_of wanted pin view old new
+    rows_answered_by SameKeys rows_are still lent_is lent_cache_is entries_are shown_is indexed lends read_so stays looked_up calls answers left same kept acknowledged =
         let rows = read_so.rows (subst Indexed (sym shown_is) indexed) in
         let all_are = ap (λ rows. wanted (rows_at pin rows)) (sym rows_are) in
         record {
           found = λ up. answered_so (λ x. rows_of x ≡ wanted (rows_at pin (listed shown))) (λ x. rows_of x ≡ wanted (rows_at pin old.history.rows)) read result answers (λ x is. is ∙ ap (λ ls. wanted (rows_at pin (listed ls))) shown_is ∙ all_are) (rows.found (lends up));
-          keys = answered_so (λ x. map key_of (rows_of x) ≡ map key_of (wanted (rows_at pin (listed shown)))) (λ x. map key_of (rows_of x) ≡ map key_of (wanted (rows_at pin old.history.rows))) read result answers (λ x is. is ∙ ap (map key_of) (ap (λ ls. wanted (rows_at pin (listed ls))) shown_is ∙ all_are)) rows.keys;
+          keys = answered_so (λ x. SameKeys (map key_of (rows_of x)) (map key_of (wanted (rows_at pin (listed shown))))) (λ x. SameKeys (map key_of (rows_of x)) (map key_of (wanted (rows_at pin old.history.rows)))) read result answers (λ x same_keys. subst (λ (those : List RowValue). SameKeys (map key_of (rows_of x)) (map key_of those)) (ap (λ ls. wanted (rows_at pin (listed ls))) shown_is ∙ all_are) same_keys) rows.keys;
           causes = λ none. subst (λ r. IfErr r IsWithoutRead) (sym (is_answer read result answers)) (caused_answer read (rows.causes (ap (λ ls. wanted (rows_at pin (listed ls))) shown_is ∙ all_are ∙ none)));
           query = answered_query view old new lent disk cache read result still lent_is stays read_so.reader.disk_faults (λ up. rows.undamaged (lends up)) answers left same acknowledged;
           other_calls = ap (λ d. (view d).other_calls) same ∙ calls ∙ ap (λ d. (view d).other_calls) lent_is;
@@ -150,9 +151,22 @@ module _ {T D : Type 0} (view : D → DiskView) (rows_of : T → List RowValue) 
               (subst (λ ls. BoundOf ls lent disk) shown_is rows.work_always)));
         }
 
+    pub rows_answered : {left : List (List StampedRow)} {is_honest : Type 0} {m n : ℕ} → old.history.rows ≡ listed lists → old.needs_reopen ≡ false
+        → lent ≡ old.disk → lent_cache ≡ old.cache → entries ≡ old.catalog.entries → shown ≡ lists
+        → Indexed lists → ((view old.disk).is_honest → IsHonestReader)
+        → IsRowsRead read rows_of (λ ls. wanted (rows_at pin (listed ls))) Indexed row_cost (shown_of lent shown IsHonestReader m) (shown_of disk left is_honest n)
+        → MomentsStay (view lent).is_honest (view disk).is_honest (view lent).moments (view disk).moments
+        → LooksUpSome (is_listed entries) lent_cache cache (view lent).bytes_read (view disk).bytes_read
+        → (view disk).other_calls ≡ (view lent).other_calls
+        → IsAnswerOf read result → IsReadingOf result (record old { disk = disk; cache = cache }) new → new.disk ≡ disk → new.cache ≡ cache
+        → ((view disk).is_honest → new.needs_reopen ≡ false → IsAcknowledged view new)
+        → IsRowsQuery result rows_of wanted pin view old new
+    rows_answered rows_are still lent_is lent_cache_is entries_are shown_is indexed lends read_so stays looked_up calls answers left same kept acknowledged =
+        rows_answered_by AreSame rows_are still lent_is lent_cache_is entries_are shown_is indexed lends read_so stays looked_up calls answers left same kept acknowledged
+
   -- a store that has to be opened again answers nothing, and isn't touched
-  pub closed_rows : (s : StoreValue D) → s.needs_reopen ≡ true → IsRowsQuery (Err refusals.ReopenNeeded) rows_of wanted pin view s s
-  closed_rows s needs = record {
+  pub closed_rows_by : (SameKeys : List Key → List Key → Type 0) (s : StoreValue D) → s.needs_reopen ≡ true → IsRowsQueryBy SameKeys (Err refusals.ReopenNeeded) rows_of wanted pin view s s
+  closed_rows_by SameKeys s needs = record {
     found = λ up. tt;
     keys = tt;
     causes = λ none. tt;
@@ -162,3 +176,6 @@ module _ {T D : Type 0} (view : D → DiskView) (rows_of : T → List RowValue) 
     bytes_read = tt;
     bytes_read_always = omega arith;
   }
+
+  pub closed_rows : (s : StoreValue D) → s.needs_reopen ≡ true → IsRowsQuery (Err refusals.ReopenNeeded) rows_of wanted pin view s s
+  closed_rows s needs = closed_rows_by AreSame s needs

@@ -8,7 +8,6 @@ pub mod Prepared
 pub mod Answers
 pub mod Openings
 pub mod Queries
-pub mod Auditing
 pub mod Checking
 pub mod Contradicting
 pub mod Written

@@ -2,6 +2,7 @@
 use Rattle.std.specs.Prelude.{◌≡◌, ◌≢◌, ◌⊎◌, ◌↔◌, ℕ, Bool, true, false, List, []}
 use Rattle.std.specs.Prelude.{◌+◌, ◌≤◌, Result, IfOk, IfErr, OnOk, OnErr, Option, Some, None, map}
 use Rattle.std.specs.List.{list_any, sum_by}
+use Rattle.rf2_values.specs.declared.key.Key.{Key}
 use Rattle.rf2_values.specs.Row.{RowValue}
 use Rattle.rf2_values.specs.Key.{key_of}
 use Rattle.history_model.specs.History.{rows_at}
@@ -13,6 +14,7 @@ use Rattle.blocks.specs.declared.slots.Slot.{Slot}
 use Rattle.blocks.specs.Slots.{slot_extent}
 use Rattle.directory.specs.declared.entry.Entry.{Entry}
 use Rattle.directory.specs.Places.{extent_of}
+use Rattle.as_of_index.specs.Reader.{AreSame, AreSameInAnyOrder}
 use Rattle.history_store.specs.declared.refusal.Refusal.{Refusal}
 use Rattle.history_store.specs.declared.refusal.Refusal.TheVariants as refusals
 use Rattle.history_store.specs.Catalog.{reserved_by}
@@ -93,16 +95,18 @@ IsWithoutRead _ = Unit {0}
 
 -- A query for rows: `rows_of` gives the rows of an answer, and `wanted` those that should be in it,
 -- among the rows that the pin shows. On an honest disk both are equal. On every disk they have the
--- same keys, no calls but reads are made, cached blocks aren't read again, and no more is read than
--- the rows of the answer take. Whatever the result, no more is read than the wanted rows take, each
--- counted once. If no row is wanted, the disk doesn't fail, and none is damaged.
-pub record IsRowsQuery {T D : Type 0} (result : Result T Refusal) (rows_of : T → List RowValue)
+-- same keys, as `SameKeys` says, no calls but reads are made, cached blocks aren't read again, and
+-- no more is read than the rows of the answer take. Whatever the result, no more is read than the
+-- wanted rows take, each counted once. If no row is wanted, the disk doesn't fail, and none is
+-- damaged.
+pub record IsRowsQueryBy {T D : Type 0} (SameKeys : List Key → List Key → Type 0)
+    (result : Result T Refusal) (rows_of : T → List RowValue)
     (wanted : List RowValue → List RowValue) (pin : ℕ) (view : D → DiskView)
     (old new : StoreValue D) : Type 0 where
   pub found : (view old.disk).is_honest
       → IfOk result (λ x. rows_of x ≡ wanted (rows_at pin old.history.rows))
-  pub keys : IfOk result
-      (λ x. map key_of (rows_of x) ≡ map key_of (wanted (rows_at pin old.history.rows)))
+  pub keys : IfOk result (λ x.
+      SameKeys (map key_of (rows_of x)) (map key_of (wanted (rows_at pin old.history.rows))))
   pub causes : wanted (rows_at pin old.history.rows) ≡ [] → IfErr result IsWithoutRead
   pub query : IsQuery result view old new
   pub other_calls : (view new.disk).other_calls ≡ (view old.disk).other_calls
@@ -111,6 +115,17 @@ pub record IsRowsQuery {T D : Type 0} (result : Result T Refusal) (rows_of : T �
       (λ x. (view new.disk).bytes_read ≤ (view old.disk).bytes_read + sum_by row_cost (rows_of x))
   pub bytes_read_always : (view new.disk).bytes_read
       ≤ (view old.disk).bytes_read + sum_by row_cost (wanted (rows_at pin old.history.rows))
+
+-- a query whose rows have the same keys in the same order on every disk
+abbrev pub IsRowsQuery : {T D : Type 0} → Result T Refusal → (T → List RowValue)
+    → (List RowValue → List RowValue) → ℕ → (D → DiskView) → StoreValue D → StoreValue D → Type 0
+IsRowsQuery = IsRowsQueryBy AreSame
+
+-- a query whose rows are put in order once they are read, so that on a disk that isn't honest they
+-- have the same keys in any order
+abbrev pub IsOrderedQuery : {T D : Type 0} → Result T Refusal → (T → List RowValue)
+    → (List RowValue → List RowValue) → ℕ → (D → DiskView) → StoreValue D → StoreValue D → Type 0
+IsOrderedQuery = IsRowsQueryBy AreSameInAnyOrder
 
 -- A query that the index answers on every disk, among the rows that the pin shows, without reading
 -- a row. Nothing changes, and it is refused only if the store has to be opened again or memory runs

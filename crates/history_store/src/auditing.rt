@@ -12,10 +12,9 @@ use links::{ancestors, descendants, replaces, timeline};
 use rf2_rows::{EffectiveTime, Kind, Row, Sctid};
 
 impl<D: Disk> Store<D> {
-    ghost use Rattle.history_model.specs.Hierarchy.{AreDescendants};
+    ghost use Rattle.history_model.specs.Hierarchy.{AreAncestors, AreDescendants};
     ghost use Rattle.history_model.specs.Queries.{replaces, timeline, delta, dates};
-    ghost use Rattle.history_store.specs.Auditing.{IsAncestorsQuery};
-    ghost use Rattle.history_store.specs.Queries.{IsRowsQuery, IsIndexQuery};
+    ghost use Rattle.history_store.specs.Queries.{IsRowsQuery, IsOrderedQuery, IsIndexQuery};
 
     /// All concepts below a concept, ascending: those that are reached from it by one or more
     /// active "is a" relationships, each from a concept to a child. Reads no row.
@@ -38,38 +37,30 @@ impl<D: Disk> Store<D> {
     }
 
     /// All concepts above a concept, ascending: those that are reached from it by one or more
-    /// active "is a" relationships, each from a concept to a parent. Reads the relationships of the
-    /// concept and of the concepts found.
+    /// active "is a" relationships, each from a concept to a parent. Reads no row.
     pub fn ancestors(&mut self, id: Sctid, as_of: AsOf) -> Result<Vec<u64>, Refusal>
         requires { as_of.pin ≤ self.old.history.imports }
-        ensures answer { IsAncestorsQuery result (λ ids. ids.items) id as_of.date as_of.pin
-            D.view self.old self.new }
+        ensures answer { IsIndexQuery result (λ ids rows. AreAncestors id as_of.date rows
+            ids.items) as_of.pin self.old self.new }
     {
         if self.needs_reopen {
             return Err(Refusal::ReopenNeeded);
         }
-        let mut reader = DiskRows::new(
-            &mut self.disk,
-            &mut self.cache,
-            &self.directory,
-            &self.index,
-        );
-        let read = ancestors(
+        let found = ancestors(
             self.alloc,
             self.index.links(),
             self.index.places(),
-            &mut reader,
             id,
             as_of,
-        );
-        self.answered(read)
+        )?;
+        Ok(found)
     }
 
     /// The active associations of which a component is the target, ascending by refset, referenced
     /// component and member: those that name it as a replacement of other components.
     pub fn replaces(&mut self, id: Sctid, as_of: AsOf) -> Result<Vec<Row>, Refusal>
         requires { as_of.pin ≤ self.old.history.imports }
-        ensures answer { IsRowsQuery result (λ rows. rows.items) (replaces id as_of.date) as_of.pin
+        ensures answer { IsOrderedQuery result (λ rows. rows.items) (replaces id as_of.date) as_of.pin
             D.view self.old self.new }
     {
         if self.needs_reopen {

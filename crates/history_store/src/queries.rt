@@ -19,7 +19,7 @@ impl<D: Disk> Store<D> {
     ghost use Rattle.history_model.specs.Queries.{get, versions, page, terms, search_terms};
     ghost use Rattle.history_model.specs.Queries.{about, children, replacements};
     ghost use Rattle.history_store.specs.Answers.{IsReadingOf};
-    ghost use Rattle.history_store.specs.Queries.{IsRowsQuery, IsIndexQuery};
+    ghost use Rattle.history_store.specs.Queries.{IsRowsQuery, IsOrderedQuery, IsIndexQuery};
     ghost use Rattle.history_store.specs.Refusals.{of_read};
     ghost use Rattle.history_store.specs.StoreValue.{IsAcknowledged};
     ghost use Rattle.history_store.specs.declared.refusal.Refusal.TheVariants as refusals;
@@ -217,7 +217,7 @@ impl<D: Disk> Store<D> {
     /// target and member. It takes one step: it doesn't follow a target further.
     pub fn replacements(&mut self, id: Sctid, as_of: AsOf) -> Result<Vec<Row>, Refusal>
         requires { as_of.pin ≤ self.old.history.imports }
-        ensures answer { IsRowsQuery result (λ rows. rows.items) (replacements id as_of.date)
+        ensures answer { IsOrderedQuery result (λ rows. rows.items) (replacements id as_of.date)
             as_of.pin D.view self.old
             self.new }
     {

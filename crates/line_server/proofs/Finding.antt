@@ -32,23 +32,20 @@ AsksFound _ = Unit {0}
 -- what the index alone answers
 abbrev pub AsksIndex : Question → Type 0
 AsksIndex (Children concept date) = Unit {0}
+AsksIndex (Ancestors concept date) = Unit {0}
 AsksIndex (Descendants concept date) = Unit {0}
 AsksIndex Dates = Unit {0}
 AsksIndex _ = ⊥
 
--- what rows are read for, but for a digest of all of them
-abbrev pub AsksRead : Question → Type 0
-AsksRead (Children concept date) = ⊥
-AsksRead (Descendants concept date) = ⊥
-AsksRead Dates = ⊥
-AsksRead Digest = ⊥
-AsksRead (Receipt number) = ⊥
-AsksRead _ = Unit {0}
-
 -- what is answered by rows
 abbrev pub AsksRows : Question → Type 0
+AsksRows (Children concept date) = ⊥
 AsksRows (Ancestors concept date) = ⊥
-AsksRows question = AsksRead question
+AsksRows (Descendants concept date) = ⊥
+AsksRows Dates = ⊥
+AsksRows Digest = ⊥
+AsksRows (Receipt number) = ⊥
+AsksRows _ = Unit {0}
 
 -- ---- one answer
 
@@ -99,9 +96,9 @@ module _ {D : Type 0} (honest : Type 0) (up : honest) (seen : ℕ) (old new : Se
       → (old.store.needs_reopen ≡ false) × Same old new × IsFound question (rows_at seen old.store.history.rows) answer
   answer_found (Receipt number) answer q a = absurd q
   answer_found (Children concept date) answer q a = (a.0, a.1, a.2)
+  answer_found (Ancestors concept date) answer q a = (a.0, a.1, a.2)
   answer_found (Descendants concept date) answer q a = (a.0, a.1, a.2)
   answer_found Dates answer q a = (a.0, a.1, a.2)
-  answer_found (Ancestors concept date) answer q a = (a.0, a.1, a.2.2 up)
   answer_found Digest answer q a = (a.0, a.1, a.2.4 up)
   answer_found question answer q a = (a.0, a.1, a.2.3 up)
 
@@ -124,6 +121,7 @@ module _ {D : Type 0} (honest : Type 0) (up : honest) (seen : ℕ) (old new : Se
       → IsShut (Err (refusals.Store refusal)) old × Same old new
   refused (Receipt number) refusal q sure r = absurd q
   refused (Children concept date) refusal q sure r = unlisted refusal sure r
+  refused (Ancestors concept date) refusal q sure r = unlisted refusal sure r
   refused (Descendants concept date) refusal q sure r = unlisted refusal sure r
   refused Dates refusal q sure r = unlisted refusal sure r
   refused question refusal q sure r = unfound question refusal sure r

@@ -3,7 +3,9 @@ use Rattle.std.specs.Prelude.{◌≡◌, ◌≢◌, ℕ, ◌≤◌, ◌<◌, ◌
 use Rattle.std.specs.Prelude.{map, codes}
 use Rattle.std.specs.Prelude.{decimal, slice_set, option_map, Option, Some, None, Result, Ok, Err}
 use Rattle.std.specs.Prelude.{option_to_list}
+use Rattle.std.specs.List.Sorted.{IsPermutation}
 use Rattle.rf2_values.specs.declared.row.Kind.TheVariants as kinds
+use Rattle.rf2_values.specs.declared.key.Key.{Key}
 use Rattle.rf2_values.specs.Row.{RowValue}
 use Rattle.rf2_values.specs.Key.{key_of}
 use Rattle.history_model.specs.declared.receipt.Receipt.{Receipt}
@@ -100,25 +102,32 @@ IsFound AskDates rows answer = answer ≡ Dates (dates rows)
 IsFound Digest rows answer = answer ≡ digits_of (digest_of rows)
 IsFound (AskReceipt number) rows answer = ⊥
 
+-- these are the wanted keys; in any order for REPLACED and REPLACES, whose rows are put in order
+-- once they are read
+abbrev pub AreKeysFor : Question → List Key → List Key → Type 0
+AreKeysFor (Replaced id date) given wanted = IsPermutation wanted given
+AreKeysFor (Replaces id date) given wanted = IsPermutation wanted given
+AreKeysFor question given wanted = given ≡ wanted
+
 -- the rows have the same keys as those that the question finds
 abbrev pub HaveKeysFound : Question → List RowValue → List RowValue → Type 0
 HaveKeysFound question rows given =
     (wanted : List RowValue) → IsFound question rows (Rows wanted)
-    → map key_of given ≡ map key_of wanted
+    → AreKeysFor question (map key_of given) (map key_of wanted)
 
 -- The answer is what the question finds: on every disk if the index alone finds it, and otherwise,
 -- when rows are read, on an honest disk. On every disk the answer consists of rows with the same
--- keys as those that the question finds; for ANCESTORS of identifiers, and for DIGEST of the digits
--- of a digest of rows with the keys of all.
+-- keys as those that the question finds (those of REPLACED and REPLACES in any order), and for
+-- DIGEST of the digits of a digest of rows with the keys of all.
 abbrev pub IsFinding : Type 0 → Question → List RowValue → Answer → Type 0
 IsFinding honest (Children concept date) rows answer =
     IsFound (Children concept date) rows answer
+IsFinding honest (Ancestors concept date) rows answer =
+    IsFound (Ancestors concept date) rows answer
 IsFinding honest (Descendants concept date) rows answer =
     IsFound (Descendants concept date) rows answer
 IsFinding honest AskDates rows answer = IsFound AskDates rows answer
 IsFinding honest (AskReceipt number) rows answer = ⊥
-IsFinding honest (Ancestors concept date) rows answer =
-    (ids : List ℕ) × (answer ≡ Ids ids) × (honest → IsFound (Ancestors concept date) rows answer)
 IsFinding honest Digest rows answer = (digest : List ℕ) × (length digest ≡ 32)
     × (answer ≡ digits_of digest) × IsDigestByKey digest rows
     × (honest → IsFound Digest rows answer)
@@ -263,6 +272,8 @@ abbrev pub IsRefusalAt : {D : Type 0} → Type 0 → ℕ → Question → Refusa
 IsRefusalAt honest seen (AskReceipt number) refusal old new =
     (number ≤ seen) × IsClosed refusal old new
 IsRefusalAt honest seen (Children concept date) refusal old new =
+    IsClosed refusal old new ⊎ IsLacking refusal old new
+IsRefusalAt honest seen (Ancestors concept date) refusal old new =
     IsClosed refusal old new ⊎ IsLacking refusal old new
 IsRefusalAt honest seen (Descendants concept date) refusal old new =
     IsClosed refusal old new ⊎ IsLacking refusal old new

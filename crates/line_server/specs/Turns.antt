@@ -13,10 +13,8 @@ use Rattle.history_store.specs.Meters.{ReadsKnown}
 use Rattle.history_store.specs.Merging.{trimmed_len, step_cost}
 use Rattle.history_store.specs.Queries.{ReadsThroughCache, StepsThroughCache}
 use Rattle.history_store.specs.Reading.{row_cost}
-use Rattle.history_store.specs.Auditing.{relationships_cost}
 use Rattle.rf2_values.specs.Row.{RowValue}
 use Rattle.history_model.specs.History.{rows_at}
-use Rattle.history_model.specs.Hierarchy.{AreAncestors}
 use Rattle.line_commands.specs.Questions.{Question, Children, Ancestors, Descendants, Dates}
 use Rattle.line_commands.specs.Questions.{Digest, Receipt}
 use Rattle.line_commands.specs.Commands.{Command, Ask, At, Import, Check, Step, Publish, Trim}
@@ -24,7 +22,7 @@ use Rattle.line_commands.specs.Requests.{Asks}
 use Rattle.line_server.specs.declared.refusal.LineRefusal.{LineRefusal}
 use Rattle.line_server.specs.declared.refusal.LineRefusal.TheVariants as refusals
 use Rattle.line_server.specs.Sources.{Releases, SourceView, scope_of}
-use Rattle.line_server.specs.ReplyValue.{Answer, Rows, Ids, ReplyValue, reply_value, bytes_of}
+use Rattle.line_server.specs.ReplyValue.{Answer, Rows, ReplyValue, reply_value, bytes_of}
 use Rattle.line_server.specs.StateValue.{met_after}
 use Rattle.line_server.specs.Replies.{Server, Replies, IsFound, AsksNoRelease, imports_seen}
 use Rattle.store_life.specs.Life.{Call, Imported, Failed, Other, IsCall}
@@ -71,20 +69,6 @@ ReadsFound question rows old new =
     (wanted : List RowValue) → IsFound question rows (Rows wanted)
     → new ≤ old + sum_by row_cost wanted
 
--- Finding the ancestors of a concept read no more than the active relationships take whose source
--- is the concept or one of them.
-abbrev pub ReadsAbove : ℕ → ℕ → List RowValue → Result Answer LineRefusal → ℕ → ℕ → Type 0
-ReadsAbove concept date rows (Ok (Ids ids)) old new =
-    new ≤ old + relationships_cost date rows (concept ∷ ids)
-ReadsAbove concept date rows _ old new = Unit {0}
-
--- Whatever the outcome, no more was read than those take whose source is the concept or one of all
--- its ancestors.
-abbrev pub ReadsAllAbove : ℕ → ℕ → List RowValue → ℕ → ℕ → Type 0
-ReadsAllAbove concept date rows old new =
-    (above : List ℕ) → AreAncestors concept date rows above
-    → new ≤ old + relationships_cost date rows (concept ∷ above)
-
 -- Reads asked for at most so many bytes, and at most so many other calls were made.
 abbrev pub CostsAtMost : (bytes calls : ℕ) → DiskView → DiskView → Type 0
 CostsAtMost bytes calls old new =
@@ -102,14 +86,10 @@ LeavesQueried view old new =
 abbrev pub LeavesAsked : {D : Type 0} → (D → DiskView) → ℕ → Question → Result Answer LineRefusal
     → StoreValue D → StoreValue D → Type 0
 LeavesAsked view seen (Children concept date) outcome old new = new.disk ≡ old.disk
+LeavesAsked view seen (Ancestors concept date) outcome old new = new.disk ≡ old.disk
 LeavesAsked view seen (Descendants concept date) outcome old new = new.disk ≡ old.disk
 LeavesAsked view seen Dates outcome old new = new.disk ≡ old.disk
 LeavesAsked view seen (Receipt number) outcome old new = new.disk ≡ old.disk
-LeavesAsked view seen (Ancestors concept date) outcome old new = LeavesQueried view old new
-    × ReadsAbove concept date (rows_at seen old.history.rows) outcome (view old.disk).bytes_read
-    (view new.disk).bytes_read
-    × ((view old.disk).is_honest → ReadsAllAbove concept date (rows_at seen old.history.rows)
-    (view old.disk).bytes_read (view new.disk).bytes_read)
 LeavesAsked view seen Digest outcome old new = LeavesQueried view old new
     × ((view new.disk).bytes_read
     ≤ (view old.disk).bytes_read + sum_by row_cost (rows_at seen old.history.rows))

@@ -1,6 +1,6 @@
--- Memberships between two places in their order, and those that are asked for.
-use Rattle.std.proofs.Common.{◌≡◌, ℕ, ◌≤◌, true, false, Bool, List, [], ◌++◌, take, drop, refl, sym, ap, subst, inl, inr, arith, take-append-drop, min}
-use Rattle.std.specs.Prelude.{◌==◌, ◌&&◌, nat_lt, nat_le, Option, Some, None}
+-- Postings between two places in their order, and those that are wanted.
+use Rattle.std.proofs.Common.{◌≡◌, ℕ, ◌+◌, ◌≤◌, true, false, List, [], ◌++◌, take, drop, refl, sym, ap, subst, inl, inr, ◌∙◌, arith, take-append-drop, min}
+use Rattle.std.specs.Prelude.{◌*◌, ◌==◌, ◌&&◌, ◌||◌, not, nat_lt, nat_le, Option, Some, None}
 use Rattle.std.proofs.Math.Nat.{min-le_right, min-le_left, le-min}
 use Rattle.std.proofs.lemmas.Bool.Decides.{nat_tests}
 use Rattle.std.proofs.lemmas.Bool.{eqb-true, and_parts, ltb-false, leb-true}
@@ -9,12 +9,14 @@ use Rattle.history_model.specs.Queries.{is_above}
 use Rattle.history_model.proofs.InOrder.{Has-all, Has-append_left, Has-append_right, Has-append_cases}
 use Rattle.history_model.proofs.Filtered.{Has-map_from}
 use Rattle.as_of_index.specs.Private.Search.{SplitsAt}
-use Rattle.links.specs.declared.membership.Membership.{Membership}
-use Rattle.links.specs.declared.member_search.Wanted.{Wanted}
-use Rattle.links.specs.declared.member_search.Wanted.TheVariants as wanted
-use Rattle.links.specs.Edges.{membership_rank}
+use Rattle.links.specs.declared.posting.Tag.{Tag}
+use Rattle.links.specs.declared.posting.Posting.{Posting}
+use Rattle.links.specs.declared.wanted.Seconds.{Seconds}
+use Rattle.links.specs.declared.wanted.Seconds.TheVariants as seconds
+use Rattle.links.specs.declared.wanted.Wanted.{Wanted}
+use Rattle.links.specs.Edges.{RowKey, tag_place, posting_rank, rank_of}
 use Rattle.links.specs.Private.{Takes}
-use Rattle.links.specs.Private.Memberships.{is_up_to, is_between, is_wanted, low_rank, high_rank, AreGiven}
+use Rattle.links.specs.Private.Asking.{is_up_to, is_second, is_wanted, key_of, low_from, high_from, low_rank, high_rank, AreGiven}
 use Rattle.links.proofs.Numbering.{in_list, one_of}
 
 module _ {X : Type 0} (of : X → ℕ) (list : List X) (d e first count : ℕ) (low : SplitsAt (λ x. nat_lt (of x) d) list first) (high : SplitsAt (λ x. nat_le (of x) e) (drop first list) count) where
@@ -41,47 +43,59 @@ module _ {X : Type 0} (of : X → ℕ) (list : List X) (d e first count : ℕ) (
     ]
   ]
 
--- ---- none that is asked for stands elsewhere
+-- ---- none that is wanted stands elsewhere
 
-three : (a b c : Bool) → (a && b && c) ≡ true → (b ≡ true) × (c ≡ true)
-three a b c e = elim a as (λ (t : Bool). (t && b && c) ≡ true → (b ≡ true) × (c ≡ true)) [
-  | true ↦ λ f. and_parts b c f
-  | false ↦ λ f. absurd (cc)
-] e
+limited : (a b : ℕ) → a ≤ b → min a 18446744073709551615 ≤ min b 18446744073709551615
+limited a b le = let x = min-le_left a 18446744073709551615 in let y = min-le_right a 18446744073709551615 in le-min (omega (arith, x, le)) y
 
--- a rank of the reference set is between those of the first and of the last component
-rank_within : (refset n low : ℕ) → low ≤ n → (membership_rank refset low ≤ membership_rank refset n) × (membership_rank refset n ≤ membership_rank refset 18446744073709551615)
-rank_within refset n low le =
-    let a = min-le_right n 18446744073709551615 in
-    let b = min-le_left low 18446744073709551615 in
-    let c = min-le_right low 18446744073709551615 in
-    let d : min low 18446744073709551615 ≤ min n 18446744073709551615 = le-min (omega (arith, b, le)) c in
+above_low : (tag : Tag) (first n : ℕ) (those : Seconds) → is_second those n ≡ true → low_from tag first those ≤ posting_rank tag first n
+above_low tag first n (seconds.Between None last) e = let le = limited 0 n (omega arith) in omega (arith, le)
+above_low tag first n (seconds.Between (Some low) last) e =
+    let above = (and_parts (is_above (Some low) n) (is_up_to last n) e).0 in
+    let lt : low ≤ n = grind (arith, nat_tests, above) in
+    let le = limited low n lt in
+    omega (arith, le)
+above_low tag first n (seconds.Only number) e = let same = eqb-true n number e in let le = limited number n (omega (arith, same)) in omega (arith, le)
+
+below_high : (tag : Tag) (first n : ℕ) (those : Seconds) → is_second those n ≡ true → posting_rank tag first n ≤ high_from tag first those
+below_high tag first n (seconds.Between after None) e =
+    let y = min-le_right n 18446744073709551615 in
     let f : min 18446744073709551615 18446744073709551615 ≡ 18446744073709551615 = refl in
-    (omega (arith, d), omega (arith, a, f))
+    omega (arith, y, f)
+below_high tag first n (seconds.Between after (Some high)) e =
+    let up_to = (and_parts (is_above after n) (is_up_to (Some high) n) e).1 in
+    let lt : n ≤ high = grind (arith, nat_tests, up_to) in
+    let le = limited n high lt in
+    omega (arith, le)
+below_high tag first n (seconds.Only number) e = let same = eqb-true n number e in let le = limited n number (omega (arith, same)) in omega (arith, le)
 
-above_low : (refset n : ℕ) (after last : Option ℕ) → is_above after n ≡ true → low_rank refset (wanted.Values after last) ≤ membership_rank refset n
-above_low refset n None last e = (rank_within refset n 0 (omega arith)).0
-above_low refset n (Some low) last e = (rank_within refset n low (grind (arith, nat_tests, e))).0
+-- the parts of what is wanted
+pub record IsWantedBy (w : Wanted) (k : RowKey) : Type 0 where
+  pub tag_is : tag_place k.tag ≡ tag_place w.tag
+  pub second_so : is_second w.seconds k.second ≡ true
+  pub active_so : (k.active || not w.active) ≡ true
+  pub first_is : k.first ≡ w.first
 
-below_high : (refset n : ℕ) (after last : Option ℕ) → is_up_to last n ≡ true → membership_rank refset n ≤ high_rank refset (wanted.Values after last)
-below_high refset n after None e = (rank_within refset n 0 (omega arith)).1
-below_high refset n after (Some high) e = (rank_within refset high n (grind (arith, nat_tests, e))).0
+pub wanted_parts : (w : Wanted) (k : RowKey) → is_wanted w k ≡ true → IsWantedBy w k
+wanted_parts w k e =
+    let a = and_parts (tag_place k.tag == tag_place w.tag && is_second w.seconds k.second && (k.active || not w.active)) (k.first == w.first) e in
+    let b = and_parts (tag_place k.tag == tag_place w.tag && is_second w.seconds k.second) (k.active || not w.active) a.0 in
+    let c = and_parts (tag_place k.tag == tag_place w.tag) (is_second w.seconds k.second) b.0 in
+    record {
+      tag_is = eqb-true (tag_place k.tag) (tag_place w.tag) c.0;
+      second_so = c.1;
+      active_so = b.1;
+      first_is = eqb-true k.first w.first a.1;
+    }
 
-pub wanted_within : (refset : ℕ) (w : Wanted) (m : Membership) (id : ℕ) → is_wanted refset w m id ≡ true → (low_rank refset w ≤ membership_rank m.refset m.referenced) × (membership_rank m.refset m.referenced ≤ high_rank refset w)
-wanted_within refset (wanted.Above after last) m id e =
-    let own : m.refset ≡ refset = eqb-true m.refset refset (and_parts (m.refset == refset) (is_between after last id) e).0 in
-    subst (λ r. (membership_rank refset 0 ≤ membership_rank r m.referenced) × (membership_rank r m.referenced ≤ membership_rank refset 18446744073709551615)) (sym own) (rank_within refset m.referenced 0 (omega arith))
-wanted_within refset (wanted.Values after last) m id e =
-    let t = three m.active (m.refset == refset) (is_between after last m.referenced) e in
-    let own : m.refset ≡ refset = eqb-true m.refset refset t.0 in
-    let w = and_parts (is_above after m.referenced) (is_up_to last m.referenced) t.1 in
-    subst (λ r. (low_rank refset (wanted.Values after last) ≤ membership_rank r m.referenced) × (membership_rank r m.referenced ≤ high_rank refset (wanted.Values after last))) (sym own) (above_low refset m.referenced after last w.0, below_high refset m.referenced after last w.1)
-wanted_within refset (wanted.About component) m id e =
-    let t = three m.active (m.refset == refset) (m.referenced == component) e in
-    let own : m.refset ≡ refset = eqb-true m.refset refset t.0 in
-    let same : m.referenced ≡ component = eqb-true m.referenced component t.1 in
-    let rank_is : membership_rank m.refset m.referenced ≡ membership_rank refset component = (λ i. membership_rank (own i) (same i)) in
-    (omega (arith, rank_is), omega (arith, rank_is))
+same_rank : (s t : Tag) (first n : ℕ) → tag_place s ≡ tag_place t → posting_rank s first n ≡ posting_rank t first n
+same_rank s t first n e = ap (λ (place : ℕ). (1152921504606846976 * place + min first 1152921504606846975) * 18446744073709551616 + min n 18446744073709551615) e
+
+pub wanted_within : (w : Wanted) (p : Posting) → is_wanted w (key_of p) ≡ true → (low_rank w ≤ rank_of p) × (rank_of p ≤ high_rank w)
+wanted_within w p e =
+    let k = wanted_parts w (key_of p) e in
+    let own : posting_rank p.tag p.first p.second ≡ posting_rank w.tag w.first p.second = same_rank p.tag w.tag p.first p.second k.tag_is ∙ ap (λ (n : ℕ). posting_rank w.tag n p.second) k.first_is in
+    subst (λ (n : ℕ). (low_rank w ≤ n) × (n ≤ high_rank w)) (sym own) (above_low w.tag w.first p.second w.seconds k.second_so, below_high w.tag w.first p.second w.seconds k.second_so)
 
 -- ---- one list more
 

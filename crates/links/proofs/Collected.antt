@@ -53,19 +53,3 @@ module _ {X Y : Type 0} (Gives : ℕ → X → Y → Type 0) (of : X → ℕ) (d
       | inr r ↦ (let q = (which r.0).0 r.1 in ((n, r.0), Has-append_right seen (in_list n xs) (n, r.0) (Has-map_from (λ (x : X). (n, x)) xs r.0 q.0), q.1, r.2))
     ];
   }
-
-  -- of all that are looked at those are picked that are of d
-  pub more_picked : (n : ℕ) (seen : List (ℕ × X)) (xs : List X) (old new : List Y) → AreTaken Gives of d seen old → Takes (λ (x : X) (y : Y). (of x ≡ d) × Gives n x y) xs old new → AreTaken Gives of d (seen ++ in_list n xs) new
-  more_picked n seen xs old new a t = record {
-    taken = λ x y h e given. elim (Has-append_cases seen (in_list n xs) x h) [
-      | inl l ↦ t.kept y (a.taken x y l e given)
-      | inr r ↦ (
-          let m = one_of n xs x r in
-          let there : Has xs x.1 = subst (λ z. Has xs z) (sym (ap (λ (z : ℕ × X). z.1) m.2)) m.1 in
-          t.taken x.1 y there (e, subst (λ k. Gives k x.1 y) (ap (λ (z : ℕ × X). z.0) m.2) given))
-    ];
-    only = λ y h. elim (t.only y h) [
-      | inl l ↦ (let w = a.only y l in (w.0, Has-append_left seen (in_list n xs) w.0 w.1, w.2, w.3))
-      | inr r ↦ ((n, r.0), Has-append_right seen (in_list n xs) (n, r.0) (Has-map_from (λ (x : X). (n, x)) xs r.0 r.1), r.2.0, r.2.1)
-    ];
-  }

@@ -1,29 +1,27 @@
 -- What the answers about members have, and that they ascend.
 use Rattle.std.proofs.Common.{◌≡◌, ℕ, true, false, Bool, List, [], refl, sym, ap, inl, inr, ◌∙◌}
-use Rattle.std.specs.Prelude.{◌==◌, ◌&&◌, Option, Some}
+use Rattle.std.specs.Prelude.{◌==◌, ◌&&◌, Option}
 use Rattle.std.specs.List.{filter}
 use Rattle.std.specs.Cmp.{ranked}
 use Rattle.std.specs.declared.cmp.Ordering.TheVariants.{Equal}
-use Rattle.std.proofs.lemmas.Bool.{eqb-true, eq-eqb, and_from, and_parts}
-use Rattle.std.proofs.lemmas.Option.{same_Some}
+use Rattle.std.proofs.lemmas.Bool.{and_from, and_parts}
+use Rattle.list_lemmas.proofs.Kept.{filter_of_both}
 use Rattle.list_lemmas.proofs.Tests.{both_equal, all_three}
 use Rattle.rf2_values.specs.declared.row.Kind.TheVariants as kinds
 use Rattle.rf2_values.specs.declared.row.Body.{Body}
 use Rattle.rf2_values.specs.declared.row.Body.TheVariants as body
-use Rattle.rf2_values.specs.Row.{RowValue, kind_of}
+use Rattle.rf2_values.specs.Row.{RowValue, kind_of, kind_of_body}
 use Rattle.history_model.specs.InOrder.{Has, IsAscending}
 use Rattle.history_model.specs.History.{row_cmp}
 use Rattle.history_model.specs.Laws.{by_id}
-use Rattle.history_model.specs.Queries.{is_above, snapshot, subject_of_body, about, is_member_of, is_member_above, members_above, member_component, component_of, is_value_above, value_cmp, values_above, members_about}
+use Rattle.history_model.specs.Queries.{is_above, snapshot, is_kind, is_subject, subject_of_body, subject_of, is_about, about, is_member_of, is_member_above, members_above, member_component, component_of, is_value_above, value_cmp, values_above, members_about}
 use Rattle.history_model.proofs.InOrder.{Has-put_all_cases, Has-put_all_new}
-use Rattle.history_model.proofs.Filtered.{Has-filter, Has-filter_from, IsAscending-filter}
+use Rattle.history_model.proofs.Filtered.{Has-filter, Has-filter_from, IsAscending-filter, filter_same}
 use Rattle.history_model.proofs.Snapshots.{current_from_snapshot, IsAscending-snapshot, Rises-current}
-use Rattle.history_model.proofs.Ascents.{ascends, one_row_of_a_component, about_is_all, about_ascends}
+use Rattle.history_model.proofs.Ascents.{ascends, one_row_of_a_component}
 use Rattle.history_model.proofs.Membership.{values_above_ascend}
-use Rattle.links.specs.declared.member_search.Wanted.TheVariants as wanted
-use Rattle.links.specs.Private.Memberships.{is_up_to, is_between}
-use Rattle.links.proofs.MemberPosts.{wanted_row}
-use Rattle.links.proofs.MemberRows.{member_kind}
+use Rattle.links.specs.Private.Asking.{is_up_to, is_between}
+use Rattle.links.proofs.Paths.{is_value_between, is_member_about}
 
 three : (a b c : Bool) → (a && b && c) ≡ true → (a ≡ true) × (b ≡ true) × (c ≡ true)
 three a b c e = elim a as (λ (t : Bool). (t && b && c) ≡ true → (t ≡ true) × (b ≡ true) × (c ≡ true)) [
@@ -31,14 +29,16 @@ three a b c e = elim a as (λ (t : Bool). (t && b && c) ≡ true → (t ≡ true
   | false ↦ λ f. absurd (cc)
 ] e
 
--- ---- by id
+-- a member is one of the kind
+pub member_kind : (refset : ℕ) (b : Body) → is_member_of refset b ≡ true → kind_of_body b ≡ kinds.Member
+member_kind refset (body.Concept c) e = absurd (cc)
+member_kind refset (body.Description d) e = absurd (cc)
+member_kind refset (body.Relationship r) e = absurd (cc)
+member_kind refset (body.Association a) e = absurd (cc)
+member_kind refset (body.Concrete c) e = absurd (cc)
+member_kind refset (body.Member m) e = refl
 
-pub members_are_all : (refset date : ℕ) (after : Option ℕ) (rows : List RowValue) (row : RowValue) → (Has (members_above refset date after rows) row → Has (snapshot rows date) row × (is_member_above refset after row ≡ true)) × (Has (snapshot rows date) row × (is_member_above refset after row ≡ true) → Has (members_above refset date after rows) row)
-unfolding members_above
-members_are_all refset date after rows row = (
-  λ h. Has-filter (is_member_above refset after) (snapshot rows date) row h,
-  λ w. Has-filter_from (is_member_above refset after) (snapshot rows date) row w.0 w.1,
-)
+-- ---- by id
 
 pub members_ascend : (refset date : ℕ) (after : Option ℕ) (rows : List RowValue) → IsAscending row_cmp rows → IsAscending by_id (members_above refset date after rows)
 unfolding members_above
@@ -46,26 +46,22 @@ members_ascend refset date after rows up =
     ascends (is_member_above refset after) (λ row. row.id) (snapshot rows date)
     (Rises-current (is_member_above refset after) kinds.Member rows date (λ x e. member_kind refset x.body (and_parts (is_member_of refset x.body) (is_above after x.id) e).0) (snapshot rows date) (IsAscending-snapshot rows date up) (λ x there. current_from_snapshot rows date x there))
 
+member_last : (above up_to member : Bool) → ((above && up_to) && member) ≡ ((member && above) && up_to)
+member_last true true true = refl
+member_last true true false = refl
+member_last true false true = refl
+member_last true false false = refl
+member_last false true true = refl
+member_last false true false = refl
+member_last false false true = refl
+member_last false false false = refl
+
 -- those up to an id, if one is given
-abbrev pub members_up_to : Option ℕ → ℕ → ℕ → Option ℕ → List RowValue → List RowValue
-members_up_to last refset date after rows = filter (λ row. is_up_to last row.id) (members_above refset date after rows)
-
-pub members_up_to_all : (refset date : ℕ) (after last : Option ℕ) (rows : List RowValue) (row : RowValue) → (Has (members_up_to last refset date after rows) row → Has (snapshot rows date) row × (wanted_row refset (wanted.Above after last) row ≡ true)) × (Has (snapshot rows date) row × (wanted_row refset (wanted.Above after last) row ≡ true) → Has (members_up_to last refset date after rows) row)
-members_up_to_all refset date after last rows row = (
-  λ h.
-      let f = Has-filter (λ row. is_up_to last row.id) (members_above refset date after rows) row h in
-      let w = (members_are_all refset date after rows row).0 f.0 in
-      let t = and_parts (is_member_of refset row.body) (is_above after row.id) w.1 in
-      (w.0, and_from (is_member_of refset row.body) (is_between after last row.id) t.0 (and_from (is_above after row.id) (is_up_to last row.id) t.1 f.1)),
-  λ w.
-      let t = and_parts (is_member_of refset row.body) (is_between after last row.id) w.1 in
-      let u = and_parts (is_above after row.id) (is_up_to last row.id) t.1 in
-      Has-filter_from (λ row. is_up_to last row.id) (members_above refset date after rows) row
-      ((members_are_all refset date after rows row).1 (w.0, and_from (is_member_of refset row.body) (is_above after row.id) t.0 u.0)) u.1,
-)
-
-pub members_up_to_ascend : (refset date : ℕ) (after last : Option ℕ) (rows : List RowValue) → IsAscending row_cmp rows → IsAscending by_id (members_up_to last refset date after rows)
-members_up_to_ascend refset date after last rows up = IsAscending-filter (λ row. is_up_to last row.id) by_id (members_above refset date after rows) (members_ascend refset date after rows up)
+pub members_up_to : (refset date : ℕ) (after last : Option ℕ) (rows : List RowValue) → filter (λ row. is_between after last row.id && is_member_of refset row.body) (snapshot rows date) ≡ filter (λ row. is_up_to last row.id) (members_above refset date after rows)
+unfolding members_above
+members_up_to refset date after last rows =
+    filter_of_both (is_member_above refset after) (λ row. is_up_to last row.id) (λ row. is_between after last row.id && is_member_of refset row.body) (snapshot rows date)
+    (λ row. member_last (is_above after row.id) (is_up_to last row.id) (is_member_of refset row.body))
 
 -- ---- by component
 
@@ -93,7 +89,7 @@ values_are_all refset date after rows up row = (
 abbrev pub values_up_to : Option ℕ → ℕ → ℕ → Option ℕ → List RowValue → List RowValue
 values_up_to last refset date after rows = filter (λ row. is_up_to last (component_of row)) (values_above refset date after rows)
 
-pub values_up_to_all : (refset date : ℕ) (after last : Option ℕ) (rows : List RowValue) → IsAscending row_cmp rows → (row : RowValue) → (Has (values_up_to last refset date after rows) row → Has (snapshot rows date) row × (wanted_row refset (wanted.Values after last) row ≡ true)) × (Has (snapshot rows date) row × (wanted_row refset (wanted.Values after last) row ≡ true) → Has (values_up_to last refset date after rows) row)
+pub values_up_to_all : (refset date : ℕ) (after last : Option ℕ) (rows : List RowValue) → IsAscending row_cmp rows → (row : RowValue) → (Has (values_up_to last refset date after rows) row → Has (snapshot rows date) row × (is_value_between refset after last row ≡ true)) × (Has (snapshot rows date) row × (is_value_between refset after last row ≡ true) → Has (values_up_to last refset date after rows) row)
 values_up_to_all refset date after last rows up row = (
   λ h.
       let f = Has-filter (λ row. is_up_to last (component_of row)) (values_above refset date after rows) row h in
@@ -112,39 +108,28 @@ values_up_to_ascend refset date after last rows = IsAscending-filter (λ row. is
 
 -- ---- about a component
 
-about_component : (refset id : ℕ) (b : Body) → is_member_of refset b ≡ true → subject_of_body b ≡ Some id → (member_component b == id) ≡ true
-about_component refset id (body.Concept c) e f = absurd (cc)
-about_component refset id (body.Description d) e f = absurd (cc)
-about_component refset id (body.Relationship r) e f = absurd (cc)
-about_component refset id (body.Association a) e f = absurd (cc)
-about_component refset id (body.Concrete c) e f = absurd (cc)
-about_component refset id (body.Member m) e f = eq-eqb m.referenced id (same_Some m.referenced id f)
+about_member : (active of_set component : Bool) → (active && of_set && component) ≡ ((active && component) && of_set)
+about_member true true true = refl
+about_member true true false = refl
+about_member true false true = refl
+about_member true false false = refl
+about_member false of_set component = refl
 
-component_subject : (refset id : ℕ) (b : Body) → is_member_of refset b ≡ true → (member_component b == id) ≡ true → subject_of_body b ≡ Some id
-component_subject refset id (body.Concept c) e f = absurd (cc)
-component_subject refset id (body.Description d) e f = absurd (cc)
-component_subject refset id (body.Relationship r) e f = absurd (cc)
-component_subject refset id (body.Association a) e f = absurd (cc)
-component_subject refset id (body.Concrete c) e f = absurd (cc)
-component_subject refset id (body.Member m) e f = ap Some (eqb-true m.referenced id f)
+no_member : (active of_set about : Bool) → (active && false && of_set) ≡ ((active && false && about) && false)
+no_member true of_set about = refl
+no_member false of_set about = refl
 
-module _ (refset id date : ℕ) (rows : List RowValue) where
-  pub about_are_all : (row : RowValue) → (Has (members_about refset id date rows) row → Has (snapshot rows date) row × (wanted_row refset (wanted.About id) row ≡ true)) × (Has (snapshot rows date) row × (wanted_row refset (wanted.About id) row ≡ true) → Has (members_about refset id date rows) row)
-  unfolding members_about
-  about_are_all row = (
-    λ h.
-        let f = Has-filter (λ row. is_member_of refset row.body) (about kinds.Member id date rows) row h in
-        let w = (about_is_all kinds.Member id date rows row).0 f.0 in
-        (w.0.current, all_three row.active (is_member_of refset row.body) (component_of row == id) w.0.active f.1 (about_component refset id row.body f.1 w.1)),
-    λ w.
-        let t = three row.active (is_member_of refset row.body) (component_of row == id) w.1 in
-        Has-filter_from (λ row. is_member_of refset row.body) (about kinds.Member id date rows) row
-        ((about_is_all kinds.Member id date rows row).1 (
-          record { current = w.0; kind_is = member_kind refset row.body t.1; active = t.0 },
-          component_subject refset id row.body t.1 t.2,
-        )) t.1,
-  )
+member_says : (refset id : ℕ) (active : Bool) (b : Body) (row : RowValue) → row.active ≡ active → row.body ≡ b → is_member_about refset id row ≡ (is_about kinds.Member id row && is_member_of refset row.body)
+member_says refset id active (body.Concept c) row e f = rw (e, f) (no_member active (0 == id) false)
+member_says refset id active (body.Description d) row e f = rw (e, f) (no_member active (0 == id) (d.concept == id))
+member_says refset id active (body.Relationship r) row e f = rw (e, f) (no_member active (0 == id) (r.source == id))
+member_says refset id active (body.Association a) row e f = rw (e, f) (no_member active (0 == id) (a.referenced == id))
+member_says refset id active (body.Concrete c) row e f = rw (e, f) (no_member active (0 == id) (c.source == id))
+member_says refset id true (body.Member m) row e f = rw (e, f) (about_member true (m.refset == refset) (m.referenced == id))
+member_says refset id false (body.Member m) row e f = rw e refl
 
-  pub about_members_ascend : IsAscending row_cmp rows → IsAscending by_id (members_about refset id date rows)
-  unfolding members_about
-  about_members_ascend up = IsAscending-filter (λ row. is_member_of refset row.body) by_id (about kinds.Member id date rows) (about_ascends kinds.Member id date rows up)
+pub members_about_are : (refset id date : ℕ) (rows : List RowValue) → filter (is_member_about refset id) (snapshot rows date) ≡ members_about refset id date rows
+unfolding members_about about
+members_about_are refset id date rows =
+    filter_of_both (is_about kinds.Member id) (λ row. is_member_of refset row.body) (is_member_about refset id) (snapshot rows date)
+    (λ row. member_says refset id row.active row.body row refl refl)

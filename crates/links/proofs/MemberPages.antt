@@ -1,37 +1,35 @@
--- The rows of the places that are chosen are those of the answer: pages of members, and members of descriptions.
+-- The rows of the places that are found are those of the answer: pages of members, and members of descriptions.
 use Rattle.std.proofs.Common.{◌≡◌, ◌⊎◌, ℕ, ◌≤◌, zero, suc, List, [], ◌∷◌, length, map, take, refl, sym, ap, inl, inr, ◌∙◌, arith}
 use Rattle.std.specs.Prelude.{Option, None}
-use Rattle.std.specs.Ordering.{nat_cmp}
+use Rattle.std.specs.List.{filter}
 use Rattle.std.specs.Cmp.{ranked}
 use Rattle.std.specs.declared.cmp.Ordering.TheVariants.{Less, Equal}
 use Rattle.std.proofs.lemmas.List.{take-map, length-map}
 use Rattle.history_model.proofs.InOrder.{Has-all, all_from_has}
 use Rattle.history_model.proofs.Filtered.{Has-map}
-use Rattle.rf2_values.specs.declared.key.Key.{Key}
 use Rattle.rf2_values.specs.Row.{RowValue}
 use Rattle.history_model.specs.declared.stamped.StampedRow.{StampedRow}
 use Rattle.history_model.specs.InOrder.{IsAscending}
 use Rattle.history_model.specs.History.{row_cmp}
 use Rattle.history_model.specs.Laws.{by_id}
 use Rattle.history_model.specs.Lists.{listed}
-use Rattle.history_model.specs.Queries.{members, members_above, members_about}
+use Rattle.history_model.specs.Queries.{is_member_of, members, members_above, members_about}
 use Rattle.history_model.proofs.Snapshots.{IsAscending-listed, IsAscending-rows_at}
-use Rattle.history_model.proofs.Ascents.{ids_total}
-use Rattle.segment.specs.Standing.{places_of, StandsAt}
+use Rattle.segment.specs.Standing.{places_of}
 use Rattle.as_of_index.specs.declared.as_of.AsOf.{AsOf}
 use Rattle.as_of_index.specs.declared.chosen.Chosen.{Chosen}
 use Rattle.as_of_index.specs.Places.{ArePlaces}
 use Rattle.as_of_index.specs.Chosen.{StandAtAll}
-use Rattle.as_of_index.specs.Private.Chosen.{chosen_cmp}
 use Rattle.as_of_index.specs.Private.Postings.{numbered}
-use Rattle.as_of_index.proofs.Current.{standing_row}
 use Rattle.as_of_index.specs.Current.{rows_seen}
-use Rattle.links.specs.declared.member_search.Wanted.TheVariants as wanted
 use Rattle.links.specs.Edges.{Edges}
-use Rattle.links.specs.Private.Memberships.{memberships_in, AreMembers, AreEnough}
+use Rattle.links.specs.Private.{postings_in}
+use Rattle.links.specs.Private.Asking.{is_up_to, placed_cmp, AreFound, AreEnough}
+use Rattle.links.specs.Private.Memberships.{asked_above, asked_about}
 use Rattle.links.specs.Laws.{EachPosted}
-use Rattle.links.proofs.MemberRows.{members_from_chosen}
-use Rattle.links.proofs.MemberAnswers.{members_ascend, members_up_to, members_up_to_all, members_up_to_ascend, about_are_all, about_members_ascend}
+use Rattle.links.proofs.FoundRows.{selected_from_found}
+use Rattle.links.proofs.MemberAnswers.{members_ascend, members_up_to, members_about_are}
+use Rattle.links.proofs.Paths.{path_of_members, path_of_members_about, is_member_about}
 use Rattle.links.proofs.Ties.{Rising, take_up_to}
 
 -- the first places, and their rows
@@ -71,36 +69,28 @@ ids_rise (x ∷ xs) up = (
   ids_rise xs up.1,
 )
 
-same_id : (j k : Chosen) → chosen_cmp j k ≡ Equal → j.at.key.id ≡ k.at.key.id
-same_id j k e = ranked j.at.key.id k.at.key.id Equal (sym e)
-
 module _ (lists : List (List StampedRow)) (are : ArePlaces (map places_of lists)) (edges : List Edges) (posts : EachPosted lists edges) (refset : ℕ) (as_of : AsOf) where
-  by_rows_id : (j k : Chosen) (s t : StampedRow) → StandsAt lists j.segment j.at s → StandsAt lists k.segment k.at t → chosen_cmp j k ≡ Less → by_id s.row t.row ≡ Less
-  by_rows_id j k s t v w less =
-      let id_s : s.row.id ≡ j.at.key.id = ap (λ (q : Key). q.id) (sym (standing_row lists are j.segment j.at s v).1) in
-      let id_t : t.row.id ≡ k.at.key.id = ap (λ (q : Key). q.id) (sym (standing_row lists are k.segment k.at t w).1) in
-      (λ i. nat_cmp (id_s i) (id_t i)) ∙ less
-
   shown_up : IsAscending row_cmp (rows_seen as_of lists)
   shown_up = IsAscending-rows_at as_of.pin (listed lists) (IsAscending-listed lists)
 
-  pub page_from_chosen : (after : Option ℕ) (limit : ℕ) (kept : List Chosen) → AreEnough chosen_cmp (λ last. wanted.Above after last) limit lists refset as_of (numbered 0 (memberships_in edges)) kept
+  pub page_from_found : (after : Option ℕ) (limit : ℕ) (kept : List Chosen) → AreEnough placed_cmp (asked_above refset as_of after) limit lists (numbered 0 (postings_in edges)) kept
       → (rows : List StampedRow) × StandAtAll lists (take limit kept) rows × (map (λ (s : StampedRow). s.row) rows ≡ members refset as_of.date after limit (rows_seen as_of lists))
   unfolding members
-  page_from_chosen after limit kept a =
+  page_from_found after limit kept a =
       let last = a.0 in
       let now = rows_seen as_of lists in
-      let w = members_from_chosen lists are edges posts refset as_of (wanted.Above after last) chosen_cmp same_id kept a.1 (members_up_to last refset as_of.date after now) (members_up_to_all refset as_of.date after last now)
-      by_id ids_total (members_up_to_ascend refset as_of.date after last now shown_up) (λ j k s t g h. by_rows_id j k s t) in
+      let found = selected_from_found lists are edges posts (asked_above refset as_of after last) (λ row. is_member_of refset row.body) (path_of_members refset) kept a.1 in
+      let answer = filter (λ (row : RowValue). is_up_to last row.id) (members_above refset as_of.date after now) in
+      let is : map (λ (s : StampedRow). s.row) found.0 ≡ answer = found.2 ∙ members_up_to refset as_of.date after last now in
       let rising = ids_rise (members_above refset as_of.date after now) (members_ascend refset as_of.date after now shown_up) in (
-        take limit w.0,
-        stand_take lists kept w.0 limit w.1,
-        sym (take-map (λ (s : StampedRow). s.row) limit w.0) ∙ ap (take limit) w.2
-            ∙ sym (take_up_to (λ (row : RowValue). row.id) last limit (members_above refset as_of.date after now) rising (enough_rows lists last limit kept w.0 (members_up_to last refset as_of.date after now) w.1 w.2 a.2)),
+        take limit found.0,
+        stand_take lists kept found.0 limit found.1,
+        sym (take-map (λ (s : StampedRow). s.row) limit found.0) ∙ ap (take limit) is
+            ∙ sym (take_up_to (λ (row : RowValue). row.id) last limit (members_above refset as_of.date after now) rising (enough_rows lists last limit kept found.0 answer found.1 is a.2)),
       )
 
-  pub about_from_members : (id : ℕ) (kept : List Chosen) → AreMembers chosen_cmp lists (record { refset = refset; wanted = wanted.About id; as_of = as_of }) (numbered 0 (memberships_in edges)) kept
+  pub about_from_found : (id : ℕ) (kept : List Chosen) → AreFound placed_cmp lists (asked_about refset as_of id) (numbered 0 (postings_in edges)) kept
       → (rows : List StampedRow) × StandAtAll lists kept rows × (map (λ (s : StampedRow). s.row) rows ≡ members_about refset id as_of.date (rows_seen as_of lists))
-  about_from_members id kept a =
-      members_from_chosen lists are edges posts refset as_of (wanted.About id) chosen_cmp same_id kept a (members_about refset id as_of.date (rows_seen as_of lists)) (about_are_all refset id as_of.date (rows_seen as_of lists))
-      by_id ids_total (about_members_ascend refset id as_of.date (rows_seen as_of lists) shown_up) (λ j k s t g h. by_rows_id j k s t)
+  about_from_found id kept a =
+      let found = selected_from_found lists are edges posts (asked_about refset as_of id) (is_member_about refset id) (path_of_members_about refset id) kept a in
+      (found.0, found.1, found.2 ∙ members_about_are refset id as_of.date (rows_seen as_of lists))

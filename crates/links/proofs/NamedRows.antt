@@ -11,19 +11,20 @@ use Rattle.as_of_index.specs.declared.as_of.AsOf.{AsOf}
 use Rattle.as_of_index.specs.declared.chosen.Chosen.{Chosen}
 use Rattle.as_of_index.specs.Places.{ArePlaces}
 use Rattle.as_of_index.specs.Chosen.{StandAtAll}
-use Rattle.as_of_index.specs.Private.Chosen.{chosen_cmp}
 use Rattle.as_of_index.specs.Private.Postings.{numbered}
 use Rattle.as_of_index.proofs.Current.{standing_row}
 use Rattle.as_of_index.specs.Current.{rows_seen}
-use Rattle.links.specs.declared.membership.Membership.{Membership}
+use Rattle.links.specs.declared.posting.Posting.{Posting}
 use Rattle.links.specs.Edges.{Edges}
-use Rattle.links.specs.Private.Memberships.{memberships_in, with_members, asked_about, AreMembers, AreNamed}
+use Rattle.links.specs.Private.{postings_in}
+use Rattle.links.specs.Private.Asking.{placed_cmp, AreFound}
+use Rattle.links.specs.Private.Memberships.{with_members, asked_about, AreNamed}
 use Rattle.links.specs.Laws.{EachPosted}
-use Rattle.links.proofs.MemberPages.{about_from_members}
+use Rattle.links.proofs.MemberPages.{about_from_found}
 
 -- one description more
-pub named_push : (lists : List (List StampedRow)) (refset : ℕ) (as_of : AsOf) (xs : List (ℕ × Membership)) (ks : List Chosen) (k : Chosen) (kept those : List Chosen) → AreNamed lists refset as_of xs ks kept
-    → AreMembers chosen_cmp lists (asked_about refset as_of k) xs those → AreNamed lists refset as_of xs (ks ++ k ∷ []) (kept ++ with_members k those)
+pub named_push : (lists : List (List StampedRow)) (refset : ℕ) (as_of : AsOf) (xs : List (ℕ × Posting)) (ks : List Chosen) (k : Chosen) (kept those : List Chosen) → AreNamed lists refset as_of xs ks kept
+    → AreFound placed_cmp lists (asked_about refset as_of k.at.key.id) xs those → AreNamed lists refset as_of xs (ks ++ k ∷ []) (kept ++ with_members k those)
 named_push lists refset as_of xs [] k kept those a m = (those, [], m, ap (λ (ys : List Chosen). ys ++ with_members k those) a ∙ sym (append-nil (with_members k those)), refl)
 named_push lists refset as_of xs (j ∷ ks) k kept those a m = (
   a.0,
@@ -56,14 +57,14 @@ module _ (lists : List (List StampedRow)) (are : ArePlaces (map places_of lists)
   abbrev answer_about : RowValue → List RowValue
   answer_about row = with_others row (members_about refset row.id as_of.date (rows_seen as_of lists))
 
-  pub named_from_chosen : (ks : List Chosen) (rows : List StampedRow) (kept : List Chosen) → StandAtAll lists ks rows → AreNamed lists refset as_of (numbered 0 (memberships_in edges)) ks kept
+  pub named_from_chosen : (ks : List Chosen) (rows : List StampedRow) (kept : List Chosen) → StandAtAll lists ks rows → AreNamed lists refset as_of (numbered 0 (postings_in edges)) ks kept
       → (all : List StampedRow) × StandAtAll lists kept all × (map (λ (s : StampedRow). s.row) all ≡ flat_map answer_about (map (λ (s : StampedRow). s.row) rows))
   named_from_chosen [] [] kept a n = ([], subst (λ (ys : List Chosen). StandAtAll lists ys []) (sym n) tt, refl)
   named_from_chosen [] (s ∷ rows) kept a n = absurd a
   named_from_chosen (k ∷ ks) [] kept a n = absurd a
   named_from_chosen (k ∷ ks) (s ∷ rows) kept a n =
       let id_is : k.at.key.id ≡ s.row.id = ap (λ (q : Key). q.id) (standing_row lists are k.segment k.at s a.0).1 in
-      let m = about_from_members lists are edges posts refset as_of k.at.key.id n.0 n.2 in
+      let m = about_from_found lists are edges posts refset as_of k.at.key.id n.0 n.2 in
       let one = with_rows lists k s n.0 m.0 a.0 m.1 in
       let rest = named_from_chosen ks rows n.1 a.1 n.4 in
       let about_is : map (λ (t : StampedRow). t.row) one.0 ≡ answer_about s.row =
@@ -74,7 +75,7 @@ module _ (lists : List (List StampedRow)) (are : ArePlaces (map places_of lists)
       )
 
   pub called_from_chosen : (concept : ℕ) (ks : List Chosen) → ((rows : List StampedRow) × StandAtAll lists ks rows × (map (λ (s : StampedRow). s.row) rows ≡ about kinds.Description concept as_of.date (rows_seen as_of lists)))
-      → (kept : List Chosen) → AreNamed lists refset as_of (numbered 0 (memberships_in edges)) ks kept
+      → (kept : List Chosen) → AreNamed lists refset as_of (numbered 0 (postings_in edges)) ks kept
       → (rows : List StampedRow) × StandAtAll lists kept rows × (map (λ (s : StampedRow). s.row) rows ≡ called concept as_of.date refset (rows_seen as_of lists))
   unfolding called
   called_from_chosen concept ks w kept n =

@@ -1,18 +1,20 @@
 -- The rows of the places that are kept of a value set are those of the answer.
-use Rattle.std.proofs.Common.{◌≡◌, ◌⊎◌, ℕ, zero, suc, ◌≤◌, List, [], ◌∷◌, length, get_or, map, take, refl, sym, ap, subst, inl, inr, ◌∙◌, arith}
-use Rattle.std.specs.Prelude.{Option, None}
+use Rattle.std.proofs.Common.{◌≡◌, ◌⊎◌, ℕ, Bool, zero, suc, ◌≤◌, List, [], ◌∷◌, length, get_or, map, take, refl, sym, ap, subst, inl, inr, ◌∙◌, arith}
+use Rattle.std.specs.Prelude.{◌&&◌, Option, None}
 use Rattle.std.specs.List.Sorted.{IsNonDecreasingBy}
 use Rattle.std.specs.Ordering.{nat_cmp, ordering_then}
 use Rattle.std.specs.Cmp.{ranked, nat_cmp_is}
 use Rattle.std.specs.declared.cmp.Ordering.TheVariants.{Less, Equal}
 use Rattle.std.proofs.lemmas.List.{take-map}
+use Rattle.std.proofs.lemmas.Bool.{and_parts}
 use Rattle.rf2_values.specs.declared.key.Key.{Key}
+use Rattle.rf2_values.specs.declared.row.Kind.TheVariants.{Member}
 use Rattle.rf2_values.specs.Row.{RowValue}
 use Rattle.history_model.specs.declared.stamped.StampedRow.{StampedRow}
 use Rattle.history_model.specs.InOrder.{Has, IsAscending}
 use Rattle.history_model.specs.History.{row_cmp}
 use Rattle.history_model.specs.Lists.{listed}
-use Rattle.history_model.specs.Queries.{component_of, value_cmp, values, values_above}
+use Rattle.history_model.specs.Queries.{is_member_of, component_of, value_cmp, values, values_above}
 use Rattle.history_model.proofs.InOrder.{Has-all, all_from_has}
 use Rattle.history_model.proofs.Filtered.{Has-map}
 use Rattle.history_model.proofs.Snapshots.{first_half, IsAscending-listed, IsAscending-rows_at}
@@ -27,13 +29,17 @@ use Rattle.as_of_index.specs.Private.Chosen.{ranked_cmp}
 use Rattle.as_of_index.specs.Private.Postings.{numbered}
 use Rattle.as_of_index.proofs.Current.{standing_row}
 use Rattle.as_of_index.specs.Current.{rows_seen}
-use Rattle.links.specs.declared.member_search.Wanted.TheVariants as wanted
+use Rattle.links.specs.declared.finding.Asked.{Asked}
 use Rattle.links.specs.Edges.{Edges}
-use Rattle.links.specs.Private.Memberships.{memberships_in, AreMembers, IsCutAt}
+use Rattle.links.specs.Private.{postings_in}
+use Rattle.links.specs.Private.Asking.{is_between, AreFound}
+use Rattle.links.specs.Private.Memberships.{asked_values, IsCutAt}
 use Rattle.links.specs.Laws.{EachPosted}
+use Rattle.links.proofs.Between.{wanted_parts}
+use Rattle.links.proofs.FoundRows.{IsRowFound, row_kept, own_row, rows_from_found}
+use Rattle.links.proofs.Paths.{is_value_between, path_of_values, second_at, second_is}
 use Rattle.links.proofs.Ranked.{one_id}
-use Rattle.links.proofs.MemberRows.{member_kept, component_at, members_from_chosen}
-use Rattle.links.proofs.MemberAnswers.{values_up_to, values_up_to_all, values_up_to_ascend}
+use Rattle.links.proofs.MemberAnswers.{member_kind, values_up_to, values_up_to_all, values_up_to_ascend}
 use Rattle.links.proofs.MemberPages.{stand_take, enough_rows}
 use Rattle.links.proofs.Ties.{Rising, cut_up_to}
 
@@ -79,44 +85,71 @@ components_rise (x ∷ xs) up = (
   components_rise xs up.1,
 )
 
-module _ (lists : List (List StampedRow)) (are : ArePlaces (map places_of lists)) (edges : List Edges) (posts : EachPosted lists edges) (refset : ℕ) (as_of : AsOf) (after last : Option ℕ) (kept : List Chosen)
-    (a : AreMembers ranked_cmp lists (record { refset = refset; wanted = wanted.Values after last; as_of = as_of }) (numbered 0 (memberships_in edges)) kept) where
-  pub kept_rise : IsNonDecreasingBy (λ (k : Chosen). k.target) kept
-  kept_rise = targets_rise refset kept a.2.ascending (λ k h. (member_kept lists are edges posts refset as_of (wanted.Values after last) ranked_cmp one_id kept a k h).refset_is)
+module _ (lists : List (List StampedRow)) (are : ArePlaces (map places_of lists)) (edges : List Edges) (posts : EachPosted lists edges) (refset : ℕ) (as_of : AsOf) (after last : Option ℕ) where
+  abbrev asked : Asked
+  asked = asked_values refset as_of after last
 
-  own_component : (k : Chosen) (s : StampedRow) → Has kept k → StandsAt lists k.segment k.at s → component_of s.row ≡ k.target
-  own_component = component_at lists are edges posts refset as_of (wanted.Values after last) ranked_cmp one_id kept a
+  abbrev test : RowValue → Bool
+  test = is_value_between refset after last
 
-  own_refset : (k : Chosen) → Has kept k → k.refset ≡ refset
-  own_refset k h = (member_kept lists are edges posts refset as_of (wanted.Values after last) ranked_cmp one_id kept a k h).refset_is
+  abbrev IsValueFound : Chosen → Type 0
+  IsValueFound k = IsRowFound lists are edges posts asked test (path_of_values refset after last) k
 
-  ranks : (j k : Chosen) (s t : StampedRow) → Has kept j → Has kept k → StandsAt lists j.segment j.at s → StandsAt lists k.segment k.at t → ranked_cmp j k ≡ Less → value_cmp s.row t.row ≡ Less
-  ranks j k s t g h v w less =
-      let id_s : s.row.id ≡ j.at.key.id = ap (λ (q : Key). q.id) (sym (standing_row lists are j.segment j.at s v).1) in
-      let id_t : t.row.id ≡ k.at.key.id = ap (λ (q : Key). q.id) (sym (standing_row lists are k.segment k.at t w).1) in
-      let component_s = own_component j s g v in
-      let component_t = own_component k t h w in
-      let one : j.refset ≡ k.refset = own_refset j g ∙ sym (own_refset k h) in
-      let tie : nat_cmp j.refset k.refset ≡ Equal = sym (nat_cmp_is j.refset k.refset Equal one) in
-      (λ i. ordering_then (nat_cmp (component_s i) (component_t i)) (nat_cmp (id_s i) (id_t i)))
-      ∙ sym (ap (λ o. ordering_then o (ordering_then (nat_cmp j.target k.target) (nat_cmp j.at.key.id k.at.key.id))) tie) ∙ less
+  found_kind : (k : Chosen) → IsValueFound k → k.at.key.kind ≡ Member
+  found_kind k r =
+      let row = r.row.s.row in
+      ap (λ (q : Key). q.kind) (standing_row lists are k.segment k.at r.row.s r.row.stands).1
+      ∙ member_kind refset row.body (and_parts row.active (is_member_of refset row.body) (and_parts (row.active && is_member_of refset row.body) (is_between after last (component_of row)) r.row.passed).0).1
 
-  shown_up : IsAscending row_cmp (rows_seen as_of lists)
-  shown_up = IsAscending-rows_at as_of.pin (listed lists) (IsAscending-listed lists)
+  -- of one rank there is one member alone
+  one_member : (j k : Chosen) → IsValueFound j → IsValueFound k → ranked_cmp j k ≡ Equal → (j.at.key.kind ≡ k.at.key.kind) × (j.at.key.id ≡ k.at.key.id)
+  one_member j k r s e = (found_kind j r ∙ sym (found_kind k s), one_id j k e)
 
-  pub values_from_chosen : (limit count : ℕ) → (last ≡ None) ⊎ (limit ≤ length kept) → IsCutAt limit (map {B = ℕ} (λ (k : Chosen). k.target) kept) count
-      → (rows : List StampedRow) × StandAtAll lists (take count kept) rows × (map (λ (s : StampedRow). s.row) rows ≡ values refset as_of.date after limit (rows_seen as_of lists))
-  unfolding values
-  values_from_chosen limit count enough cut =
-      let now = rows_seen as_of lists in
-      let answer = values_up_to last refset as_of.date after now in
-      let w = members_from_chosen lists are edges posts refset as_of (wanted.Values after last) ranked_cmp one_id kept a answer (values_up_to_all refset as_of.date after last now shown_up)
-      value_cmp value_total (values_up_to_ascend refset as_of.date after last now) ranks in
-      let numbers = numbers_are lists kept w.0 w.1 own_component ∙ ap (λ (rows : List RowValue). map component_of rows) w.2 in
-      let cut_rows : IsCutAt limit (map component_of answer) count = subst (λ ds. IsCutAt limit ds count) numbers cut in
-      let rising = components_rise (values_above refset as_of.date after now) (values_above_ascend refset as_of.date after now) in (
-        take count w.0,
-        stand_take lists kept w.0 count w.1,
-        sym (take-map (λ (s : StampedRow). s.row) count w.0) ∙ ap (take count) w.2
-            ∙ sym (cut_up_to component_of last limit count (values_above refset as_of.date after now) rising (enough_rows lists last limit kept w.0 answer w.1 w.2 enough) cut_rows),
-      )
+  module _ (kept : List Chosen) (a : AreFound ranked_cmp lists asked (numbered 0 (postings_in edges)) kept) where
+    value_kept : (k : Chosen) → Has kept k → IsValueFound k
+    value_kept = row_kept lists are edges posts asked test (path_of_values refset after last) ranked_cmp one_member kept a
+
+    own_refset : (k : Chosen) → Has kept k → k.refset ≡ refset
+    own_refset k h = let r = value_kept k h in r.first_is ∙ (wanted_parts asked.wanted r.key r.row.wanted_so).first_is
+
+    own_component : (k : Chosen) (s : StampedRow) → Has kept k → StandsAt lists k.segment k.at s → component_of s.row ≡ k.target
+    unfolding value_kept
+    own_component k s h v =
+        let r = value_kept k h in
+        let own = own_row lists are edges posts asked test (path_of_values refset after last) ranked_cmp one_member kept a k s h v in
+        let second : component_of r.row.s.row ≡ k.target = ap (λ n. second_at n r.row.s.row.body) (sym (wanted_parts asked.wanted r.key r.row.wanted_so).tag_is) ∙ second_is r.row.s.row.active r.row.s.row.body r.key r.row.key_there ∙ sym r.second_is in
+        subst (λ (z : StampedRow). component_of z.row ≡ k.target) own second
+
+    pub kept_rise : IsNonDecreasingBy (λ (k : Chosen). k.target) kept
+    kept_rise = targets_rise refset kept a.2.ascending own_refset
+
+    ranks : (j k : Chosen) (s t : StampedRow) → Has kept j → Has kept k → StandsAt lists j.segment j.at s → StandsAt lists k.segment k.at t → ranked_cmp j k ≡ Less → value_cmp s.row t.row ≡ Less
+    ranks j k s t g h v w less =
+        let id_s : s.row.id ≡ j.at.key.id = ap (λ (q : Key). q.id) (sym (standing_row lists are j.segment j.at s v).1) in
+        let id_t : t.row.id ≡ k.at.key.id = ap (λ (q : Key). q.id) (sym (standing_row lists are k.segment k.at t w).1) in
+        let component_s = own_component j s g v in
+        let component_t = own_component k t h w in
+        let one : j.refset ≡ k.refset = own_refset j g ∙ sym (own_refset k h) in
+        let tie : nat_cmp j.refset k.refset ≡ Equal = sym (nat_cmp_is j.refset k.refset Equal one) in
+        (λ i. ordering_then (nat_cmp (component_s i) (component_t i)) (nat_cmp (id_s i) (id_t i)))
+        ∙ sym (ap (λ o. ordering_then o (ordering_then (nat_cmp j.target k.target) (nat_cmp j.at.key.id k.at.key.id))) tie) ∙ less
+
+    shown_up : IsAscending row_cmp (rows_seen as_of lists)
+    shown_up = IsAscending-rows_at as_of.pin (listed lists) (IsAscending-listed lists)
+
+    pub values_from_found : (limit count : ℕ) → (last ≡ None) ⊎ (limit ≤ length kept) → IsCutAt limit (map {B = ℕ} (λ (k : Chosen). k.target) kept) count
+        → (rows : List StampedRow) × StandAtAll lists (take count kept) rows × (map (λ (s : StampedRow). s.row) rows ≡ values refset as_of.date after limit (rows_seen as_of lists))
+    unfolding values
+    values_from_found limit count enough cut =
+        let now = rows_seen as_of lists in
+        let answer = values_up_to last refset as_of.date after now in
+        let w = rows_from_found lists are edges posts asked test (path_of_values refset after last) ranked_cmp one_member kept a answer (values_up_to_all refset as_of.date after last now shown_up)
+        value_cmp value_total (values_up_to_ascend refset as_of.date after last now) ranks in
+        let numbers = numbers_are lists kept w.0 w.1 (λ k s h v. own_component k s h v) ∙ ap (λ (rows : List RowValue). map component_of rows) w.2 in
+        let cut_rows : IsCutAt limit (map component_of answer) count = subst (λ ds. IsCutAt limit ds count) numbers cut in
+        let rising = components_rise (values_above refset as_of.date after now) (values_above_ascend refset as_of.date after now) in (
+          take count w.0,
+          stand_take lists kept w.0 count w.1,
+          sym (take-map (λ (s : StampedRow). s.row) count w.0) ∙ ap (take count) w.2
+              ∙ sym (cut_up_to component_of last limit count (values_above refset as_of.date after now) rising (enough_rows lists last limit kept w.0 answer w.1 w.2 enough) cut_rows),
+        )

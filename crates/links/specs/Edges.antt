@@ -1,13 +1,10 @@
--- The postings of rows: links of relationships, references and targets of associations, what rows
--- other than concepts are about, and memberships in reference sets.
-use Rattle.std.specs.Prelude.{ℕ, ◌+◌, ◌*◌, ◌==◌, min, Bool, List, [], ◌∷◌, ◌++◌, length}
-use Rattle.std.specs.Prelude.{if◌then◌else◌}
+-- The postings of rows: what a row other than a concept is about, and by which two numbers a
+-- relationship, an association or a member of a reference set is found.
+use Rattle.std.specs.Prelude.{ℕ, ◌+◌, ◌*◌, ◌==◌, ◌&&◌, min, Bool, true, List, [], ◌∷◌, ◌++◌}
+use Rattle.std.specs.Prelude.{if◌then◌else◌, length, map}
 use Rattle.std.specs.Prelude.{Option, Some, None}
 use Rattle.std.specs.List.Sorted.{IsNonDecreasingBy, IsPermutation}
-use Rattle.rf2_values.specs.declared.row.Association.{Association}
 use Rattle.rf2_values.specs.declared.row.Body.{Body}
-use Rattle.rf2_values.specs.declared.row.Relationship.{Relationship}
-use Rattle.rf2_values.specs.declared.row.RefsetMember.{RefsetMember}
 use Rattle.rf2_values.specs.declared.row.Body.TheVariants as body
 use Rattle.rf2_values.specs.declared.row.Kind.{Kind}
 use Rattle.rf2_values.specs.Key.{kind_place}
@@ -15,174 +12,120 @@ use Rattle.rf2_values.specs.Row.{RowValue, kind_of}
 use Rattle.history_model.specs.Queries.{is_a, subject_of}
 use Rattle.history_model.specs.declared.stamped.StampedRow.{StampedRow}
 use Rattle.as_of_index.specs.Postings.{posted_all}
-use Rattle.links.specs.declared.postings.Link.{Link}
-use Rattle.links.specs.declared.postings.Reference.{Reference}
-use Rattle.links.specs.declared.postings.Target.{Target}
+use Rattle.links.specs.declared.posting.Tag.{Tag}
+use Rattle.links.specs.declared.posting.Tag.TheVariants as tags
+use Rattle.links.specs.declared.posting.Posting.{Posting}
 use Rattle.links.specs.declared.postings.Subject.{Subject}
-use Rattle.links.specs.declared.membership.Membership.{Membership}
 
--- links of relationships, references and targets of associations, subjects of rows, and memberships
--- of reference sets
-pub record Edges : Type 0 where
-  pub links : List Link
-  pub references : List Reference
-  pub targets : List Target
-  pub subjects : List Subject
-  pub memberships : List Membership
+-- ---- by which numbers a row is found
 
-abbrev pub no_edges : Edges
-no_edges =
-    record { links = []; references = []; targets = []; subjects = []; memberships = [] }
+-- a tag, two numbers that it explains, and whether the row is active
+pub record RowKey : Type 0 where
+  pub tag : Tag
+  pub first : ℕ
+  pub second : ℕ
+  pub active : Bool
 
--- the postings of one, each kind followed by those of the other
-abbrev pub joined_edges : Edges → Edges → Edges
-joined_edges a b =
-    record {
-      links = a.links ++ b.links;
-      references = a.references ++ b.references;
-      targets = a.targets ++ b.targets;
-      subjects = a.subjects ++ b.subjects;
-      memberships = a.memberships ++ b.memberships;
-    }
+abbrev pub row_key : Tag → ℕ → ℕ → Bool → RowKey
+row_key tag first second active =
+    record { tag = tag; first = first; second = second; active = active }
 
--- how many links, references, targets, subjects and memberships there are
-pub record EdgeCount : Type 0 where
-  pub links : ℕ
-  pub references : ℕ
-  pub targets : ℕ
-  pub subjects : ℕ
-  pub memberships : ℕ
+-- an active "is a" relationship is found by its destination and its source, and the other way round;
+-- an active association by its target and its reference set; and a member, active or not, by its
+-- reference set and the component that it refers to
+abbrev pub keys_of_body : Bool → Body → List RowKey
+keys_of_body active (body.Concept c) = []
+keys_of_body active (body.Description d) = []
+keys_of_body active (body.Relationship r) = if active && r.type_id == is_a
+    then row_key tags.Child r.destination r.source true
+    ∷ row_key tags.Parent r.source r.destination true ∷ [] else []
+keys_of_body active (body.Association a) =
+    if active then row_key tags.Target a.target a.refset true ∷ [] else []
+keys_of_body active (body.Concrete c) = []
+keys_of_body active (body.Member m) = row_key tags.Member m.refset m.referenced active ∷ []
 
-abbrev pub count_of : Edges → EdgeCount
-count_of e =
-    record {
-      links = length e.links;
-      references = length e.references;
-      targets = length e.targets;
-      subjects = length e.subjects;
-      memberships = length e.memberships;
-    }
+abbrev pub keys_of : RowValue → List RowKey
+keys_of row = keys_of_body row.active row.body
 
--- the same links, references, targets, subjects and memberships, in any order
-pub record AreSameEdges (a b : Edges) : Type 0 where
-  pub links : IsPermutation a.links b.links
-  pub references : IsPermutation a.references b.references
-  pub targets : IsPermutation a.targets b.targets
-  pub subjects : IsPermutation a.subjects b.subjects
-  pub memberships : IsPermutation a.memberships b.memberships
+-- ---- postings
 
--- the rank of rows of a kind that are about a component, by which subjects are sorted: by the
--- component, and then by the kind, of which there are six
-abbrev pub subject_rank : ℕ → Kind → ℕ
-subject_rank id kind = 6 * id + kind_place kind
+-- the posting of row `i` by this key
+abbrev pub posting : ℕ → RowKey → Posting
+posting i k =
+    record { first = k.first; second = k.second; row = i; tag = k.tag; active = k.active }
 
--- the rank of a reference set's members that refer to a component, by which memberships are sorted:
--- by the reference set, and then by the component, whose number has 64 bits
-abbrev pub membership_rank : ℕ → ℕ → ℕ
-membership_rank refset referenced =
-    18446744073709551616 * refset + min referenced 18446744073709551615
-
--- the postings are sorted: links by destination, references by referenced component, targets by
--- target, subjects by what the rows are about and then by kind, and memberships by the reference
--- set and then by the component
-pub record IsSealed (e : Edges) : Type 0 where
-  pub by_destination : IsNonDecreasingBy (λ l. l.destination) e.links
-  pub by_referenced : IsNonDecreasingBy (λ r. r.referenced) e.references
-  pub by_target : IsNonDecreasingBy (λ t. t.target) e.targets
-  pub by_subject : IsNonDecreasingBy (λ x. subject_rank x.subject x.kind) e.subjects
-  pub by_refset : IsNonDecreasingBy (λ m. membership_rank m.refset m.referenced) e.memberships
-
--- the link of a relationship that is row i, and the reference and the target of an association that
--- is row i
-abbrev pub link : Relationship → ℕ → Link
-link r i = record { destination = r.destination; source = r.source; row = i }
-
-abbrev pub reference : Association → ℕ → Reference
-reference a i = record { referenced = a.referenced; refset = a.refset; target = a.target; row = i }
-
-abbrev pub target_at : Association → ℕ → Target
-target_at a i = record { target = a.target; refset = a.refset; referenced = a.referenced; row = i }
-
--- the membership of a member that is row i, active or not
-abbrev pub membership : RefsetMember → Bool → ℕ → Membership
-membership m active i =
-    record { refset = m.refset; referenced = m.referenced; row = i; active = active }
-
--- the link of row `i`, if its body is an "is a" relationship
-abbrev pub link_of_body : Body → ℕ → List Link
-link_of_body (body.Concept c) i = []
-link_of_body (body.Description d) i = []
-link_of_body (body.Relationship r) i = if r.type_id == is_a then link r i ∷ [] else []
-link_of_body (body.Association a) i = []
-link_of_body (body.Concrete c) i = []
-link_of_body (body.Member m) i = []
-
--- the reference of row `i`, if its body is an association
-abbrev pub reference_of_body : Body → ℕ → List Reference
-reference_of_body (body.Concept c) i = []
-reference_of_body (body.Description d) i = []
-reference_of_body (body.Relationship r) i = []
-reference_of_body (body.Association a) i = reference a i ∷ []
-reference_of_body (body.Concrete c) i = []
-reference_of_body (body.Member m) i = []
-
--- the target of row `i`, if its body is an association
-abbrev pub target_of_body : Body → ℕ → List Target
-target_of_body (body.Concept c) i = []
-target_of_body (body.Description d) i = []
-target_of_body (body.Relationship r) i = []
-target_of_body (body.Association a) i = target_at a i ∷ []
-target_of_body (body.Concrete c) i = []
-target_of_body (body.Member m) i = []
+abbrev pub posted : RowValue → ℕ → List Posting
+posted row i = map (posting i) (keys_of row)
 
 -- the subject of row `i`, if it is about something, with its kind
 abbrev pub subject_at : Option ℕ → Kind → ℕ → List Subject
 subject_at None kind i = []
 subject_at (Some id) kind i = record { subject = id; kind = kind; row = i } ∷ []
 
--- the membership of row `i`, if its body is a member, whether it is active or not
-abbrev pub membership_of_body : Bool → Body → ℕ → List Membership
-membership_of_body active (body.Concept c) i = []
-membership_of_body active (body.Description d) i = []
-membership_of_body active (body.Relationship r) i = []
-membership_of_body active (body.Association a) i = []
-membership_of_body active (body.Concrete c) i = []
-membership_of_body active (body.Member m) i = membership m active i ∷ []
-
--- the postings of row `i`: if it is active, its link, its reference, its target and its subject;
--- and if it is a member, active or not, its membership
-abbrev pub posted_link : RowValue → ℕ → List Link
-posted_link row i = if row.active then link_of_body row.body i else []
-
-abbrev pub posted_reference : RowValue → ℕ → List Reference
-posted_reference row i = if row.active then reference_of_body row.body i else []
-
-abbrev pub posted_target : RowValue → ℕ → List Target
-posted_target row i = if row.active then target_of_body row.body i else []
-
+-- what row `i` is about, if it is active
 abbrev pub posted_subject : RowValue → ℕ → List Subject
 posted_subject row i = if row.active then subject_at (subject_of row) (kind_of row) i else []
 
-abbrev pub posted_membership : RowValue → ℕ → List Membership
-posted_membership row i = membership_of_body row.active row.body i
+-- subjects of rows, and their postings by two numbers
+pub record Edges : Type 0 where
+  pub subjects : List Subject
+  pub postings : List Posting
 
+abbrev pub no_edges : Edges
+no_edges = record { subjects = []; postings = [] }
+
+-- the postings of one, each list followed by that of the other
+abbrev pub joined_edges : Edges → Edges → Edges
+joined_edges a b =
+    record { subjects = a.subjects ++ b.subjects; postings = a.postings ++ b.postings }
+
+-- how many subjects and postings there are
+pub record EdgeCount : Type 0 where
+  pub subjects : ℕ
+  pub postings : ℕ
+
+abbrev pub count_of : Edges → EdgeCount
+count_of e = record { subjects = length e.subjects; postings = length e.postings }
+
+-- the same subjects and postings, in any order
+pub record AreSameEdges (a b : Edges) : Type 0 where
+  pub subjects : IsPermutation a.subjects b.subjects
+  pub postings : IsPermutation a.postings b.postings
+
+-- what is posted of row `i`
 abbrev pub edges_of : RowValue → ℕ → Edges
-edges_of row i =
-    record {
-      links = posted_link row i;
-      references = posted_reference row i;
-      targets = posted_target row i;
-      subjects = posted_subject row i;
-      memberships = posted_membership row i;
-    }
+edges_of row i = record { subjects = posted_subject row i; postings = posted row i }
 
 -- the postings of rows, each with its row's number, counted from 0
 abbrev pub posted_edges : List StampedRow → Edges
 posted_edges rows =
-    record {
-      links = posted_all posted_link 0 rows;
-      references = posted_all posted_reference 0 rows;
-      targets = posted_all posted_target 0 rows;
-      subjects = posted_all posted_subject 0 rows;
-      memberships = posted_all posted_membership 0 rows;
-    }
+    record { subjects = posted_all posted_subject 0 rows; postings = posted_all posted 0 rows }
+
+-- ---- their order
+
+-- the rank of rows of a kind that are about a component, by which subjects are sorted: by the
+-- component, and then by the kind, of which there are six
+abbrev pub subject_rank : ℕ → Kind → ℕ
+subject_rank id kind = 6 * id + kind_place kind
+
+-- the place of a tag among them
+abbrev pub tag_place : Tag → ℕ
+tag_place tags.Child = 0
+tag_place tags.Parent = 1
+tag_place tags.Target = 2
+tag_place tags.Member = 3
+
+-- the rank of postings, by which they are sorted: by the tag, then by the first number, then by the
+-- second. Identifiers are less than 2^60 and than 2^64; greater numbers count as the greatest.
+abbrev pub posting_rank : Tag → ℕ → ℕ → ℕ
+posting_rank tag first second =
+    (1152921504606846976 * tag_place tag + min first 1152921504606846975) * 18446744073709551616
+    + min second 18446744073709551615
+
+abbrev pub rank_of : Posting → ℕ
+rank_of p = posting_rank p.tag p.first p.second
+
+-- subjects and postings are sorted, each by their ranks
+pub record IsSealed (e : Edges) : Type 0 where
+  pub by_subject : IsNonDecreasingBy (λ x. subject_rank x.subject x.kind) e.subjects
+  pub by_rank : IsNonDecreasingBy rank_of e.postings

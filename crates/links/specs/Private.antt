@@ -1,42 +1,33 @@
 -- Definitions for private functions and proofs, of this crate or of one above it. No public clause
 -- cites them.
+pub mod Asking
 pub mod Memberships
-use Rattle.std.specs.Prelude.{◌≡◌, ◌≢◌, ◌≤◌, ◌⊎◌, ◌==◌, ℕ, Bool, true, false, nat_eq}
+use Rattle.std.specs.Prelude.{◌≡◌, ◌≤◌, ◌⊎◌, ℕ, true, nat_eq}
 use Rattle.std.specs.Prelude.{List, [], ◌∷◌, map}
-use Rattle.std.specs.List.{filter}
 use Rattle.std.specs.HashSet.{HashSet, contains}
 use Rattle.std.specs.Ordering.{nat_cmp}
-use Rattle.std.proofs.Common.{subst}
-use Rattle.fault_counts.specs.declared.fault.ReadFault.{ReadFault}
-use Rattle.fault_counts.specs.declared.fault.ReadFault.TheVariants as readfault
 use Rattle.rf2_values.specs.declared.row.Kind.{Kind}
-use Rattle.rf2_values.specs.declared.row.Body.{Body}
-use Rattle.rf2_values.specs.declared.row.Body.TheVariants as body
 use Rattle.rf2_values.specs.Row.{RowValue}
-use Rattle.history_model.specs.Queries.{is_a, destination_of}
+use Rattle.history_model.specs.Queries.{children, parents}
 use Rattle.history_model.specs.declared.stamped.StampedRow.{StampedRow}
 use Rattle.history_model.specs.InOrder.{Has}
 use Rattle.segment.specs.declared.place.RowPlace.{RowPlace}
 use Rattle.as_of_index.specs.declared.as_of.AsOf.{AsOf}
 use Rattle.as_of_index.specs.declared.chosen.Chosen.{Chosen}
-use Rattle.as_of_index.specs.Private.Chosen.{chosen, chosen_cmp, ranked_cmp}
+use Rattle.as_of_index.specs.Private.Chosen.{chosen, chosen_cmp}
 use Rattle.as_of_index.specs.Private.Once.{AreOnce}
 use Rattle.as_of_index.specs.Current.{IsPlaceOfRow, IsCurrentAt}
+use Rattle.links.specs.declared.posting.Tag.{Tag}
+use Rattle.links.specs.declared.posting.Tag.TheVariants as tags
+use Rattle.links.specs.declared.posting.Posting.{Posting}
 use Rattle.links.specs.declared.postings.Subject.{Subject}
-use Rattle.links.specs.declared.postings.Link.{Link}
-use Rattle.links.specs.declared.postings.Reference.{Reference}
-use Rattle.links.specs.declared.postings.Target.{Target}
+use Rattle.links.specs.declared.hierarchy.Direction.{Direction}
+use Rattle.links.specs.declared.hierarchy.Direction.TheVariants as directions
 use Rattle.links.specs.Edges.{Edges, subject_rank}
 
--- the links, the references, the targets and the subjects of each list
-abbrev pub links_in : List Edges → List (List Link)
-links_in lists = map (λ e. e.links) lists
-
-abbrev pub references_in : List Edges → List (List Reference)
-references_in lists = map (λ e. e.references) lists
-
-abbrev pub targets_in : List Edges → List (List Target)
-targets_in lists = map (λ e. e.targets) lists
+-- the subjects, and the postings by two numbers, of each list
+abbrev pub postings_in : List Edges → List (List Posting)
+postings_in lists = map (λ e. e.postings) lists
 
 abbrev pub subjects_in : List Edges → List (List Subject)
 subjects_in lists = map (λ e. e.subjects) lists
@@ -62,48 +53,6 @@ pub record GivesAnswer {X Y : Type 0} (row : X → ℕ) (answer : ℕ → X → 
   pub at : RowPlace
   pub row_there : IsPlaceOfRow lists n (row x) at × IsCurrentAt lists as_of n at
   pub answer_is : answer n x at ≡ y
-
--- a link that is current gives its source
-abbrev pub GivesSource : List (List StampedRow) → AsOf → ℕ → Link → ℕ → Type 0
-GivesSource = GivesAnswer (λ l. l.row) (λ n l at. l.source)
-
-abbrev pub AreSourcesTaken : List (List StampedRow) → AsOf → ℕ → List (ℕ × Link) → List ℕ → Type 0
-AreSourcesTaken lists as_of = AreTaken (GivesSource lists as_of) (λ l. l.destination)
-
--- the row to read for a reference of list `n`: its place, with refset and target, by which the
--- result is sorted
-abbrev pub ranked : ℕ → Reference → RowPlace → Chosen
-ranked n r at = record { segment = n; at = at; refset = r.refset; target = r.target }
-
-abbrev pub GivesRanked : List (List StampedRow) → AsOf → ℕ → Reference → Chosen → Type 0
-GivesRanked = GivesAnswer (λ r. r.row) ranked
-
-abbrev pub AreRankedTaken : List (List StampedRow) → AsOf → ℕ → List (ℕ × Reference) → List Chosen
-    → Type 0
-AreRankedTaken lists as_of = AreTaken (GivesRanked lists as_of) (λ r. r.referenced)
-
-abbrev pub AreRanked : List (List StampedRow) → AsOf → ℕ → List (ℕ × Reference) → List Chosen
-    → Type 0
-AreRanked lists as_of d xs kept =
-    (all : List Chosen) × AreRankedTaken lists as_of d xs all × AreOnce ranked_cmp all kept
-
--- the row to read for a target of list `n`: its place, with refset and referenced component, by
--- which the result is sorted
-abbrev pub ranked_back : ℕ → Target → RowPlace → Chosen
-ranked_back n t at = record { segment = n; at = at; refset = t.refset; target = t.referenced }
-
-abbrev pub GivesRankedBack : List (List StampedRow) → AsOf → ℕ → Target → Chosen → Type 0
-GivesRankedBack = GivesAnswer (λ t. t.row) ranked_back
-
-abbrev pub AreReplacedTaken : List (List StampedRow) → AsOf → ℕ → List (ℕ × Target)
-    → List Chosen → Type 0
-AreReplacedTaken lists as_of = AreTaken (GivesRankedBack lists as_of) (λ t. t.target)
-
-abbrev pub AreReplaced : List (List StampedRow) → AsOf → ℕ → List (ℕ × Target) → List Chosen
-    → Type 0
-AreReplaced lists as_of target xs kept =
-    (all : List Chosen) × AreReplacedTaken lists as_of target xs all
-    × AreOnce ranked_cmp all kept
 
 -- a subject whose row is current gives a row to read
 abbrev pub GivesRow : List (List StampedRow) → AsOf → ℕ → Subject → Chosen → Type 0
@@ -147,24 +96,12 @@ pub record AreSeen {S : Type 0} (seen : HashSet ℕ S) (found : List ℕ) : Type
   pub seen_is : (x : ℕ) → Has found x → contains nat_eq seen x ≡ true
   pub distinct : AreDistinct found
 
--- an "is a" relationship
-abbrev pub is_link : Body → Bool
-is_link (body.Concept c) = false
-is_link (body.Description d) = false
-is_link (body.Relationship r) = r.type_id == is_a
-is_link (body.Association a) = false
-is_link (body.Concrete c) = false
-is_link (body.Member m) = false
+-- the tag of the postings that lead from a concept this way
+abbrev pub tag_towards : Direction → Tag
+tag_towards directions.Down = tags.Child
+tag_towards directions.Up = tags.Parent
 
--- the destinations of the "is a" relationships among the rows
-abbrev pub parents_told : List RowValue → List ℕ
-parents_told rows = map (λ row. destination_of row.body) (filter (λ row. is_link row.body) rows)
-
--- memory ran out
-abbrev pub IsMemory : ReadFault → Type 0
-IsMemory readfault.OutOfMemory = Unit {0}
-IsMemory readfault.DiskFault = ⊥
-IsMemory readfault.Damaged = ⊥
-
-pub memory_is_no_damage : readfault.OutOfMemory ≢ readfault.Damaged
-memory_is_no_damage e = subst IsMemory e tt
+-- the concepts one step from each concept: its children, or its parents
+abbrev pub next_ones : Direction → ℕ → List RowValue → ℕ → List ℕ
+next_ones directions.Down date rows = λ concept. children concept date rows
+next_ones directions.Up date rows = λ concept. parents concept date rows

@@ -1,7 +1,6 @@
-//! Finds the children of a concept, by the postings of links.
+//! Finds the children and the parents of a concept, by the postings of "is a" relationships.
 
 ghost use Rattle.std.specs.Prelude.{◌≡◌, ◌↔◌, ℕ, List, IfOk, OnOk};
-ghost use Rattle.std.specs.List.Sorted.{IsNonDecreasingBy};
 ghost use Rattle.std.specs.Ordering.{nat_cmp};
 ghost use Rattle.history_model.specs.declared.stamped.StampedRow.{StampedRow};
 ghost use Rattle.history_model.specs.InOrder.{Has};
@@ -9,41 +8,34 @@ ghost use Rattle.as_of_index.specs.Current.{rows_seen};
 ghost use Rattle.history_model.specs.Queries.{children};
 ghost use Rattle.as_of_index.specs.Places.{Lists};
 ghost use Rattle.as_of_index.specs.Private.Postings.{numbered};
-ghost use Rattle.links.specs.Laws.{EachPosted};
 ghost use Rattle.as_of_index.specs.Private.Once.{AreOnce};
-ghost use Rattle.links.specs.Private.{links_in, GivesSource, Takes, AreSourcesTaken};
+ghost use Rattle.links.specs.Laws.{EachPosted};
+ghost use Rattle.links.specs.Private.{postings_in, Takes, tag_towards, next_ones};
+ghost use Rattle.links.specs.Private.Asking.{GivesSecond, AreGiven};
 
 use crate::Links;
-use crate::postings::{Link, Sealed};
+use crate::finding::{Asked, asked_all, row_at};
+use crate::posting::{Posting, Tag};
+use crate::postings::Sealed;
+use crate::wanted::part;
 use as_of_index::{AsOf, Index};
 use rf2_values::Sctid;
 use std::alloc::{AllocError, Global};
 
-/// The links to a destination.
-fn links_to(list: &[Link], destination: u64) -> &[Link]
-    ensures { IsNonDecreasingBy (λ l. l.destination) list.now →
-        (l : _) → Has result.now l ↔ (Has list.now l × (l.destination ≡ destination)) }
-{
-    let first = list.partition_point(|l| l.destination < destination);
-    let rest = &list[first..];
-    let count = rest.partition_point(|l| l.destination <= destination);
-    &rest[..count]
-}
-
-/// Adds the sources of those links that are current.
-fn add_sources(
+/// Adds the second numbers of those of the postings whose rows are asked for.
+fn add_seconds(
     ids: &mut Vec<u64>,
-    links: &[Link],
+    postings: &[Posting],
     segment: usize,
     index: &Index,
-    as_of: &AsOf,
+    asked: &Asked,
 ) -> Result<(), AllocError>
     ensures { OnOk result ((lists : List (List StampedRow)) → Lists index.now lists
-        → Takes (GivesSource lists as_of.now segment) links.now ids.old.items ids.new.items) }
+        → Takes (GivesSecond lists asked.now segment) postings.now ids.old.items ids.new.items) }
 {
-    for link in links {
-        if let Some(_at) = index.current_at(segment, link.row, *as_of) {
-            ids.push(link.source)?;
+    for p in postings {
+        if let Some(_at) = row_at(p, segment, index, asked) {
+            ids.push(p.second)?;
         }
     }
     Ok(())
@@ -57,42 +49,63 @@ pub(crate) fn sort_once(ids: &mut Vec<u64>)
     ids.dedup();
 }
 
-/// Replaces what `ids` has by the sources of the current links to a destination, in any order.
-fn find_sources(
+/// Replaces what `ids` has by the second numbers of the postings whose rows are asked for, in any
+/// order.
+fn find_seconds(
     ids: &mut Vec<u64>,
     links: &[Sealed],
     index: &Index,
-    destination: u64,
-    as_of: &AsOf,
+    asked: &Asked,
 ) -> Result<(), AllocError>
     ensures { OnOk result ((lists : List (List StampedRow)) → Lists index.now lists
-        → AreSourcesTaken lists as_of.now destination (numbered 0 (links_in links.now))
+        → AreGiven (GivesSecond lists asked.now) (numbered 0 (postings_in links.now))
         ids.new.items) }
 {
     ids.clear();
     for (segment, list) in links.iter().enumerate() {
-        let those = links_to(list.links(), destination);
-        add_sources(ids, those, segment, index, as_of)?;
+        let those = part(list.postings(), &asked.wanted);
+        add_seconds(ids, those, segment, index, asked)?;
     }
     Ok(())
 }
 
-/// Replaces what `ids` has by the children of a concept, in any order, where one may stand several
-/// times.
-pub(crate) fn find_children(
+/// Which way a step along an "is a" relationship goes.
+#[derive(Clone, Copy)]
+pub(crate) enum Direction {
+    /// From a concept to its children.
+    Down,
+    /// From a concept to its parents.
+    Up,
+}
+
+/// The tag of the postings that lead this way.
+fn tag_towards(direction: Direction) -> Tag
+    ensures { result ≡ tag_towards direction }
+{
+    match direction {
+        Direction::Down => Tag::Child,
+        Direction::Up => Tag::Parent,
+    }
+}
+
+/// Replaces what `ids` has by the concepts one step from a concept, in any order, where one may
+/// stand several times.
+pub(crate) fn find_next(
     ids: &mut Vec<u64>,
     links: &Links,
     index: &Index,
+    direction: Direction,
     concept: u64,
     as_of: &AsOf,
 ) -> Result<(), AllocError>
     ensures found { OnOk result ((lists : List (List StampedRow)) → Lists index.now lists
         → EachPosted lists links.now → (x : ℕ) → Has ids.new.items x
-        ↔ Has (children concept as_of.now.date (rows_seen as_of.now lists)) x) }
+        ↔ Has (next_ones direction as_of.now.date (rows_seen as_of.now lists) concept) x) }
 {
     // The contract of `lists` says that no key is listed twice.
     let _listed = index.lists();
-    find_sources(ids, links.as_slice(), index, concept, as_of)
+    let asked = asked_all(tag_towards(direction), concept, as_of);
+    find_seconds(ids, links.as_slice(), index, &asked)
 }
 
 /// The distinct sources of active "is a" relationships to the concept at the date, ascending, among
@@ -112,7 +125,14 @@ pub fn children(
         → ids.items ≡ children concept as_of.date (rows_seen as_of lists)) }
 {
     let mut ids = Vec::new(alloc);
-    find_children(&mut ids, links, index, concept.value(), &as_of)?;
+    find_next(
+        &mut ids,
+        links,
+        index,
+        Direction::Down,
+        concept.value(),
+        &as_of,
+    )?;
     sort_once(&mut ids);
     Ok(ids)
 }

@@ -9,16 +9,35 @@ ghost use Rattle.as_of_index.specs.Reader.{IsRowsRead};
 ghost use Rattle.as_of_index.specs.Places.{Lists};
 ghost use Rattle.as_of_index.specs.Private.Postings.{numbered};
 ghost use Rattle.links.specs.Laws.{EachPosted};
-ghost use Rattle.links.specs.Private.Memberships.{memberships_in, with_members, AreNamed};
+ghost use Rattle.links.specs.Private.{postings_in};
+ghost use Rattle.links.specs.Private.Memberships.{asked_about, with_members, AreNamed};
 
 use crate::Links;
-use crate::member_pages::members_by_id;
-use crate::member_search::{Asked, Wanted};
+use crate::finding::{Asked, find_by_key};
+use crate::posting::Tag;
 use crate::postings::Sealed;
 use crate::subjects::chosen_all;
+use crate::wanted::{Seconds, Wanted};
 use as_of_index::{AsOf, Chosen, Index, ReadFault, RowReader, read_all};
 use rf2_values::{Kind, Row, Sctid};
 use std::alloc::{AllocError, Global};
+
+/// The active members of a reference set that refer to a component.
+fn asked_about(refset: u64, as_of: &AsOf, component: u128) -> Asked
+    ensures { result ≡ asked_about refset as_of.now component }
+{
+    Asked {
+        wanted: Wanted {
+            tag: Tag::Member,
+            first: refset,
+            seconds: Seconds::Only(component),
+            active: true,
+        },
+        above: None,
+        up_to: None,
+        as_of: *as_of,
+    }
+}
 
 /// Adds a place followed by the others, if there are any others; otherwise nothing.
 fn push_with(kept: &mut Vec<Chosen>, k: Chosen, others: &[Chosen]) -> Result<(), AllocError>
@@ -43,17 +62,13 @@ fn named(
     as_of: &AsOf,
 ) -> Result<Vec<Chosen>, AllocError>
     ensures { IfOk result (λ kept. (lists : List (List StampedRow)) → Lists index.now lists
-        → AreNamed lists refset as_of.now (numbered 0 (memberships_in links.now))
+        → AreNamed lists refset as_of.now (numbered 0 (postings_in links.now))
         descriptions.now kept.items) }
 {
     let mut kept = Vec::new(alloc);
     for k in descriptions {
-        let asked = Asked {
-            refset,
-            wanted: Wanted::About(k.at.key.id),
-            as_of: *as_of,
-        };
-        let those = members_by_id(alloc, links, index, &asked)?;
+        let asked = asked_about(refset, as_of, k.at.key.id);
+        let those = find_by_key(alloc, links, index, &asked)?;
         push_with(&mut kept, *k, those.as_slice())?;
     }
     Ok(kept)

@@ -1,43 +1,38 @@
-//! Finds the children of a concept, what replaces a component, what is about a component, and the
+//! Finds what is above and below a concept, what replaces a component, what is about a component, and the
 //! members of reference sets, at a date and a pin.
 //!
-//! As rows are written, postings are made, each with the number of its row in the segment: of
-//! active relationships and associations, of what each active row is about, and of each member of a
-//! reference set. A posting is a candidate: it counts only if its row is the version of its
-//! component at the date and the pin.
+//! As rows are written, postings are made, each with the number of its row in the segment: of what
+//! each active row is about, and by two numbers of active relationships and associations, and of
+//! each member of a reference set. A posting is a candidate: it counts only if its row is the
+//! version of its component at the date and the pin.
 #![tactic(auto)]
 
-mod downwards;
+mod associations;
 mod ever_about;
+mod finding;
 mod hierarchy;
 mod languages;
 pub mod laws;
 mod member_pages;
-mod member_search;
-mod membership;
 mod merging;
+mod posting;
 mod postings;
 mod reaching;
-mod references;
-mod replaced;
 mod subjects;
-mod upwards;
 mod value_sets;
+mod wanted;
 
 use as_of_index::PerList;
-pub use downwards::descendants;
+pub use associations::{replacements, replaces};
 pub use ever_about::timeline;
 pub use hierarchy::children;
 pub use languages::called;
 pub use member_pages::members;
-pub use membership::Membership;
 pub use merging::Merging;
-pub use postings::{Link, Postings, Reference, Sealed, Subject, Target};
-pub use reaching::{Steps, reached};
-pub use references::replacements;
-pub use replaced::replaces;
+pub use posting::{Posting, Tag};
+pub use postings::{Postings, Sealed, Subject};
+pub use reaching::{ancestors, descendants};
 pub use subjects::about;
-pub use upwards::ancestors;
 pub use value_sets::values;
 
 /// The postings of several lists of rows, in the order of these lists.

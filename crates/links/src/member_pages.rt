@@ -6,58 +6,51 @@ ghost use Rattle.as_of_index.specs.Current.{rows_seen};
 ghost use Rattle.history_model.specs.Queries.{members};
 ghost use Rattle.as_of_index.specs.Reader.{IsRowsRead};
 ghost use Rattle.as_of_index.specs.Places.{Lists};
-ghost use Rattle.as_of_index.specs.Private.Chosen.{chosen_cmp};
 ghost use Rattle.as_of_index.specs.Private.Postings.{numbered};
 ghost use Rattle.links.specs.Laws.{EachPosted};
-ghost use Rattle.links.specs.declared.member_search.Wanted.TheVariants.{Above};
-ghost use Rattle.links.specs.Private.Memberships.{memberships_in, AreMembers, AreEnough};
+ghost use Rattle.links.specs.Private.{postings_in};
+ghost use Rattle.links.specs.Private.Asking.{AreEnough, placed_cmp};
+ghost use Rattle.links.specs.Private.Memberships.{asked_above};
 
 use crate::Links;
-use crate::member_search::{Asked, Wanted, between, find_members, high_rank, is_above, low_rank};
+use crate::finding::{Asked, asked_all, find_by_key};
+use crate::posting::Tag;
 use crate::postings::Sealed;
-use crate::subjects::sort_once;
+use crate::wanted::{is_above, part};
 use as_of_index::{AsOf, Chosen, Index, ReadFault, RowReader, read_all};
 use rf2_values::{Row, Sctid};
 use std::alloc::{AllocError, Global};
 
-/// The places of the wanted current members, by id.
-pub(crate) fn members_by_id(
-    alloc: Global,
-    links: &[Sealed],
-    index: &Index,
-    asked: &Asked,
-) -> Result<Vec<Chosen>, AllocError>
-    ensures { IfOk result (λ kept. (lists : List (List StampedRow)) → Lists index.now lists
-        → AreMembers chosen_cmp lists asked.now (numbered 0 (memberships_in links.now))
-        kept.items) }
-{
-    let mut kept = find_members(alloc, links, index, asked)?;
-    sort_once(&mut kept);
-    Ok(kept)
-}
-
-/// The ids of the posted members of a reference set, ascending, that are greater than `after`, if
-/// that is given. The result of a query doesn't depend on which these are: they are only used as
-/// upper limits of a search.
+/// The ids of the posted members of a reference set that are greater than `above`, if that is given.
+/// The result of a query doesn't depend on which these are: they are only used as upper limits of a
+/// search.
 fn posted_ids(
     alloc: Global,
     links: &[Sealed],
     index: &Index,
     asked: &Asked,
-    after: Option<u128>,
 ) -> Result<Vec<u128>, AllocError> {
     let mut ids = Vec::new(alloc);
     for (segment, list) in links.iter().enumerate() {
-        for m in between(list.memberships(), low_rank(asked), high_rank(asked)) {
-            if let Some(id) = index.id_at(segment, m.row) {
-                if is_above(after, id) {
+        for p in part(list.postings(), &asked.wanted) {
+            if let Some(id) = index.id_at(segment, p.row) {
+                if is_above(asked.above, id) {
                     ids.push(id)?;
                 }
             }
         }
     }
-    ids.sort_unstable();
     Ok(ids)
+}
+
+/// Which of the ids has the number `count` in ascending order, from 0 on, if there are so many.
+/// Changes their order.
+fn id_behind(ids: &mut [u128], count: usize) -> Option<u128> {
+    if ids.len() <= count {
+        return None;
+    }
+    let (_, id, _) = ids.select_nth_unstable(count);
+    Some(*id)
 }
 
 /// The places of the current members with ids greater than `after`, if that is given, by id: either
@@ -73,32 +66,30 @@ fn enough_by_id(
     limit: u32,
 ) -> Result<Vec<Chosen>, AllocError>
     ensures { IfOk result (λ kept. (lists : List (List StampedRow)) → Lists index.now lists
-        → AreEnough chosen_cmp (λ last. Above after last) limit lists refset as_of.now
-        (numbered 0 (memberships_in links.now)) kept.items) }
+        → AreEnough placed_cmp (asked_above refset as_of.now after) limit lists
+        (numbered 0 (postings_in links.now)) kept.items) }
 {
     let all = Asked {
-        refset,
-        wanted: Wanted::Above(after, None),
-        as_of: *as_of,
+        above: after,
+        ..asked_all(Tag::Member, refset, as_of)
     };
-    let ids = posted_ids(alloc, links, index, &all, after)?;
+    let mut ids = posted_ids(alloc, links, index, &all)?;
     let mut count = limit as usize;
     for _ in 0..16 {
-        let Some(last) = ids.get(count) else {
+        let Some(last) = id_behind(&mut ids, count) else {
             break;
         };
         let asked = Asked {
-            refset,
-            wanted: Wanted::Above(after, Some(*last)),
-            as_of: *as_of,
+            up_to: Some(last),
+            ..all
         };
-        let kept = members_by_id(alloc, links, index, &asked)?;
+        let kept = find_by_key(alloc, links, index, &asked)?;
         if limit as usize <= kept.len() {
             return Ok(kept);
         }
         count = count.saturating_mul(4);
     }
-    members_by_id(alloc, links, index, &all)
+    find_by_key(alloc, links, index, &all)
 }
 
 /// The first `limit` members of the reference set at the date, by id, active or not, with ids

@@ -1,57 +1,20 @@
-//! The postings of rows: for relationships, for associations, for what rows are about, and for
-//! members of reference sets; in the order in which rows were pushed, or sealed, that is, sorted.
+//! The postings of rows: what rows are about, and by which two numbers relationships, associations
+//! and members of reference sets are found; in the order in which rows were pushed, or sealed, that
+//! is, sorted.
 
-ghost use Rattle.std.specs.Prelude.{◌≡◌, ◌<◌, ◌++◌, length, vec_capacity, OnOk, OnErr};
+ghost use Rattle.std.specs.Prelude.{◌≡◌, ◌≤◌, ◌<◌, ◌+◌, ◌++◌, ◌∷◌, [], length, vec_capacity};
+ghost use Rattle.std.specs.Prelude.{OnOk, OnErr};
 ghost use Rattle.std.specs.List.Sorted.{IsNonDecreasingBy, IsPermutation};
 ghost use Rattle.std.specs.Ordering.{nat_cmp};
-ghost use Rattle.links.specs.Edges.{Edges, no_edges, link, reference, posted_link};
-ghost use Rattle.links.specs.Edges.{posted_reference, posted_target, posted_subject, edges_of};
-ghost use Rattle.links.specs.Edges.{AreSameEdges, IsSealed, joined_edges, subject_rank, target_at};
-ghost use Rattle.links.specs.Edges.{membership_rank};
+ghost use Rattle.links.specs.Edges.{no_edges, posting, row_key, posted, posted_subject, edges_of};
+ghost use Rattle.links.specs.Edges.{AreSameEdges, IsSealed, joined_edges, subject_rank, rank_of};
 
-use crate::membership::{Membership, push_membership, sort_memberships};
+use crate::posting::{Posting, Tag, rank_of};
 use history_model::{IS_A, StampedRow, subject_of};
-use rf2_values::{Association, Body, Kind, Relationship};
+use rf2_values::{Body, Kind, Sctid};
 use std::alloc::{AllocError, Global};
 use std::cmp::Ordering;
 use std::marker::Model;
-
-/// An active "is a" relationship, and the number of its row.
-#[derive(Clone, Copy)]
-pub struct Link {
-    /// The parent: the SCTID of a concept.
-    pub destination: u64,
-    /// The child: the SCTID of a concept.
-    pub source: u64,
-    /// The row's number in its segment, from 0 on.
-    pub row: u32,
-}
-
-/// An active association, and the number of its row.
-#[derive(Clone, Copy)]
-pub struct Reference {
-    /// The referenced component, as an SCTID.
-    pub referenced: u64,
-    /// The reference set, which says what the association means: the SCTID of a concept.
-    pub refset: u64,
-    /// The target component, as an SCTID.
-    pub target: u64,
-    /// The row's number in its segment, from 0 on.
-    pub row: u32,
-}
-
-/// An active association, posted by its target, and the number of its row.
-#[derive(Clone, Copy)]
-pub struct Target {
-    /// The target component, as an SCTID.
-    pub target: u64,
-    /// The reference set: the SCTID of a concept.
-    pub refset: u64,
-    /// The referenced component, as an SCTID.
-    pub referenced: u64,
-    /// The row's number in its segment, from 0 on.
-    pub row: u32,
-}
 
 /// What an active row is about, its kind, and its number. Nearly every active row has one.
 #[derive(Clone, Copy)]
@@ -64,15 +27,11 @@ pub struct Subject {
     pub row: u32,
 }
 
-/// The links, references, targets, subjects and memberships of the rows of one segment, in the order
-/// in which they were pushed.
+/// The subjects and the postings of the rows of one segment, in the order in which they were pushed.
 #[derive(Drop)]
 pub struct Postings {
-    links: Vec<Link>,
-    references: Vec<Reference>,
-    targets: Vec<Target>,
     subjects: Vec<Subject>,
-    memberships: Vec<Membership>,
+    postings: Vec<Posting>,
 }
 
 impl Model for Postings {
@@ -80,25 +39,15 @@ impl Model for Postings {
 
     ghost Value = { Edges };
 
-    ghost view = { λ a. record {
-      links = a.links.items;
-      references = a.references.items;
-      targets = a.targets.items;
-      subjects = a.subjects.items;
-      memberships = a.memberships.items;
-    } };
+    ghost view = { λ a. record { subjects = a.subjects.items; postings = a.postings.items } };
 }
 
-/// The postings of a segment, sorted: links by destination, references by the referenced component,
-/// targets by the target, subjects by the component and then by kind, and memberships by the
-/// reference set and then by the component.
+/// The subjects and the postings of a segment, sorted: subjects by the component and then by kind,
+/// postings by the tag, the first number and the second.
 #[derive(Drop)]
 pub struct Sealed {
-    links: Vec<Link>,
-    references: Vec<Reference>,
-    targets: Vec<Target>,
     subjects: Vec<Subject>,
-    memberships: Vec<Membership>,
+    postings: Vec<Posting>,
 }
 
 impl Model for Sealed {
@@ -106,93 +55,12 @@ impl Model for Sealed {
 
     ghost Value = { Edges };
 
-    ghost view = { λ a. record {
-      links = a.links.items;
-      references = a.references.items;
-      targets = a.targets.items;
-      subjects = a.subjects.items;
-      memberships = a.memberships.items;
-    } };
+    ghost view = { λ a. record { subjects = a.subjects.items; postings = a.postings.items } };
 
     ghost invariant = { λ a. IsSealed (record {
-      links = a.links.items;
-      references = a.references.items;
-      targets = a.targets.items;
       subjects = a.subjects.items;
-      memberships = a.memberships.items;
+      postings = a.postings.items;
     }) };
-}
-
-fn link_of(relationship: &Relationship, row: u32) -> Link
-    ensures { result ≡ link relationship.now row }
-{
-    Link {
-        destination: relationship.destination.value(),
-        source: relationship.source.value(),
-        row,
-    }
-}
-
-fn reference_of(association: &Association, row: u32) -> Reference
-    ensures { result ≡ reference association.now row }
-{
-    Reference {
-        referenced: association.referenced.value(),
-        refset: association.refset.value(),
-        target: association.target.value(),
-        row,
-    }
-}
-
-fn target_of(association: &Association, row: u32) -> Target
-    ensures { result ≡ target_at association.now row }
-{
-    Target {
-        target: association.target.value(),
-        refset: association.refset.value(),
-        referenced: association.referenced.value(),
-        row,
-    }
-}
-
-/// Adds the row's link or reference, if it is active and has one. An `Err` changes nothing.
-fn push_edge(
-    links: &mut Vec<Link>,
-    references: &mut Vec<Reference>,
-    row: &StampedRow,
-    number: u32,
-) -> Result<(), AllocError>
-    ensures ok { OnOk result ((links.new.items ≡ links.old.items ++ posted_link row.now.row number)
-        × (references.new.items ≡ references.old.items ++ posted_reference row.now.row number)) }
-    ensures err { OnErr result ((links.new.items ≡ links.old.items)
-        × (references.new.items ≡ references.old.items)) }
-{
-    match &row.row.body {
-        Body::Relationship(r) if row.row.active && r.type_id.value() == IS_A => {
-            links.push(link_of(r, number))?;
-            Ok(())
-        }
-        Body::Association(a) if row.row.active => {
-            references.push(reference_of(a, number))?;
-            Ok(())
-        }
-        _ => Ok(()),
-    }
-}
-
-/// Adds the row's target, if it is active and has one. Allocates nothing.
-fn push_target(targets: &mut Vec<Target>, row: &StampedRow, number: u32)
-    requires { length targets.old.items < vec_capacity targets.old }
-    ensures { targets.new.items ≡ targets.old.items ++ posted_target row.now.row number }
-{
-    match &row.row.body {
-        Body::Association(a) if row.row.active => {
-            let Ok(()) = targets.push(target_of(a, number)) else {
-                unreachable!()
-            };
-        }
-        _ => {}
-    }
 }
 
 /// Adds what the row is about, if it is active. Allocates nothing.
@@ -214,25 +82,62 @@ fn push_subject(subjects: &mut Vec<Subject>, row: &StampedRow, number: u32)
     }
 }
 
-fn sort_links(links: &mut Vec<Link>)
-    ensures permutation { IsPermutation links.old.items links.new.items }
-    ensures rising { IsNonDecreasingBy (λ l. l.destination) links.new.items }
+/// A posting of the row with this number.
+fn posting(tag: Tag, first: Sctid, second: Sctid, number: u32, active: bool) -> Posting
+    ensures { result ≡ posting number (row_key tag first second active) }
 {
-    links.sort_unstable_by(|a, b| a.destination.cmp(&b.destination));
+    Posting {
+        first: first.value(),
+        second: second.value(),
+        row: number,
+        tag,
+        active,
+    }
 }
 
-fn sort_references(references: &mut Vec<Reference>)
-    ensures permutation { IsPermutation references.old.items references.new.items }
-    ensures rising { IsNonDecreasingBy (λ r. r.referenced) references.new.items }
+/// Adds one posting. Allocates nothing.
+fn add(postings: &mut Vec<Posting>, posting: Posting)
+    requires { length postings.old.items < vec_capacity postings.old }
+    ensures posted { postings.new.items ≡ postings.old.items ++ posting ∷ [] }
+    ensures room { vec_capacity postings.old ≤ vec_capacity postings.new }
 {
-    references.sort_unstable_by(|a, b| a.referenced.cmp(&b.referenced));
+    let Ok(()) = postings.push(posting) else {
+        unreachable!()
+    };
 }
 
-fn sort_targets(targets: &mut Vec<Target>)
-    ensures permutation { IsPermutation targets.old.items targets.new.items }
-    ensures rising { IsNonDecreasingBy (λ t. t.target) targets.new.items }
+/// Adds the postings of the row with this number by two numbers, of which it has two at most.
+/// Allocates nothing.
+fn push_postings(postings: &mut Vec<Posting>, row: &StampedRow, number: u32)
+    requires { length postings.old.items + 1 < vec_capacity postings.old }
+    ensures { postings.new.items ≡ postings.old.items ++ posted row.now.row number }
 {
-    targets.sort_unstable_by(|a, b| a.target.cmp(&b.target));
+    let active = row.row.active;
+    match &row.row.body {
+        Body::Relationship(r) if active && r.type_id.value() == IS_A => {
+            add(
+                postings,
+                posting(Tag::Child, r.destination, r.source, number, active),
+            );
+            add(
+                postings,
+                posting(Tag::Parent, r.source, r.destination, number, active),
+            );
+        }
+        Body::Association(a) if active => {
+            add(
+                postings,
+                posting(Tag::Target, a.target, a.refset, number, active),
+            );
+        }
+        Body::Member(m) => {
+            add(
+                postings,
+                posting(Tag::Member, m.refset, m.referenced, number, active),
+            );
+        }
+        _ => {}
+    }
 }
 
 /// The order of subjects: by the component that the rows are about, and then by kind.
@@ -252,113 +157,59 @@ fn sort_subjects(subjects: &mut Vec<Subject>)
     subjects.sort_unstable_by(|a, b| compare(a, b));
 }
 
+fn sort_postings(postings: &mut Vec<Posting>)
+    ensures permutation { IsPermutation postings.old.items postings.new.items }
+    ensures rising { IsNonDecreasingBy rank_of postings.new.items }
+{
+    postings.sort_unstable_by(|a, b| rank_of(a).cmp(&rank_of(b)));
+}
+
 impl Postings {
     /// No postings. Allocates nothing; later calls allocate from `alloc`.
     pub fn new(alloc: Global) -> Postings
         ensures { result ≡ no_edges }
     {
         Postings {
-            links: Vec::new(alloc),
-            references: Vec::new(alloc),
-            targets: Vec::new(alloc),
             subjects: Vec::new(alloc),
-            memberships: Vec::new(alloc),
+            postings: Vec::new(alloc),
         }
     }
 
-    /// Adds the postings of the row with this number: if it is active, its link, or its reference
-    /// and its target, and what it is about; and if it is a member, active or not, its membership.
-    /// An `Err` changes nothing.
+    /// Adds the postings of the row with this number: if it is active, what it is about; and each
+    /// two numbers by which it is found. An `Err` changes nothing.
     pub fn push(&mut self, row: &StampedRow, number: u32) -> Result<(), AllocError>
         ensures ok { OnOk result (self.new ≡ joined_edges self.old (edges_of row.now.row number)) }
         ensures err { OnErr result (self.new ≡ self.old) }
     {
         self.subjects.reserve(1)?;
-        self.targets.reserve(1)?;
-        self.memberships.reserve(1)?;
-        push_edge(&mut self.links, &mut self.references, row, number)?;
-        push_target(&mut self.targets, row, number);
+        self.postings.reserve(2)?;
         push_subject(&mut self.subjects, row, number);
-        push_membership(&mut self.memberships, row, number);
+        push_postings(&mut self.postings, row, number);
         Ok(())
     }
 
-    /// The links, references, targets, subjects and memberships, each sorted. Allocates nothing.
+    /// The subjects and the postings, sorted. Allocates nothing.
     pub fn seal(self) -> Sealed
         ensures same { AreSameEdges self result }
         ensures rising { IsSealed result }
     {
         let Postings {
-            mut links,
-            mut references,
-            mut targets,
             mut subjects,
-            mut memberships,
+            mut postings,
         } = self;
-        sort_links(&mut links);
-        sort_references(&mut references);
-        sort_targets(&mut targets);
         sort_subjects(&mut subjects);
-        sort_memberships(&mut memberships);
-        Sealed {
-            links,
-            references,
-            targets,
-            subjects,
-            memberships,
-        }
+        sort_postings(&mut postings);
+        Sealed { subjects, postings }
     }
 }
 
 impl Sealed {
-    pub(crate) fn of_parts(
-        links: Vec<Link>,
-        references: Vec<Reference>,
-        targets: Vec<Target>,
-        subjects: Vec<Subject>,
-        memberships: Vec<Membership>,
-    ) -> Sealed
-        requires links { IsNonDecreasingBy (λ l. l.destination) links.items }
-        requires references { IsNonDecreasingBy (λ r. r.referenced) references.items }
-        requires targets { IsNonDecreasingBy (λ t. t.target) targets.items }
+    pub(crate) fn of_parts(subjects: Vec<Subject>, postings: Vec<Posting>) -> Sealed
         requires subjects { IsNonDecreasingBy (λ x. subject_rank x.subject x.kind) subjects.items }
-        requires memberships { IsNonDecreasingBy (λ m. membership_rank m.refset m.referenced) memberships.items }
-        ensures { result ≡ record {
-          links = links.items;
-          references = references.items;
-          targets = targets.items;
-          subjects = subjects.items;
-          memberships = memberships.items;
-        } }
+        requires postings { IsNonDecreasingBy rank_of postings.items }
+        ensures { result ≡ record { subjects = subjects.items; postings = postings.items } }
     {
-        Sealed {
-            links,
-            references,
-            targets,
-            subjects,
-            memberships,
-        }
-    }
-
-    pub(crate) fn links(&self) -> &[Link]
-        ensures links { result.now ≡ self.now.links }
-        ensures rising { IsNonDecreasingBy (λ l. l.destination) self.now.links }
-    {
-        self.links.as_slice()
-    }
-
-    pub(crate) fn references(&self) -> &[Reference]
-        ensures references { result.now ≡ self.now.references }
-        ensures rising { IsNonDecreasingBy (λ r. r.referenced) self.now.references }
-    {
-        self.references.as_slice()
-    }
-
-    pub(crate) fn targets(&self) -> &[Target]
-        ensures targets { result.now ≡ self.now.targets }
-        ensures rising { IsNonDecreasingBy (λ t. t.target) self.now.targets }
-    {
-        self.targets.as_slice()
+        Sealed { subjects, postings }
     }
 
     pub(crate) fn subjects(&self) -> &[Subject]
@@ -368,11 +219,10 @@ impl Sealed {
         self.subjects.as_slice()
     }
 
-    pub(crate) fn memberships(&self) -> &[Membership]
-        ensures memberships { result.now ≡ self.now.memberships }
-        ensures rising { IsNonDecreasingBy (λ m. membership_rank m.refset m.referenced)
-            self.now.memberships }
+    pub(crate) fn postings(&self) -> &[Posting]
+        ensures postings { result.now ≡ self.now.postings }
+        ensures rising { IsNonDecreasingBy rank_of self.now.postings }
     {
-        self.memberships.as_slice()
+        self.postings.as_slice()
     }
 }

@@ -1,26 +1,70 @@
 //! A reference set as a value set: its active members, by the components that they refer to.
 
-ghost use Rattle.std.specs.Prelude.{ℕ, List, map, IfOk};
+ghost use Rattle.std.specs.Prelude.{◌≡◌, ℕ, List, map, IfOk};
 ghost use Rattle.std.specs.List.Sorted.{IsNonDecreasingBy};
+ghost use Rattle.std.specs.Ordering.{eq_by_cmp};
 ghost use Rattle.history_model.specs.declared.stamped.StampedRow.{StampedRow};
 ghost use Rattle.as_of_index.specs.Current.{rows_seen};
 ghost use Rattle.history_model.specs.Queries.{values};
 ghost use Rattle.as_of_index.specs.Reader.{IsRowsRead};
 ghost use Rattle.as_of_index.specs.Places.{Lists};
 ghost use Rattle.as_of_index.specs.Private.Chosen.{ranked_cmp};
+ghost use Rattle.as_of_index.specs.Private.Once.{AreOnce};
 ghost use Rattle.as_of_index.specs.Private.Postings.{numbered};
 ghost use Rattle.links.specs.Laws.{EachPosted};
-ghost use Rattle.links.specs.declared.member_search.Wanted.TheVariants.{Values};
-ghost use Rattle.links.specs.Private.Memberships.{memberships_in, AreMembers, AreEnough};
-ghost use Rattle.links.specs.Private.Memberships.{IsCutAt};
+ghost use Rattle.links.specs.Private.{postings_in};
+ghost use Rattle.links.specs.Private.Asking.{AreFound, AreEnough};
+ghost use Rattle.links.specs.Private.Memberships.{asked_values, IsCutAt};
 
 use crate::Links;
-use crate::member_search::{Asked, Wanted, between, find_members, high_rank, low_rank};
+use crate::finding::{Asked, find};
+use crate::posting::Tag;
 use crate::postings::Sealed;
-use crate::references::sort_once;
+use crate::wanted::{Seconds, Wanted, part};
 use as_of_index::{AsOf, Chosen, Index, ReadFault, RowReader, read_all};
 use rf2_values::{Row, Sctid};
 use std::alloc::{AllocError, Global};
+use std::cmp::Ordering;
+
+/// The order of the result: by reference set, then by the component that the member refers to, then
+/// by member.
+fn compare(a: &Chosen, b: &Chosen) -> Ordering
+    ensures { result ≡ ranked_cmp a.now b.now }
+{
+    a.refset.cmp(&b.refset).then(a.target.cmp(&b.target).then(a.at.key.id.cmp(&b.at.key.id)))
+}
+
+fn is_same_member(a: &Chosen, b: &Chosen) -> bool
+    ensures { result ≡ eq_by_cmp ranked_cmp a.now b.now }
+{
+    compare(a, b).is_eq()
+}
+
+/// Sorts the rows in this order, and removes duplicates. Allocates nothing.
+fn sort_once(kept: &mut Vec<Chosen>)
+    ensures { AreOnce ranked_cmp kept.old.items kept.new.items }
+{
+    kept.sort_unstable_by(|a, b| compare(a, b));
+    kept.dedup_by(|a, b| is_same_member(a, b));
+}
+
+/// The active members of a reference set that refer to a component greater than `after` and at most
+/// `last`, if these are given.
+fn asked_values(refset: u64, as_of: &AsOf, after: Option<u64>, last: Option<u64>) -> Asked
+    ensures { result ≡ asked_values refset as_of.now after last }
+{
+    Asked {
+        wanted: Wanted {
+            tag: Tag::Member,
+            first: refset,
+            seconds: Seconds::Between(after, last),
+            active: true,
+        },
+        above: None,
+        up_to: None,
+        as_of: *as_of,
+    }
+}
 
 /// The places of the wanted current members, by the component that they refer to.
 fn members_by_component(
@@ -30,10 +74,9 @@ fn members_by_component(
     asked: &Asked,
 ) -> Result<Vec<Chosen>, AllocError>
     ensures { IfOk result (λ kept. (lists : List (List StampedRow)) → Lists index.now lists
-        → AreMembers ranked_cmp lists asked.now (numbered 0 (memberships_in links.now))
-        kept.items) }
+        → AreFound ranked_cmp lists asked.now (numbered 0 (postings_in links.now)) kept.items) }
 {
-    let mut kept = find_members(alloc, links, index, asked)?;
+    let mut kept = find(alloc, links, index, asked)?;
     sort_once(&mut kept);
     Ok(kept)
 }
@@ -44,11 +87,11 @@ fn members_by_component(
 fn component_behind(links: &[Sealed], asked: &Asked, count: usize) -> Option<u64> {
     let mut first = None;
     for list in links {
-        let those = between(list.memberships(), low_rank(asked), high_rank(asked));
-        if let Some(m) = those.get(count) {
+        let those = part(list.postings(), &asked.wanted);
+        if let Some(p) = those.get(count) {
             first = match first {
-                Some(other) if other < m.referenced => Some(other),
-                _ => Some(m.referenced),
+                Some(other) if other < p.second => Some(other),
+                _ => Some(p.second),
             };
         }
     }
@@ -69,24 +112,16 @@ fn enough_by_component(
     limit: u32,
 ) -> Result<Vec<Chosen>, AllocError>
     ensures { IfOk result (λ kept. (lists : List (List StampedRow)) → Lists index.now lists
-        → AreEnough ranked_cmp (λ last. Values after last) limit lists refset as_of.now
-        (numbered 0 (memberships_in links.now)) kept.items) }
+        → AreEnough ranked_cmp (asked_values refset as_of.now after) limit lists
+        (numbered 0 (postings_in links.now)) kept.items) }
 {
-    let all = Asked {
-        refset,
-        wanted: Wanted::Values(after, None),
-        as_of: *as_of,
-    };
+    let all = asked_values(refset, as_of, after, None);
     let mut count = limit as usize;
     for _ in 0..16 {
         let Some(last) = component_behind(links, &all, count) else {
             break;
         };
-        let asked = Asked {
-            refset,
-            wanted: Wanted::Values(after, Some(last)),
-            as_of: *as_of,
-        };
+        let asked = asked_values(refset, as_of, after, Some(last));
         let kept = members_by_component(alloc, links, index, &asked)?;
         if limit as usize <= kept.len() {
             return Ok(kept);

@@ -18,7 +18,7 @@ use Rattle.term_prefix.proofs.Posted.{posted_terms_are_few}
 use Rattle.term_prefix.proofs.InTurns.{merged_terms_are_posted}
 use Rattle.links.specs.Edges.{Edges, EdgeCount, no_edges}
 use Rattle.links.specs.Laws.{ArePostingsOf, EachPosted}
-use Rattle.links.specs.MergedEdges.{IsMergeOf, AtMostEach, edges_left, less_each}
+use Rattle.links.specs.MergedEdges.{IsMergeOf, AtMostOfRows, edges_left, less_of_rows}
 use Rattle.links.proofs.MergedEdges.{postings_are_few, merged_are_posted}
 use Rattle.segment_index.specs.declared.output_postings.OutputPostings.{OutputPostings}
 use Rattle.segment_index.specs.declared.postings_merge.PostingsMerge.{PostingsMerge}
@@ -162,21 +162,18 @@ module _ (lists : List (List StampedRow)) (places : List (List RowPlace)) (terms
       let none : terms_left (terms_at terms m.i) (terms_at terms m.j) m.terms ≡ 0 = omega (arith, left, posted_terms_are_few a (terms_at terms m.i) first, posted_terms_are_few b (terms_at terms m.j) second, few) in
       merged_terms_are_posted a b (terms_at terms m.i) (terms_at terms m.j) m.terms both first second (subst (λ (l : TwoLists). IsMergeOfTerms l (terms_at terms m.i) (terms_at terms m.j) m.terms) two_are merged.terms_are) none
 
-  links_end : edges_left (edges_at links m.i) (edges_at links m.j) m.links ≡ less_each (edges_left (edges_at links m.i) (edges_at links m.j) old.links) most_steps → ArePostingsOf (union a b) m.links.edges
+  links_end : edges_left (edges_at links m.i) (edges_at links m.j) m.links ≡ less_of_rows most_steps (edges_left (edges_at links m.i) (edges_at links m.j) old.links) → ArePostingsOf (union a b) m.links.edges
   links_end left =
       let first = linked_at lists links m.i a are.links_are a_is in
       let second = linked_at lists links m.j b are.links_are b_is in
       let x = postings_are_few a (edges_at links m.i) first in
       let y = postings_are_few b (edges_at links m.j) second in
-      let none : AtMostEach 0 (edges_left (edges_at links m.i) (edges_at links m.j) m.links) = record {
-        links = omega (arith, ap (λ (n : EdgeCount). n.links) left, x.links, y.links, few);
-        references = omega (arith, ap (λ (n : EdgeCount). n.references) left, x.references, y.references, few);
-        targets = omega (arith, ap (λ (n : EdgeCount). n.targets) left, x.targets, y.targets, few);
+      let none : AtMostOfRows 0 (edges_left (edges_at links m.i) (edges_at links m.j) m.links) = record {
         subjects = omega (arith, ap (λ (n : EdgeCount). n.subjects) left, x.subjects, y.subjects, few);
-        memberships = omega (arith, ap (λ (n : EdgeCount). n.memberships) left, x.memberships, y.memberships, few);
+        postings = omega (arith, ap (λ (n : EdgeCount). n.postings) left, x.postings, y.postings, few);
       } in
       merged_are_posted a b (edges_at links m.i) (edges_at links m.j) m.links both first second (subst (λ (l : TwoLists). IsMergeOf l (edges_at links m.i) (edges_at links m.j) m.links) two_are merged.links_are) none
 
   pub all_posted : (p : OutputPostings) → terms_left (terms_at terms m.i) (terms_at terms m.j) m.terms ≡ terms_left (terms_at terms m.i) (terms_at terms m.j) old.terms - most_steps
-      → edges_left (edges_at links m.i) (edges_at links m.j) m.links ≡ less_each (edges_left (edges_at links m.i) (edges_at links m.j) old.links) most_steps → p.terms ≡ m.terms.terms → p.links ≡ m.links.edges → HasPostings (union a b) p
+      → edges_left (edges_at links m.i) (edges_at links m.j) m.links ≡ less_of_rows most_steps (edges_left (edges_at links m.i) (edges_at links m.j) old.links) → p.terms ≡ m.terms.terms → p.links ≡ m.links.edges → HasPostings (union a b) p
   all_posted p t l terms_are links_are = record { terms_are = subst (IsPosted (union a b)) (sym terms_are) (terms_end t); links_are = subst (ArePostingsOf (union a b)) (sym links_are) (links_end l) }

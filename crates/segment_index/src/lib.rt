@@ -1,6 +1,5 @@
 //! The index of a store's segments, in memory: the place of each row, and its postings: the folded
-//! term of a description (`term_prefix`), and links, references, targets, subjects and memberships
-//! (`links`).
+//! term of a description (`term_prefix`), and its subject and postings by two numbers (`links`).
 #![tactic(auto)]
 
 mod added_places;

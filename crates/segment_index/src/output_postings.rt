@@ -14,8 +14,8 @@ use std::alloc::{AllocError, Global};
 pub(crate) struct OutputPostings {
     /// The folded terms of the descriptions.
     pub(crate) terms: term_prefix::Sealed,
-    /// The postings of relationships and associations, of what rows are about, and of members of
-    /// reference sets.
+    /// What rows are about, and by which two numbers relationships, associations and members of
+    /// reference sets are found.
     pub(crate) links: links::Sealed,
 }
 

@@ -7,7 +7,7 @@ ghost use Rattle.as_of_index.specs.Places.{place_cmp};
 ghost use Rattle.term_prefix.specs.Terms.{TermAt, TextsRise};
 ghost use Rattle.term_prefix.specs.Merged.{terms_left};
 ghost use Rattle.links.specs.Edges.{Edges};
-ghost use Rattle.links.specs.MergedEdges.{edges_left, less_each};
+ghost use Rattle.links.specs.MergedEdges.{edges_left, less_of_rows};
 
 use crate::output_postings::OutputPostings;
 use as_of_index::{Index, NumberTable, Numbers};
@@ -75,8 +75,8 @@ impl PostingsMerge {
         PostingsMerge::new(alloc, i, j)
     }
 
-    /// How many postings of each kind a step of `rows` rows merges. It is more than `rows`, because
-    /// the first steps, which find the numbers of rows, merge none.
+    /// Of how many rows a step of `rows` rows merges as many postings as these have at most. It is
+    /// more than `rows`, because the first steps, which find the numbers of rows, merge none.
     pub(crate) fn postings_in_step(&self, places: &Index, rows: usize) -> usize
         requires { (self.now.i < length places.now) × (self.now.j < length places.now) }
     {
@@ -91,8 +91,8 @@ impl PostingsMerge {
         }
     }
 
-    /// Advances by the numbers of rows that a step of `rows` rows finds, and by up to `n` postings
-    /// of each kind. It may be called again after an `Err`.
+    /// Advances by the numbers of rows that a step of `rows` rows finds, and by up to as many
+    /// postings as `n` rows have at most. It may be called again after an `Err`.
     pub(crate) fn advance(
         &mut self,
         places: &Index,
@@ -118,8 +118,8 @@ impl PostingsMerge {
         ensures links { OnOk result
             (edges_left (edges_at links.now self.old.i) (edges_at links.now self.old.j)
             self.new.links
-            ≡ less_each (edges_left (edges_at links.now self.old.i) (edges_at links.now self.old.j)
-            self.old.links) n) }
+            ≡ less_of_rows n (edges_left (edges_at links.now self.old.i)
+            (edges_at links.now self.old.j) self.old.links)) }
     {
         let first = places.list(self.i);
         let second = places.list(self.j);

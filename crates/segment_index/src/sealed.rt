@@ -15,8 +15,8 @@ pub struct SegmentIndex {
     pub(crate) places: PlaceList,
     /// The folded terms of its descriptions.
     pub(crate) terms: term_prefix::Sealed,
-    /// The postings of its relationships and associations, of what its rows are about, and of
-    /// members of reference sets.
+    /// What its rows are about, and by which two numbers its relationships, associations and members
+    /// of reference sets are found.
     pub(crate) links: links::Sealed,
     /// The rows, which only clauses can see.
     pub(crate) rows: GhostRows,

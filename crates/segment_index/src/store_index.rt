@@ -172,8 +172,8 @@ impl StoreIndex {
         &self.terms
     }
 
-    /// The postings of relationships and associations, of what rows are about, and of members of
-    /// reference sets.
+    /// What rows are about, and by which two numbers relationships, associations and members of
+    /// reference sets are found.
     pub fn links(&self) -> &Links
         ensures { EachPosted self.now result.now }
     {

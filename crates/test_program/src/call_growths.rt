@@ -97,7 +97,7 @@ const CALLS: [(Call, Wanted, u32); 31] = [
     (
         Call::Ancestors(1_000_004, 20_210_131),
         Wanted::Ids(&[ROOT]),
-        40,
+        1,
     ),
     (
         Call::Replaces(2_000_001, 20_210_131),

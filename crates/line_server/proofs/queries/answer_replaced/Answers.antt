@@ -1,9 +1,10 @@
 use Rattle.std.proofs.Common.{ap, ◌∙◌, List, Ok}
+use Rattle.std.specs.List.Sorted.{IsPermutation}
 use Rattle.std.proofs.lemmas.Result.{err_from_is_err_and}
 use Rattle.rf2_values.specs.Row.{RowValue}
 use Rattle.line_commands.specs.Questions.{Replaced}
 use Rattle.line_server.specs.ReplyValue.{Rows, reply_value}
-use Rattle.line_server.proofs.Queried.{rows_found, rows_unfound, rows_untold}
+use Rattle.line_server.proofs.Queried.{rows_found_by, rows_unfound, rows_untold}
 use Rattle.line_server.proofs.queries.answer_replaced.Goals as goal
 
 pub returns-in_err-found : goal.returns-in_err-found
@@ -18,4 +19,4 @@ returns-in_err-reply_rows g c =
 
 pub returns : goal.returns
 returns g c =
-    rows_found g.D.Disk.view (Replaced c.args.id c.args.as_of.date) c.args.as_of.pin c.args.store.now c.replacements.new.self tt c.in_ok-found.found c.in_ok-reply_rows.field-0 c.in_ok-found.ensures.answer (λ answer e. e) (c.in_ok-reply_rows.ensures ∙ ap (λ (xs : List RowValue). reply_value (Ok (Rows xs))) c.deref.ensures.value)
+    rows_found_by g.D.Disk.view (Replaced c.args.id c.args.as_of.date) c.args.as_of.pin c.args.store.now c.replacements.new.self tt (λ given those. IsPermutation those given) (λ given those same. same) c.in_ok-found.found c.in_ok-reply_rows.field-0 c.in_ok-found.ensures.answer (λ answer e. e) (c.in_ok-reply_rows.ensures ∙ ap (λ (xs : List RowValue). reply_value (Ok (Rows xs))) c.deref.ensures.value)

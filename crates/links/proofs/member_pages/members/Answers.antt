@@ -1,7 +1,7 @@
 use Rattle.std.proofs.Common.{sym, subst, ◌∙◌}
 use Rattle.as_of_index.specs.Chosen.{StandAtAll}
 use Rattle.as_of_index.specs.Reader.{AnswersRows}
-use Rattle.links.proofs.MemberPages.{page_from_chosen}
+use Rattle.links.proofs.MemberPages.{page_from_found}
 use Rattle.links.proofs.member_pages.members.Goals as goal
 
 pub returns-clause-answer : goal.returns-clause-answer
@@ -15,7 +15,7 @@ returns-clause-answer g c =
           let lists = (r.view a.reader.now).lists in
           let are = rw listed_so at c.lists-listed.ensures.places in
           let kept = rw (c.as_slice-links.ensures, c.value.ensures.value) at (c.in_ok-kept.ensures lists listed_so) in
-          let w = page_from_chosen lists are a.links.now posts a.refset a.as_of a.after a.limit c.in_ok-kept.kept.items kept in
+          let w = page_from_found lists are a.links.now posts a.refset a.as_of a.after a.limit c.in_ok-kept.kept.items kept in
           subst (λ xs. AnswersRows c.read_all.result (λ rows. rows.items) xs r.cost (r.view a.reader.now) (r.view c.read_all.new.reader)) w.2
           (read.answer w.0 (subst (λ ks. StandAtAll lists ks w.0) (sym (c.as_slice.ensures.value ∙ c.truncate.ensures.items)) w.1));
       work = read.work;

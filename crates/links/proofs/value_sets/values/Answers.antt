@@ -1,7 +1,7 @@
 use Rattle.std.proofs.Common.{sym, subst, ◌∙◌}
 use Rattle.as_of_index.specs.Chosen.{StandAtAll}
 use Rattle.as_of_index.specs.Reader.{AnswersRows}
-use Rattle.links.proofs.ValueRows.{kept_rise, values_from_chosen}
+use Rattle.links.proofs.ValueRows.{kept_rise, values_from_found}
 use Rattle.links.proofs.value_sets.values.Goals as goal
 
 pub returns-clause-answer : goal.returns-clause-answer
@@ -17,7 +17,7 @@ returns-clause-answer g c =
           let kept = rw (c.as_slice-links.ensures, c.value-refset.ensures.value) at (c.in_ok-kept.ensures lists listed_so) in
           let rise = kept_rise lists are a.links.now posts a.refset a.as_of a.after kept.0 c.in_ok-kept.kept.items kept.1 in
           let cut = rw c.as_slice.ensures.value at (c.count_with_ties-count.ensures (rw c.as_slice.ensures.value rise)) in
-          let w = values_from_chosen lists are a.links.now posts a.refset a.as_of a.after kept.0 c.in_ok-kept.kept.items kept.1 a.limit c.count_with_ties-count.result kept.2 cut in
+          let w = values_from_found lists are a.links.now posts a.refset a.as_of a.after kept.0 c.in_ok-kept.kept.items kept.1 a.limit c.count_with_ties-count.result kept.2 cut in
           subst (λ xs. AnswersRows c.read_all.result (λ rows. rows.items) xs r.cost (r.view a.reader.now) (r.view c.read_all.new.reader)) w.2
           (read.answer w.0 (subst (λ ks. StandAtAll lists ks w.0) (sym (c.as_slice-2.ensures.value ∙ c.truncate.ensures.items)) w.1));
       work = read.work;

@@ -1,31 +1,11 @@
 use Rattle.std.proofs.Common.{refl}
-use Rattle.as_of_index.specs.Places.{Lists}
-use Rattle.links.specs.Laws.{EachPosted}
-use Rattle.history_store.proofs.Lent.{reader_honest, held_after}
-use Rattle.history_store.proofs.AncestorsRead.{id_items, ancestors_answered, closed_ancestors}
 use Rattle.history_store.proofs.store.Store.ancestors.Goals as goal
-
-pub invariant_of-self : goal.invariant_of-self
-invariant_of-self g c =
-    let r = c.new-reader.ensures in
-    let now = c.ancestors-read.new.reader in
-    held_after g.D.Disk.view _ _ _ _ _ _ _ _ _ _ c.self.invariant.0 r.disk r.cache r.entries r.shown c.self.inside.merge now.disk.now now.cache.now now.entries.now now.shown.now c.self.invariant.1 c.ancestors-read.ensures.stays.0
-    (g.met.D.Disk.now_is_image c.self.inside.disk) c.ancestors-read.ensures.reader.honesty
 
 pub returns : goal.returns
 returns g c = record {
-  answer = rw (← c.self.view_is) (
-      let r = c.new-reader.ensures in
-      let e = c.ancestors-read.ensures in
-      let a = c.answered.ensures in
-      ancestors_answered g.D.Disk.view id_items c.args.id c.args.as_of.date c.args.as_of.pin
-      (λ ls. Lists c.places.result.now ls × EachPosted ls c.links.result.now) _ c.answered.new.self c.self.inside.index c.new-reader.result.shown.now c.new-reader.result.entries.now
-      c.new-reader.result.disk.now c.ancestors-read.new.reader.disk.now c.new-reader.result.cache.now c.ancestors-read.new.reader.cache.now c.ancestors-read.result c.answered.result
-      refl c.if-self.false r.disk r.cache r.entries r.shown
-      (c.places.ensures, c.links.ensures) (λ up. reader_honest g.D.Disk.view _ _ _ _ _ _ _ _ _ _ c.self.invariant.0 r.disk r.cache r.entries r.shown up c.if-self.false (g.met.D.Disk.now_is_image c.self.inside.disk up))
-      (λ lent i. e.found lent i.0 i.1) (λ lent i. e.undamaged lent i.0 i.1) (λ i. e.work i.0 i.1) (λ lent i. e.work_always lent i.0 i.1)
-      e.reader.disk_faults e.stays.0 e.stays.5 e.stays.6 a.same a.left a.disk a.cache a.acknowledged);
+  answer = rw (← c.self.view_is) (record {
+    found = (c.if-self.false, c.in_ok-found.ensures.found c.self.inside.index c.places.ensures c.links.ensures);
+    refused = tt;
+    unchanged = refl;
+  });
 }
-
-pub returns-then-self : goal.returns-then-self
-returns-then-self g c = record { answer = rw (← c.self.view_is) (closed_ancestors g.D.Disk.view id_items c.args.id c.args.as_of.date c.args.as_of.pin _ c.if-self.true) }

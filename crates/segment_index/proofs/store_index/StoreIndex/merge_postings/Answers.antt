@@ -5,7 +5,7 @@ use Rattle.history_model.specs.InOrder.{IsAscending}
 use Rattle.history_model.specs.Lists.{AreLists}
 use Rattle.as_of_index.specs.Places.{place_cmp}
 use Rattle.term_prefix.specs.Merged.{terms_left}
-use Rattle.links.specs.MergedEdges.{edges_left, less_each}
+use Rattle.links.specs.MergedEdges.{edges_left, less_of_rows}
 use Rattle.segment_index.specs.declared.postings_merge.PostingsMerge.{PostingsMerge}
 use Rattle.segment_index.specs.UnderWay.{IsUnderWay, terms_at, edges_at}
 use Rattle.segment_index.proofs.AllLists.{terms_count, links_count, places_count}
@@ -76,6 +76,6 @@ returns-then-all-2-clause-posted c a b a_is b_is =
     let second : slice_get x.rows m.j ≡ Some b = subst (λ k. slice_get x.rows k ≡ Some b) (sym (went.numbers.1 ∙ number.1)) (subst (λ (l : List (List StampedRow)). slice_get l c.args.j ≡ Some b) (sym c.self.view_is) b_is) in
     let terms = renumbered (λ k l. terms_left (terms_at x.terms k) (terms_at x.terms l) m.terms ≡ terms_left (terms_at x.terms k) (terms_at x.terms l) old.terms - most_steps) old.i old.j m.i m.j went.numbers.0 went.numbers.1
     (subst (λ n. terms_left (terms_at x.terms old.i) (terms_at x.terms old.j) m.terms ≡ terms_left (terms_at x.terms old.i) (terms_at x.terms old.j) old.terms - n) steps c.in_default.ensures.terms) in
-    let links = renumbered (λ k l. edges_left (edges_at x.links k) (edges_at x.links l) m.links ≡ less_each (edges_left (edges_at x.links k) (edges_at x.links l) old.links) most_steps) old.i old.j m.i m.j went.numbers.0 went.numbers.1
-    (subst (λ n. edges_left (edges_at x.links old.i) (edges_at x.links old.j) m.links ≡ less_each (edges_left (edges_at x.links old.i) (edges_at x.links old.j) old.links) n) steps c.in_default.ensures.links) in
+    let links = renumbered (λ k l. edges_left (edges_at x.links k) (edges_at x.links l) m.links ≡ less_of_rows most_steps (edges_left (edges_at x.links k) (edges_at x.links l) old.links)) old.i old.j m.i m.j went.numbers.0 went.numbers.1
+    (subst (λ n. edges_left (edges_at x.links old.i) (edges_at x.links old.j) m.links ≡ less_of_rows n (edges_left (edges_at x.links old.i) (edges_at x.links old.j) old.links)) steps c.in_default.ensures.links) in
     all_posted x.rows x.places x.terms x.links c.self.invariant.0 old m a b first second both.0 both.1 went.merge c.seal.result terms links c.seal.ensures.terms c.seal.ensures.links

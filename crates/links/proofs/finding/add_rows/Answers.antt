@@ -1,0 +1,45 @@
+use Rattle.std.proofs.Common.{◌≡◌, Some, None, false, [], ◌∷◌, ◌++◌, get_or, refl, sym, ap, subst, ◌∙◌, take, take_all}
+use Rattle.std.proofs.lemmas.List.{take_more}
+use Rattle.segment.specs.declared.place.RowPlace.{RowPlace}
+use Rattle.links.specs.declared.posting.Tag.TheVariants.{Child}
+use Rattle.links.specs.declared.posting.Posting.{Posting}
+use Rattle.links.specs.Private.{Takes}
+use Rattle.links.specs.Private.Asking.{GivesPlace, placed}
+use Rattle.links.proofs.Collected.{takes_nothing, takes_one, takes_none}
+use Rattle.links.proofs.finding.add_rows.Goals as goal
+use Rattle.links.proofs.finding.add_rows.Goals.{in-Some+in_ok-push, in_default}
+
+pub loop-p-init : goal.loop-p-init
+loop-p-init c = λ lists listed_so. takes_nothing (GivesPlace lists c.args.asked.now c.args.segment) c.args.kept.now.items
+
+pub loop-p-preserved : goal.loop-p-preserved
+loop-p-preserved c = λ lists listed_so.
+    let a = c.args in
+    let i = c.loop-p.p-index in
+    let first : Posting = record { first = 0; second = 0; row = 0; tag = Child; active = false } in
+    let x = get_or a.postings.now i first in
+    let now = c.row_at.ensures lists listed_so in
+    let so_far = c.loop-p.invariant lists listed_so in
+    let gives = GivesPlace lists a.asked.now a.segment in
+    rw (take_more a.postings.now i first c.loop-p-test.true) (elim c.match-row_at.branch [
+      | in-Some+in_ok-push w ↦
+          let at = w.in-Some.at in
+          let says = (now at).0 w.in-Some.is in
+          subst (λ ys. Takes gives (take i a.postings.now ++ x ∷ []) a.kept.now.items ys)
+          (sym (ap (λ v. v.items) w.kept-is ∙ w.in_ok-push.ensures.items ∙ ap (λ k. c.loop-p.kept.items ++ k ∷ []) w.chosen.ensures))
+          (takes_one gives (take i a.postings.now) x (placed a.segment x at) a.kept.now.items c.loop-p.kept.items so_far (record { at = at; row_there = (says.0, says.1); asked_so = says.2; answer_is = refl }) (λ z g.
+          let got : Some at ≡ Some g.at = sym w.in-Some.is ∙ (now g.at).1 (g.row_there.0, g.row_there.1, g.asked_so) in
+          let same : at ≡ g.at = cc in
+          ap (λ (p : RowPlace). placed a.segment x p) same ∙ g.answer_is))
+      | in_default w ↦
+          subst (λ ys. Takes gives (take i a.postings.now ++ x ∷ []) a.kept.now.items ys)
+          (sym (ap (λ v. v.items) w.kept-is))
+          (takes_none gives (take i a.postings.now) x a.kept.now.items c.loop-p.kept.items so_far (λ z g. absurd (
+          let got : None ≡ Some g.at = sym w.in_default.is ∙ (now g.at).1 (g.row_there.0, g.row_there.1, g.asked_so) in
+          cc)))
+    ])
+
+pub returns : goal.returns
+returns c = λ lists listed_so.
+    let a = c.args in
+    subst (λ xs. Takes (GivesPlace lists a.asked.now a.segment) xs a.kept.now.items c.loop-p.kept.items) (take_all c.loop-p.p-index a.postings.now c.loop-p-test.false) (c.loop-p.invariant lists listed_so)

@@ -1,9 +1,0 @@
-use Rattle.std.proofs.Common.{List, take}
-use Rattle.history_model.specs.declared.stamped.StampedRow.{StampedRow}
-use Rattle.as_of_index.specs.Places.{Lists}
-use Rattle.as_of_index.specs.Private.Postings.{numbered}
-use Rattle.links.specs.Private.Memberships.{memberships_in, GivesMember, AreGiven}
-use Rattle.links.proofs.member_search.find_members.Given as goal
-
-abbrev pub invariant-loop-segment : goal.invariant-loop-segment
-invariant-loop-segment l = (lists : List (List StampedRow)) → Lists l.index lists → AreGiven (GivesMember lists l.asked) (numbered 0 (memberships_in (take l.segment l.links))) l.kept.items
