@@ -131,11 +131,7 @@ fn find_rows(alloc: Global, made: &Indexed, request: Request, prefix: &str) -> A
 }
 
 /// The concepts that are found, if the question asks for concepts.
-fn concepts_found(
-    alloc: Global,
-    made: &Indexed,
-    request: Request,
-) -> Result<Vec<u64>, AllocError> {
+fn concepts_found(alloc: Global, made: &Indexed, request: Request) -> Result<Vec<u64>, AllocError> {
     let (links, index) = (&made.links, &made.index);
     let Request { question, pin } = request;
     match question {
