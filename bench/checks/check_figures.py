@@ -150,7 +150,10 @@ FIGURES = [
            " | sed -nE 's/^keep -> //p'" % DAMAGE),
 ]
 
-TABLES = [Table("docs/internals/ARCHITECTURE.md", "python3 bench/checks/count_reach.py")]
+TABLES = [Table("docs/internals/ARCHITECTURE.md", "python3 bench/checks/count_reach.py"),
+          Table("bench/README.md", "python3 bench/faults/always_refused.py --table"),
+          Table("bench/README.md", "python3 bench/faults/gateway_faults.py --table"),
+          Table("bench/README.md", "python3 bench/faults/make_all_tests.py table")]
 
 # What has to be in FIGURES wherever it stands, and the rows that say what was so on a day.
 COUNTED = re.compile(

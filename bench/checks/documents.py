@@ -12,7 +12,7 @@ LINK = re.compile(r"\]\(([^)\s]+)\)")
 
 
 def documents() -> list[Path]:
-    """The documents that say how the program is now. (seen.md says what was tried, and when.)"""
+    """All documents: they say how the program is now."""
     tops = [TOP / name for name in ("README.md", "CHANGELOG.md", "bench/README.md")]
     return tops + sorted((TOP / "docs").rglob("*.md"))
 

@@ -16,8 +16,8 @@ WORD takes the calls with this text in their crate and name, CRATE those that it
 catch. The copy lies in a temporary folder, or in FOLDER, and then it stays. What fails as it is
 catches nothing. A build takes about two minutes of one processor, a run some seconds. Before all
 that it looks if each call and each test of the table stands in the sources, and if each refusal is
-one that the call's file can name, which takes no time; with --table it does that alone. Standard
-library alone.
+one that the call's file can name, which takes no time; with --table it does that alone, and prints
+the rows that bench/README.md has of it. Standard library alone.
 """
 
 from __future__ import annotations
@@ -28,6 +28,7 @@ import shutil
 import subprocess
 import sys
 import tempfile
+from collections import Counter
 from pathlib import Path
 from typing import Iterable, Iterator, NamedTuple
 
@@ -547,12 +548,19 @@ def try_calls(kit: Path, top: Path, name: str, numbers: dict[Call, int]) -> int:
         return sum(not is_caught(call, number, tests) for call, number in numbers.items())
 
 
+def print_rows(calls: list[Call]) -> None:
+    """A row for each crate whose tests catch calls."""
+    for tests, count in sorted(Counter(call.tests for call in calls).items()):
+        print(f"| `{tests}` | {count} public calls that always run out of memory"
+              f" | `always_refused.py --tests {tests}` |")
+
+
 def main() -> int:
     assert __doc__
     parser = argparse.ArgumentParser(description=__doc__.strip().split("\n", maxsplit=1)[0])
     parser.add_argument("--only", default="", help="the calls with this word in crate or name")
     parser.add_argument("--tests", help="the calls that the tests of this crate are to catch")
-    parser.add_argument("--table", action="store_true", help="look at the table alone")
+    parser.add_argument("--table", action="store_true", help="look at the table alone, and print it")
     parser.add_argument("--keep", help="the folder of the copy, which stays")
     asked = parser.parse_args()
     numbers = {call: number for number, call in enumerate(CALLS, 1)
@@ -560,6 +568,7 @@ def main() -> int:
                and asked.tests in (None, call.tests)}
     is_right = is_in_sources(list(numbers))
     if asked.table or not is_right:
+        print_rows(list(numbers))
         return 0 if numbers and is_right else 1
     top = Path(asked.keep or tempfile.mkdtemp(prefix="sctd-refused-"))
     try:

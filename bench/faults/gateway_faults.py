@@ -1,11 +1,14 @@
 #!/usr/bin/env python3
 """Puts faults into a copy of the gateway, one at a time, and says which of its tests fail.
 
-gateway_faults.py PROGRAM [NUMBER ..]
+gateway_faults.py PROGRAM [NUMBER|TESTS ..]
+gateway_faults.py --table
 
 PROGRAM is the built `sctd`. Each fault is a text of a file that is exchanged, and the tests that
-are run with it. One that no test fails for is said to be NOT SEEN, and the status is 1 then. It
-takes some minutes. Standard library alone; the gateway and its tests need their packages.
+are run with it: TESTS, such as `test_hub`, stands for all faults that are tried with these. One
+that no test fails for is said to be NOT SEEN, and the status is 1 then. It takes some minutes. With
+--table it prints the rows that bench/README.md has of it, and tries nothing. Standard library
+alone; the gateway and its tests need their packages.
 """
 
 from __future__ import annotations
@@ -16,6 +19,7 @@ import shutil
 import subprocess
 import sys
 import tempfile
+from collections import Counter
 from collections.abc import Sequence
 
 ROOT = os.path.dirname(os.path.dirname(os.path.dirname(os.path.abspath(__file__))))
@@ -81,7 +85,25 @@ def tried(number: int, fault: Fault, python: str, program: str) -> bool:
     return bool(found)
 
 
+def numbers_of(word: str) -> list[int]:
+    """The faults that a word of the command stands for."""
+    if word.isdigit():
+        return [int(word)]
+    return [number for number, fault in enumerate(FAULTS) if word in fault.tests.split()]
+
+
+def print_rows() -> None:
+    """A row for each file of tests that faults are tried with."""
+    counts = Counter(test for fault in FAULTS for test in fault.tests.split())
+    for test, count in sorted(counts.items()):
+        print(f"| `{test.removesuffix('.py')}` | {count} of the gateway and the page"
+              f" | `gateway_faults.py PROGRAM {test}` |")
+
+
 def main(words: Sequence[str]) -> int:
+    if words == ["--table"]:
+        print_rows()
+        return 0
     if not words:
         print((__doc__ or "").strip(), file=sys.stderr)
         return 2
@@ -89,10 +111,11 @@ def main(words: Sequence[str]) -> int:
     if python is None:
         print("not run: a package that the gateway or its tests need is missing")
         return NOT_RUN
-    chosen = [int(word) for word in words[1:]] or range(len(FAULTS))
+    chosen = [number for word in words[1:] for number in numbers_of(word)]
+    chosen = chosen or list(range(0 if words[1:] else len(FAULTS)))
     seen = [tried(number, FAULTS[number], python, program) for number in chosen]
     print("%d faults, %d not seen" % (len(seen), seen.count(False)))
-    return 0 if all(seen) else 1
+    return 0 if seen and all(seen) else 1
 
 
 if __name__ == "__main__":

@@ -1,12 +1,12 @@
 #!/usr/bin/env python3
-"""Tries the tests of memory in section 6 of seen.md with a fault put in.
+"""Tries the tests of running out of memory in each call with a fault put in.
 
 make_all_tests.py write REPOSITORY FOLDER     writes the crate FOLDER/crates/all_tests
 make_all_tests.py build FOLDER [LEVEL]        builds it without a proof, as FOLDER/program
 make_all_tests.py run PROGRAM [FAULT ..]      runs its tests with each fault on, or with all
+make_all_tests.py table                       prints the row that bench/README.md has of it
 
-The crate has the modules of those tests, of test_program. The section's other tests are cases of
-store_cases now. A byte of the built program, the one behind `THE-FAULT-THAT-IS-ON:`, says which
+The crate has the modules of those tests, of test_program. A byte of the built program, the one behind `THE-FAULT-THAT-IS-ON:`, says which
 fault is on, so one build does for all; 0 is no fault, and with `c` the tests ask for a million
 refusals, so that they say how many there were. The byte stands in a C file: a constant of Rattle is
 folded into the code.
@@ -32,7 +32,9 @@ NAME = "all_tests"
 # The modules of tests that it has, by their crates.
 MODULES = {"test_program": ("call_growths", "calls")}
 MARK = b"THE-FAULT-THAT-IS-ON:"
-FAULTS = ("0", "1", "4", "c")
+# 0 is none, and FEWEST lets the tests ask for a million refusals.
+FEWEST = "c"
+FAULTS = ("0", "1", "4", FEWEST)
 LEVEL = "-O2"
 # How long a test may take, and how much of a line that it prints is shown.
 SECONDS = 120
@@ -189,6 +191,11 @@ def run(program: Path, faults: Sequence[str]) -> int:
 
 def main(words: Sequence[str]) -> int:
     command, *rest = words or [""]
+    if command == "table" and not rest:
+        faults = {change.fault for change in CHANGES} & set(FAULTS) - {FEWEST}
+        print(f"| `{', '.join(MODULES)}` | {len(faults)} of what the tests share"
+              " | `make_all_tests.py write`, then `build` and `run` |")
+        return 0
     if command == "write" and len(rest) == 2:
         return write(*(Path(word).resolve() for word in rest))
     if command == "build" and len(rest) in (1, 2):
