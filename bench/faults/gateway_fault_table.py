@@ -4,7 +4,6 @@ from __future__ import annotations
 
 from typing import NamedTuple
 
-PAGE = "try_page.py"
 MEMBERS = "test_members"
 
 
@@ -318,9 +317,9 @@ FAULTS = [
     Fault(
         "a refusal of the page doesn't tell its pin",
         "app.py",
-        "        response = refusal(problem, fhir)\n",
-        "        response = refusal(problem, fhir)\n"
-        "        if not fhir:\n"
+        "        response = await refused(problem, request)\n",
+        "        response = await refused(problem, request)\n"
+        "        if not FHIR_PATH.match(request.target):\n"
         "            return response\n",
         "test_page",
     ),
@@ -358,48 +357,6 @@ FAULTS = [
         "asyncio.timeout(limits.SCTD_SECONDS)",
         "asyncio.timeout(None)",
         "test_silent_hub",
-    ),
-    Fault(
-        "texts aren't escaped",
-        "markup.py",
-        "else visible(part) for",
-        "else Markup(visible(part)) for",
-        "test_page " + PAGE,
-    ),
-    Fault(
-        "characters that turn a text are shown",
-        "markup.py",
-        'UNSEEN = ("Cc", "Cf",',
-        'UNSEEN = ("Cc",',
-        "test_page",
-    ),
-    Fault(
-        "what the store doesn't have is shown as inactive",
-        "page_record.py",
-        'said = status if target else "not in the store"',
-        "said = status",
-        "test_page",
-    ),
-    Fault(
-        "a list of replacements that isn't whole doesn't say so",
-        "page_record.py",
-        "*([tag(\"p\", aside(MORE_STEPS))] if turn else [])",
-        "*[]",
-        "test_page",
-    ),
-    Fault(
-        "the history passes over another target",
-        "page_history.py",
-        "    if old == new:\n",
-        "    if bool(old) == bool(new):\n",
-        "test_page",
-    ),
-    Fault(
-        "concepts that are called alike are one in the history",
-        "page_history.py",
-        "Said(what, row.target, names.of(row.target))",
-        'Said(what, "", names.of(row.target))',
-        "test_page",
     ),
     Fault(
         "a time of day that there isn't is read",
@@ -453,8 +410,8 @@ FAULTS = [
     Fault(
         "the page's style may be posted to",
         "app.py",
-        "        if request.method == \"POST\":\n            raise Problem(405",
-        "        if request.method == \"POST\" and path in PAGES:\n            raise Problem(405",
+        "\"POST\" and not (path in PAGES and PAGES[path].posted):",
+        "\"POST\" and path in PAGES and not PAGES[path].posted:",
         "test_requests",
     ),
     Fault(
@@ -470,28 +427,6 @@ FAULTS = [
         '"translation": {"needsMap": True}}',
         '"translation": {"needsMap": True}, "closure": {"translation": False}}',
         "test_value_sets",
-    ),
-    Fault(
-        "a style that the policy forbids",
-        "page.html",
-        "<header>",
-        '<header style="margin: 0">',
-        PAGE,
-    ),
-    Fault("pale text", "page.css", "--soft: #55626e", "--soft: #9aa5ae", PAGE),
-    Fault(
-        "a table that is wider than a phone",
-        "page.css",
-        "table { width: 100%;",
-        "table { width: 60rem;",
-        PAGE,
-    ),
-    Fault(
-        "a field without a label",
-        "page.html",
-        '<label for="other">',
-        '<label for="others">',
-        "test_page " + PAGE,
     ),
     Fault(
         "preferred terms are passed over",
@@ -715,34 +650,6 @@ FAULTS = [
         "fhir/capabilities.py",
         " **languages,",
         "",
-        MEMBERS,
-    ),
-    Fault(
-        "the page tells members that weren't active",
-        "page_members.py",
-        "        if row.active != \"1\" or row.component != code:",
-        "        if row.component != code:",
-        MEMBERS,
-    ),
-    Fault(
-        "the page tells members of later days",
-        "page_members.py",
-        " or row.time > day:",
-        ":",
-        MEMBERS,
-    ),
-    Fault(
-        "a member is told since its last version",
-        "page_members.py",
-        "Membership(row, found.since)",
-        "Membership(row, row.time)",
-        MEMBERS,
-    ),
-    Fault(
-        "the page doesn't say why a code was retired",
-        "page_record.py",
-        "for reason in side.reasons]",
-        "for reason in []]",
         MEMBERS,
     ),
     Fault(

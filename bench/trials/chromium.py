@@ -24,8 +24,11 @@ FLAGS = [
     "--lang=en-GB",
     "--remote-debugging-pipe",
 ]
-SECONDS = 30
+# (A machine that does much else takes a while to begin.)
+SECONDS = 90
 READ_BYTES = 1 << 16
+# Keys by their names, with their codes and what they write.
+KEYS = {"Tab": (9, ""), "Enter": (13, "\r"), " ": (32, " ")}
 
 # What Chromium says: an answer to a question, or an event.
 Message = dict[str, Any]
@@ -70,7 +73,7 @@ class Browser:
         self.session: Optional[str] = None
         target = self.ask("Target.createTarget", url="about:blank")["targetId"]
         self.session = self.ask("Target.attachToTarget", targetId=target, flatten=True)["sessionId"]
-        for domain in ("Page", "Log", "Runtime"):
+        for domain in ("Page", "Log", "Runtime", "Accessibility"):
             self.ask(domain + ".enable")
 
     def close(self) -> None:
@@ -135,6 +138,22 @@ class Browser:
         if "exceptionDetails" in found:
             raise Failed("%s: %s" % (script[:60], found["exceptionDetails"].get("text")))
         return found["result"].get("value")
+
+    def press(self, key: str) -> None:
+        """Presses a key: one of KEYS, or a digit."""
+        number, text = KEYS.get(key) or (ord(key), key)
+        for kind, written in (("keyDown", text), ("keyUp", "")):
+            self.ask("Input.dispatchKeyEvent", type=kind, key=key, text=written,
+                     windowsVirtualKeyCode=number)
+
+    def write(self, text: str) -> None:
+        """Writes a text where the focus is."""
+        self.ask("Input.insertText", text=text)
+
+    def media(self, kind: str = "", scheme: str = "light") -> None:
+        """Shows pages as on a screen, or as on paper with `print`, in light or dark colours."""
+        wanted = [{"name": "prefers-color-scheme", "value": scheme}]
+        self.ask("Emulation.setEmulatedMedia", media=kind, features=wanted)
 
     def width(self, pixels: int, is_phone: bool = False) -> None:
         self.ask(

@@ -1,20 +1,21 @@
 #!/usr/bin/env python3
-"""Opens the gateway's page in a headless Chromium, and looks at it.
+"""Opens the gateway's pages in a headless Chromium, and looks at them.
 
 try_page.py PROGRAM [PICTURE]
 
-PROGRAM is the built `sctd`. A record, a retired concept, hostile terms, a search, a phone's width,
-the page without its script, and records of whole packages: the console may say nothing, no dialog
-may open, nothing may break the page's policy, and nothing may be wider than the window. Each field
-has a label, and each text a contrast of at least 4.5 to what is behind it. PICTURE is written with
-the page of a package's record. Where there is no Chromium, or something that the gateway imports
-is missing, that is said and the status is 3; it is 1 where something is wrong.
+PROGRAM is the built `sctd`. Records, a retired concept, hostile terms, a search, refusals, what
+changed between two days and a list of records are opened at 390 and at 1,280 pixels, in light and
+in dark colours. The rules of page_rules.py hold of each: contrast, names, labels, headings, widths,
+a console that says nothing. Records, changes and lists are also gone through by the keyboard alone.
+Forms are filled in by it, a file is chosen, a list is printed, and a record is read without the
+page's script. PICTURE is written with the page of a record. Where there is no Chromium, or
+something that the gateway imports is missing, that is said and the status is 3; it is 1 where
+something is wrong.
 """
 
 from __future__ import annotations
 
 import base64
-import functools
 import os
 import shutil
 import socket
@@ -27,156 +28,282 @@ from typing import Any, Optional
 from urllib.parse import urlencode
 
 import chromium
+import page_rules
 from try_gateway import ROOT, SERVICE
 
 sys.path.append(os.path.join(ROOT, "packaging"))
 from needs import python_with  # noqa: E402
 
 NOT_RUN = 3
-DESK, PHONE = 1000, 360
-LEAST_CONTRAST = 4.5
-# The events that a page may not cause.
-UNWANTED = (
-    "Runtime.consoleAPICalled",
-    "Runtime.exceptionThrown",
-    "Log.entryAdded",
-    "Page.javascriptDialogOpening",
-)
-# The least contrast of a text to the first colour behind it, as WCAG 2 reckons it, and that text.
-CONTRAST = """(() => {
-  const parts = colour => colour.match(/[\\d.]+/g).map(Number);
-  const light = colour => parts(colour).slice(0, 3).map(part => part / 255)
-    .map(part => part <= 0.04045 ? part / 12.92 : ((part + 0.055) / 1.055) ** 2.4)
-    .reduce((sum, part, place) => sum + part * [0.2126, 0.7152, 0.0722][place], 0);
-  const behind = element => {
-    for (let one = element; one; one = one.parentElement) {
-      const colour = getComputedStyle(one).backgroundColor;
-      if (colour !== "transparent" && parts(colour)[3] !== 0) return colour;
-    }
-    return "rgb(255, 255, 255)";
-  };
-  let least = [99, ""];
-  const texts = document.createTreeWalker(document.body, NodeFilter.SHOW_TEXT);
-  while (texts.nextNode()) {
-    const text = texts.currentNode.data.trim(), element = texts.currentNode.parentElement;
-    if (!text || !element.getClientRects().length) continue;
-    const both = [light(getComputedStyle(element).color), light(behind(element))];
-    both.sort((a, b) => b - a);
-    const contrast = (both[0] + 0.05) / (both[1] + 0.05);
-    if (contrast < least[0]) least = [contrast, text.slice(0, 40)];
-  }
-  return least;
-})()"""
-TOO_WIDE = "document.documentElement.scrollWidth - document.documentElement.clientWidth"
-WITHOUT_LABEL = (
-    "[...document.querySelectorAll('input, textarea')].filter(one => !one.labels.length).length"
-)
-HEADINGS = "[...document.querySelectorAll('h1, h2, h3')].map(one => Number(one.tagName[1]))"
+DESK, PHONE = 1280, 390
+LOOKS = [(width, scheme) for width in (DESK, PHONE) for scheme in ("light", "dark")]
+# How wide the page of PICTURE is.
+PICTURE_WIDTH = 1000
 TEXT = "document.body.innerText"
-
+# How light the page is behind its texts, from 0 to 1.
+LIGHT = "(() => {%s return light(behind(document.body)); })()" % page_rules.COLOURS
+SHOWN_ROWS = (
+    "[...document.querySelectorAll('.compared tbody tr')]"
+    ".filter(one => one.checkVisibility()).length"
+)
+ALL_ROWS = "document.querySelectorAll('.compared tbody tr').length"
+# Where the cells of the first row of a table stand: the second at the side of the first or below.
+PLACES = """(() => {
+  const [one, other] = [...document.querySelectorAll(".compared tbody tr td")]
+    .map(cell => cell.getBoundingClientRect());
+  return other.top >= one.bottom && Math.abs(other.left - one.left) < 1 ? "below"
+    : other.left >= one.right && Math.abs(other.top - one.top) < 1 ? "beside" : "elsewhere";
+})()"""
+SAID_BEFORE = (
+    "(() => { const cell = document.querySelector('.compared tbody td');"
+    " const text = getComputedStyle(cell, '::before').content;"
+    " return text.replace(/^attr.*/, JSON.stringify(cell.dataset.head)); })()"
+)
+# What isn't to be on paper, as far as it is shown.
+NOT_PRINTED = (
+    "[...document.querySelectorAll('form, nav, .links, .skip')]"
+    ".filter(one => one.checkVisibility()).map(one => one.tagName)"
+)
 # The codes of the concepts of a made-up release, by their names.
 Codes = Mapping[str, str]
 
 
 class Wrong(Exception):
-    """The page isn't as it has to be."""
+    """A page isn't as it has to be."""
 
 
 class Page:
-    """The page of one gateway in one browser."""
+    """The pages of one gateway in one browser."""
 
-    def __init__(self, browser: chromium.Browser, base: str) -> None:
-        self.browser, self.base = browser, base
+    def __init__(self, browser: chromium.Browser, base: str, codes: Codes) -> None:
+        self.browser, self.base, self.codes = browser, base, codes
 
-    def open(self, what: str, **words: str) -> str:
-        events = self.browser.open(self.base + "?" + urlencode(words))
+    def open(self, what: str, path: str = "", *parts: str, **words: str) -> str:
+        """Opens a page, by which no rule is broken, and returns its text."""
+        asked = {name.rstrip("_"): word for name, word in words.items()}
+        self.browser.open(self.base + path + "?" + urlencode(asked))
+        return self.holds(what, *parts)
+
+    def holds(self, what: str, *parts: str) -> str:
+        """The text of the page that is open, which has these parts."""
         # What the page's script may still say.
-        self.browser.value("new Promise(done => setTimeout(done, 200))")
-        bad = [event for event in events if event["method"] in UNWANTED]
-        if bad:
-            raise Wrong("%s: %s" % (what, bad[0]))
-        wide = self.browser.value(TOO_WIDE)
-        if wide > 0:
-            raise Wrong("%s: %d pixels wider than the window" % (what, wide))
-        contrast, pale = self.browser.value(CONTRAST)
-        if contrast < LEAST_CONTRAST:
-            raise Wrong("%s: a contrast of %.2f: %r" % (what, contrast, pale))
-        if self.browser.value(WITHOUT_LABEL):
-            raise Wrong("%s: a field without a label" % what)
-        headings = self.browser.value(HEADINGS)
-        if headings[0] != 1 or any(
-            after > before + 1 for before, after in zip(headings, headings[1:])
-        ):
-            raise Wrong("%s: headings %s" % (what, headings))
-        return str(self.browser.value(TEXT))
-
-    def says(self, what: str, text: str, *parts: str) -> None:
+        self.browser.value("new Promise(done => setTimeout(done, 100))")
+        for one in page_rules.broken(self.browser, self.browser.events):
+            raise Wrong("%s: %s" % (what, one))
+        text = str(self.browser.value(TEXT))
         for part in parts:
             if part not in text:
                 raise Wrong("%s: no %r" % (what, part))
+        return text
+
+    def walk(self, what: str) -> None:
+        """Goes through the page by the keyboard."""
+        for one in page_rules.walked(self.browser):
+            raise Wrong("%s: %s" % (what, one))
+
+    def is_so(self, what: str, script: str, wanted: Any) -> None:
+        found = self.browser.value(script)
+        if found != wanted:
+            raise Wrong("%s: %r, and %r was wanted" % (what, found, wanted))
+
+    def go(self, what: str, key: str, *parts: str) -> str:
+        """Presses a key by which another page is opened."""
+        self.browser.events = []
+        self.browser.press(key)
+        self.browser.wait("Page.loadEventFired")
+        return self.holds(what, *parts)
+
+    def tab_to(self, name: str) -> None:
+        """Goes to a field, a button or a link by the tab key."""
+        for _ in range(100):
+            self.browser.press("Tab")
+            focus = self.browser.value(page_rules.OF_FOCUS)
+            if focus and focus[0] == name:
+                return
+        raise Wrong("the tab key doesn't lead to %r" % name)
 
 
-def desk(page: Page, codes: Codes) -> None:
-    text = page.open("a record", q=codes["wrist"], date="2018-01-01")
-    page.says(
-        "a record",
-        text,
-        "Fracture of wrist (disorder)",
-        "only then",
-        "not then",
-        "Replaced by",
-        "The record\u2019s day",
-        "For the report",
-    )
+def records(page: Page) -> None:
+    codes = page.codes
+    page.open(
+        "a record", "", "Fracture of wrist (disorder)", "only then", "not then", "Replaced by",
+        "in short \u201cWrist fracture\u201d", "(since 31 January 2021: Duplicate component)",
+        "The record\u2019s day", "For the report", q=codes["wrist"], date="2018-01-01")
+    title = "Fracture of wrist (disorder) %s \u00b7 The record as it stood" % codes["wrist"]
+    page.is_so("the title", "document.title", title)
+    page.walk("a record")
+    page.open(
+        "what was below a concept", "", "Children", "Target of the house Y1",
+        "Advice <b>bold</b> ask <i>them</i>", q=codes["limb"], date="2020-12-31")
+    page.open(
+        "a retired concept", "", "was inactive", "Took the place of", "Same as",
+        "Fracture of distal radius (disorder)", q=codes["radius"])
+    page.open("an extended map", "", "Map advice", "Map target", q=codes["anaemia"])
+    page.open(
+        "hostile terms", "", "<script>alert(1)</script>", "\u2039U+202E\u203a",
+        "{{content}} {{q}}", q=codes["evil"])
+    page.open("no such code", "", "The code 999999006 isn\u2019t in the store", q="999999006")
+
+
+def searches(page: Page) -> None:
+    page.open("no word", "", "Type a code")
+    page.open("a search", "", "1 term begins", "</textarea><script>", q="Hostile")
+    page.open("a hostile search", "", "No term begins", q="<img src=x onerror=alert(1)>")
+
+
+def refusal(page: Page) -> None:
+    """It keeps what was filled in. (Chromium tells the console of the status.)"""
+    page.browser.open(page.base + "?" + urlencode({"q": "7<b>", "date": "2018-02-31"}))
+    page.browser.events = []
+    page.holds("a refusal", "Refused: a date is a day of the calendar")
+    page.is_so("the form of a refusal", "document.getElementById('q').value", "7<b>")
+
+
+def changes(page: Page) -> None:
+    codes = page.codes
+    page.open("no changes yet", "changes", "Type a concept\u2019s code and two days")
+    page.open(
+        "what changed", "changes", "concepts changed", "Fracture of carpal bone (disorder)",
+        "Parent withdrawn", "All of it as CSV", concept=codes["finding"], from_="2019-01-31")
+    page.walk("what changed")
+
+
+def lists(page: Page) -> None:
+    """A list is typed and judged, by the keyboard alone."""
+    wrist = page.codes["wrist"]
+    page.open("no list yet", "records", "Paste a list of records")
+    page.tab_to("list")
+    lines = "%s, 2018-01-01, Wrist fracture\n%s, 2021-06-01, <b>Nothing</b>\n1, 2, 3\n"
+    page.browser.write(lines % (wrist, wrist))
+    page.browser.press("Tab")
+    page.browser.press("Tab")
+    page.go(
+        "a list", "Enter", "3 records", "Right: 1. Wrong: 1. Not judged: 1.", "Synonym (en)",
+        "The code was inactive then", "<b>Nothing</b>", "isn\u2019t an SCTID")
+    page.is_so(
+        "the list stays", "document.getElementById('list').value.split(',')[0]", wrist)
+    page.walk("a list")
+
+
+def colours(page: Page, scheme: str) -> None:
+    light = page.browser.value(LIGHT)
+    if (light > 0.5) != (scheme == "light"):
+        raise Wrong("%s colours, and the page is %.2f light" % (scheme, light))
+
+
+def looks(page: Page) -> None:
+    """All pages at each width, in light and in dark colours."""
+    for width, scheme in LOOKS:
+        page.browser.width(width, width == PHONE)
+        page.browser.media(scheme=scheme)
+        try:
+            for look in (records, searches, refusal, changes, lists):
+                look(page)
+            colours(page, scheme)
+        except Wrong as wrong:
+            raise Wrong("at %d pixels, %s: %s" % (width, scheme, wrong)) from None
+
+
+def table(page: Page) -> None:
+    """The days of a record stand beside each other, and on a phone below each other; a screen
+    reader is told of a table all the same. What differs alone is shown until the switch is off."""
+    for width, where in ((DESK, "beside"), (PHONE, "below")):
+        page.browser.width(width, width == PHONE)
+        page.open("a record", q=page.codes["wrist"], date="2018-01-01")
+        page.is_so("at %d pixels the second day" % width, PLACES, where)
+        said = '"1 January 2018"' if width == PHONE else "none"
+        page.is_so("what a cell says before itself", SAID_BEFORE, said)
+        roles = {page_rules.role_of(one) for one in page_rules.nodes(page.browser)}
+        if not {"table", "row", "rowheader", "columnheader", "cell"} <= roles:
+            raise Wrong("at %d pixels no table: %s" % (width, sorted(roles)))
+        count, shown = (page.browser.value(script) for script in (ALL_ROWS, SHOWN_ROWS))
+        page.is_so(
+            "what differs", "document.querySelector('#only + label').textContent",
+            "Only what differs: %d of %d rows" % (shown, count))
+        page.tab_to("only")
+        page.browser.press(" ")
+        page.is_so("all rows", SHOWN_ROWS, count)
+        if not 0 < shown < count:
+            raise Wrong("what differs: %d of %d rows" % (shown, count))
+    page.open("one day", q=page.codes["wrist"])
+    page.is_so("one day", "document.querySelectorAll('.compared thead th').length", 1)
+
+
+def keyboard(page: Page) -> None:
+    """A record is asked for, and its answer is gone to."""
+    page.browser.width(DESK)
+    page.open("typing")
+    page.tab_to("q")
+    page.browser.write(page.codes["wrist"])
+    page.browser.press("Tab")
+    for digit in "01012018":
+        page.browser.press(digit)
+    page.go("a record by the keyboard", "Enter", "On 1 January 2018", "was inactive")
+    page.browser.press("Tab")
+    page.is_so("the first link", "document.activeElement.className", "skip")
+    page.browser.press("Enter")
+    page.is_so("where it leads", "document.activeElement.id", "answer")
     if not page.browser.value("document.getElementById('copy').checkVisibility()"):
         raise Wrong("a record: no button that copies the line")
-    text = page.open("a retired concept", q=codes["radius"])
-    page.says(
-        "a retired concept", text, "was inactive", "Same as", "Fracture of distal radius (disorder)"
-    )
-    text = page.open("hostile terms", q=codes["evil"])
-    page.says(
-        "hostile terms",
-        text,
-        "<script>alert(1)</script>",
-        "\u2039U+202E\u203a",
-        "{{content}} {{q}}",
-    )
-    page.says("no word", page.open("no word"), "Type a code")
-    page.says(
-        "a search", page.open("a search", q="Hostile"), "1 term begins", "</textarea><script>"
-    )
-    page.says(
-        "a refusal", page.open("a refusal", q="<img src=x onerror=alert(1)>"), "No term begins"
-    )
 
 
-def whole(page: Page, codes: Codes, picture: Optional[str]) -> None:
-    """Records of whole packages: what they were called, why they were retired, their sets."""
-    page.browser.width(DESK)
-    text = page.open("a record of a package", q=codes["wrist"], date="2018-01-01")
-    page.says(
-        "a record of a package",
-        text,
-        "in short \u201cWrist fracture\u201d",
-        "(since 31 January 2021: Duplicate component)",
-        "Preferred term",
-        "A break of bones of the wrist.",
-        "Why retired",
-        "Wrists of the house",
-        "since 31 January 2015",
-        "Reference set withdrawn",
+def suggestions(page: Page) -> None:
+    """What the script adds: terms while typing."""
+    page.open("typing")
+    page.browser.value("document.getElementById('q').focus()")
+    page.browser.write("fracture of w")
+    told = page.browser.value(
+        "new Promise(done => { const look = () => { const found = [...document.querySelectorAll("
+        "'#found option')].map(one => one.value); if (found.length) done(found);"
+        " else setTimeout(look, 50); }; look(); setTimeout(() => done([]), 20000); })"
     )
-    taken = base64.b64decode(
-        page.browser.ask("Page.captureScreenshot", format="png", captureBeyondViewport=True)["data"]
-    )
-    if picture:
-        write(picture, taken)
-    text = page.open("a hostile map", q=codes["limb"])
-    page.says("a hostile map", text, "Odd map <b>bold</b>", "ask <i>them</i>")
-    page.browser.width(PHONE, True)
-    for name in ("wrist", "limb", "anaemia"):
-        page.open("a package on a phone", q=codes[name], date="2018-01-01")
+    if told != [page.codes["wrist"]]:
+        raise Wrong("typing: %s are suggested" % told)
+
+
+def uploaded(page: Page) -> None:
+    """A file of records is chosen, judged and printed: the table, without the form."""
+    page.open("no list yet", "records")
+    with tempfile.NamedTemporaryFile("w", suffix=".csv", encoding="utf-8") as file:
+        file.write("code;date;term\n%s;20180101;Wrist fracture\n" % page.codes["wrist"])
+        file.flush()
+        root = page.browser.ask("DOM.getDocument")["root"]["nodeId"]
+        field = page.browser.ask("DOM.querySelector", nodeId=root, selector="#file")["nodeId"]
+        page.browser.ask("DOM.setFileInputFiles", nodeId=field, files=[file.name])
+        page.tab_to("Judge")
+        page.go("a file", "Enter", "1 record", "Right: 1.", "Synonym (en)")
+    page.browser.media("print", "dark")
+    page.is_so("on paper", NOT_PRINTED, [])
+    page.is_so("on paper", "document.querySelector('table').checkVisibility()", True)
+    colours(page, "light")
+    paper = base64.b64decode(page.browser.ask("Page.printToPDF", preferCSSPageSize=True)["data"])
+    # (A4 in landscape is 842 points wide.)
+    if b"/MediaBox [0 0 84" not in paper:
+        raise Wrong("on paper a list isn't in landscape")
+    page.browser.media()
+
+
+def without_script(page: Page) -> None:
+    page.browser.ask("Emulation.setScriptExecutionDisabled", value=True)
+    page.browser.events = []
+    words = urlencode({"q": page.codes["wrist"], "date": "2018-01-01"})
+    page.browser.ask("Page.navigate", url=page.base + "?" + words)
+    page.browser.wait("Page.loadEventFired")
+    root = page.browser.ask("DOM.getDocument")["root"]["nodeId"]
+    markup = page.browser.ask("DOM.getOuterHTML", nodeId=root)["outerHTML"]
+    page.browser.ask("Emulation.setScriptExecutionDisabled", value=False)
+    for part in ("Fracture of wrist (disorder)", "only then", "pin 3; RECEIPT 3:"):
+        if part not in markup:
+            raise Wrong("without a script: no %r" % part)
+
+
+def pictured(page: Page, picture: Optional[str]) -> None:
+    if picture is None:
+        return
+    page.browser.width(PICTURE_WIDTH)
+    page.open("a record", q=page.codes["wrist"], date="2018-01-01")
+    taken = page.browser.ask("Page.captureScreenshot", format="png", captureBeyondViewport=True)
+    write(picture, base64.b64decode(taken["data"]))
 
 
 def write(picture: str, taken: bytes) -> None:
@@ -192,80 +319,33 @@ def write(picture: str, taken: bytes) -> None:
         file.write(taken)
 
 
-def suggestions(page: Page, codes: Codes) -> None:
-    """What the script adds: terms while typing."""
-    page.open("typing")
-    page.browser.value("document.getElementById('q').focus()")
-    page.browser.ask("Input.insertText", text="fracture of w")
-    told = page.browser.value(
-        "new Promise(done => setTimeout(() => done([...document.querySelectorAll('#found option')]"
-        ".map(one => one.value)), 1500))"
-    )
-    if told != [codes["wrist"]]:
-        raise Wrong("typing: %s are suggested" % told)
-
-
-def phone(page: Page, codes: Codes) -> None:
-    page.browser.width(PHONE, True)
-    for name in ("wrist", "evil", "drug"):
-        page.open("a phone", q=codes[name], date="2018-01-01")
-    page.browser.width(DESK)
-
-
-def without_script(page: Page, codes: Codes) -> None:
-    page.browser.ask("Emulation.setScriptExecutionDisabled", value=True)
-    page.browser.events = []
-    page.browser.ask(
-        "Page.navigate",
-        url=page.base + "?" + urlencode({"q": codes["wrist"], "date": "2018-01-01"}),
-    )
-    page.browser.wait("Page.loadEventFired")
-    root = page.browser.ask("DOM.getDocument")["root"]["nodeId"]
-    markup = page.browser.ask("DOM.getOuterHTML", nodeId=root)["outerHTML"]
-    page.says(
-        "without a script", markup, "Fracture of wrist (disorder)", "only then", "pin 3; RECEIPT 3:"
-    )
-    page.browser.ask("Emulation.setScriptExecutionDisabled", value=False)
-
-
-def looked_at(page: Page, codes: Codes) -> None:
-    browser = page.browser
-    browser.width(DESK)
-    desk(page, codes)
-    suggestions(page, codes)
-    phone(page, codes)
-    without_script(page, codes)
-
-
 def tried(path: str, program: str, picture: Optional[str]) -> None:
-    from tests.house import House
-    from tests.demo_members import WORDS
-
     os.environ.update(SCTD_PROGRAM=program, SCTD_HUB=os.path.join(ROOT, "service", "sctd-hub"))
     browser = chromium.Browser(path)
+
+    def look(codes: Codes, base: str) -> None:
+        page = Page(browser, base, codes)
+        for one in (looks, table, keyboard, suggestions, uploaded, without_script):
+            one(page)
+        pictured(page, picture)
+
     try:
-        in_house(House, (), lambda codes, base: looked_at(Page(browser, base), codes))
-        in_house(
-            functools.partial(House, layout=3, is_whole=True),
-            WORDS,
-            lambda codes, base: whole(Page(browser, base), codes, picture),
-        )
+        in_house(look)
     finally:
         browser.close()
 
 
-def in_house(
-    make: Callable[[], Any], words: Sequence[str], look: Callable[[Codes, str], None]
-) -> None:
-    """Looks at the page of a gateway that listens where a browser reaches it."""
-    from tests.house import Gateway
+def in_house(look: Callable[[Codes, str], None]) -> None:
+    """Looks at the pages of a gateway that listens where a browser reaches it."""
+    from tests.demo_members import WORDS
+    from tests.house import Gateway, House
 
-    house, gateway = make(), None
+    house, gateway = House(layout=3, is_whole=True), None
     try:
         with tempfile.TemporaryDirectory() as folder:
             with socket.create_server(("127.0.0.1", 0)) as free:
                 place = "127.0.0.1:%d" % free.getsockname()[1]
-            gateway = Gateway(house.questions, Path(folder), place, words)
+            gateway = Gateway(house.questions, Path(folder), place, WORDS)
             look(house.codes, "http://%s/" % place)
     finally:
         if gateway:
@@ -279,7 +359,8 @@ def main(words: Sequence[str]) -> int:
         return 2
     python, path = python_with(), chromium.found()
     if python is None or path is None:
-        print("not run: there is no %s" % ("package of the gateway" if python is None else "Chromium"))
+        lacking = "package of the gateway" if python is None else "Chromium"
+        print("not run: there is no %s" % lacking)
         return NOT_RUN
     if python != sys.executable:
         os.execv(python, [python, os.path.abspath(__file__), *words])

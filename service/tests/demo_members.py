@@ -45,6 +45,10 @@ FILES = {
         + " mapGroup mapPriority mapRule mapAdvice mapTarget correlationId mapCategoryId",
     ),
     "odd": ("Refset/Map/der2_ssRefset_OddMapDelta_INT_%s.txt", FIXED + " mapTarget advice"),
+    "descriptor": (
+        "Refset/Metadata/der2_cciRefset_RefsetDescriptorDelta_INT_%s.txt",
+        FIXED + " attributeDescription attributeType attributeOrder",
+    ),
 }
 METADATA_TAG = " (foundation metadata concept)"
 US_NAME = "United States of America English language reference set"
@@ -64,7 +68,11 @@ METADATA = (
     ("set", "", "Wrists of the house", "reference set"),
     ("left", "", "Left by all", "reference set"),
     ("never", "", "Never filled", "reference set"),
+    ("target column", "", "Target of the house", "root"),
+    ("advice column", "", "Advice <b>bold</b>", "root"),
 )
+# Says what the columns of other reference sets are.
+DESCRIPTOR, TEXT_TYPE = "900000000000456007", "707000009"
 
 
 class WholeMaker(Maker):
@@ -206,6 +214,11 @@ def maps(maker: WholeMaker) -> None:
     extended_map(maker)
     maker.member("map", FIRST_DAY, HOUSE_MAP, codes["limb"], "H1")
     maker.member("odd", FIRST_DAY, codes["odd"], codes["limb"], "Y1", "ask <i>them</i>")
+    # (The order of the columns isn't that of the rows; 0 is what each reference set has.)
+    for name, place in (("advice column", "2"), ("target column", "1"), ("limb", "0")):
+        maker.member(
+            "descriptor", FIRST_DAY, DESCRIPTOR, codes["odd"], codes[name], TEXT_TYPE, place
+        )
 
 
 def extended_map(maker: WholeMaker) -> None:

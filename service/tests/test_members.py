@@ -470,7 +470,7 @@ class TestPage(Whole):
         found = re.search(r'<th scope="row">%s</th>(.*?)</tr>' % title, text)
         if found is None:
             return []
-        cells = re.findall(r"<td>(.*?)</td>", found[1])
+        cells = re.findall(r"<td[^>]*>(.*?)</td>", found[1])
         return [
             [re.sub(r"<[^>]*>", "", one) for one in re.findall(r"<li>(.*?)</li>", cell)]
             for cell in cells
@@ -492,7 +492,7 @@ class TestPage(Whole):
     def test_definition(self) -> None:
         text = self.page("wrist")
         shown = demo.DEFINITION
-        assert self.row(text, "Text definition") == [[shown], [shown]]
+        assert self.row(text, "Text definition") == [[shown]]
         assert shown not in self.row(text, "Synonyms")[0]
         assert "Text definition added: <bdi>%s</bdi>" % shown in text
 
@@ -536,7 +536,21 @@ class TestPage(Whole):
         limb = self.row(self.page("limb"), "Reference sets")[0]
         assert name + "since 31 July 2017 since 31 July 2017" in limb
         odd = "Odd map &lt;b&gt;bold&lt;/b&gt; %s since 31 January 2015" % self.codes["odd"]
-        assert odd + ": Y1 \u00b7 ask &lt;i&gt;them&lt;/i&gt;" in limb
+        advice = "Advice &lt;b&gt;bold&lt;/b&gt; ask &lt;i&gt;them&lt;/i&gt;"
+        said = "Target of the house Y1 \u00b7 " + advice
+        assert "%s: %s" % (odd, said) in limb
+        assert "added: <bdi>%s</bdi>" % said in self.page("limb")
+
+    def test_columns_of_an_extended_map(self) -> None:
+        """Those of ICD-10 have names also where the store doesn't describe them."""
+        text = self.page("anaemia", date="2018-01-01")
+        for shown in self.row(text, "Reference sets"):
+            assert "Map advice ALWAYS D64.9 \u00b7 Map target D64.9 \u00b7 Correlation" in shown[0]
+            assert "Map target none" in shown[0]
+        changed = re.findall(r"<li>447562003 changed: (.*?)</li>", text)
+        assert len(changed) == 1
+        assert changed[0].count("Map priority 1") == 2
+        assert "Map target D50.9" in changed[0] and "Map target D50.8" in changed[0]
 
 
 class TestWithoutMembers:
@@ -597,6 +611,10 @@ class TestWithoutMembers:
         page = house.gateway.send("GET", "/?q=" + codes["wrist"])
         assert page.status == 422
         assert "keeps no members" in page.text
+        record, kind = codes["wrist"] + ",2018-01-01", {"Content-Type": "text/csv"}
+        assert house.gateway.send("POST", "/records", record.encode(), kind).status == 200
+        changes = "/changes?from=2018-01-01&concept=" + codes["finding"]
+        assert house.gateway.send("GET", changes).status == 200
         free = {**code, "property": "parent", "displayLanguage": "und"}
         assert fhir(LOOKUP, **free)[0] == 200
         within = SCT + "?fhir_vs=isa/" + codes["limb"]

@@ -10,7 +10,7 @@ import pytest
 from make_release import sctid
 from sctd_service.gateway import limits
 from sctd_service.gateway.page_history import Names, changes
-from sctd_service.gateway.page_record import replacements
+from sctd_service.gateway.page_record import Side, replacements, told_first
 from sctd_service.snomed import IS_A, Association, Concept, Language, Relationship
 from sctd_service.gateway.store import ANY, AnyRow, View
 
@@ -224,9 +224,122 @@ class TestPage(Asked):
             "RECEIPT 2: OK 2 18 20210131",
         )
 
-    def test_two_dates_of_one_day(self) -> None:
-        text = self.page(q=self.codes["wrist"], date="2018-01-01", other="2018-01-01")[1]
-        assert ">the same day<" in text
+    def test_one_day_is_one_column(self) -> None:
+        wrist = self.codes["wrist"]
+        cases: tuple[tuple[dict[str, str], str], ...] = (
+            ({"date": "2018-01-01", "other": "2018-01-01"}, "then"),
+            ({"date": "2022-07-31"}, "latest"),
+            ({}, "latest"),
+            ({"date": "2023-01-01", "other": "2024-01-01"}, "latest"),
+        )
+        for words, head in cases:
+            text = self.page(q=wrist, **words)[1]
+            assert text.count('<th scope="col">') == 1, words
+            assert '<span class="aside">%s</span></th></tr></thead>' % head in text, words
+            assert re.findall(r"<mark>|id=.only|only then|both days", text) == [], words
+            assert text.count("the code <strong>was ") == 1, words
+        assert self.page(q=wrist, date="2018-01-01")[1].count('<th scope="col">') == 2
+
+    def rows(self, text: str) -> dict[str, str]:
+        """The rows of the table by their titles, each with its class."""
+        found = re.findall(r'<tr([^>]*)><th scope="row">([^<]*)</th>(.*?)</tr>', text)
+        return {title: class_ + cells for class_, title, cells in found}
+
+    def test_only_what_differs(self) -> None:
+        """A row is hidden if nothing in it is marked. Where nothing differs, or all, there is no
+        switch."""
+        text = self.page(q=self.codes["wrist"], date="2018-01-01")[1]
+        rows = self.rows(text)
+        same = [title for title, row in rows.items() if ' class="same"' in row]
+        assert same == [title for title, row in rows.items() if "<mark>" not in row]
+        assert "Synonyms" in same and "Status" not in same
+        said = "Only what differs: %d of %d rows" % (len(rows) - len(same), len(rows))
+        assert re.search(r'<input type="checkbox" id="only"[^>]* checked>', text)
+        assert '<label for="only">%s</label>' % said in text
+        for words in (
+            {"q": self.codes["wrist"], "date": "2018-01-01", "other": "2018-01-02"},
+            {"q": self.codes["radius"], "date": "2018-01-01"},
+        ):
+            text = self.page(**words)[1]
+            assert "<table" in text and 'id="only"' not in text, words
+
+    def test_rows_without_anything(self) -> None:
+        """What neither day has makes no row."""
+        text = self.page(q=self.codes["radius"], date="2018-01-01")[1]
+        assert "Values" not in self.rows(text)
+        assert "Parents" not in self.rows(self.page(q=self.codes["root"])[1])
+
+    def test_children(self) -> None:
+        """What was below on one of the days alone is marked."""
+        text = self.page(q=self.codes["limb"], date="2020-12-31")[1]
+        then, now = re.findall(r"<td[^>]*>(.*?)</td>", self.rows(text)["Children"])
+        entry = r"<li>(<mark>)?<a [^>]*><bdi>[^<]*</bdi></a> <span[^>]*>%s<"
+        found = {name: re.findall(entry % code, then) for name, code in self.codes.items()}
+        assert {name for name, told in found.items() if told == ["<mark>"]} == {"wrist"}
+        assert {name for name, told in found.items() if told == [""]} == {"radius", "carpal"}
+        assert "not then" in now and self.codes["radius2"] in now
+
+    def test_many_children(self) -> None:
+        """So many are named, those first that the other day doesn't have; all are compared."""
+        codes = [str(sctid(9_000 + number, "00")) for number in range(limits.TOLD_CONCEPTS + 9)]
+        before, new = codes[:-1], codes
+        named = told_first(new, before)
+        assert len(named) == limits.TOLD_CONCEPTS and named[0] == codes[-1]
+        sides = [
+            Side("20200101", True, None, {code: code for code in told_first(own, other)})
+            for own, other in ((before, new), (new, before))
+        ]
+        first, second = (
+            side.some_of(own, side.link) for side, own in zip(sides, (before, new))
+        )
+        assert [key for key in second if key not in first] == [codes[-1]]
+        assert re.sub("<[^>]*>", "", first["more"]) == "and 8 more"
+        assert sum(bool(shown) for shown in second.values()) == limits.TOLD_CONCEPTS + 1
+
+    def test_whose_place_it_took(self) -> None:
+        rows = self.rows(self.page(q=self.codes["radius"], date="2020-12-31")[1])
+        cells = re.findall(r"<td[^>]*>(.*?)</td>", rows["Took the place of"])
+        assert self.codes["wrist"] not in cells[0]
+        assert self.codes["wrist"] in cells[1] and "not then" in cells[1]
+        assert "replaced by, possibly equivalent to</span>" in cells[1]
+        # A namespace takes no concept's place.
+        assert "Took the place of" not in self.rows(self.page(q=self.codes["namespace"])[1])
+
+    def test_titles_name_what_is_shown(self) -> None:
+        code = self.codes["wrist"]
+        for words, title in (
+            ({"q": code}, "Fracture of wrist joint region (disorder) %s" % code),
+            ({"q": code, "date": "2014-01-01", "other": "2014-01-02"}, code),
+            ({"q": str(sctid(999_999, "00"))}, str(sctid(999_999, "00"))),
+            ({"q": "fract"}, "\u201cfract\u201d"),
+            ({"q": "</title><script>x"}, "\u201c&lt;/title&gt;&lt;script&gt;x\u201d"),
+            ({"q": code, "date": "x"}, "Refused"),
+        ):
+            text = self.page(**words)[1]
+            assert "<title>%s \u00b7 The record as it stood</title>" % title in text, words
+        assert "<title>The record as it stood</title>" in self.page()[1]
+
+    def test_a_code_that_the_store_does_not_have(self) -> None:
+        code = str(sctid(999_999, "00"))
+        text = self.page(q=code, date="2018-01-01")[1]
+        assert "<h2>The code <code>%s</code></h2>" % code in text
+        assert self.report(q=code, date="2018-01-01") == (
+            "SNOMED CT %s on 2018-01-01: no such code then, nor on any day up to 2022-07-31. %s"
+            % (code, version("20170731"))
+        )
+
+    def test_a_refusal_keeps_the_form(self) -> None:
+        words = {"q": '"1105007', "date": "2018-02-31", "other": "x<y"}
+        status, text = self.page(**words)
+        assert status == 400 and 'role="alert"' in text
+        for part in ('value="&#34;1105007"', 'value="2018-02-31"', 'value="x&lt;y"'):
+            assert part in text, part
+        text = self.page("/pin/2/", **words, wrong="1")[1]
+        assert 'value="2018-02-31"' in text
+        assert 'value="7"' in self.page("/pin/99/", q="7")[1]
+        text = self.page("/changes", concept="123", **{"from": "2018-02-31"})[1]
+        assert 'value="123"' in text and 'id="concept"' in text
+        assert 'value=""' in self.house.gateway.send("GET", "/?q=%ff").text
 
     def test_search_and_suggest(self) -> None:
         assert "5 terms begin" in self.page(q="FRACTURE", date="2021-06-01")[1]

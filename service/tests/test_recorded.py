@@ -19,6 +19,10 @@ LINES = [
         f"{AT}RECEIPT [0-9]{{1,10}}",
         f"{AT}GET C {CODE} {DAY}",
         f"{AT}ABOUT [DRV] {CODE} {DAY}",
+        # What changed, and what was there before.
+        f"{AT}DELTA [CDRVA] {DAY} [0-9]{{8}} {AFTER} {COUNT}",
+        f"{AT}GET [DRV] [1-9][0-9]{{5,17}} {DAY}",
+        f"{AT}GET A [0-9a-f-]{{36}} {DAY}",
         f"{AT}ABOUT M {CODE} {DAY}",
         f"{AT}CALLED {CODE} {DAY} {REFSET}",
         f"{AT}VALUES {REFSET} {DAY} {AFTER} {COUNT}",

@@ -1,44 +1,41 @@
-"""Which answer belongs to a request: FHIR below `/fhir`, the page at `/`, and both again below
+"""Which answer belongs to a request: FHIR below `/fhir`, the pages at `/`, and all again below
 `/pin/N`, as the first N imports left the store."""
 
 import asyncio
 import contextlib
-import json
 import re
 import traceback
 from collections.abc import AsyncIterator, Awaitable, Sequence
-from pathlib import Path
-from urllib.parse import parse_qsl, unquote
+from urllib.parse import unquote
 
 from .. import VERSION
 from ..logs import tell
-from . import delivery, http, limits, metrics, page
+from . import delivery, http, limits, metrics, pages
 from .fhir import Operation, batch, operation_at, operation_of
 from .fhir.inputs import Given, Query, parsed, posted
 from .fhir.outputs import dumped, text_in_parts, written
 from .fhir.parameters import with_warnings
 from .fhir.request import Request
 from .fhir.versions import Edition
+from .frame import FOLDER, JSON, Answer
 from .hub import NEEDS_LATER_LAYOUT, OUT_OF_MEMORY, HubGone, HubRefused, Reply
+from .pages import PAGES
 from .pool import Pool
+from .posted import pairs_of
 from .problems import (
     NO_MEMBERS, Json, Problem, invalid, missing, not_found, not_now, not_supported, too_costly)
 from .store import View
 
-JSON, FHIR, HTML = ("%s; charset=utf-8" % kind
-                    for kind in ("application/json", "application/fhir+json", "text/html"))
+FHIR = "application/fhir+json; charset=utf-8"
 POLICY = (
     "default-src 'none'; script-src 'self'; style-src 'self'; connect-src 'self'; "
     "img-src data:; form-action 'self'; base-uri 'none'; frame-ancestors 'none'")
-SAFE: delivery.Headers = (
+SAFE: http.Headers = (
     ("Cache-Control", "private, no-store"), ("Content-Security-Policy", POLICY),
     ("Cross-Origin-Resource-Policy", "same-origin"), ("Referrer-Policy", "no-referrer"),
     ("X-Content-Type-Options", "nosniff"))
-VARIED: delivery.Headers = (*SAFE, ("Vary", "Prefer"))
-FOLDER = Path(__file__).parent
+VARIED: http.Headers = (*SAFE, ("Vary", "Prefer"))
 FILES = {"/page.css": "text/css; charset=utf-8", "/page.js": "text/javascript; charset=utf-8"}
-# The pages, and the words that each of them knows.
-PAGES = {"/": page.WORDS, "/suggest": ("text", "date")}
 # What a proxy and a monitor ask: whether the gateway runs, whether the store can be asked, and how
 # often what was done.
 LIVE, HEALTH, METRICS = "/live", "/health", "/metrics"
@@ -88,7 +85,7 @@ class App:
         except http.Left:
             raise
         except Exception as error:
-            response = refusal(problem_of(error), bool(FHIR_PATH.match(request.target)))
+            response = await refused(problem_of(error), request)
         return await delivery.packed(request, delivery.shared(request, response, self.origins))
 
     async def of_one_pin(self, request: http.Request) -> http.Response:
@@ -116,7 +113,7 @@ class App:
             return await self.fhir(request, pin, path.removeprefix(FHIR_BASE), given)
         if path not in PATHS:
             raise not_found("there is no such page")
-        if request.method == "POST":
+        if request.method == "POST" and not (path in PAGES and PAGES[path].posted):
             raise Problem(405, "not-supported", "a page is asked for by GET", READS)
         if path in self.files:
             return self.files[path]
@@ -126,7 +123,7 @@ class App:
             return await self.health(pin)
         if path == METRICS:
             return await self.monitored()
-        return await self.page(request, pin, path, pairs_of(words))
+        return await self.page(request, pin, path)
 
     @contextlib.asynccontextmanager
     async def view(self, request: http.Request, pin: int | None,
@@ -158,7 +155,7 @@ class App:
             tag = None if request.method == "POST" else delivery.tag_of(whence)
             if tag and delivery.is_known(request, tag):
                 return http.Response(304, "", b"", delivery.kept(VARIED, tag, pin is not None))
-            response = await told_of(view, True, self.operated(operation, view, query))
+            response = await told_of(view, request, self.operated(operation, view, query))
         if not tag or response.status != 200:
             return response
         kept = delivery.kept(response.headers, tag, pin is not None)
@@ -200,7 +197,7 @@ class App:
         check_body(request)
         entries, is_strict = batch.entries_of(request.body), self.wants_all(request)
         async with self.view(request, pin, is_walk=True) as view:
-            return await told_of(view, True, self.of_batch(view, entries, is_strict))
+            return await told_of(view, request, self.of_batch(view, entries, is_strict))
 
     async def of_batch(self, view: View, entries: Sequence[batch.Entry],
                        is_strict: bool) -> http.Response:
@@ -226,13 +223,11 @@ class App:
         operation, query = self.understood(found, given, sent, is_strict)
         return await self.resource(operation, view, query)
 
-    async def page(self, request: http.Request, pin: int | None, path: str,
-                   given: list[Given]) -> http.Response:
-        words = dict(given)
-        if len(words) < len(given) or not words.keys() <= set(PAGES[path]):
-            raise invalid("a word of the address isn't known, or stands twice")
-        async with self.view(request, pin, is_walk=path == "/") as view:
-            return await told_of(view, False, self.shown(view, path, words, pin is not None))
+    async def page(self, request: http.Request, pin: int | None, path: str) -> http.Response:
+        words = await pages.words_of(path, request)
+        async with self.view(request, pin, PAGES[path].is_walk) as view:
+            shown = pages.answered(path, self.edition, view, words, pin is not None)
+            return await told_of(view, request, sent(shown))
 
     async def health(self, pin: int | None) -> http.Response:
         """Whether the store can be asked, in time whatever hangs."""
@@ -263,35 +258,31 @@ class App:
         operation = counted_as(request.target) if request else UNREAD
         self.metrics.answered(operation, response.status, seconds)
 
-    async def shown(self, view: View, path: str, words: dict[str, str],
-                    is_pinned: bool) -> http.Response:
-        """One of the pages."""
-        if path == "/suggest":
-            text, date = words.get("text", "").strip(), words.get("date", "")
-            body, kind = json.dumps(await page.suggestions(view, text, date)).encode(), JSON
-        else:
-            form = page.form_of(words)
-            body, kind = await page.answer(self.edition, view, form, is_pinned), HTML
-        return http.Response(200, kind, body, SAFE)
-
 
 def health_of(status: int, state: Json) -> http.Response:
     return http.Response(status, JSON, dumped(state), safe(status))
 
 
-def safe(status: int) -> delivery.Headers:
+def safe(status: int) -> http.Headers:
     """The headers of an answer with this status."""
     return (*SAFE, ("Retry-After", str(limits.RETRY_SECONDS))) if status == 503 else SAFE
 
 
-async def told_of(view: View, fhir: bool, answer: Awaitable[http.Response]) -> http.Response:
+async def sent(shown: Awaitable[Answer]) -> http.Response:
+    """A page as it is sent."""
+    answer = await shown
+    return http.Response(200, answer.kind, answer.body, (*SAFE, *answer.headers))
+
+
+async def told_of(view: View, request: http.Request,
+                  answer: Awaitable[http.Response]) -> http.Response:
     """An answer, or its refusal, with the pin that it is of."""
     try:
         response = await answer
         if len(response.body) > limits.ANSWER_BYTES:
             raise too_large()
     except Problem as problem:
-        response = refusal(problem, fhir)
+        response = await refused(problem, request)
     pin = (("X-Sctd-Pin", str(view.pin)), ("X-Sctd-Receipt", view.receipt))
     return response._replace(headers=response.headers + pin)
 
@@ -308,14 +299,6 @@ def counted_as(target: str) -> str:
     if path in BASES:
         return BATCH
     return path if path in PATHS else operation_at(path) or OTHER
-
-
-def pairs_of(words: str) -> list[Given]:
-    """The parameters of an address."""
-    try:
-        return list(parse_qsl(words, True, errors="strict", max_num_fields=limits.PARAMETERS))
-    except ValueError:
-        raise invalid("the query isn't UTF-8, or has too many parts") from None
 
 
 def check_format(request: http.Request, given: list[Given]) -> None:
@@ -354,15 +337,24 @@ def problem_of(error: Exception) -> Problem:
     return Problem(500, "exception", "the gateway has a fault; its log says which")
 
 
-def refusal(problem: Problem, fhir: bool) -> http.Response:
-    headers = safe(problem.status)
-    if problem.methods:
-        headers += (("Allow", ", ".join(problem.methods)),)
-    if fhir:
-        return http.Response(problem.status, FHIR, dumped(problem.outcome()), headers)
-    return http.Response(problem.status, HTML, page.refused(problem.text), headers)
+async def refused(problem: Problem, request: http.Request) -> http.Response:
+    """A refusal in the form in which there would have been an answer."""
+    if FHIR_PATH.match(request.target):
+        return refusal(problem)
+    found = PATH.match(request.target.partition("?")[0])
+    page = await pages.refused(unquote(found[2]) if found else "", request, problem.text)
+    return http.Response(problem.status, page.kind, page.body, headers_of(problem))
+
+
+def refusal(problem: Problem) -> http.Response:
+    return http.Response(problem.status, FHIR, dumped(problem.outcome()), headers_of(problem))
+
+
+def headers_of(problem: Problem) -> http.Headers:
+    methods = (("Allow", ", ".join(problem.methods)),) if problem.methods else ()
+    return (*safe(problem.status), *methods)
 
 
 def refused_request(status: int, text: str) -> http.Response:
     """The answer to what isn't a request. Who sent it is a program, whatever it wanted."""
-    return refusal(Problem(status, ISSUES.get(status, "invalid"), text), True)
+    return refusal(Problem(status, ISSUES.get(status, "invalid"), text))

@@ -8,9 +8,8 @@ import re
 from collections.abc import Sequence
 
 from . import limits
-from .http import Request, Response
+from .http import Headers, Request, Response
 
-Headers = tuple[tuple[str, str], ...]
 # What a client says that it takes or doesn't take.
 PACKED = re.compile(
     r"(?:^|,)[ \t]*(?:gzip|x-gzip|\*)[ \t]*(?:;[ \t]*q=([0-9.]+)[ \t]*)?(?=,|$)", re.I)

@@ -24,9 +24,11 @@ END_OF_HEAD = b"\r\n\r\n"
 METHODS_WITH_BODY = ("POST", "PUT", "PATCH")
 VERSIONS = (b"1.0", b"1.1")
 WITHOUT_BODY = (204, 304)
-# Where a batch of requests is sent to, whose body may be longer than others.
-BATCH = re.compile(
-    rb"(?:https?://[^/?#]+)?(?:/pin/[0-9]{1,10})?/fhir/?(?:\?|\Z)")
+# Where bodies are sent to that may be longer than others, and how long: batches and lists.
+LONGER = {
+    re.compile(rb"(?:https?://[^/?#]+)?(?:/pin/[0-9]{1,10})?" + path + rb"(?:\?|\Z)"): most
+    for path, most in (
+        (rb"/fhir/?", limits.BATCH_BYTES), (rb"/records", limits.RECORDS_BODY_BYTES))}
 CONTINUE = b"HTTP/1.1 100 Continue\r\n\r\n"
 # A path, behind a scheme and an authority where a client sends them too.
 TARGET = re.compile(rb"(?:https?://[^/?#\x00-\x20\x7f-\xff]+)?(/[\x21-\x7e]*)\Z", re.I)
@@ -51,11 +53,14 @@ class Request(NamedTuple):
     has_left: Callable[[], bool]
 
 
+Headers = tuple[tuple[str, str], ...]
+
+
 class Response(NamedTuple):
     status: int
     kind: str
     body: bytes
-    headers: tuple[tuple[str, str], ...] = ()
+    headers: Headers = ()
 
 
 class Bad(Exception):
@@ -114,8 +119,9 @@ def check_request(request: h11.Request) -> None:
 
 def room_for(request: h11.Request) -> int:
     """How many bytes the body of a request may have."""
-    is_batch = request.method == b"POST" and BATCH.match(request.target)
-    return limits.BATCH_BYTES if is_batch else limits.BODY_BYTES
+    longer = LONGER.items() if request.method == b"POST" else ()
+    return next((most for target, most in longer if target.match(request.target)),
+                limits.BODY_BYTES)
 
 
 class Client:

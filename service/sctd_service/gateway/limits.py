@@ -85,8 +85,20 @@ ASKED_UPWARDS = 40
 # `sctd` answers at most so many rows of one SEARCH or PAGE.
 QUESTION_ROWS = 1_000
 
-# Of the page.
+# Of the pages: rows of a Delta that are looked through for one, changed concepts that it shows, and
+# questions that it may ask.
+DELTA_ROWS = 200_000
+CHANGED_CONCEPTS = 500
+CHANGES_QUESTIONS = 20_000
+# Records of a list, characters of one, the list as bytes, as what it is posted, and the questions.
+RECORDS = 1_000
+RECORD_CHARACTERS = 5_000
+RECORDS_BYTES = 256 << 10
+RECORDS_BODY_BYTES = 1 << 20
+RECORDS_QUESTIONS = 20_000
 RESULT_TERMS = 100
+# Children that a record names on a day, and concepts whose place was taken.
+TOLD_CONCEPTS = 50
 # Reference sets that a record tells of, and members of each.
 TOLD_REFSETS = 100
 TOLD_MEMBERS = 20

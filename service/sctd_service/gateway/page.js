@@ -24,7 +24,8 @@ async function suggest() {
   } catch (error) { if (error.name !== "AbortError") found.replaceChildren(); }
 }
 
-input.addEventListener("input", () => {
+// (Only the page of one record has this field.)
+if (input) input.addEventListener("input", () => {
   clearTimeout(waiting);
   waiting = setTimeout(suggest, 150);
 });

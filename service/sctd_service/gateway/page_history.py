@@ -1,18 +1,29 @@
 """The history of a concept on the page: what its releases changed, by day."""
 
-from collections.abc import Iterable, Mapping
+from collections.abc import Iterable, Iterator, Mapping, Sequence
 from typing import NamedTuple
 
 from markupsafe import Markup
 
+from . import limits
 from .markup import joined, tag, term, time
-from ..snomed import (DEFINED, FULLY_SPECIFIED_NAME, IS_A, TEXT_DEFINITION, Association, Concept,
-                      Description, RefsetMember, Relationship, is_concept_id)
+from ..snomed import (DEFINED, FULLY_SPECIFIED_NAME, IS_A, REFSET_DESCRIPTOR, TEXT_DEFINITION,
+                      Association, Concept, Description, RefsetMember, Relationship, is_concept_id)
 from .store import AnyRow, Versions, View
 
 ARROW = " \u2192 "
 BESIDE = " \u00b7 "
 METADATA_TAG = " (foundation metadata concept)"
+NOTHING = "none"
+# What a map's columns are called where the store doesn't say it: those of an extended map.
+EXTENDED_MAP = (
+    "Map group", "Map priority", "Map rule", "Map advice", "Map target", "Correlation",
+    "Map category")
+# Of a reference set's description: the columns of a member that says what a column is, and the
+# places of those that not all reference sets have.
+DESCRIBING_COLUMNS, PLACES = 3, {str(place) for place in range(1, 100)}
+# The names of the columns that are a reference set's own, by reference sets.
+Columns = Mapping[str, Sequence[str]]
 WHAT = {FULLY_SPECIFIED_NAME: "Name", TEXT_DEFINITION: "Text definition"}
 
 
@@ -20,8 +31,9 @@ class Names:
     """What codes are called: reference sets by the names of their associations, others by the
     store."""
 
-    def __init__(self, names: Mapping[str, str], refsets: Mapping[str, str]) -> None:
-        self.names, self.refsets = names, refsets
+    def __init__(self, names: Mapping[str, str], refsets: Mapping[str, str],
+                 columns: Columns | None = None) -> None:
+        self.names, self.refsets, self.columns = names, refsets, columns or {}
 
     def of(self, code: str) -> str:
         """A concrete value is told as it is, without the sign that it is a number."""
@@ -36,15 +48,25 @@ class Names:
     def of_metadata(self, code: str) -> str:
         return self.of(code).removesuffix(METADATA_TAG)
 
-    def of_further(self, further: Iterable[str]) -> str:
-        """What a member says beside what it refers to."""
-        return BESIDE.join(map(self.of_metadata, further))
+    def of_columns(self, row: RefsetMember) -> list[tuple[str, str]]:
+        """What a member says beside what it refers to, each with the name of its column. Where the
+        store doesn't describe the columns of the reference set they have no names."""
+        values = [self.of_metadata(value) for value in row.further]
+        columns = self.columns.get(row.refset, ())
+        if len(columns) != len(values):
+            return [("", value) for value in values]
+        return [(column, value or NOTHING) for column, value in zip(columns, values)]
+
+    def of_further(self, row: RefsetMember) -> str:
+        """The same as one text."""
+        return BESIDE.join(" ".join(filter(None, pair)) for pair in self.of_columns(row))
 
 
 async def history(view: View, timeline: Iterable[Versions], marks: Mapping[str, str],
                   refsets: Mapping[str, str]) -> Markup:
     """The changes by day, oldest first, with the days that are marked among them."""
-    names = Names(await view.names(other_codes(timeline), view.latest), refsets)
+    columns = await columns_of(view, members_in(timeline), view.latest)
+    names = Names(await view.names(other_codes(timeline), view.latest), refsets, columns)
     events: dict[str, list[Markup]] = {day: [tag("em", said)] for day, said in marks.items()}
     for versions in timeline:
         before: AnyRow | None = None
@@ -67,6 +89,35 @@ def other_codes(timeline: Iterable[Versions]) -> Iterable[str]:
                 yield row.target
             elif isinstance(row, RefsetMember):
                 yield from codes_of_member(row)
+
+
+def members_in(timeline: Iterable[Versions]) -> Iterator[RefsetMember]:
+    for versions in timeline:
+        yield from (row for row in versions if isinstance(row, RefsetMember))
+
+
+async def columns_of(view: View, members: Iterable[RefsetMember], day: str) -> Columns:
+    """What the columns of these members are called, as the store describes them on a day."""
+    counts = {row.refset: len(row.further) for row in members if row.further}
+    refsets = [*counts][: limits.TOLD_REFSETS]
+    described = [described_by(told) for told in await view.members_about(refsets, day)]
+    names = await view.names((code for codes in described for code in codes), day)
+    found = {
+        refset: [names[code].removesuffix(METADATA_TAG) for code in codes]
+        for refset, codes in zip(refsets, described) if len(codes) == counts[refset]}
+    unknown = {refset: EXTENDED_MAP for refset in refsets if counts[refset] == len(EXTENDED_MAP)}
+    return {**unknown, **found}
+
+
+def described_by(members: Iterable[RefsetMember]) -> list[str]:
+    """The concepts that say what each column of a reference set is, in the columns' order."""
+    found = {}
+    for row in members:
+        if row.refset == REFSET_DESCRIPTOR and len(row.further) == DESCRIBING_COLUMNS:
+            description, _, order = row.further
+            if order in PLACES and is_concept_id(description):
+                found[int(order)] = description
+    return [found[order] for order in sorted(found)]
 
 
 def codes_of_member(row: RefsetMember) -> list[str]:
@@ -92,7 +143,7 @@ def said_by(row: AnyRow | None, names: Names) -> Said | None:
         refset = names.of_refset(row.refset)
         if not row.further:
             return Said("Reference set", row.refset, refset)
-        return Said(refset, "\t".join(row.further), names.of_further(row.further))
+        return Said(refset, "\t".join(row.further), names.of_further(row))
     if isinstance(row, Association):
         what = names.of_refset(row.refset)
     else:

@@ -8,7 +8,7 @@ from markupsafe import Markup
 
 from . import limits
 from .markup import aside, joined, tag, term, time
-from .page_history import Names
+from .page_history import BESIDE, Names
 from ..snomed import RefsetMember
 from .store import Versions
 
@@ -59,5 +59,8 @@ def refset_entries(members: Iterable[Membership], names: Names) -> dict[str, Mar
 
 
 def entry(one: Membership, names: Names) -> Markup:
-    said = [": ", tag("strong", names.of_further(one.row.further))] if any(one.row.further) else []
+    """Since when it is a member, and what each of its columns says, by the column's name."""
+    told = [joined(*([aside(column), " "] if column else []), tag("strong", value))
+            for column, value in names.of_columns(one.row)]
+    said = [": ", Markup(BESIDE).join(told)] if any(one.row.further) else []
     return joined("since ", time(one.since), *said)

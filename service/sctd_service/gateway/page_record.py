@@ -1,7 +1,7 @@
 """One record on the page: the concept on both days, what took its place, and its history."""
 
 import datetime
-from collections.abc import Iterable, Sequence
+from collections.abc import Callable, Collection, Iterable, Sequence
 from typing import NamedTuple
 
 from markupsafe import Markup
@@ -9,24 +9,31 @@ from markupsafe import Markup
 from . import limits
 from .fhir.translation import MAPS
 from .fhir.versions import Edition
-from .markup import address, aside, joined, tag, term, time, verdict, visible
-from .page_history import Names, codes_of_member, history
+from .frame import Shown, for_good
+from .markup import address, aside, joined, spoken, tag, term, time, verdict, visible
+from .page_history import NOTHING, Columns, Names, codes_of_member, columns_of, history
 from .page_members import Membership, memberships, refset_entries
 from ..snomed import (
-    DEFINED, FULLY_SPECIFIED_NAME, IS_A, MOVED_FROM, REFERS_TO, TEXT_DEFINITION, Association,
-    Concept, Facts, Language, Relationship, display_of, distinct, is_concept_id, preferred_term,
-    reasons_of, with_hyphens)
+    DEFINED, FULLY_SPECIFIED_NAME, IS_A, MOVED_FROM, MOVED_TO, REFERS_TO, TEXT_DEFINITION,
+    Association, Concept, Facts, Language, Relationship, display_of, distinct, is_concept_id,
+    preferred_term, reasons_of, with_hyphens)
 from .store import Versions, View
 
 REFSETS = {refset: one.name.capitalize() for refset, one in MAPS.items()} | {
     MOVED_FROM: "Moved from", REFERS_TO: "Refers to"}
 REFSET_ORDER = {refset: place for place, refset in enumerate(REFSETS)}
 ATTRIBUTE_TAG = " (attribute)"
-# Rows of the table that are left out where there is nothing on either day.
-OPTIONAL = ("Preferred term", "Text definition", "Why retired", "Reference sets")
+# The associations that say whose place a concept took.
+TAKEN = MAPS.keys() - {MOVED_TO}
+MORE = "more"
 MORE_STEPS = "This isn\u2019t whole: inactive concepts at its end may lead further."
 
-# The entries of one row of the table: what tells each from others, and what is shown.
+ONLY = Markup(
+    '<input type="checkbox" id="only" autocomplete="off" checked>'
+    '<label for="only">Only what differs: %d of %d rows</label>')
+
+# The entries of one row of the table: what tells each from others, and what is shown; of an entry
+# that only counts, nothing.
 Entries = dict[str, Markup]
 
 
@@ -41,15 +48,25 @@ class Question(NamedTuple):
     is_pinned: bool
 
 
+class Around(NamedTuple):
+    """What was directly below a concept on a day, and the associations by which it took the place
+    of others, by their concepts."""
+
+    children: list[str] = []
+    taken: dict[str, list[Association]] = {}
+
+
 class Side(NamedTuple):
     """A concept on one day, of which the store may know nothing, with the names that those it is
-    told by had on that day."""
+    told by had on that day, and what the columns of its reference sets are called."""
 
     day: str
     is_known: bool
     facts: Facts | None
-    names: dict[str, str]
-    members: list[Membership]
+    names: dict[str, str] = {}
+    members: list[Membership] = []
+    around: Around = Around()
+    columns: Columns = {}
 
     @property
     def name(self) -> str:
@@ -73,9 +90,7 @@ class Side(NamedTuple):
 
     @property
     def status(self) -> str:
-        if self.facts is None:
-            return "absent" if self.is_known else "not known"
-        return "active" if self.facts.concept.is_active else "inactive"
+        return status_of(self.facts and self.facts.concept) if self.is_known else "not known"
 
     def entries(self) -> dict[str, Entries]:
         """The rows of the table by their titles."""
@@ -100,12 +115,14 @@ class Side(NamedTuple):
                 reason: joined(term(self.called(reason)), " ", aside(reason))
                 for reason in self.reasons},
             "Parents": {code + self.names[code]: self.link(code) for code in self.facts.parents},
+            "Children": self.some_of(self.around.children, self.link),
             "Attributes": self.attributes(self.facts.relationships, False),
             "Values": self.attributes(self.facts.values, True),
             "Definition": {
                 concept.definition_status: joined("Fully defined" if is_defined else "Primitive")},
             "Module": {concept.module: joined(term(self.names[concept.module]))},
-            "Reference sets": refset_entries(self.members, Names(self.names, {})),
+            "Took the place of": self.some_of(self.around.taken, self.predecessor),
+            "Reference sets": refset_entries(self.members, Names(self.names, {}, self.columns)),
             "Concept row of": {concept.time: time(concept.time)}}
 
     def preferred(self, facts: Facts) -> Entries:
@@ -129,22 +146,56 @@ class Side(NamedTuple):
                 found[key] = joined(term(name), ": ", value, group)
         return found
 
+    def some_of(self, codes: Iterable[str], show: Callable[[str], Markup]) -> Entries:
+        """Entries of concepts, of which those are shown that have been named."""
+        found = {code: show(code) if code in self.names else Markup() for code in codes}
+        more = sum(not shown for shown in found.values())
+        return found | ({MORE: aside("and %d more" % more)} if more else {})
+
+    def predecessor(self, code: str) -> Markup:
+        said = ", ".join(REFSETS[row.refset].lower() for row in self.around.taken[code])
+        return joined(self.link(code), " ", aside(said))
+
     def link(self, code: str) -> Markup:
         return linked(code, self.names[code], self.day)
 
 
+def status_of(concept: Concept | None) -> str:
+    if concept is None:
+        return "absent"
+    return "active" if concept.is_active else "inactive"
+
+
 def linked(code: str, name: str, day: str) -> Markup:
-    """A concept, which leads to its record of a day."""
-    href = address(q=code, date=with_hyphens(day))
+    """A concept, which leads to its record of a day from each of the pages."""
+    href = "./" + address(q=code, date=with_hyphens(day))
     return joined(tag("a", term(name), href=href), " ", aside(code))
 
 
+async def around(view: View, code: str, day: str) -> Around:
+    """Of a day of which the store knows nothing that is nothing."""
+    release = view.in_force(day)
+    if not release:
+        return Around()
+    taken: dict[str, list[Association]] = {}
+    for row in sorted((await view.replaced_by([code], release))[0], key=order_of):
+        if row.refset in TAKEN and is_concept_id(row.source):
+            taken.setdefault(row.source, []).append(row)
+    return Around(await view.children(code, release), taken)
+
+
+def told_first(own: Collection[str], other: Collection[str]) -> list[str]:
+    """Those of a day's concepts that are shown: first what the other day doesn't have."""
+    known = set(other)
+    return sorted(own, key=lambda code: (code in known, int(code)))[: limits.TOLD_CONCEPTS]
+
+
 async def side_of(view: View, code: str, day: str, language: Language,
-                  timeline: Sequence[Versions]) -> Side:
+                  timeline: Sequence[Versions], own: Around, other: Around) -> Side:
     release = view.in_force(day)
     facts = await view.facts(code, release, language) if release else None
     if facts is None:
-        return Side(day, bool(release), None, {}, [])
+        return Side(day, bool(release), None)
     members = memberships(timeline, code, day)
     codes = [facts.concept.module, *facts.called]
     for row in facts.relationships:
@@ -152,29 +203,37 @@ async def side_of(view: View, code: str, day: str, language: Language,
     codes += [row.type for row in facts.values]
     for member in members:
         codes += codes_of_member(member.row)
-    return Side(day, True, facts, await view.names(codes, release), members)
+    codes += told_first(own.children, other.children) + told_first(own.taken, other.taken)
+    columns = await columns_of(view, (member.row for member in members), release)
+    return Side(day, True, facts, await view.names(codes, release), members, own, columns)
 
 
-async def record(view: View, question: Question) -> Markup:
+async def sides_of(view: View, question: Question, timeline: Sequence[Versions]) -> list[Side]:
+    """The concept on the record's day, and on the day compared with where that is another one."""
+    language = Language("", question.edition.languages)
+    days = distinct(min(day, view.latest) for day in (question.date, question.other))
+    found = [await around(view, question.code, day) for day in days]
+    # (The other day of each; the same one where there is one alone.)
+    return [
+        await side_of(view, question.code, day, language, timeline, own, other)
+        for day, own, other in zip(days, found, reversed(found))]
+
+
+async def record(view: View, question: Question) -> Shown:
     code, latest = question.code, view.latest
-    language, timeline = Language("", question.edition.languages), await view.timeline(code)
-    then, now = [await side_of(view, code, min(day, latest), language, timeline)
-                 for day in (question.date, question.other)]
-    sides = [then, now] if then.day != now.day else [then]
-    if then.facts is None and now.facts is None:
-        unknown = [nothing_known(side.day, view.days[0]) for side in sides if not side.is_known]
-        known = [side.day for side in sides if side.is_known]
-        absent = [
-            "The code ", tag("code", code), " isn\u2019t in the store by ", time(max(known)), "."
-        ] if known else []
-        return verdict(*(part for parts in unknown for part in parts), *absent)
+    timeline = await view.timeline(code)
+    sides = await sides_of(view, question, timeline)
+    then, now, first = sides[0], sides[-1], view.days[0]
     versions = await view.versions(code)
+    if then.facts is None and now.facts is None:
+        return Shown(code, absent(view, question, sides, versions))
+    name = next(side.name for side in sides if side.facts)
     parts = [
-        tag("h2", term(then.name or now.name), " ", aside(code)),
+        heading(code, name),
         verdict(
             *not_known_yet(question.date, latest),
-            *(sentence(side, versions, view.days[0]) for side in sides)),
-        compared(then, now, latest)]
+            *(sentence(side, versions, first) for side in sides)),
+        compared(sides, latest)]
     for side in sides:
         if side.status == "inactive":
             parts.append(tag("section", tag("h3", "What took its place, by ", time(side.day)),
@@ -183,7 +242,25 @@ async def record(view: View, question: Question) -> Markup:
     told = await history(view, timeline, marks, REFSETS)
     parts.append(tag("section", tag("h3", "History"), told))
     parts.append(report(view, question, then, versions))
-    return joined(*parts)
+    return Shown("%s %s" % (name, code), joined(*parts))
+
+
+def heading(code: str, name: str) -> Markup:
+    """The heading of a record, which names its code."""
+    shown = [term(name), " ", aside(code)] if name else ["The code ", tag("code", code)]
+    return tag("h2", *shown)
+
+
+def absent(view: View, question: Question, sides: Sequence[Side],
+           versions: Sequence[Concept]) -> Markup:
+    """The record of a code that isn't there on either day."""
+    unknown = [nothing_known(side.day, view.days[0]) for side in sides if not side.is_known]
+    known = [side.day for side in sides if side.is_known]
+    said = ["The code ", tag("code", question.code), " isn\u2019t in the store by ",
+            time(max(known)), "."] if known else []
+    return joined(
+        heading(question.code, ""), verdict(*(part for parts in unknown for part in parts), *said),
+        report(view, question, sides[0], versions))
 
 
 def not_known_yet(date: str, latest: str) -> list[str]:
@@ -217,22 +294,39 @@ def sentence(side: Side, versions: Iterable[Concept], first: str) -> Markup:
         " and its name was \u201c", term(side.name), "\u201d", *short, ". ")
 
 
-def compared(then: Side, now: Side, latest: str) -> Markup:
-    """The table of both days. What stands on one of them alone is marked, in words too."""
-    left, right = then.entries(), now.entries()
-    body = []
-    for title in left or right:
-        if title in OPTIONAL and not left.get(title) and not right.get(title):
+def compared(sides: Sequence[Side], latest: str) -> Markup:
+    """The table of the days. What stands on one of two alone is marked, in words too, and what is
+    alike on both can be hidden."""
+    columns = [side.entries() for side in sides]
+    are_two = len(columns) > 1 and all(columns)
+    body, same = list[Markup](), 0
+    for title in columns[0] or columns[-1]:
+        told = [column.get(title, {}) for column in columns]
+        if not any(told):
             continue
-        cells = [cell(left.get(title, {}), right.get(title, {}), bool(left and right), "only then"),
-                 cell(right.get(title, {}), left.get(title, {}), bool(left and right), "not then")]
-        body.append(tag("tr", tag("th", title, scope="row"), *cells))
-    said = "the same day" if now.day == then.day else "later" if now.day > then.day else "earlier"
-    if now.day == latest:
-        said = "latest"
-    heads = [column_head(then, "then"), column_head(now, said)]
-    return tag("table", tag("caption", "The concept on both days; marked is what differs"),
-               tag("thead", tag("tr", tag("td"), *heads)), tag("tbody", *body))
+        is_same = are_two and told[0].keys() == told[1].keys()
+        others = reversed(told) if are_two else told
+        cells = [cell(own, other, said, side.day) for own, other, said, side
+                 in zip(told, others, ("only then", "not then"), sides)]
+        body.append(tag("tr", tag("th", title, scope="row"), *cells,
+                        **({"class_": "same"} if is_same else {})))
+        same += is_same
+    only = [ONLY % (len(body) - same, len(body))] if 0 < same < len(body) else []
+    heads = [column_head(side, said_of(sides, side, latest)) for side in sides]
+    caption = "The concept on both days; marked is what differs" if len(sides) > 1 else (
+        "The concept on this day")
+    table = tag("table", tag("caption", caption), tag("thead", tag("tr", tag("td"), *heads)),
+                tag("tbody", *body))
+    return tag("div", *only, table, class_="compared")
+
+
+def said_of(sides: Sequence[Side], side: Side, latest: str) -> str:
+    """Which of the days the head of a column names."""
+    if side.day == latest and side is sides[-1]:
+        return "latest"
+    if side is sides[0]:
+        return "then"
+    return "later" if side.day > sides[0].day else "earlier"
 
 
 def column_head(side: Side, said: str) -> Markup:
@@ -241,45 +335,72 @@ def column_head(side: Side, said: str) -> Markup:
     return tag("th", time(side.day), " ", aside(said), scope="col")
 
 
-def cell(own: Entries, other: Entries, is_marked: bool, said: str) -> Markup:
+def cell(own: Entries, other: Entries, said: str, day: str) -> Markup:
     differs = joined(" ", tag("span", said, class_="differs"))
     entries = [
-        tag("li", tag("mark", shown), differs) if is_marked and key not in other
-        else tag("li", shown) for key, shown in own.items()]
-    return tag("td", tag("ul", *entries) if entries else aside("none"))
+        tag("li", shown) if key in other else tag("li", tag("mark", shown), differs)
+        for key, shown in own.items() if shown]
+    told = tag("ul", *entries) if entries else aside(NOTHING)
+    return tag("td", told, data_head=spoken(day))
 
 
-async def replacements(view: View, code: str, day: str) -> Markup:
-    """What took the concept's place by then, step by step."""
-    steps: list[Markup] = []
+def order_of(row: Association) -> int:
+    """The place of an association among those of its concept."""
+    return REFSET_ORDER.get(row.refset, len(REFSET_ORDER))
+
+
+class Step(NamedTuple):
+    """An association that leads from a concept to what took its place, with the target's own row
+    and the names of both."""
+
+    row: Association
+    target: Concept | None
+    names: dict[str, str]
+
+    @property
+    def how(self) -> str:
+        return REFSETS.get(self.row.refset, self.row.refset)
+
+    @property
+    def name(self) -> str:
+        return self.names[self.row.target]
+
+
+async def steps_of(view: View, code: str, day: str) -> tuple[list[Step], bool]:
+    """What took the concept's place by then, step by step, and whether it is all of it."""
+    steps: list[Step] = []
     seen, turn, release = {code}, [code], view.in_force(day)
     while turn and len(steps) < limits.REPLACEMENT_STEPS:
         told = await view.associations(turn, release)
-        links = sorted((row for rows in told for row in rows),
-                       key=lambda row: REFSET_ORDER.get(row.refset, len(REFSET_ORDER)))
+        links = sorted((row for rows in told for row in rows), key=order_of)
         targets = distinct(row.target for row in links)
         # A release may name another component there, which isn't asked for as a concept.
         concepts = filter(is_concept_id, targets)
         known = {row.id: row for row in await view.concepts([*concepts], release) if row}
         names = await view.names(targets + [row.source for row in links], release)
-        steps += [replacement(row, code, day, known.get(row.target), names) for row in links]
+        steps += [Step(row, known.get(row.target), names) for row in links]
         turn = [
             one for one in targets if one not in seen and one in known and not known[one].is_active]
         seen.update(turn)
+    return steps, not turn
+
+
+async def replacements(view: View, code: str, day: str) -> Markup:
+    steps, are_all = await steps_of(view, code, day)
     if not steps:
         return tag("p", "No association says what took its place.")
-    return joined(tag("ul", *steps), *([tag("p", aside(MORE_STEPS))] if turn else []))
+    listed = tag("ul", *(replacement(step, code, day) for step in steps))
+    return joined(listed, *([] if are_all else [tag("p", aside(MORE_STEPS))]))
 
 
-def replacement(row: Association, code: str, day: str, target: Concept | None,
-                names: dict[str, str]) -> Markup:
+def replacement(step: Step, code: str, day: str) -> Markup:
     """One association, and in whose place its target is where that isn't the record's concept."""
-    status = "active" if target and target.is_active else "inactive"
-    said = status if target else "not in the store"
-    source = [" in the place of ", term(names[row.source])] if row.source != code else []
+    row, status = step.row, "active" if step.target and step.target.is_active else "inactive"
+    said = status if step.target else "not in the store"
+    source = [" in the place of ", term(step.names[row.source])] if row.source != code else []
     return tag(
-        "li", tag("b", REFSETS.get(row.refset, row.refset)), ": ",
-        linked(row.target, names[row.target], day), " ", tag("span", said, class_=status), *source)
+        "li", tag("b", step.how), ": ", linked(row.target, step.name, day), " ",
+        tag("span", said, class_=status), *source)
 
 
 def reported(view: View, question: Question, then: Side, versions: Sequence[Concept]) -> str:
@@ -291,9 +412,10 @@ def reported(view: View, question: Question, then: Side, versions: Sequence[Conc
             code, day, first)
     version = question.edition.version(view.in_force(then.day))
     if then.facts is None:
-        first = with_hyphens(versions[0].time)
-        return "SNOMED CT %s on %s: no such code then, its first row is of %s. %s" % (
-            code, day, first, version)
+        latest = with_hyphens(view.latest)
+        since = ("its first row is of %s" % with_hyphens(versions[0].time) if versions
+                 else "nor on any day up to %s" % latest)
+        return "SNOMED CT %s on %s: no such code then, %s. %s" % (code, day, since, version)
     name = visible(then.name)
     return "SNOMED CT %s |%s| on %s: %s. %s" % (code, name, day, then.status, version)
 
@@ -305,7 +427,7 @@ def report(view: View, question: Question, then: Side, versions: Sequence[Concep
         datetime.date.today().isoformat())
     days = address(
         q=question.code, date=with_hyphens(question.date), other=with_hyphens(question.other))
-    href = days if question.is_pinned else "pin/%d/%s" % (view.pin, days)
+    href = days if question.is_pinned else for_good(view, days)
     return tag(
         "section", tag("h3", "For the report"),
         tag("label", "A line to be copied; the pin makes the same answer come again", for_="line"),

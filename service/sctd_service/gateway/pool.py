@@ -21,7 +21,7 @@ from .. import sockets
 from ..protocol import NotAReply, Replies
 from . import limits
 from .hub import Connection, HubGone, Reply, refusal
-from .problems import not_now
+from .problems import not_now, too_costly
 
 DAMAGED = " Damaged"
 STATUS = re.compile(
@@ -224,6 +224,8 @@ class Session:
 
     def __init__(self, pool: Pool, connection: Connection, pin: int) -> None:
         self.pool, self.connection, self.pin = pool, connection, pin
+        # How many lines were asked, and how many may be.
+        self.asked, self.most = 0, math.inf
         # The days that the pin shows rows of, ascending, and the receipt of its last import.
         self.days: Sequence[str] = ()
         self.receipt = "-"
@@ -252,6 +254,9 @@ class Session:
         """The reply to each line, those that are remembered without asking."""
         known = self.remembered(lines)
         missing = [line for line, reply in zip(lines, known) if reply is None]
+        self.asked += len(lines)
+        if self.asked > self.most:
+            raise too_costly("the answer takes more than %d questions: ask for less" % self.most)
         if missing:
             told = await self.connection.ask(["AT %d %s" % (self.pin, line) for line in missing])
             if keep and self.pool.is_of_this_hub(self.connection):

@@ -5,7 +5,7 @@ import asyncio
 import bisect
 import itertools
 import re
-from collections.abc import Iterable, Sequence
+from collections.abc import AsyncIterator, Iterable, Sequence
 from typing import TypeVar
 
 from . import limits
@@ -185,6 +185,20 @@ class View:
         replies = await self.ask(["ABOUT M %s %s" % (code, day) for code in codes])
         return [members_of(reply) for reply in replies]
 
+    async def delta(self, kind: str, first: str, last: str) -> AsyncIterator[Sequence[AnyRow]]:
+        """Page by page the rows of a kind on the last day that changed after the first."""
+        after = FIRST
+        while after:
+            line = "DELTA %s %s %s %s %d" % (kind, first, last, after, limits.QUESTION_ROWS)
+            page = rows_about(kind, await self.told(line, keep=False))
+            yield page
+            after = page[-1].id if len(page) == limits.QUESTION_ROWS else ""
+
+    async def rows_on(self, kind: str, names: Sequence[str], day: str) -> list[AnyRow | None]:
+        """The row of each of the components of a kind on a day, if it had one."""
+        told = await self.ask(["GET %s %s %s" % (kind, name, day) for name in names], keep=False)
+        return [next(iter(rows_about(kind, reply)), None) for reply in told]
+
     async def values(self, refset: str, day: str, after: str,
                      keep: bool = True) -> list[RefsetMember]:
         """Active members of a reference set by what they refer to, from the first behind `after`
@@ -335,6 +349,8 @@ def ids(reply: Reply) -> list[str]:
 
 
 def rows_about(kind: str, reply: Reply) -> Sequence[AnyRow]:
+    if kind == "C":
+        return rows(Concept, reply)
     if kind == "D":
         return rows(Description, reply)
     if kind == "A":

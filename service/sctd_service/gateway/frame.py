@@ -1,0 +1,89 @@
+"""What all pages have in common: the frame with its title and links, the forms, and days.
+
+Everything is made on the server, so the pages work without a script.
+"""
+
+import re
+from collections.abc import Mapping
+from pathlib import Path
+from typing import NamedTuple
+
+from markupsafe import Markup
+
+from .http import Headers
+from .markup import joined, tag, time
+from .problems import invalid
+from .store import View
+from ..snomed import is_day
+
+FOLDER = Path(__file__).parent
+RECORD, RECORDS, CHANGES = "/", "/records", "/changes"
+# What leads to each of the pages, and the words of its form.
+LINKS = {RECORD: ("./", "One record"), RECORDS: ("records", "A list of records"),
+         CHANGES: ("changes", "What changed")}
+WORDS = {RECORD: ("q", "date", "other"), RECORDS: ("list", "file", "format"),
+         CHANGES: ("concept", "from", "to", "format")}
+TITLE = "The record as it stood"
+WITH_HYPHENS = re.compile(r"[0-9]{4}-[0-9]{2}-[0-9]{2}\Z", re.ASCII)
+HTML, JSON, CSV = ("%s; charset=utf-8" % kind for kind in (
+    "text/html", "application/json", "text/csv"))
+
+
+def template(name: str) -> Markup:
+    return Markup((FOLDER / name).read_text("utf-8"))
+
+
+FRAME = template("page.html")
+FORMS = {RECORD: template("form_record.html"), RECORDS: template("form_records.html"),
+         CHANGES: template("form_changes.html")}
+
+
+class Shown(NamedTuple):
+    """What a page shows, and what its title begins with."""
+
+    title: str
+    content: Markup
+
+
+class Answer(NamedTuple):
+    """What is sent for a page."""
+
+    body: bytes
+    kind: str = HTML
+    headers: Headers = ()
+
+
+def framed(place: str, form: Mapping[str, str], shown: Shown, view: View | None) -> Answer:
+    """One of the pages, with its form as it was filled in."""
+    state: str = ""
+    if view is not None:
+        latest = time(view.latest) if view.latest else "no date"
+        state = joined("Pin %d. The store\u2019s latest release is of " % view.pin, latest, ".")
+    filled = FORMS[place].format(**{name: form.get(name, "") for name in WORDS[place]})
+    title = joined(" \u00b7 ".join(filter(None, (shown.title, TITLE))))
+    page = FRAME.format(
+        title=title, kind=LINKS[place][0].strip("./") or "record", pages=pages(place), form=filled,
+        content=shown.content, state=state)
+    return Answer(page.encode())
+
+
+def pages(place: str) -> Markup:
+    """The links to all pages, of which one is shown."""
+    found = [tag("a", text, href=href, **({"aria_current": "page"} if one == place else {}))
+             for one, (href, text) in LINKS.items()]
+    return Markup(" ").join(found)
+
+
+def day_of(text: str, latest: str) -> str:
+    """The day of a field, or the latest where it is empty."""
+    if not text:
+        return latest
+    day = text.replace("-", "")
+    if not WITH_HYPHENS.match(text) or not is_day(day):
+        raise invalid("a date is a day of the calendar as YYYY-MM-DD")
+    return day
+
+
+def for_good(view: View, target: str) -> str:
+    """An address below the pin, seen from one that has none."""
+    return "pin/%d/%s" % (view.pin, target)
