@@ -46,7 +46,7 @@ class Table(NamedTuple):
 PERFORMANCE, RELIABILITY = "docs/internals/PERFORMANCE.md", "docs/internals/RELIABILITY.md"
 EDITS = "ls crates/*/must-fail/*.edit crates/*/edits/*.edit | wc -l"
 TESTS = "grep -rhE '^ *#\\[test\\]' --include=*.rt crates/*/src | wc -l"
-CASES = "grep -rhE '^case ' crates/*/data/cases | wc -l"
+CASES = "grep -rhE '^case ' --exclude=wrong.txt crates/*/data/cases bench/cases/*.txt | wc -l"
 CRATES = "ls -d crates/*/ | wc -l"
 # The definitions that the contract of an answer rests on.
 REACH = (

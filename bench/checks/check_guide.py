@@ -15,20 +15,15 @@ last line says how many. Standard library alone.
 
 from __future__ import annotations
 
-import difflib
 import os
-import signal
-import subprocess
 import sys
-import tempfile
-from collections.abc import Iterator, Mapping, Sequence
+from collections.abc import Iterator, Sequence
 
 ROOT = os.path.dirname(os.path.dirname(os.path.dirname(os.path.abspath(__file__))))
-sys.path.append(os.path.join(ROOT, "packaging"))
+sys.path += [os.path.join(ROOT, "packaging"), os.path.join(ROOT, "bench", "trials")]
 from needs import SYSTEM_PYTHON, has_modules  # noqa: E402
+from transcripts import SECONDS, Given, Place, differences, place_for, text_of  # noqa: E402
 
-# How long a command may take.
-SECONDS = 60
 PAGES = ("README.md", "docs/START.md", "docs/ASK.md", "docs/OPERATE.md", "docs/FHIR.md",
          "docs/AUDIT.md")
 GATEWAY = ("docs/FHIR.md",)
@@ -65,35 +60,21 @@ def examples(page: str) -> list[Example]:
     return found
 
 
-def run(command: str, folder: str, around: Mapping[str, str]) -> str:
+def run(command: str, place: Place) -> str:
     """What a command prints, and with it all that it started; behind that, what it ends with, where
     it doesn't end in time or with the status 0."""
-    made = subprocess.Popen(
-        ["bash", "-c", command], cwd=folder, env=around, start_new_session=True,
-        stdin=subprocess.DEVNULL, stdout=subprocess.PIPE, stderr=subprocess.STDOUT,
-    )
-    try:
-        printed = made.communicate(timeout=SECONDS)[0]
-        end = "(it ended with the status %d)\n" % made.returncode if made.returncode else ""
-    except subprocess.TimeoutExpired:
-        os.killpg(made.pid, signal.SIGKILL)
-        printed = made.communicate()[0]
+    status, printed, _ = place.run(["bash", "-c", command], Given(is_joined=True))
+    end = "(it ended with the status %d)\n" % status if status else ""
+    if status is None:
         end = "(it had not ended after %d seconds)\n" % SECONDS
-    return printed.decode("utf-8", "backslashreplace") + end
+    return text_of(printed) + end
 
 
 def wrong_in(page: str, wanted: Sequence[Example], program: str) -> Iterator[Example]:
     """The examples of a page that don't print what they have to, run in a folder; each is told."""
-    with tempfile.TemporaryDirectory() as place:
-        tools, work = os.path.join(place, "tools"), os.path.join(place, "work")
-        os.mkdir(tools)
-        os.mkdir(work)
-        os.symlink(program, os.path.join(tools, "sctd"))
-        os.symlink(os.path.join(ROOT, "docs"), os.path.join(work, "docs"))
-        path = tools + os.pathsep + os.environ["PATH"]
-        around = dict(os.environ, SCTD=ROOT, PATH=path, LC_ALL="C")
+    with place_for(program) as place:
         for example in wanted:
-            printed = run(example.command, work, around)
+            printed = run(example.command, place)
             if printed != example.wanted:
                 tell(page, example, printed)
                 yield example
@@ -102,9 +83,8 @@ def wrong_in(page: str, wanted: Sequence[Example], program: str) -> Iterator[Exa
 def tell(page: str, example: Example, printed: str) -> None:
     """Tells in what an example differs from what it prints."""
     print("%s:%d: %s" % (page, example.number, example.command.split("\n")[0]))
-    wanted, found = example.wanted.splitlines(), printed.splitlines()
-    for line in difflib.unified_diff(wanted, found, "page", "printed", lineterm=""):
-        print("    " + line)
+    for line in differences(example.wanted, printed, "page"):
+        print(line)
 
 
 def main(words: Sequence[str]) -> int:

@@ -8,11 +8,12 @@ it, and `Shown by:` what shows that they do. A clause is named as `function · c
 has to stand in the sources of the crates that the heading names, or of the crate that the name
 begins with, and has to have that clause. What shows it are edits as `crate/edit`, of the crate's
 `must-fail/` or `edits/`, tests as `crate::test`, cases of the files in a crate's data/cases as
-`crate: case`, what a trial of bench/trials/ that CI makes says or tries as `script: text`, or the
-word `law`, which is enough for a promise that names a law: a law's body is empty, and so no edit
-can change it. Where a promise names edits alone, one of them has to stand in `must-fail/`, whose
-edits CI tries. A promise that has none of these, or names what isn't there, is said in a line of
-its own on standard error, and the status is 1 then. Nothing is built. Standard library alone.
+`crate: case` and of bench/cases/ as `try_cases: case`, what a trial of bench/trials/ that CI makes
+says or tries as `script: text`, or the word `law`, which is enough for a promise that names a law:
+a law's body is empty, and so no edit can change it. Where a promise names edits alone, one of them
+has to stand in `must-fail/`, whose edits CI tries. A promise that has none of these, or names what
+isn't there, is said in a line of its own on standard error, and the status is 1 then. Nothing is
+built. Standard library alone.
 """
 
 from __future__ import annotations
@@ -27,6 +28,9 @@ from typing import NamedTuple, Optional
 from edits import read
 
 ROOT = os.path.dirname(os.path.dirname(os.path.dirname(os.path.abspath(__file__))))
+sys.path.append(os.path.join(ROOT, "bench", "trials"))
+from case_texts import names_of_cases  # noqa: E402
+
 DOCUMENT = "docs/internals/PROMISES.md"
 PARTS = ("- ", "  - Clause: ", "  - Shown by: ")
 # The folders of a crate that hold edits, and the one of them whose edits CI tries.
@@ -35,6 +39,8 @@ EDIT_FOLDERS = (TRIED_BY_CI, "edits")
 # The trials, and the one that has the list of those that CI makes.
 TRIALS = os.path.join(ROOT, "bench", "trials")
 LIST_OF_TRIALS = "try_program.py"
+# The one that asks the cases of bench/cases/.
+TRANSCRIPTS = "try_cases"
 
 OWNER = re.compile(
     r"(?:pub(?:\(crate\))? )?(?:trait (?P<made>\w+)"
@@ -81,7 +87,7 @@ class Sources:
         self.words: dict[str, set[str]] = {}
         self.edits: dict[str, set[str]] = {}
         self.tests: set[str] = set()
-        self.cases: set[str] = set()
+        self.cases: set[str] = {TRANSCRIPTS + ": " + name for name in names_of_cases()}
         self.crates = sorted(os.path.basename(d) for d in glob.glob(ROOT + "/crates/*"))
         for crate in self.crates:
             folder = os.path.join(ROOT, "crates", crate)

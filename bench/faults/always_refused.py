@@ -9,8 +9,8 @@ the built program. All of them stand in one copy of this repository; there each 
 built once by `rt try`, which proves nothing and needs no library, and the built program is run once
 as it is and once with each call's number in the byte. A line for each call says what failed, and
 what CALLS names has to be among it: a test, or, in a crate whose program runs cases, one that isn't
-told to be `ok` as in its file `stdout`. The last line counts the calls, and those that were not
-caught: the status is 1 where there are any.
+told to be `ok` as in its file `stdout`, or a case of bench/cases/, of which sctd is asked. The last
+line counts the calls, and those that were not caught: the status is 1 where there are any.
 
 WORD takes the calls with this text in their crate and name, CRATE those that its tests are to
 catch. The copy lies in a temporary folder, or in FOLDER, and then it stays. What fails as it is
@@ -33,13 +33,16 @@ from pathlib import Path
 from typing import Iterable, Iterator, NamedTuple
 
 TOP = Path(__file__).resolve().parents[2]
-sys.path.append(str(TOP / "bench"))
+sys.path += [str(TOP / "bench"), str(TOP / "bench" / "trials")]
+from case_texts import names_of_cases  # noqa: E402
 from unproved import Builder, bytes_of, kit_folder, run_program, status_of  # noqa: E402
 
 # How long a test may take, and a program of cases, with the checks of `rt try` in it.
 SECONDS = 300
 
-# How a program of cases begins the line of one that passed.
+# What stands for a crate where the transcripts of bench/cases/ are asked, of the program of sctd.
+TRANSCRIPTS, PROGRAM = "try_cases", "sctd"
+# How a program of cases, and try_cases.py, begin the line of one that passed.
 PASSED = "ok "
 
 # The byte of a built program behind this text is the number of the call that is refused; 0 is none.
@@ -310,17 +313,16 @@ CALLS = [
          "store_cases", "a merge beside an import"),
     # The server and the program.
     Call("command_line", "Samples::release", "demonstration.rt",
-         "Result<Release, SourceFault> {", SOURCE, "program_cases",
-         "streams that fail"),
+         "Result<Release, SourceFault> {", SOURCE, TRANSCRIPTS, "streams that fail"),
     Call("line_server", "answer", "answering.rt",
          "pub fn answer<", "reply_refusal(alloc, LineRefusal::Store(Refusal::OutOfMemory))",
-         "program_cases", "questions"),
+         TRANSCRIPTS, "questions"),
     Call("line_server", "serve", "serving.rt", "pub fn serve<", "Err(ServeFault::OutOfMemory)",
          "program_cases", "pieces play no part"),
     Call("command_line", "FolderSource::release", "folder_source.rt", "fn release(", SOURCE,
-         "program_cases", "a file keeps what was imported"),
+         TRANSCRIPTS, "a file keeps what was imported"),
     Call("command_line", "run", "running.rt", "pub fn run<",
-         "(fail(ServeFault::OutOfMemory, faults), None, None)", "program_cases", "statuses"),
+         "(fail(ServeFault::OutOfMemory, faults), None, None)", TRANSCRIPTS, "statuses"),
 ]
 
 
@@ -394,6 +396,11 @@ def planted(text: str, call: Call, number: int) -> str:
     return "\n".join(lines)
 
 
+def crate_of(top: Path, name: str) -> Path:
+    """The crate that is built for some tests."""
+    return top / "crates" / (PROGRAM if name == TRANSCRIPTS else name)
+
+
 def is_program(crate: Path) -> bool:
     return (crate / "src" / "main.rt").exists()
 
@@ -406,7 +413,9 @@ def cases_in(printed: bytes) -> list[str]:
 
 def names_what_fails(call: Call, sources: Sources) -> bool:
     """Whether what must fail is a test, or a case that a program is to tell to be `ok`."""
-    crate = sources.top / "crates" / call.tests
+    if call.tests == TRANSCRIPTS:
+        return call.must_fail in names_of_cases()
+    crate = crate_of(sources.top, call.tests)
     if is_program(crate):
         return call.must_fail in cases_in(bytes_of(crate / "stdout"))
     text = sources.text_of(call.tests)
@@ -465,9 +474,16 @@ def plant_all(top: Path, numbers: dict[Call, int]) -> None:
 class Tests:
     """The built tests of a crate, or its built program."""
 
-    def __init__(self, kit: Path, crate: Path, program: Path) -> None:
-        self.kit, self.crate, self.program = kit, crate, program
+    def __init__(self, kit: Path, top: Path, name: str, program: Path) -> None:
+        self.kit, self.name, self.program = kit, name, program
+        self.crate = crate_of(top, name)
         self.code = program.read_bytes()
+
+    def run(self, path: Path) -> list[str] | None:
+        """What fails of a built program; None where nothing was run."""
+        if self.name == TRANSCRIPTS:
+            return self.failed_transcripts(path)
+        return self.failed_cases(path) if is_program(self.crate) else self.failed_tests(path)
 
     def failed(self, number: int) -> list[str] | None:
         """What fails while the call with this number is refused; None where nothing was run."""
@@ -476,7 +492,7 @@ class Tests:
         path.write_bytes(self.code[:at] + bytes([number]) + self.code[at + 1 :])
         path.chmod(0o755)
         try:
-            return self.failed_cases(path) if is_program(self.crate) else self.failed_tests(path)
+            return self.run(path)
         except subprocess.TimeoutExpired:
             return None
         finally:
@@ -506,17 +522,26 @@ class Tests:
         printed = cases_in(done.stdout)
         return [case for case in cases_in(wanted) if case not in printed]
 
+    def failed_transcripts(self, path: Path) -> list[str]:
+        """The cases of bench/cases/ that aren't told to be `ok` of the program."""
+        script = TOP / "bench" / "trials" / "try_cases.py"
+        done = subprocess.run(
+            [sys.executable, str(script), str(path)],
+            stdout=subprocess.PIPE, timeout=SECONDS, check=False)
+        printed = cases_in(done.stdout)
+        return [case for case in names_of_cases() if case not in printed]
+
 
 def build(kit: Path, top: Path, name: str, place: Path) -> Tests | None:
     """Builds the tests of a crate, or its program; None where it can't be built, which is told."""
-    crate = top / "crates" / name
+    crate = crate_of(top, name)
     builder = Builder(kit, place, is_run=False)
     words = [] if is_program(crate) else ["--test"]
     done = builder.run(crate, words, around={"RT_ALLOW_C": SWITCH})
     if not builder.program.exists():
         print((done.stdout + done.stderr).decode(errors="replace"), file=sys.stderr)
         return None
-    tests = Tests(kit, crate, builder.program)
+    tests = Tests(kit, top, name, builder.program)
     if tests.code.count(MARK) != 1:
         print("%s: no call that is refused is in its program" % name, file=sys.stderr)
         return None

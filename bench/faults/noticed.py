@@ -7,12 +7,13 @@ An edit of must-fail/ or edits/ is refused by the prover. It may leave must-fail
 that CI runs is seen to fail with it too. So the functions that the edits change get a copy each
 with the edit, in a copy of this repository; a function calls its copy while the edit's number is in
 a byte of the built program. There each crate of `--by` (default: the programs of cases, and the
-tests of the program) is built once by `rt try`, which proves nothing, and run once as it is and
-once with each edit's number in the byte. A line for each edit tells what failed.
+tests of the program, and sctd) is built once by `rt try`, which proves nothing, and run once as it
+is and once with each edit's number in the byte. A line for each edit tells what failed.
 An edit of what is no function of its own (a constant, a function of a trait) can't be planted so,
-which is told: put it in by hand. The last line counts the edits, and those that nothing noticed;
-the status is 1 where there are any. A build takes about two minutes of one processor. Standard
-library alone.
+which is told: put it in by hand. `try_cases` stands in `--by` for the transcripts of bench/cases/,
+of which the program of sctd is asked. The last line counts the edits, and those that nothing
+noticed; the status is 1 where there are any. A build takes about two minutes of one processor.
+Standard library alone.
 """
 
 from __future__ import annotations
@@ -26,11 +27,12 @@ from pathlib import Path
 
 TOP = Path(__file__).resolve().parents[2]
 sys.path += [str(TOP / "bench"), str(TOP / "bench" / "checks")]
-from always_refused import SWITCH, Tests, add_switch, body_of, build, is_program  # noqa: E402
+from always_refused import SWITCH, Tests, add_switch, body_of, build  # noqa: E402
+from always_refused import crate_of, is_program  # noqa: E402
 from edits import FOLDERS, Change, Edit, edits_of  # noqa: E402
 from unproved import Builder, kit_folder  # noqa: E402
 
-BY = "layer_cases,store_cases,program_cases,history_cases,test_program"
+BY = "layer_cases,store_cases,program_cases,history_cases,test_program,try_cases"
 # The number of an edit is one byte, and 0 is none.
 MOST = 255
 HEAD = re.compile(r"( *)(?:pub(?:\(crate\))? )?(?:const )?fn (\w+)")
@@ -203,13 +205,12 @@ def failed_with(edit: Edit, name: str) -> list[str]:
         top = Path(folder)
         copy_sources(top)
         put_in(top, edit)
-        crate, builder = top / "crates" / name, Builder(kit, Path(place), is_run=False)
+        crate, builder = crate_of(top, name), Builder(kit, Path(place), is_run=False)
         builder.run(crate, [] if is_program(crate) else ["--test"])
         if not builder.program.exists():
             return ["(it can't be built)"]
-        tests = Tests(kit, crate, builder.program)
-        run = tests.failed_cases if is_program(crate) else tests.failed_tests
-        found = run(builder.program)
+        tests = Tests(kit, top, name, builder.program)
+        found = tests.run(builder.program)
         return ["(nothing was run)"] if found is None else found
 
 

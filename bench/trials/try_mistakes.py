@@ -10,7 +10,7 @@ is replaced. Each time its reply, its status and the line on standard error have
 within ten seconds, and the store has to be left as it was. Then four imports run on one store at
 once, and again beside a server: each release that was answered OK has to be there after the next
 opening, and no other. The lines in the help of `serve` have to be requests, and the demonstration
-what a case of program_cases says. What the machine lacks for a try is said and not counted. The
+what a case of bench/cases/ says. What the machine lacks for a try is said and not counted. The
 status is 1 where something isn't as wanted. Standard library alone.
 """
 
@@ -36,8 +36,7 @@ READ_BYTES = 1 << 16
 ROOT = os.path.dirname(os.path.dirname(os.path.dirname(os.path.abspath(__file__))))
 # The lines of the demonstration with their replies, as cases are written, and what the names there
 # stand for.
-DEMONSTRATION = os.path.join(
-    ROOT, "crates", "program_cases", "data", "cases", "lines", "demonstration.txt")
+DEMONSTRATION = os.path.join(ROOT, "bench", "cases", "demonstration.txt")
 MEANINGS = {"CORE": "900000000000207008", "PRIM": "900000000000074008",
             "SYN": "900000000000013009", "ECI": "900000000000448009"}
 # How many lines the help of `serve` has as examples, and the refusals of a line that is no request.
@@ -394,7 +393,7 @@ def demonstrated() -> list[str]:
 
 
 def try_demonstration(tries: Tries) -> None:
-    """The demonstration has the lines and replies of the case that program_cases has of it. Its
+    """The demonstration has the lines and replies of the case that bench/cases/ has of it. Its
     questions are shown where its output is a terminal, and only there."""
     wanted = demonstrated()
     replies = "".join(line + "\n" for line in wanted if not line.startswith("> "))

@@ -1,5 +1,5 @@
 #!/usr/bin/env python3
-"""Tries the built program as its users do: the guide's examples, mistakes, many clients, kills.
+"""Tries the built program as its users do: examples, transcripts, mistakes, many clients, kills.
 
 try_program.py PROGRAM [PASSED FAILED]
 
@@ -20,6 +20,8 @@ BENCH = os.path.dirname(os.path.dirname(os.path.abspath(__file__)))
 LONGEST = 400
 SCRIPTS: list[tuple[str, ...]] = [
     ("checks/check_guide.py",),
+    ("trials/try_cases.py",),
+    ("trials/try_cases.py", "--wrong"),
     ("trials/try_mistakes.py",),
     ("trials/check_syncs.py",),
     ("trials/try_files.py",),

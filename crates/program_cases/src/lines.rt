@@ -1,12 +1,10 @@
-//! Lines and their replies: each case has a store of its own in memory, to which lines are sent,
-//! and which is closed, opened, damaged and left by crashes.
+//! Lines and their replies: each case has a store of its own in memory, to which lines are sent
+//! through streams, and which is closed, opened, damaged and left by crashes.
 
 mod choices;
 mod disks;
-mod refsets;
 mod releases;
 mod saying;
-mod script;
 mod sent;
 mod server;
 mod spoiled;

@@ -7,7 +7,6 @@ use case_files::{Fault, Shown, number, two_words};
 use directory::Layout;
 use disk_model::MemDisk;
 use std::alloc::Global;
-use test_support::patch;
 
 /// The store of a case: either open, or closed with its disk available.
 #[derive(Drop)]
@@ -99,9 +98,6 @@ fn take_of_disk(
     let disk = &mut spoiled.disk;
     match word {
         "changes" => compare_number(alloc, shown, rest, disk.changes()),
-        "length" => compare_number(alloc, shown, rest, disk.bytes().len() as u64),
-        "holds" => compare_bytes(alloc, shown, rest, disk.bytes()),
-        "zeros" => check_zeros(rest, disk.bytes()),
         "break" => {
             disk.set_break(number(rest)?, 0);
             Ok(())
@@ -110,7 +106,6 @@ fn take_of_disk(
             spoiled.sound_reads = number(rest)?;
             Ok(())
         }
-        "patch" => change(alloc, disk, rest),
         "crash" => crash(alloc, disk, rest),
         _ => Err(Fault::Line("no word of a case whose store is closed")),
     }
@@ -125,44 +120,6 @@ fn compare_number(
 ) -> Result<(), Fault> {
     let got = format!(in alloc; "{number}")?;
     shown.compare(wanted.as_bytes(), got.as_bytes())
-}
-
-/// Compares the bytes from an offset on with those in a text, in hexadecimal.
-fn compare_bytes(alloc: Global, shown: &mut Shown, rest: &str, bytes: &[u8]) -> Result<(), Fault> {
-    let (place, wanted) = two_words(rest);
-    let place = number(place)? as usize;
-    let mut got = String::new(alloc);
-    for (behind, _) in wanted.split(' ').enumerate() {
-        if let Some(byte) = bytes.get(place.saturating_add(behind)) {
-            if behind > 0 {
-                got.push(' ')?;
-            }
-            got.push_str(&format!(in alloc; "{byte:02x}")?)?;
-        }
-    }
-    shown.compare(wanted.as_bytes(), got.as_bytes())
-}
-
-/// Checks that all bytes from an offset up to another one are 0.
-fn check_zeros(rest: &str, bytes: &[u8]) -> Result<(), Fault> {
-    let (first, end) = two_words(rest);
-    match bytes.get(number(first)? as usize..number(end)? as usize) {
-        Some(bytes) if bytes.iter().all(|byte| *byte == 0) => Ok(()),
-        _ => Err(Fault::Line("not all of these bytes are there and 0")),
-    }
-}
-
-/// Writes a byte at all offsets from one up to another.
-fn change(alloc: Global, disk: &mut MemDisk, rest: &str) -> Result<(), Fault> {
-    let (first, rest) = two_words(rest);
-    let (end, byte) = two_words(rest);
-    let (first, end) = (number(first)? as usize, number(end)? as usize);
-    let Ok(byte) = byte.parse::<u8>() else {
-        return Err(Fault::Line("a byte is wanted"));
-    };
-    let bytes = patch(alloc, disk.bytes(), first, end, byte)?;
-    *disk = MemDisk::from_bytes(alloc, bytes);
-    Ok(())
 }
 
 /// Replaces the disk by what a crash leaves of it.

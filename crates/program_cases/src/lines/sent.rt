@@ -103,6 +103,15 @@ impl Lines {
         Err(Fault::Line("there is no part of this name"))
     }
 
+    /// Adds the lines of a part to those that haven't been sent yet.
+    fn add_part(&mut self, name: &str) -> Result<(), Fault> {
+        let place = self.place_of(name)?;
+        match self.parts.get(place) {
+            Some(part) => self.turns.add(&part.turns),
+            None => Ok(()),
+        }
+    }
+
     /// Sends the lines of a part to the store.
     fn ask(&mut self, name: &str) -> Result<(), Fault> {
         let place = self.place_of(name)?;
@@ -165,6 +174,7 @@ impl Subject for Lines {
         }
         match word {
             _ if self.part.is_some() => Err(Fault::Line("no word of a part")),
+            "send" => self.add_part(rest),
             "way" => self.send_in(rest),
             _ if self.has_ways => Err(Fault::Line("no word of a case that has ways")),
             _ => self.take_behind(word, rest),

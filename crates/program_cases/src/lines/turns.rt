@@ -1,6 +1,5 @@
 //! Lines that are sent, and the expected replies.
 
-use crate::lines::script::{SCRIPT, input_of, replies_of};
 use case_files::{Fault, number, two_words};
 use std::alloc::Global;
 use test_support::line;
@@ -43,8 +42,6 @@ impl Turns {
             "raw" => Some(self.send_bytes(rest)),
             "later" => Some(self.put_later(rest)),
             "fill" => Some(self.fill(rest)),
-            "script" => Some(self.send_script(rest)),
-            "years" => Some(self.send_years(rest)),
             _ => None,
         }
     }
@@ -109,35 +106,11 @@ impl Turns {
         }
     }
 
-    /// Adds the first `count` lines of the script, and their replies.
-    fn send_script(&mut self, count: &str) -> Result<(), Fault> {
-        let count = number(count)?;
-        let Some(turns) = SCRIPT.get(..count as usize) else {
-            return Err(Fault::Line("the script isn't as long"));
-        };
-        let sent = input_of(self.alloc, turns)?;
-        self.sent.extend_from_slice(sent.as_slice())?;
-        let replies = replies_of(self.alloc, turns)?;
-        self.replies.extend_from_slice(replies.as_slice())?;
-        self.count = self.count.saturating_add(count);
+    /// Adds the lines and the replies of others.
+    pub(crate) fn add(&mut self, others: &Turns) -> Result<(), Fault> {
+        self.sent.extend_from_slice(others.sent.as_slice())?;
+        self.replies.extend_from_slice(others.replies.as_slice())?;
+        self.count = self.count.saturating_add(others.count);
         Ok(())
-    }
-
-    /// Adds an import of a new row for each of these years, and the reply that each row is new.
-    fn send_years(&mut self, rest: &str) -> Result<(), Fault> {
-        let (first, last) = two_words(rest);
-        let (first, last) = (number(first)?, number(last)?);
-        for year in first..=last {
-            self.send_year(year, year.saturating_sub(first).saturating_add(1))?;
-        }
-        Ok(())
-    }
-
-    /// Adds the import with this number, which brings the row of a year.
-    fn send_year(&mut self, year: u64, import: u64) -> Result<(), Fault> {
-        let sent = format!(in self.alloc; "0 IMPORT new-in-{year}")?;
-        self.send(&sent, b"\n")?;
-        let reply = format!(in self.alloc; "OK {import} 1 0")?;
-        self.reply(&reply)
     }
 }
