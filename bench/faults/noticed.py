@@ -240,9 +240,9 @@ def main() -> int:
         finally:
             if not asked.keep:
                 shutil.rmtree(top)
-    for edit, told in seen.items():
-        print("| %s | %s |" % (edit, ", ".join(told[:3]) or "NOTICED BY NOTHING"))
-    unseen = len(edits) - sum(bool(told) for told in seen.values())
+    for edit, by_what in seen.items():
+        print("| %s | %s |" % (edit, ", ".join(by_what[:3]) or "NOTICED BY NOTHING"))
+    unseen = len(edits) - sum(bool(by_what) for by_what in seen.values())
     print("%d edits, %d not noticed" % (len(edits), unseen))
     return 1 if unseen else 0
 

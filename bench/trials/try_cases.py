@@ -17,7 +17,7 @@ import argparse
 import re
 import shutil
 import sys
-from collections.abc import Callable, Iterator
+from collections.abc import Callable, Iterable, Iterator
 from concurrent.futures import ThreadPoolExecutor
 from itertools import zip_longest
 from pathlib import Path
@@ -108,14 +108,14 @@ class Run:
         for line in self.tells:
             if not TELLS[line.word](told, line.rest):
                 raise Fault(line.number, ELSE, told)
-        wanted = "".join(line + "\n" for _, line in self.output).encode()[: self.room]
-        output = text_of(came.output[: len(wanted)] if self.begins else came.output)
-        is_told = self.is_server or self.tells
-        faults = "" if is_told else "".join(line + "\n" for line in self.faults)
-        pair = (spelled(self.status, text_of(wanted), faults),
-                spelled(came.status, output, "" if is_told else told))
+        wanted = lines_of(text for _, text in self.output)[: self.room]
+        output = came.output[: len(wanted)] if self.begins else came.output
+        is_told = self.is_server or self.tells and not self.faults
+        pair = ((self.status, wanted, b"" if is_told else lines_of(self.faults)),
+                (came.status, output, b"" if is_told else came.faults))
         if pair[0] != pair[1]:
-            raise Fault(self.first_wrong(output), ELSE, "\n".join(differences(*pair, "wanted")))
+            told = "\n".join(differences(spelled(*pair[0]), spelled(*pair[1]), "wanted"))
+            raise Fault(self.first_wrong(text_of(output)), ELSE, told)
 
     def first_wrong(self, output: str) -> int:
         """The number of the first line of the output that isn't so; else that of the run."""
@@ -126,8 +126,12 @@ class Run:
         return self.number
 
 
-def spelled(status: Optional[int], output: str, faults: str) -> str:
-    return "status %s\n%sstandard error:\n%s" % (status, output, faults)
+def lines_of(texts: Iterable[str]) -> bytes:
+    return "".join(text + "\n" for text in texts).encode()
+
+
+def spelled(status: Optional[int], output: bytes, faults: bytes) -> str:
+    return "status %s\n%sstandard error:\n%s" % (status, text_of(output), text_of(faults))
 
 
 class Case:

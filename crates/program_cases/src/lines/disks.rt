@@ -4,7 +4,6 @@ use crate::lines::choices::{choice_of, image_at};
 use crate::lines::server::Server;
 use crate::lines::spoiled::Spoiled;
 use case_files::{Fault, Shown, number, two_words};
-use directory::Layout;
 use disk_model::MemDisk;
 use std::alloc::Global;
 
@@ -28,13 +27,8 @@ impl CaseStore {
 
     /// A new store of layout 2 on an empty disk in memory.
     pub(crate) fn begin(&mut self) -> Result<(), Fault> {
-        self.begin_in(Layout::Two)
-    }
-
-    /// A new store of this layout on an empty disk in memory.
-    fn begin_in(&mut self, layout: Layout) -> Result<(), Fault> {
         self.disk = None;
-        match Server::new(self.alloc, layout) {
+        match Server::new(self.alloc) {
             Ok(server) => self.server = Some(server),
             Err(_) => return Err(Fault::Memory),
         }
@@ -46,7 +40,6 @@ impl CaseStore {
         match word {
             "close" => self.close(),
             "open" => self.open(),
-            "layout" => self.begin_in(layout_of(rest)?),
             _ => match &mut self.disk {
                 Some(disk) => take_of_disk(self.alloc, disk, word, rest, shown),
                 None => Err(Fault::Line("no word of a case whose store is open")),
@@ -75,15 +68,6 @@ impl CaseStore {
             Err(_) => return Err(Fault::Line("the store is refused")),
         }
         Ok(())
-    }
-}
-
-/// The layout with the number in a text.
-fn layout_of(number: &str) -> Result<Layout, Fault> {
-    match number {
-        "2" => Ok(Layout::Two),
-        "3" => Ok(Layout::Three),
-        _ => Err(Fault::Line("no layout of a new store")),
     }
 }
 

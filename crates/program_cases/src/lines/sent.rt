@@ -8,7 +8,6 @@ use crate::lines::spoiled::Spoiled;
 use crate::lines::turns::Turns;
 use crate::lines::ways::Way;
 use case_files::{Block, Fault, Shown, Subject};
-use directory::Layout;
 use disk_model::MemDisk;
 use std::alloc::Global;
 use std::mem;
@@ -70,7 +69,7 @@ impl Lines {
     fn send_in(&mut self, rest: &str) -> Result<(), Fault> {
         let way = Way::of(rest)?;
         (self.has_sent, self.has_ways) = (true, true);
-        match Server::new(self.alloc, Layout::Two) {
+        match Server::new(self.alloc) {
             Ok(mut server) => says_in(self.alloc, &mut server, &self.turns, way, &mut self.shown),
             Err(_) => Err(Fault::Memory),
         }

@@ -2,7 +2,6 @@
 
 use crate::lines::releases::Examples;
 use crate::lines::spoiled::Spoiled;
-use directory::Layout;
 use disk_model::MemDisk;
 use history_store::{Refusal, Store};
 use line_server::{ServeFault, serve};
@@ -29,9 +28,9 @@ impl Server {
         }
     }
 
-    /// A new store of this layout on an empty disk.
-    pub(crate) fn new(alloc: Global, layout: Layout) -> Result<Server, Refusal> {
-        match Store::create_in(alloc, Spoiled::sound(MemDisk::new(alloc)), layout) {
+    /// A new store of layout 2 on an empty disk.
+    pub(crate) fn new(alloc: Global) -> Result<Server, Refusal> {
+        match Store::create(alloc, Spoiled::sound(MemDisk::new(alloc))) {
             Ok(store) => Server::put_in_box(alloc, store),
             Err((refusal, _)) => Err(refusal),
         }
