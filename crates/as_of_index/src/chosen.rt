@@ -33,14 +33,18 @@ pub fn read_all<R: RowReader>(
     reader: &mut R,
     places: &[Chosen],
 ) -> Result<Vec<Row>, ReadFault>
+    // promise: keys_are_right_on_every_disk, no_damage_is_invented, a_question_reads_only_its_rows
     ensures answer { (rows : List StampedRow)
         → StandAtAll (R.view reader.old).lists places.now rows
         → AnswersRows result (λ found. found.items) (map (λ s. s.row) rows) R.cost
         (R.view reader.old) (R.view reader.new) }
     // No more is read than the returned rows take, each read once.
+    // promise: a_question_reads_only_its_rows
     ensures work { IfOk result (λ found.
         (R.view reader.new).work ≤ (R.view reader.old).work + sum_by R.cost found.items) }
+    // promise: no_damage_is_invented
     ensures reader { LeavesReader result (R.view reader.old) (R.view reader.new) }
+    // promise: no_damage_is_invented
     ensures stays { R.stays reader.old reader.new }
 {
     let mut rows = Vec::new(alloc);

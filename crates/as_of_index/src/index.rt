@@ -135,6 +135,7 @@ impl Index {
     /// of its list. Makes one binary search in each list, and reads no row.
     pub fn place_at(&self, kind: Kind, id: u128, as_of: AsOf) -> Option<(usize, RowPlace)>
         ensures places { ArePlaces self.now }
+        // promise: an_answer_is_the_defined_one
         ensures found { (lists : List (List StampedRow)) → Lists self.now lists
             → IsPlaceOf lists (get kind id as_of.date (rows_seen as_of lists)) result }
     {
@@ -153,6 +154,7 @@ impl Index {
     ) -> Option<(usize, RowPlace)>
         // This holds whatever the hints are.
         ensures places { ArePlaces self.now }
+        // promise: the_index_has_every_row
         ensures found { (lists : List (List StampedRow)) → Lists self.now lists
             → IsPlaceOf lists (get kind id as_of.date (rows_seen as_of lists)) result }
     {
@@ -173,6 +175,7 @@ impl Index {
 
     /// The id of the row with this number in a list, if there is one. Makes no search.
     pub fn id_at(&self, segment: usize, number: u32) -> Option<u128>
+        // promise: the_index_has_every_row
         ensures { result ≡ option_map (λ at. at.key.id) (item_at self.now segment number) }
     {
         match self.place_of_row(segment, number as usize) {
@@ -184,6 +187,7 @@ impl Index {
     /// The place of the row with this number in a list, if there is one and the pin shows it,
     /// whatever its date. Makes no search, and reads no row.
     pub fn shown_at(&self, segment: usize, number: u32, pin: u32) -> Option<RowPlace>
+        // promise: an_answer_is_the_defined_one
         ensures { (at : RowPlace) → (result ≡ Some at)
             ↔ ((item_at self.now segment number ≡ Some at) × (at.import ≤ pin)) }
     {
@@ -221,6 +225,7 @@ impl Index {
     /// among those that the pin shows. Makes one binary search in each other list, and reads no
     /// row.
     pub fn current_at(&self, segment: usize, number: u32, as_of: AsOf) -> Option<RowPlace>
+        // promise: the_index_has_every_row
         ensures { (lists : List (List StampedRow)) → Lists self.now lists → (at : RowPlace)
             → (result ≡ Some at)
             ↔ (IsPlaceOfRow lists segment number at × IsCurrentAt lists as_of segment at) }
@@ -246,6 +251,8 @@ impl Index {
         id: u128,
         as_of: AsOf,
     ) -> Result<Option<Row>, ReadFault>
+        // promise: an_answer_is_the_defined_one, keys_are_right_on_every_disk
+        // promise: no_damage_is_invented, a_question_reads_only_its_rows
         ensures answer { IsRowsRead result option_to_list
             (λ lists. option_to_list (get kind id as_of.date (rows_seen as_of lists)))
             (Lists self.now) R.cost (R.view reader.old) (R.view reader.new) }
@@ -269,6 +276,8 @@ impl Index {
         id: u128,
         pin: u32,
     ) -> Result<Vec<Row>, ReadFault>
+        // promise: an_answer_is_the_defined_one, keys_are_right_on_every_disk
+        // promise: no_damage_is_invented, a_question_reads_only_its_rows
         ensures answer { IsRowsRead result (λ rows. rows.items)
             (λ lists. versions kind id (rows_at pin (listed lists))) (Lists self.now) R.cost
             (R.view reader.old) (R.view reader.new) }
@@ -334,6 +343,8 @@ impl Index {
         after: Option<u128>,
         limit: u32,
     ) -> Result<Vec<Row>, ReadFault>
+        // promise: an_answer_is_the_defined_one, keys_are_right_on_every_disk
+        // promise: no_damage_is_invented, a_question_reads_only_its_rows
         ensures answer { IsRowsRead result (λ rows. rows.items)
             (λ lists. page kind as_of.date after limit (rows_seen as_of lists)) (Lists self.now)
             R.cost (R.view reader.old) (R.view reader.new) }
@@ -354,6 +365,8 @@ impl Index {
         after: Option<u128>,
         limit: u32,
     ) -> Result<Vec<Row>, ReadFault>
+        // promise: an_answer_is_the_defined_one, no_damage_is_invented
+        // promise: a_question_reads_only_its_rows
         ensures answer { IsRowsRead result (λ rows. rows.items)
             (λ lists. delta kind from as_of.date after limit (rows_seen as_of lists))
             (Lists self.now) R.cost (R.view reader.old) (R.view reader.new) }
@@ -365,6 +378,7 @@ impl Index {
     /// The distinct effective times of the rows that the pin shows, ascending. Looks at no place,
     /// and reads no row.
     pub fn dates(&self, pin: u32) -> Result<Vec<EffectiveTime>, AllocError>
+        // promise: an_answer_is_the_defined_one
         ensures found { IfOk result (λ times. (lists : List (List StampedRow))
             → Lists self.now lists → times.items ≡ dates (rows_at pin (listed lists))) }
     {

@@ -66,6 +66,8 @@ impl Index {
         limit: u32,
         pin: u32,
     ) -> Result<Vec<Row>, ReadFault>
+        // promise: an_answer_is_the_defined_one, no_damage_is_invented
+        // promise: a_digest_is_that_of_the_rows
         ensures answer { IsRowsRead result (λ rows. rows.items)
             (λ lists. rows_after after limit (rows_at pin (listed lists))) (Lists self.now) R.cost
             (R.view reader.old) (R.view reader.new) }

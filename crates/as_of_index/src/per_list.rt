@@ -27,6 +27,7 @@ impl<T> Model for PerList<T> {
 impl<T: Drop> PerList<T> {
     /// No items, with capacity for one for each of the lists that there may be.
     pub fn new(alloc: Global) -> Result<PerList<T>, AllocError>
+        // promise: the_index_has_every_row
         ensures { IfOk result (λ lists. lists ≡ []) }
     {
         let lists = Vec::with_capacity(alloc, MAX_LISTS)?;
@@ -35,6 +36,7 @@ impl<T: Drop> PerList<T> {
 
     /// How many items there are.
     pub fn lists(&self) -> usize
+        // promise: the_index_has_every_row
         ensures { result ≡ length self.now }
     {
         self.lists.len()
@@ -43,6 +45,7 @@ impl<T: Drop> PerList<T> {
     /// Adds an item at the end. Allocates nothing.
     pub fn add(&mut self, list: T)
         requires { length self.old < max_lists }
+        // promise: the_index_has_every_row
         ensures { self.new ≡ self.old ++ list ∷ [] }
     {
         let Ok(()) = self.lists.push(list) else {
@@ -54,6 +57,7 @@ impl<T: Drop> PerList<T> {
     pub fn replace_two(&mut self, i: usize, j: usize, list: T)
         requires places { i < j }
         requires within { j < length self.old }
+        // promise: the_index_has_every_row
         ensures { self.new ≡ remove (slice_set self.old i list) j }
     {
         self.lists[i] = list;
@@ -62,6 +66,7 @@ impl<T: Drop> PerList<T> {
 
     /// All items.
     pub fn as_slice(&self) -> &[T]
+        // promise: the_index_has_every_row
         ensures { result.now ≡ self.now }
     {
         self.lists.as_slice()

@@ -29,6 +29,7 @@ pub trait RowReader {
         ensures found { (view self.old).is_honest → (s : StampedRow)
             → StandsAt (view self.old).lists segment at s → IfOk result (λ row. row ≡ s) }
         // Whatever it returns, a row has the key of its place.
+        // promise: keys_are_right_on_every_disk
         ensures keyed { IfOk result (λ row. key_of row.row ≡ at.key) }
         // If there is a row at the place, an honest reader fails only because of the disk or
         // memory.
@@ -38,6 +39,7 @@ pub trait RowReader {
         ensures work { IfOk result
             (λ row. (view self.new).work ≤ (view self.old).work + cost row.row) }
         // Whatever the result: if there is a row at the place, no more is read than this row costs.
+        // promise: a_question_reads_only_its_rows
         ensures work_always { (s : StampedRow) → StandsAt (view self.old).lists segment at s
             → (view self.new).work ≤ (view self.old).work + cost s.row }
         ensures reader { LeavesReader result (view self.old) (view self.new) }

@@ -50,6 +50,7 @@ fn after(register: u32, bytes: &[u8]) -> u32
 /// The checksum of these bytes after others, whose checksum is `crc`.
 #[tactic(auto, unfolding(crate::specs::Crc32c::continued))]
 pub fn append(crc: u32, bytes: &[u8]) -> u32
+    // promise: damage_is_noticed_and_named
     ensures { result ≡ continued crc bytes.now }
 {
     after(crc ^ u32::MAX, bytes) ^ u32::MAX
@@ -58,6 +59,7 @@ pub fn append(crc: u32, bytes: &[u8]) -> u32
 /// The checksum of bytes.
 #[tactic(auto, unfolding(crate::specs::Crc32c::crc32c))]
 pub fn crc32c(bytes: &[u8]) -> u32
+    // promise: damage_is_noticed_and_named
     ensures { result ≡ crc32c bytes.now }
 {
     append(0, bytes)

@@ -33,6 +33,7 @@ pub const SCRIPT: &[u8] = b"0 STATUS\n\
 #[derive(Clone, Copy)]
 pub(crate) struct Samples;
 
+// promise: files_are_taken_by_their_names
 impl Source for Samples {
     ghost use Rattle.std.specs.Prelude.{⊤};
     ghost use Rattle.samples.specs.Sample.{sample_files};

@@ -109,6 +109,7 @@ fn was_replaced() -> io::Error {
 }
 
 /// The real names. Which files they refer to isn't specified.
+// promise: a_replaced_file_is_not_written
 impl<R: Files<File = File> + AllocGlobal> Name for FileName<'_, R> {
     ghost leads = { λ _ _. Unit {0} };
 

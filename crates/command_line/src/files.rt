@@ -31,6 +31,7 @@ impl<'a, R: Files<File = File> + AllocGlobal> FileHost<'a, R> {
 /// A disk in a file, with the file's name.
 type NamedFile<'a, R> = NamedDisk<FileDisk, FileName<'a, R>>;
 
+// promise: a_command_does_what_its_words_say
 impl<'a, R: Files<File = File> + AllocGlobal + Clone + Drop> Host for FileHost<'a, R> {
     ghost use Rattle.command_line.specs.Hosts.{unspecified};
 

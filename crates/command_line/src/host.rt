@@ -43,7 +43,9 @@ pub trait Host {
         name: &str,
         faults: &mut E,
     ) -> Option<Self::Disk>
+        // promise: a_command_does_what_its_words_say
         ensures answer { (view self.now).opens (count asked.old) mode name.now result }
+        // promise: a_command_does_what_its_words_say
         ensures asked { count asked.new ≡ raised_by (count asked.old) 1 };
 
     /// Makes sure that the name of a new disk survives a crash. Returns whether that is sure.
@@ -53,10 +55,12 @@ pub trait Host {
     /// Removes the file of a disk that was made, which is given up for that. If its name no longer
     /// refers to it, or it can't be removed, nothing is removed, and the disk is returned.
     fn discard<E: Write>(&self, made: Self::Disk, faults: &mut E) -> Option<Self::Disk>
+        // promise: a_command_does_what_its_words_say
         ensures { IsRemoved (view self.now) made result };
 
     /// Whether there is a folder in which releases can be looked for.
     fn has_folder<E: Write>(&self, folder: &str, faults: &mut E) -> bool
+        // promise: a_command_does_what_its_words_say
         ensures { (view self.now).finds folder.now result };
 
     /// Reads the release in a folder below another one, with the files that the scope includes. The

@@ -21,7 +21,9 @@ pub trait Name {
     /// Checks that the name still refers to what was opened by it, and that this has at least this
     /// length; or says why not.
     fn look(&self, length: u64) -> io::Result<()>
+        // promise: a_replaced_file_is_not_written
         ensures leads { IfOk result (λ _. leads self.now length) }
+        // promise: a_replaced_file_is_not_written
         ensures misses { IfErr result (λ _. misses self.now length) };
 }
 
@@ -46,6 +48,7 @@ impl<D, N> NamedDisk<D, N> {
     pub fn new(disk: D, name: N, length: u64) -> NamedDisk<D, N>
         ensures disk { result.disk ≡ disk }
         ensures name { result.name ≡ name }
+        // promise: a_replaced_file_is_not_written
         ensures length { result.length ≡ length }
     {
         NamedDisk {
@@ -89,6 +92,7 @@ fn counted<T: Drop>(answer: Result<T, DiskFault>, failures: &mut u64) -> Result<
     answer
 }
 
+// promise: a_replaced_file_is_not_written
 impl<D: Disk, N: Name> Disk for NamedDisk<D, N> {
     ghost use Rattle.command_line.specs.NamedDisks.{WritesNamed, named_view, length_after};
 
@@ -118,7 +122,9 @@ impl<D: Disk, N: Name> Disk for NamedDisk<D, N> {
         ensures meters { Calls (CountsEach result) Stays (RisesBy 1)
             (named_view D.view self.old) (named_view D.view self.new) }
         // Nothing is written if the name refers to something else.
+        // promise: a_replaced_file_is_not_written
         ensures named { WritesNamed N.leads N.misses D.view result self.old self.new }
+        // promise: a_replaced_file_is_not_written
         ensures length { MatchResult result
             (λ _. self.new.length ≡ length_after self.old.length at bytes.now)
             (λ _. self.new.length ≡ self.old.length) }
@@ -147,6 +153,7 @@ impl<D: Disk, N: Name> Disk for NamedDisk<D, N> {
             (D.view self.new.disk).moments) }
         ensures meters { Calls (CountsEach result) Stays (RisesBy 1)
             (named_view D.view self.old) (named_view D.view self.new) }
+        // promise: a_replaced_file_is_not_written
         ensures length { self.new.length ≡ min self.old.length len }
     {
         self.other_calls = self.other_calls.saturating_add(1);

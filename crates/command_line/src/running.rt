@@ -46,9 +46,12 @@ pub fn run<H: Host, I: Read, O: Write, E: Write>(
     output: &mut O,
     faults: &mut E,
 ) -> (u8, Option<H::Disk>, Option<H::Disk>)
+    // promise: a_command_does_what_its_words_say
     ensures status { result.0 ≤ 2 }
     // Words that are no command only cause a message.
+    // promise: a_command_does_what_its_words_say
     ensures no_command { result.0 ≡ 2 → (input.new ≡ input.old) × (output.new ≡ output.old) }
+    // promise: a_command_does_what_its_words_say
     ensures done { IsRun (H.view host.now) H.Disk.view SCRIPT.now (map string_bytes words.now)
         result.1 result.2 result.0 (streams (I.remaining input.old) (I.remaining input.new)
         (O.contents output.old) (O.contents output.new)) (H.count asked.old) (H.count asked.new)
@@ -93,6 +96,7 @@ fn perform<H: Host, I: Read, O: Write, E: Write>(
 
 /// How an action asks for its disk.
 fn mode_of(action: &Action<'_>) -> Mode
+    // promise: a_command_does_what_its_words_say
     ensures { result ≡ mode_of action.now }
 {
     match action {
@@ -298,7 +302,9 @@ fn demo<O: Write>(alloc: Global, output: &mut O) -> Result<Ending, ServeFault>
 /// Answers the lines of the script, with a store in memory, and returns the exit status. Each line
 /// is shown on `faults` before its reply is written, as is useful on a terminal.
 pub fn demonstrate<O: Write, E: Write>(alloc: Global, output: &mut O, faults: &mut E) -> u8
+    // promise: a_command_does_what_its_words_say
     ensures status { result ≤ 1 }
+    // promise: a_command_does_what_its_words_say
     ensures done { IsDemonstration SCRIPT.now result
         (O.contents output.old) (O.contents output.new) }
 {

@@ -46,10 +46,13 @@ pub(crate) fn extent_met(
 /// The first block of the first extent of `blocks` blocks that shares none with a listed segment or
 /// the reserved extent.
 pub fn first_fit(blocks: u32, live: &[Entry], reserved: Option<Extent>) -> Result<u32, Full>
+    // promise: free_blocks_are_found_again
     ensures fit { MatchResult result
         (λ first. fit blocks live.now reserved ≡ Some first)
         (λ _. fit blocks live.now reserved ≡ None) }
+    // promise: free_blocks_are_found_again
     ensures least { IfOk result (IsFit blocks (taken live.now reserved)) }
+    // promise: free_blocks_are_found_again
     ensures full { IsErr result
         ↔ ((first : ℕ) → IsFree blocks (taken live.now reserved) first → ⊥) }
 {

@@ -80,6 +80,7 @@ impl Directory {
 
     /// The directory of a new store with this layout version: epoch 1, no imports, no entries.
     pub fn new(alloc: Global, layout: Layout) -> Result<Directory, AllocError>
+        // promise: older_layouts_stay_readable
         ensures { IfOk result (λ d. d ≡ empty_listing layout) }
     {
         let entries = Vec::with_capacity(alloc, MOST_PLACES)?;
@@ -109,8 +110,12 @@ impl Directory {
     /// last entry are ignored. In version 3 the last four bytes of the block have to be the
     /// checksum of all others.
     pub fn decode(alloc: Global, block: &[u8; 4096]) -> Result<Directory, DirectoryFault>
+        // promise: bytes_are_those_of_the_layout, damage_is_noticed_and_named
+        // promise: older_layouts_stay_readable
         ensures found { IfOk result (λ d. Lists block.now d) }
         // A block that lists a directory is never refused as bad.
+        // promise: bytes_are_those_of_the_layout, damage_is_noticed_and_named
+        // promise: older_layouts_stay_readable
         ensures only { (d : DirectoryValue) → Lists block.now d
             → MatchResult result (λ found. found ≡ d) (λ e. e ≡ faults.OutOfMemory) }
     {
@@ -134,7 +139,11 @@ impl Directory {
 
     /// Encodes the directory as a content block.
     pub fn encode(&self, block: &mut [u8; 4096])
+        // promise: bytes_are_those_of_the_layout, damage_is_noticed_and_named
+        // promise: older_layouts_stay_readable
         ensures lists { Lists block.new self.now }
+        // promise: bytes_are_those_of_the_layout, damage_is_noticed_and_named
+        // promise: older_layouts_stay_readable
         ensures bytes { block.new ≡ summed self.now.layout (listing_bytes self.now
             ++ replicate (4096 - length (listing_bytes self.now)) 0) }
     {
@@ -164,6 +173,7 @@ impl Directory {
 
     /// Its layout version.
     pub fn layout(&self) -> Layout
+        // promise: older_layouts_stay_readable
         ensures { result ≡ self.now.layout }
     {
         self.layout
@@ -171,6 +181,7 @@ impl Directory {
 
     /// The number of its layout version.
     pub fn version(&self) -> u32
+        // promise: older_layouts_stay_readable
         ensures { result ≡ number_of self.now.layout }
     {
         self.layout.number()
@@ -178,6 +189,7 @@ impl Directory {
 
     /// Sets the layout version to that of the next publication. The epoch is unchanged.
     pub fn upgrade(&mut self)
+        // promise: older_layouts_stay_readable
         ensures { self.new ≡ record self.old { layout = next_layout self.old.layout } }
     {
         self.layout = self.layout.next();
@@ -250,6 +262,7 @@ impl Directory {
         requires places { i < j }
         requires within { j ≤ length self.old.entries }
         requires listing { IsListing (with_two_back self.old layout epoch i j first second) }
+        // promise: bytes_are_those_of_the_layout
         ensures { self.new ≡ with_two_back self.old layout epoch i j first second }
     {
         self.layout = layout;

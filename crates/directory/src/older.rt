@@ -35,6 +35,7 @@ fn has_epoch(epoch: u64, block: &[u8; 4096]) -> bool
 /// mark of a version without. For an older one it must not be of version 3, since the version never
 /// falls.
 pub fn may_precede(layout: Layout, epoch: u64, block: &[u8; 4096]) -> bool
+    // promise: damage_is_noticed_and_named
     ensures { IsTrue result ↔ MayPrecede layout epoch block.now }
 {
     match layout {

@@ -56,10 +56,13 @@ pub trait Disk {
 
     /// The length, in bytes.
     fn len(&mut self) -> Result<u64, DiskFault>
+        // promise: a_disk_does_what_its_trait_says
         ensures value { (view self.old).is_honest
             → IfOk result (λ n. n ≡ length (view self.old).moments.state.now) }
+        // promise: a_disk_does_what_its_trait_says
         ensures moments { (view self.old).is_honest
             → (view self.new).moments ≡ (view self.old).moments }
+        // promise: a_disk_does_what_its_trait_says
         ensures meters { Calls (CountsEach result) Stays (RisesBy 1)
             (view self.old) (view self.new) };
 
@@ -67,12 +70,16 @@ pub trait Disk {
     /// returns their number. There are none past the end. After an error `into` may have any
     /// contents.
     fn read_at(&mut self, at: u64, into: &mut [u8]) -> Result<usize, DiskFault>
+        // promise: a_disk_does_what_its_trait_says
         ensures within { IfOk result (λ n. n ≤ length into.old) }
+        // promise: a_disk_does_what_its_trait_says
         ensures count { (view self.old).is_honest → IfOk result
             (λ n. n ≡ min (length into.old) (length (view self.old).moments.state.now - at)) }
+        // promise: a_disk_does_what_its_trait_says
         ensures bytes { (view self.old).is_honest → IfOk result
             (λ n. into.new
             ≡ take n (drop at (view self.old).moments.state.now) ++ drop n into.old) }
+        // promise: a_disk_does_what_its_trait_says
         ensures meters { OnlyReads (CountsEach result) (RisesBy (length into.old))
             (view self.old) (view self.new) };
 
@@ -81,33 +88,42 @@ pub trait Disk {
     /// range. A write of no bytes changes no byte, and otherwise is a call like any other.
     fn write_at(&mut self, at: u64, bytes: &[u8]) -> Result<(), DiskFault>
         requires { at + length bytes.now ≤ MAX_END }
+        // promise: a_disk_does_what_its_trait_says
         ensures made { (view self.old).is_honest → OnOk result ((view self.new).moments
             ≡ followed_by (view self.old).moments
             (after_write (view self.old).moments.state at bytes.now)) }
+        // promise: a_disk_does_what_its_trait_says
         ensures failed { (view self.old).is_honest → OnErr result (Fails (view self.old).moments
             (after_write (view self.old).moments.state at bytes.now) (view self.new).moments) }
+        // promise: a_disk_does_what_its_trait_says
         ensures meters { Calls (CountsEach result) Stays (RisesBy 1)
             (view self.old) (view self.new) };
 
     /// Cuts the disk to `len` bytes, if it is longer. Until a sync, a crash may leave what was cut
     /// off, or a part of it.
     fn cut(&mut self, len: u64) -> Result<(), DiskFault>
+        // promise: a_disk_does_what_its_trait_says
         ensures made { (view self.old).is_honest → OnOk result ((view self.new).moments
             ≡ followed_by (view self.old).moments
             (after_cut (view self.old).moments.state len)) }
+        // promise: a_disk_does_what_its_trait_says
         ensures failed { (view self.old).is_honest → OnErr result (Fails (view self.old).moments
             (after_cut (view self.old).moments.state len) (view self.new).moments) }
+        // promise: a_disk_does_what_its_trait_says
         ensures meters { Calls (CountsEach result) Stays (RisesBy 1)
             (view self.old) (view self.new) };
 
     /// Waits until everything that was written is on the disk: afterwards a crash leaves what a
     /// read returns.
     fn sync(&mut self) -> Result<(), DiskFault>
+        // promise: a_disk_does_what_its_trait_says
         ensures made { (view self.old).is_honest → OnOk result ((view self.new).moments
             ≡ followed_by (view self.old).moments
             (settled (view self.old).moments.state.now)) }
+        // promise: a_disk_does_what_its_trait_says
         ensures failed { (view self.old).is_honest
             → OnErr result ((view self.new).moments ≡ (view self.old).moments) }
+        // promise: a_disk_does_what_its_trait_says
         ensures meters { Calls (CountsEach result) Stays (RisesBy 1)
             (view self.old) (view self.new) };
 

@@ -166,6 +166,7 @@ fn answer<T: Drop>(
     }
 }
 
+// promise: a_disk_does_what_its_trait_says, a_failed_disk_is_told
 impl Disk for FileDisk {
     ghost use Rattle.disk_model.specs.FileDisk.{file_view};
 

@@ -119,7 +119,9 @@ impl MemDisk {
     /// that together write at most as many bytes. Until either is exceeded, no call runs out of
     /// memory. An `Err` changes neither the bytes nor the record.
     pub fn reserve(&mut self, bytes: u64, calls: u32) -> Result<(), AllocError>
+        // promise: a_disk_does_what_its_trait_says
         ensures room { OnOk result (HasRoomFor self.new bytes calls bytes) }
+        // promise: a_disk_does_what_its_trait_says
         ensures succeeds { HasRoomFor self.old bytes calls bytes → IsOk result }
         ensures kept { SameRecord self.old self.new }
         ensures meters { Calls Stays Stays Stays (memory_view self.old) (memory_view self.new) }
@@ -165,9 +167,12 @@ impl MemDisk {
     /// before it count as made. Fails only if memory runs out.
     pub fn image(&self, after: u64, choice: Choice) -> Result<Vec<u8>, AllocError>
         requires { after ≤ changes_of self.now }
+        // promise: a_disk_does_what_its_trait_says
         ensures chosen { IfOk result
             (λ image. IsChosen (state_after self.now after) choice image.items) }
+        // promise: a_disk_does_what_its_trait_says
         ensures image { IfOk result (λ image. IsImage (state_after self.now after) image.items) }
+        // promise: a_disk_does_what_its_trait_says
         ensures moment { Contains
             ((memory_moments self.now).state ∷ (memory_moments self.now).past)
             (state_after self.now after) }
@@ -179,8 +184,10 @@ impl MemDisk {
 
     /// An image of the present moment. Fails only if memory runs out.
     pub fn image_now(&self, choice: Choice) -> Result<Vec<u8>, AllocError>
+        // promise: a_disk_does_what_its_trait_says
         ensures chosen { IfOk result
             (λ image. IsChosen (memory_moments self.now).state choice image.items) }
+        // promise: a_disk_does_what_its_trait_says
         ensures image { IfOk result (λ image. IsImage (memory_moments self.now).state image.items) }
     {
         let count = self.calls.len();
@@ -277,6 +284,7 @@ impl MemDisk {
     }
 }
 
+// promise: a_disk_does_what_its_trait_says
 impl Disk for MemDisk {
     ghost use Rattle.disk_model.specs.MemDisk.{memory_moments, first_bytes, record_of, faults_of};
     ghost use Rattle.disk_model.specs.MemDisk.{memory_view};
@@ -293,6 +301,7 @@ impl Disk for MemDisk {
         ensures value { IfOk result (λ n. n ≡ length (memory_moments self.old).state.now) }
         ensures moments { memory_moments self.new ≡ memory_moments self.old }
         ensures kept { SameRecord self.old self.new }
+        // promise: a_disk_does_what_its_trait_says
         ensures meters { Calls (CountsEach result) Stays (RisesBy 1)
             (memory_view self.old) (memory_view self.new) }
         ensures passes { IsOk result ↔ IsTrue (passes_read (faults_of self.old)) }
@@ -313,6 +322,7 @@ impl Disk for MemDisk {
         ensures bytes { IfOk result (λ n. into.new
             ≡ take n (drop at (memory_moments self.old).state.now) ++ drop n into.old) }
         ensures kept { SameRecord self.old self.new }
+        // promise: a_disk_does_what_its_trait_says
         ensures meters { OnlyReads (CountsEach result) (RisesBy (length into.old))
             (memory_view self.old) (memory_view self.new) }
         ensures passes { IsOk result ↔ IsTrue (passes_read (faults_of self.old)) }
@@ -336,6 +346,7 @@ impl Disk for MemDisk {
             (after_write (memory_moments self.old).state at bytes.now)) }
         ensures failed { OnErr result (Fails (memory_moments self.old)
             (after_write (memory_moments self.old).state at bytes.now) (memory_moments self.new)) }
+        // promise: a_disk_does_what_its_trait_says
         ensures meters { Calls (CountsEach result) Stays (RisesBy 1)
             (memory_view self.old) (memory_view self.new) }
         ensures passes { IsOk result → fate_of (faults_of self.old) ≡ Passes }
@@ -352,6 +363,7 @@ impl Disk for MemDisk {
             → record_of self.new
             ≡ record_of self.old ++ written_as (fate_of (faults_of self.old)) at bytes.now ∷ [] }
         // Whatever the result: this call, or nothing, was added to the record.
+        // promise: a_disk_does_what_its_trait_says
         ensures one { (record_of self.new ≡ record_of self.old) ⊎ (record_of self.new
             ≡ record_of self.old ++ written_as (fate_of (faults_of self.old)) at bytes.now ∷ []) }
         ensures room { UsesRoom self.old self.new 1 (length bytes.now) }
@@ -368,6 +380,7 @@ impl Disk for MemDisk {
             (after_cut (memory_moments self.old).state len)) }
         ensures failed { OnErr result (Fails (memory_moments self.old)
             (after_cut (memory_moments self.old).state len) (memory_moments self.new)) }
+        // promise: a_disk_does_what_its_trait_says
         ensures meters { Calls (CountsEach result) Stays (RisesBy 1)
             (memory_view self.old) (memory_view self.new) }
         ensures passes { IsOk result → fate_of (faults_of self.old) ≡ Passes }
@@ -381,6 +394,7 @@ impl Disk for MemDisk {
         ensures noted { OnOk result (record_of self.new ≡ record_of self.old ++ Cut len ∷ []) }
         ensures traced { HasRoomFor self.old 0 1 0 → record_of self.new
             ≡ record_of self.old ++ cut_as (fate_of (faults_of self.old)) len ∷ [] }
+        // promise: a_disk_does_what_its_trait_says
         ensures one { (record_of self.new ≡ record_of self.old) ⊎ (record_of self.new
             ≡ record_of self.old ++ cut_as (fate_of (faults_of self.old)) len ∷ []) }
         ensures room { UsesRoom self.old self.new 1 0 }
@@ -395,6 +409,7 @@ impl Disk for MemDisk {
         ensures made { OnOk result (memory_moments self.new
             ≡ followed_by (memory_moments self.old) (settled (memory_moments self.old).state.now)) }
         ensures failed { OnErr result (memory_moments self.new ≡ memory_moments self.old) }
+        // promise: a_disk_does_what_its_trait_says
         ensures meters { Calls (CountsEach result) Stays (RisesBy 1)
             (memory_view self.old) (memory_view self.new) }
         ensures passes { IsOk result → fate_of (faults_of self.old) ≡ Passes }
@@ -403,7 +418,9 @@ impl Disk for MemDisk {
             → fate_of (faults_of self.old) ≡ Passes → IsOk result }
         ensures first { first_bytes self.new ≡ first_bytes self.old }
         // A sync that fails, for whatever reason, leaves the record unchanged.
+        // promise: a_disk_does_what_its_trait_says
         ensures unmade { OnErr result (record_of self.new ≡ record_of self.old) }
+        // promise: a_disk_does_what_its_trait_says
         ensures noted { OnOk result (record_of self.new ≡ record_of self.old ++ Sync ∷ []) }
         ensures traced { HasRoomFor self.old 0 1 0 → record_of self.new
             ≡ record_of self.old ++ synced_as (fate_of (faults_of self.old)) }

@@ -11,6 +11,7 @@ pub const IS_A: u64 = 116_680_003;
 /// The component that the row is about: the concept of a description, the source of a relationship,
 /// or the component that a member of a reference set refers to; none for a concept.
 pub fn subject_of(row: &Row) -> Option<Sctid>
+    // promise: nothing_is_left_out_of_an_answer
     ensures { result ≡ subject_of row.now }
 {
     match &row.body {

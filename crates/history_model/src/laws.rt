@@ -47,463 +47,554 @@ ghost use Rattle.history_model.specs.Membership.{CalledStays};
 
 /// A history is a chain of row sets, each contained in the next.
 pub fn each_history_is_a_chain()
+    // promise: the_order_of_releases_is_free
     ensures { EachHistoryIsAChain }
 {}
 
 /// Each such chain is that of a history.
 pub fn each_chain_is_a_history()
+    // promise: the_order_of_releases_is_free
     ensures { EachChainIsAHistory }
 {}
 
 /// No two histories have the same chain.
 pub fn one_history_for_a_chain()
+    // promise: the_order_of_releases_is_free
     ensures { OneHistoryForAChain }
 {}
 
 /// A history after a release is a history.
 pub fn release_leaves_a_history()
+    // promise: a_release_is_taken_whole_or_not_at_all
     ensures { ReleaseLeavesAHistory }
 {}
 
 /// An accepted release adds its rows, and no others.
 pub fn release_adds_its_rows()
+    // promise: a_release_is_taken_whole_or_not_at_all
     ensures { ReleaseAddsItsRows }
 {}
 
 /// What a pin shows isn't changed by later imports.
 pub fn pinned_stays()
+    // promise: a_pin_shows_the_same_for_ever
     ensures { PinnedStays }
 {}
 
 /// Releases that are accepted one after the other are accepted in any order, with the same rows at
 /// the end.
 pub fn order_is_free()
+    // promise: the_order_of_releases_is_free
     ensures { OrderIsFree }
 {}
 
 /// There is a receipt for each release.
 pub fn each_release_has_a_receipt()
+    // promise: a_receipt_counts_the_new_rows
     ensures { EachReleaseHasAReceipt }
 {}
 
 /// No release has two receipts.
 pub fn one_receipt_for_a_release()
+    // promise: a_receipt_counts_the_new_rows
     ensures { OneReceiptForARelease }
 {}
 
 /// The rows that get the number of a release are those that the history lacked.
 pub fn new_rows_are_unknown()
+    // promise: a_receipt_counts_the_new_rows
     ensures { NewRowsAreUnknown }
 {}
 
 /// The receipt of a release says how many rows the history lacked.
 pub fn receipt_counts_the_unknown()
+    // promise: a_receipt_counts_the_new_rows
     ensures { ReceiptCountsTheUnknown }
 {}
 
 /// The new rows of a release can be added as one list.
 pub fn release_is_one_list()
+    // promise: a_release_is_taken_whole_or_not_at_all
     ensures { ReleaseIsOneList }
 {}
 
 /// Replacing two lists by one with the rows of both doesn't change the rows of all lists.
 pub fn merge_leaves_listed()
+    // promise: a_merge_changes_no_row
     ensures { MergeLeavesListed }
 {}
 
 /// What a pin shows is in key order.
 pub fn what_is_shown_ascends()
+    // promise: nothing_is_left_out_of_an_answer
     ensures { WhatIsShownAscends }
 {}
 
 /// The Snapshot has at most one row of a component.
 pub fn one_row_of_a_component()
+    // promise: nothing_is_left_out_of_an_answer
     ensures { OneRowOfAComponent }
 {}
 
 /// Each answer that is a list is in ascending order, without duplicates.
 pub fn answers_ascend()
+    // promise: nothing_is_left_out_of_an_answer
     ensures { AnswersAscend }
 {}
 
 /// No child is missing.
 pub fn children_are_all()
+    // promise: nothing_is_left_out_of_an_answer
     ensures { ChildrenAreAll }
 {}
 
 /// No replacement is missing.
 pub fn replacements_are_all()
+    // promise: nothing_is_left_out_of_an_answer
     ensures { ReplacementsAreAll }
 {}
 
 /// The rows of a kind are a page of any limit, followed by all rows after the last one of the page.
 pub fn page_and_the_rest()
+    // promise: pages_are_the_whole
     ensures { PageAndTheRest }
 {}
 
 /// There are no rows after a page that has fewer rows than its limit.
 pub fn short_page_is_last()
+    // promise: pages_are_the_whole
     ensures { ShortPageIsLast }
 {}
 
 /// Pages of any limit, each from after the last row of the one before, give all rows of a kind.
 pub fn pages_are_all()
+    // promise: pages_are_the_whole
     ensures { PagesAreAll }
 {}
 
 /// The sequence of such pages ends.
 pub fn pages_end()
+    // promise: pages_are_the_whole
     ensures { PagesEnd }
 {}
 
 /// What is about a component are the active rows whose subject it is.
 pub fn about_is_all()
+    // promise: nothing_is_left_out_of_an_answer
     ensures { AboutIsAll }
 {}
 
 /// Each active row, except a concept's, is about exactly one component.
 pub fn each_is_about_one()
+    // promise: nothing_is_left_out_of_an_answer
     ensures { EachIsAboutOne }
 {}
 
 /// The rows about a component are ascending by id.
 pub fn about_ascends()
+    // promise: nothing_is_left_out_of_an_answer
     ensures { AboutAscends }
 {}
 
 /// The rows that a search finds are ascending by id.
 pub fn search_ascends()
+    // promise: nothing_is_left_out_of_an_answer
     ensures { SearchAscends }
 {}
 
 /// A search from the first id on finds the same rows as `terms`.
 pub fn search_from_the_first()
+    // promise: pages_are_the_whole
     ensures { SearchFromTheFirst }
 {}
 
 /// The rows that can be found are those of a search of any limit, followed by all rows after its
 /// last one.
 pub fn search_and_the_rest()
+    // promise: pages_are_the_whole
     ensures { SearchAndTheRest }
 {}
 
 /// There is nothing to find after a search that found fewer rows than its limit.
 pub fn short_search_is_last()
+    // promise: pages_are_the_whole
     ensures { ShortSearchIsLast }
 {}
 
 /// Searches of any limit, each from after the last row of the one before, find everything.
 pub fn searches_are_all()
+    // promise: pages_are_the_whole
     ensures { SearchesAreAll }
 {}
 
 /// Searches from the first id on, one after the other, find the same rows as `terms` without a
 /// limit.
 pub fn searches_are_terms()
+    // promise: pages_are_the_whole
     ensures { SearchesAreTerms }
 {}
 
 /// The sequence of such searches ends.
 pub fn searches_end()
+    // promise: pages_are_the_whole
     ensures { SearchesEnd }
 {}
 
 /// What is about a component at a pin isn't changed by later imports.
 pub fn about_stays()
+    // promise: a_pin_shows_the_same_for_ever
     ensures { AboutStays }
 {}
 
 /// What a search finds at a pin isn't changed by later imports.
 pub fn search_stays()
+    // promise: a_pin_shows_the_same_for_ever
     ensures { SearchStays }
 {}
 
 /// The receipt of an import isn't changed by later imports.
 pub fn import_receipt_stays()
+    // promise: a_pin_shows_the_same_for_ever
     ensures { ImportReceiptStays }
 {}
 
 /// There is a receipt for each import.
 pub fn each_import_has_a_receipt()
+    // promise: a_receipt_counts_the_new_rows
     ensures { EachImportHasAReceipt }
 {}
 
 /// No import has two receipts.
 pub fn one_receipt_for_an_import()
+    // promise: a_receipt_counts_the_new_rows
     ensures { OneReceiptForAnImport }
 {}
 
 /// The receipt of a release and that of its import count the same rows.
 pub fn both_receipts_count_the_same()
+    // promise: a_receipt_counts_the_new_rows
     ensures { BothReceiptsCountTheSame }
 {}
 
 /// The receipts of the imports that a pin shows count the rows that it shows.
 pub fn receipts_count_what_is_shown()
+    // promise: a_receipt_counts_the_new_rows
     ensures { ReceiptsCountWhatIsShown }
 {}
 
 /// The receipts of all imports count all rows.
 pub fn receipts_count_the_rows()
+    // promise: a_receipt_counts_the_new_rows
     ensures { ReceiptsCountTheRows }
 {}
 
 /// A concept is a parent of another exactly if the other is its child.
 pub fn parents_have_children()
+    // promise: nothing_is_left_out_of_an_answer
     ensures { ParentsHaveChildren }
 {}
 
 /// A concept is an ancestor of another exactly if the other is its descendant.
 pub fn ancestors_have_descendants()
+    // promise: nothing_is_left_out_of_an_answer
     ensures { AncestorsHaveDescendants }
 {}
 
 /// Each child is a descendant.
 pub fn children_are_descendants()
+    // promise: nothing_is_left_out_of_an_answer
     ensures { ChildrenAreDescendants }
 {}
 
 /// The descendants of a descendant are descendants.
 pub fn descendants_of_descendants()
+    // promise: nothing_is_left_out_of_an_answer
     ensures { DescendantsOfDescendants }
 {}
 
 /// A concept has only one list of descendants.
 pub fn one_list_of_descendants()
+    // promise: nothing_is_left_out_of_an_answer
     ensures { OneListOfDescendants }
 {}
 
 /// A concept has only one list of ancestors.
 pub fn one_list_of_ancestors()
+    // promise: nothing_is_left_out_of_an_answer
     ensures { OneListOfAncestors }
 {}
 
 /// Each concept has a list of descendants.
 pub fn each_has_descendants()
+    // promise: nothing_is_left_out_of_an_answer
     ensures { EachHasDescendants }
 {}
 
 /// Each concept has a list of ancestors.
 pub fn each_has_ancestors()
+    // promise: nothing_is_left_out_of_an_answer
     ensures { EachHasAncestors }
 {}
 
 /// The descendants at a pin aren't changed by later imports.
 pub fn descendants_stay()
+    // promise: a_pin_shows_the_same_for_ever
     ensures { DescendantsStay }
 {}
 
 /// The ancestors at a pin aren't changed by later imports.
 pub fn ancestors_stay()
+    // promise: a_pin_shows_the_same_for_ever
     ensures { AncestorsStay }
 {}
 
 /// A Delta has the components whose rows at the two dates differ.
 pub fn delta_is_what_differs()
+    // promise: nothing_is_left_out_of_an_answer
     ensures { DeltaIsWhatDiffers }
 {}
 
 /// For each component that changed, a Delta has the row at the later date.
 pub fn delta_has_the_later_row()
+    // promise: nothing_is_left_out_of_an_answer
     ensures { DeltaHasTheLaterRow }
 {}
 
 /// A Delta from before all rows is a page.
 pub fn delta_from_the_first()
+    // promise: nothing_is_left_out_of_an_answer
     ensures { DeltaFromTheFirst }
 {}
 
 /// Nothing changes from a date to an earlier one.
 pub fn delta_backwards_is_empty()
+    // promise: nothing_is_left_out_of_an_answer
     ensures { DeltaBackwardsIsEmpty }
 {}
 
 /// Two Deltas, of which one begins where the other ends, cover the Delta over both.
 pub fn two_deltas_cover_both()
+    // promise: nothing_is_left_out_of_an_answer
     ensures { TwoDeltasCoverBoth }
 {}
 
 /// A Delta ascends by id.
 pub fn delta_ascends()
+    // promise: nothing_is_left_out_of_an_answer
     ensures { DeltaAscends }
 {}
 
 /// A Delta at a pin isn't changed by later imports.
 pub fn delta_stays()
+    // promise: a_pin_shows_the_same_for_ever
     ensures { DeltaStays }
 {}
 
 /// A timeline has all versions of the components that were about the component at some date, and
 /// nothing else.
 pub fn timeline_is_all()
+    // promise: nothing_is_left_out_of_an_answer
     ensures { TimelineIsAll }
 {}
 
 /// What is about a component at any date is in its timeline.
 pub fn timeline_has_what_is_about()
+    // promise: nothing_is_left_out_of_an_answer
     ensures { TimelineHasWhatIsAbout }
 {}
 
 /// A timeline ascends by id, then by time.
 pub fn timeline_ascends()
+    // promise: nothing_is_left_out_of_an_answer
     ensures { TimelineAscends }
 {}
 
 /// A timeline at a pin isn't changed by later imports.
 pub fn timeline_stays()
+    // promise: a_pin_shows_the_same_for_ever
     ensures { TimelineStays }
 {}
 
 /// No association whose target is the component is missing.
 pub fn replaces_are_all()
+    // promise: nothing_is_left_out_of_an_answer
     ensures { ReplacesAreAll }
 {}
 
 /// What replaces a component and what it replaces are the same associations, from two ends.
 pub fn both_ends_are_one()
+    // promise: nothing_is_left_out_of_an_answer
     ensures { BothEndsAreOne }
 {}
 
 /// What a component replaces is in the order of reference set, referenced component and member.
 pub fn replaces_ascend()
+    // promise: nothing_is_left_out_of_an_answer
     ensures { ReplacesAscend }
 {}
 
 /// What a component replaces at a pin isn't changed by later imports.
 pub fn replaces_stay()
+    // promise: a_pin_shows_the_same_for_ever
     ensures { ReplacesStay }
 {}
 
 /// The dates are the effective times of all versions.
 pub fn dates_are_those_of_versions()
+    // promise: nothing_is_left_out_of_an_answer
     ensures { DatesAreThoseOfVersions }
 {}
 
 /// The dates are ascending, without duplicates.
 pub fn dates_ascend()
+    // promise: nothing_is_left_out_of_an_answer
     ensures { DatesAscend }
 {}
 
 /// The dates at a pin aren't changed by later imports.
 pub fn dates_stay()
+    // promise: a_pin_shows_the_same_for_ever
     ensures { DatesStay }
 {}
 
 /// The members of a reference set are those of all members that belong to it.
 pub fn members_are_of_the_kind()
+    // promise: nothing_is_left_out_of_an_answer
     ensures { MembersAreOfTheKind }
 {}
 
 /// Each member belongs to exactly one reference set.
 pub fn each_is_of_one_set()
+    // promise: nothing_is_left_out_of_an_answer
     ensures { EachIsOfOneSet }
 {}
 
 /// Members are ascending by id.
 pub fn members_ascend()
+    // promise: nothing_is_left_out_of_an_answer
     ensures { MembersAscend }
 {}
 
 /// The members are an answer of any limit, followed by all members after its last one.
 pub fn members_and_the_rest()
+    // promise: pages_are_the_whole
     ensures { MembersAndTheRest }
 {}
 
 /// There are no members after an answer that has fewer members than its limit.
 pub fn few_members_are_last()
+    // promise: pages_are_the_whole
     ensures { FewMembersAreLast }
 {}
 
 /// Answers of any limit, each from after the last member of the one before, give all members of a
 /// reference set.
 pub fn pages_of_members_are_all()
+    // promise: pages_are_the_whole
     ensures { PagesOfMembersAreAll }
 {}
 
 /// The sequence of such answers ends.
 pub fn pages_of_members_end()
+    // promise: pages_are_the_whole
     ensures { PagesOfMembersEnd }
 {}
 
 /// No active member of a reference set is missing.
 pub fn values_are_all()
+    // promise: nothing_is_left_out_of_an_answer
     ensures { ValuesAreAll }
 {}
 
 /// The values of all reference sets together are the active members.
 pub fn values_are_the_active_members()
+    // promise: nothing_is_left_out_of_an_answer
     ensures { ValuesAreTheActiveMembers }
 {}
 
 /// Values are in the order of component, then of member.
 pub fn values_ascend()
+    // promise: nothing_is_left_out_of_an_answer
     ensures { ValuesAscend }
 {}
 
 /// Values are the first up to the limit, and all others that refer to the same components as these.
 pub fn values_are_the_first_with_ties()
+    // promise: pages_are_the_whole
     ensures { ValuesAreTheFirstWithTies }
 {}
 
 /// No answer separates the members of one component.
 pub fn values_of_one_component_stay_together()
+    // promise: pages_are_the_whole
     ensures { ValuesOfOneComponentStayTogether }
 {}
 
 /// An answer has as many values as its limit, if there are as many.
 pub fn values_fill_the_limit()
+    // promise: pages_are_the_whole
     ensures { ValuesFillTheLimit }
 {}
 
 /// An answer that has fewer values than its limit is all of them.
 pub fn few_values_are_all()
+    // promise: pages_are_the_whole
     ensures { FewValuesAreAll }
 {}
 
 /// The values are an answer of any limit, followed by all with components greater than its last
 /// one.
 pub fn values_and_the_rest()
+    // promise: pages_are_the_whole
     ensures { ValuesAndTheRest }
 {}
 
 /// Answers of any limit, each from after the last component of the one before, give all values of a
 /// reference set.
 pub fn pages_of_values_are_all()
+    // promise: pages_are_the_whole
     ensures { PagesOfValuesAreAll }
 {}
 
 /// The sequence of such answers ends.
 pub fn pages_of_values_end()
+    // promise: pages_are_the_whole
     ensures { PagesOfValuesEnd }
 {}
 
 /// What a concept is called are the descriptions about it that have members of the reference
 /// set, and these members.
 pub fn called_are_names()
+    // promise: nothing_is_left_out_of_an_answer
     ensures { CalledAreNames }
 {}
 
 /// The descriptions by which a concept is called are ascending by id.
 pub fn called_ascend()
+    // promise: nothing_is_left_out_of_an_answer
     ensures { CalledAscend }
 {}
 
 /// The members that say what a concept is called are values of the reference set.
 pub fn called_are_among_values()
+    // promise: nothing_is_left_out_of_an_answer
     ensures { CalledAreAmongValues }
 {}
 
 /// Members at a pin aren't changed by later imports.
 pub fn members_stay()
+    // promise: a_pin_shows_the_same_for_ever
     ensures { MembersStay }
 {}
 
 /// Values at a pin aren't changed by later imports.
 pub fn values_stay()
+    // promise: a_pin_shows_the_same_for_ever
     ensures { ValuesStay }
 {}
 
 /// What a concept is called at a pin isn't changed by later imports.
 pub fn called_stays()
+    // promise: a_pin_shows_the_same_for_ever
     ensures { CalledStays }
 {}

@@ -20,6 +20,9 @@ impl<D: Disk> Store<D> {
     /// active "is a" relationships, each from a concept to a child. Reads no row.
     pub fn descendants(&mut self, id: Sctid, as_of: AsOf) -> Result<Vec<u64>, Refusal>
         requires { as_of.pin ≤ self.old.history.imports }
+        // promise: an_answer_is_the_defined_one, no_damage_is_invented, a_question_changes_nothing
+        // promise: what_is_cached_is_not_read_again, a_crash_leaves_the_old_or_the_new
+        // promise: few_calls_reach_the_disk, a_failed_disk_is_told
         ensures answer { IsIndexQuery result (λ ids rows. AreDescendants id as_of.date rows
             ids.items) as_of.pin self.old self.new }
     {
@@ -40,6 +43,9 @@ impl<D: Disk> Store<D> {
     /// active "is a" relationships, each from a concept to a parent. Reads no row.
     pub fn ancestors(&mut self, id: Sctid, as_of: AsOf) -> Result<Vec<u64>, Refusal>
         requires { as_of.pin ≤ self.old.history.imports }
+        // promise: an_answer_is_the_defined_one, no_damage_is_invented, a_question_changes_nothing
+        // promise: a_question_reads_only_its_rows, what_is_cached_is_not_read_again
+        // promise: few_calls_reach_the_disk
         ensures answer { IsIndexQuery result (λ ids rows. AreAncestors id as_of.date rows
             ids.items) as_of.pin self.old self.new }
     {
@@ -60,6 +66,10 @@ impl<D: Disk> Store<D> {
     /// component and member: those that name it as a replacement of other components.
     pub fn replaces(&mut self, id: Sctid, as_of: AsOf) -> Result<Vec<Row>, Refusal>
         requires { as_of.pin ≤ self.old.history.imports }
+        // promise: an_answer_is_the_defined_one, keys_are_right_on_every_disk
+        // promise: no_damage_is_invented, a_question_changes_nothing
+        // promise: a_question_reads_only_its_rows, what_is_cached_is_not_read_again
+        // promise: few_calls_reach_the_disk
         ensures answer { IsOrderedQuery result (λ rows. rows.items) (replaces id as_of.date) as_of.pin
             D.view self.old self.new }
     {
@@ -87,6 +97,10 @@ impl<D: Disk> Store<D> {
     /// `about` defines it, ascending by id, then by time.
     pub fn timeline(&mut self, kind: Kind, id: Sctid, pin: u32) -> Result<Vec<Row>, Refusal>
         requires { pin ≤ self.old.history.imports }
+        // promise: an_answer_is_the_defined_one, keys_are_right_on_every_disk
+        // promise: no_damage_is_invented, a_question_changes_nothing
+        // promise: a_question_reads_only_its_rows, what_is_cached_is_not_read_again
+        // promise: few_calls_reach_the_disk
         ensures answer { IsRowsQuery result (λ rows. rows.items) (timeline kind id) pin
             D.view self.old self.new }
     {
@@ -123,6 +137,10 @@ impl<D: Disk> Store<D> {
         limit: u32,
     ) -> Result<Vec<Row>, Refusal>
         requires { as_of.pin ≤ self.old.history.imports }
+        // promise: an_answer_is_the_defined_one, keys_are_right_on_every_disk
+        // promise: no_damage_is_invented, a_question_changes_nothing
+        // promise: a_question_reads_only_its_rows, what_is_cached_is_not_read_again
+        // promise: few_calls_reach_the_disk
         ensures answer { IsRowsQuery result (λ rows. rows.items)
             (delta kind from as_of.date after limit) as_of.pin D.view self.old self.new }
     {
@@ -146,6 +164,9 @@ impl<D: Disk> Store<D> {
     /// `pin` imports brought. Reads no row.
     pub fn dates(&mut self, pin: u32) -> Result<Vec<EffectiveTime>, Refusal>
         requires { pin ≤ self.old.history.imports }
+        // promise: an_answer_is_the_defined_one, no_damage_is_invented, a_question_changes_nothing
+        // promise: what_is_cached_is_not_read_again, a_crash_leaves_the_old_or_the_new
+        // promise: few_calls_reach_the_disk, a_failed_disk_is_told
         ensures answer { IsIndexQuery result (λ times rows. times.items ≡ dates rows) pin
             self.old self.new }
     {

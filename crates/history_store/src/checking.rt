@@ -70,6 +70,8 @@ impl<D: Disk> Store<D> {
     /// much memory. What shows only when an import writes isn't foreseen: that the disk is full, or
     /// refuses a write.
     pub fn check(&mut self, release: Release) -> Result<Receipt, Refusal>
+        // promise: a_refusal_names_its_cause, a_check_foretells_the_import, members_need_layout_3
+        // promise: a_failed_disk_is_told
         ensures answer { IsChecking result release D.view self.old self.new }
     {
         let ready = self.make_ready(release)?;

@@ -52,6 +52,7 @@ impl<D: Disk> Store<D> {
         release: Release,
         limit: usize,
     ) -> Result<Contradictions, Refusal>
+        // promise: a_refusal_names_its_cause, all_contradictions_are_listed, a_failed_disk_is_told
         ensures answer { IsListing result release limit D.view self.old self.new }
     {
         if self.needs_reopen {
@@ -78,6 +79,7 @@ impl<D: Disk> Store<D> {
     /// The number of the import that brought the row with this key, if there is one. Makes one
     /// binary search in memory for each segment, and reads no row.
     pub fn import_of(&self, key: Key) -> Option<u32>
+        // promise: all_contradictions_are_listed
         ensures { IsBroughtBy self.now.history.rows key result }
     {
         let pin = self.directory.imports();

@@ -22,9 +22,12 @@ impl<D: Disk> Store<D> {
         pin: u32,
     ) -> Result<Vec<Row>, Refusal>
         requires { pin ≤ self.old.history.imports }
+        // promise: an_answer_is_the_defined_one, no_damage_is_invented
+        // promise: a_digest_is_that_of_the_rows
         ensures answer { IsRowsQuery result (λ rows. rows.items) (rows_after after limit) pin
             D.view self.old self.new }
         // On every disk the store's rows are in key order, each with the number of an import.
+        // promise: an_answer_is_the_defined_one, a_digest_is_that_of_the_rows
         ensures history { IsHistory self.old.history }
     {
         if self.needs_reopen {

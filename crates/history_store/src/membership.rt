@@ -25,6 +25,10 @@ impl<D: Disk> Store<D> {
         limit: u32,
     ) -> Result<Vec<Row>, Refusal>
         requires { as_of.pin ≤ self.old.history.imports }
+        // promise: an_answer_is_the_defined_one, keys_are_right_on_every_disk
+        // promise: no_damage_is_invented, a_question_changes_nothing
+        // promise: a_question_reads_only_its_rows, what_is_cached_is_not_read_again
+        // promise: few_calls_reach_the_disk
         ensures answer { IsRowsQuery result (λ rows. rows.items)
             (members refset as_of.date after limit) as_of.pin D.view self.old self.new }
     {
@@ -61,6 +65,10 @@ impl<D: Disk> Store<D> {
         limit: u32,
     ) -> Result<Vec<Row>, Refusal>
         requires { as_of.pin ≤ self.old.history.imports }
+        // promise: an_answer_is_the_defined_one, keys_are_right_on_every_disk
+        // promise: no_damage_is_invented, a_question_changes_nothing
+        // promise: a_question_reads_only_its_rows, what_is_cached_is_not_read_again
+        // promise: few_calls_reach_the_disk
         ensures answer { IsRowsQuery result (λ rows. rows.items)
             (values refset as_of.date after limit) as_of.pin D.view self.old self.new }
     {
@@ -96,6 +104,10 @@ impl<D: Disk> Store<D> {
         refset: Sctid,
     ) -> Result<Vec<Row>, Refusal>
         requires { as_of.pin ≤ self.old.history.imports }
+        // promise: an_answer_is_the_defined_one, keys_are_right_on_every_disk
+        // promise: no_damage_is_invented, a_question_changes_nothing
+        // promise: a_question_reads_only_its_rows, what_is_cached_is_not_read_again
+        // promise: few_calls_reach_the_disk
         ensures answer { IsRowsQuery result (λ rows. rows.items) (called concept as_of.date refset)
             as_of.pin D.view self.old
             self.new }

@@ -50,6 +50,10 @@ impl<D: Disk> Store<D> {
     /// The component's row at the date, as the imports that the pin shows have it.
     pub fn get(&mut self, kind: Kind, id: u128, as_of: AsOf) -> Result<Option<Row>, Refusal>
         requires { as_of.pin ≤ self.old.history.imports }
+        // promise: an_answer_is_the_defined_one, keys_are_right_on_every_disk
+        // promise: no_damage_is_invented, a_question_changes_nothing
+        // promise: a_question_reads_only_its_rows, what_is_cached_is_not_read_again
+        // promise: few_calls_reach_the_disk
         ensures answer { IsRowsQuery result option_to_list
             (λ rows. option_to_list (get kind id as_of.date rows)) as_of.pin
             D.view self.old self.new }
@@ -70,6 +74,10 @@ impl<D: Disk> Store<D> {
     /// All versions of the component that the first `pin` imports brought, ascending by time.
     pub fn versions(&mut self, kind: Kind, id: u128, pin: u32) -> Result<Vec<Row>, Refusal>
         requires { pin ≤ self.old.history.imports }
+        // promise: an_answer_is_the_defined_one, keys_are_right_on_every_disk
+        // promise: no_damage_is_invented, a_question_changes_nothing
+        // promise: a_question_reads_only_its_rows, what_is_cached_is_not_read_again
+        // promise: few_calls_reach_the_disk
         ensures answer { IsRowsQuery result (λ rows. rows.items) (versions kind id) pin
             D.view self.old self.new }
     {
@@ -96,6 +104,10 @@ impl<D: Disk> Store<D> {
         limit: u32,
     ) -> Result<Vec<Row>, Refusal>
         requires { as_of.pin ≤ self.old.history.imports }
+        // promise: an_answer_is_the_defined_one, keys_are_right_on_every_disk
+        // promise: no_damage_is_invented, a_question_changes_nothing
+        // promise: a_question_reads_only_its_rows, what_is_cached_is_not_read_again
+        // promise: few_calls_reach_the_disk
         ensures answer { IsRowsQuery result (λ rows. rows.items) (page kind as_of.date after limit)
             as_of.pin D.view self.old
             self.new }
@@ -120,6 +132,10 @@ impl<D: Disk> Store<D> {
     /// concept, the relationships whose source it is, the associations that refer to it.
     pub fn about(&mut self, kind: Kind, id: Sctid, as_of: AsOf) -> Result<Vec<Row>, Refusal>
         requires { as_of.pin ≤ self.old.history.imports }
+        // promise: an_answer_is_the_defined_one, keys_are_right_on_every_disk
+        // promise: no_damage_is_invented, a_question_changes_nothing
+        // promise: a_question_reads_only_its_rows, what_is_cached_is_not_read_again
+        // promise: few_calls_reach_the_disk
         ensures answer { IsRowsQuery result (λ rows. rows.items) (about kind id as_of.date)
             as_of.pin D.view self.old
             self.new }
@@ -155,6 +171,10 @@ impl<D: Disk> Store<D> {
         limit: u32,
     ) -> Result<Vec<Row>, Refusal>
         requires { as_of.pin ≤ self.old.history.imports }
+        // promise: an_answer_is_the_defined_one, keys_are_right_on_every_disk
+        // promise: no_damage_is_invented, a_question_changes_nothing
+        // promise: a_question_reads_only_its_rows, what_is_cached_is_not_read_again
+        // promise: few_calls_reach_the_disk
         ensures answer { IsRowsQuery result (λ rows. rows.items)
             (search_terms prefix.now as_of.date after limit) as_of.pin
             D.view self.old self.new }
@@ -187,6 +207,10 @@ impl<D: Disk> Store<D> {
     /// ascending by id.
     pub fn terms(&mut self, prefix: &str, as_of: AsOf, limit: u32) -> Result<Vec<Row>, Refusal>
         requires { as_of.pin ≤ self.old.history.imports }
+        // promise: an_answer_is_the_defined_one, keys_are_right_on_every_disk
+        // promise: no_damage_is_invented, a_question_changes_nothing
+        // promise: a_question_reads_only_its_rows, what_is_cached_is_not_read_again
+        // promise: few_calls_reach_the_disk
         ensures answer { IsRowsQuery result (λ rows. rows.items) (terms prefix.now as_of.date limit)
             as_of.pin D.view self.old
             self.new }
@@ -197,6 +221,9 @@ impl<D: Disk> Store<D> {
     /// The sources of the active "is a" relationships to a concept, ascending. Reads no row.
     pub fn children(&mut self, id: Sctid, as_of: AsOf) -> Result<Vec<u64>, Refusal>
         requires { as_of.pin ≤ self.old.history.imports }
+        // promise: an_answer_is_the_defined_one, no_damage_is_invented, a_question_changes_nothing
+        // promise: what_is_cached_is_not_read_again, a_crash_leaves_the_old_or_the_new
+        // promise: few_calls_reach_the_disk, a_failed_disk_is_told
         ensures answer { IsIndexQuery result (λ ids rows. ids.items ≡ children id as_of.date rows)
             as_of.pin self.old self.new }
     {
@@ -217,6 +244,10 @@ impl<D: Disk> Store<D> {
     /// target and member. It takes one step: it doesn't follow a target further.
     pub fn replacements(&mut self, id: Sctid, as_of: AsOf) -> Result<Vec<Row>, Refusal>
         requires { as_of.pin ≤ self.old.history.imports }
+        // promise: an_answer_is_the_defined_one, keys_are_right_on_every_disk
+        // promise: no_damage_is_invented, a_question_changes_nothing
+        // promise: a_question_reads_only_its_rows, what_is_cached_is_not_read_again
+        // promise: few_calls_reach_the_disk
         ensures answer { IsOrderedQuery result (λ rows. rows.items) (replacements id as_of.date)
             as_of.pin D.view self.old
             self.new }
@@ -246,8 +277,10 @@ impl<D: Disk> Store<D> {
     pub fn receipt(&self, number: u32) -> Result<ImportReceipt, Refusal>
         requires first { 1 ≤ number }
         requires last { number ≤ self.now.history.imports }
+        // promise: a_receipt_counts_the_new_rows
         ensures found { IfOk result (λ r. (self.now.needs_reopen ≡ false)
             × ImportReceiptOf self.now.history number r.new r.latest) }
+        // promise: a_receipt_counts_the_new_rows
         ensures refused { IfErr result (λ e. (e ≡ refusals.ReopenNeeded)
             × (self.now.needs_reopen ≡ true)) }
     {

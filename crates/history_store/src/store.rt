@@ -95,7 +95,11 @@ impl<D: Disk> Store<D> {
 
     /// Makes a store of version 2 on an empty disk, as `create_in` does.
     pub fn create(alloc: Global, disk: D) -> Result<Store<D>, (Refusal, D)>
+        // promise: a_refusal_names_its_cause, what_is_cached_is_not_read_again
+        // promise: a_crash_leaves_the_old_or_the_new, few_calls_reach_the_disk
+        // promise: a_failed_disk_is_told, a_new_store_is_empty
         ensures made { IsMaking layouts.Two result D.view disk }
+        // promise: few_calls_reach_the_disk
         ensures meters { IsMeteredMaking result D.view disk }
     {
         Store::create_in(alloc, disk, Layout::Two)
@@ -104,6 +108,7 @@ impl<D: Disk> Store<D> {
     /// Makes a store with this layout version on an empty disk. First asks for the disk's length,
     /// then allocates all memory, then writes.
     pub fn create_in(alloc: Global, disk: D, layout: Layout) -> Result<Store<D>, (Refusal, D)>
+        // promise: a_new_store_is_empty
         ensures made { IsMaking layout result D.view disk }
         ensures meters { IsMeteredMaking result D.view disk }
     {
@@ -133,7 +138,12 @@ impl<D: Disk> Store<D> {
     /// Opens the store that a disk represents. Syncs the disk once and then reads it; every refusal
     /// returns the disk.
     pub fn open(alloc: Global, disk: D) -> Result<Store<D>, (Refusal, D)>
+        // promise: a_refusal_names_its_cause, what_is_cached_is_not_read_again
+        // promise: a_confirmed_import_survives, a_crash_leaves_the_old_or_the_new
+        // promise: a_store_is_opened_as_it_was_left, few_calls_reach_the_disk
+        // promise: a_failed_disk_is_told, older_layouts_stay_readable
         ensures opened { IsOpening result D.view disk }
+        // promise: a_confirmed_import_survives, few_calls_reach_the_disk, reading_is_bounded
         ensures meters { IsMeteredOpening result D.view disk }
     {
         let mut disk = disk;
@@ -279,26 +289,36 @@ impl<D: Disk> Store<D> {
 
     /// Imports a release: all of its rows, or none. All memory is allocated before the first write.
     pub fn import(&mut self, release: Release) -> Result<Receipt, Refusal>
+        // promise: a_refusal_names_its_cause, a_release_is_taken_whole_or_not_at_all
+        // promise: members_need_layout_3, bytes_are_those_of_the_layout
+        // promise: older_layouts_stay_readable, free_blocks_are_found_again
         ensures answer { (D.view self.old.disk).is_honest
             → IsImportOf result self.old self.new release }
         // What is promised on every disk.
+        // promise: a_refusal_names_its_cause, a_release_is_taken_whole_or_not_at_all
+        // promise: members_need_layout_3, older_layouts_stay_readable
         ensures kept { IsImportOnAnyDisk result self.old self.new release }
         // A store below version 3 is left unchanged, if the release has members of reference sets.
         ensures later { IsForLater self.old.catalog.layout release → self.new ≡ self.old }
         // A crash at any moment leaves the history from before in the layout version from before,
         // or the history with the release in the next version; after `Ok` it leaves the latter.
+        // promise: a_crash_leaves_the_old_or_the_new, a_failed_disk_is_told
+        // promise: older_layouts_stay_readable
         ensures crash { IsCrashSafe D.view
             (IsBeforeOrAfter self.old.catalog.layout self.old.history release) self.old self.new }
         // If it is refused for a reason other than a disk failure, the images that a crash may
         // leave are unchanged.
+        // promise: a_question_changes_nothing, few_calls_reach_the_disk
         ensures refused { (D.view self.old.disk).is_honest
             → KeepsMoments D.view result self.old self.new }
         // After `Ok` the disk is unchanged outside the slots and the added segment.
+        // promise: nothing_is_written_elsewhere
         ensures elsewhere { (D.view self.old.disk).is_honest → OnOk result
             (SameOutside (slots_range ∷ added_ranges self.old.catalog self.new.catalog)
             (D.view self.old.disk).moments.state.now (D.view self.new.disk).moments.state.now) }
         // Whatever the result: a crash leaves an image that was possible before the call, or one
         // that differs from such an image only in the slots and the extent of the new segment.
+        // promise: nothing_is_written_elsewhere
         ensures inside { (D.view self.old.disk).is_honest
             → LeavesOnly (D.view self.old.disk).moments (D.view self.new.disk).moments
             (λ c. IsImage (D.view self.old.disk).moments.state c
@@ -306,6 +326,8 @@ impl<D: Disk> Store<D> {
             (D.view self.old.disk).moments.state c) }
         // On every disk: eight changing calls if a row is new, and otherwise six; reads of blocks
         // of listed segments, through the cache, and of the gate of a slot.
+        // promise: what_is_cached_is_not_read_again, few_calls_reach_the_disk, reading_is_bounded
+        // promise: a_failed_disk_is_told
         ensures meters { IsMeteredImport result release D.view self.old self.new }
     {
         let Ready { receipt, next } = self.make_ready(release)?;
@@ -326,6 +348,7 @@ impl<D: Disk> Store<D> {
     /// The layout version on the disk: 1 for a store that was made with version 1 and has published
     /// nothing since, 3 for one that was made in version 3, and otherwise 2.
     pub fn version(&self) -> u32
+        // promise: older_layouts_stay_readable
         ensures { result ≡ number_of self.now.catalog.layout }
     {
         self.directory.version()
@@ -341,6 +364,7 @@ impl<D: Disk> Store<D> {
     /// How many blocks of the disk the store needs: those of the slots, which hold the directory,
     /// and those of the listed segments. Blocks reserved by a merge in progress aren't counted.
     pub fn blocks_in_use(&self) -> u64
+        // promise: free_blocks_are_found_again
         ensures { result ≡ blocks_in_use self.now.catalog.entries }
     {
         blocks_in_use(self.directory.entries())
@@ -356,6 +380,7 @@ impl<D: Disk> Store<D> {
     /// The greatest effective time of all rows, of any kind; none if there are no rows. Goes over
     /// all places in memory, and reads no row.
     pub fn latest_time(&self) -> Option<EffectiveTime>
+        // promise: a_receipt_counts_the_new_rows
         ensures { IsLatestDay result self.now.history.rows }
     {
         latest_time(self.index.places())
@@ -370,8 +395,10 @@ impl<D: Disk> Store<D> {
 
     /// Returns the disk, without a call on it.
     pub fn close(self) -> D
+        // promise: a_store_is_opened_as_it_was_left
         ensures disk { result ≡ self.disk }
         // Every image that a crash may leave represents what the store held.
+        // promise: a_store_is_opened_as_it_was_left
         ensures stands { (D.view result).is_honest → self.needs_reopen ≡ false
             → EachImage (D.view result).moments.state
             (λ c. Represents c self.history self.catalog.layout self.catalog.epoch

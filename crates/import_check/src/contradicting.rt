@@ -211,15 +211,19 @@ pub fn find_contradictions<K: Known>(
     known: &mut K,
     limit: usize,
 ) -> Result<Contradictions, ImportFault>
+    // promise: all_contradictions_are_listed
     ensures found { (K.view known.old).is_honest
         → IfOk result (AreContradictionsOf (K.view known.old).rows release limit) }
     ensures read { IfOk result (λ found. IsRead release) }
+    // promise: all_contradictions_are_listed
     ensures refused { IfErr result (IsNotListed (K.view known.old).is_honest release) }
     // A known row can't be read only if a line has the key of one.
+    // promise: a_refusal_names_its_cause
     ensures causes { (K.view known.old).is_sound
         → IfErr result (IsRefusalByKey (K.view known.old).rows release) }
     // Whatever the result: each known row whose key is in the release is read at most once, and no
     // other row is read. If a file isn't a valid release file, none is read.
+    // promise: all_contradictions_are_listed
     ensures work { (K.view known.old).is_sound → (rows : List RowValue) → IsReleaseOf release rows
         → (K.view known.new).work
         ≤ (K.view known.old).work + sum_by K.cost (already_known (K.view known.old).rows rows) }

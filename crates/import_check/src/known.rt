@@ -31,15 +31,19 @@ pub trait Known {
         // An honest one fails only because of the disk or memory.
         ensures undamaged { (view self.old).is_honest → IfErr result (λ e. e ≢ readfault.Damaged) }
         // If no known row has the key, none is read, and only memory may run out.
+        // promise: a_refusal_names_its_cause
         ensures causes { (view self.old).is_sound → IsUnknown (view self.old).rows key.now
             → IfErr result (λ e. e ≡ readfault.OutOfMemory) }
         // It returns no row exactly if no known row has the key.
+        // promise: a_receipt_counts_the_new_rows
         ensures absent { (view self.old).is_sound
             → IfOk result (λ found. (found ≡ None) ↔ IsUnknown (view self.old).rows key.now) }
         // Whatever the result: no more is read than a known row with the key costs, and nothing if
         // no known row has the key.
+        // promise: reading_is_bounded
         ensures work { (view self.old).is_sound → (row : RowValue) → Has (view self.old).rows row
             → key_of row ≡ key.now → (view self.new).work ≤ (view self.old).work + cost row }
+        // promise: reading_is_bounded
         ensures work_unknown { (view self.old).is_sound → IsUnknown (view self.old).rows key.now
             → (view self.new).work ≤ (view self.old).work }
         ensures known { LeavesKnown CountsDiskFault CountsDamage result

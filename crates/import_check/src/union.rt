@@ -32,24 +32,30 @@ pub fn new_rows<K: Known>(
     known: &mut K,
 ) -> Result<NewRows, ImportFault>
     // An accepted release is consistent with the known rows.
+    // promise: a_release_is_taken_whole_or_not_at_all
     ensures accepted { IfOk result (λ fresh. IsRead release
         × ((K.view known.old).is_honest → IsAcceptedAs (K.view known.old).rows release fresh)) }
     // The new rows are those whose keys are unknown, whatever rows are returned for known keys.
+    // promise: a_receipt_counts_the_new_rows
     ensures new_by_key { (K.view known.old).is_sound
         → IfOk result (BringsByKey (K.view known.old).rows release) }
     // All files are read before any known row is looked up. The line in an error is the first
     // faulty one, or else the first that contradicts.
+    // promise: a_refusal_names_its_cause
     ensures refused { IfErr result
         (IsRefusal (K.view known.old).is_honest (K.view known.old).rows release) }
     // A known row can't be read only if a line has the key of one; and the line in an error has a
     // known key, or that of an earlier line with another row.
+    // promise: a_refusal_names_its_cause
     ensures causes { (K.view known.old).is_sound
         → IfErr result (IsRefusalByKey (K.view known.old).rows release) }
     // Whatever the result: each known row whose key is in the release is read at most once, and no
     // other row is read. If a file isn't a valid release file, none is read.
+    // promise: reading_is_bounded
     ensures work { (K.view known.old).is_sound → (rows : List RowValue) → IsReleaseOf release rows
         → (K.view known.new).work
         ≤ (K.view known.old).work + sum_by K.cost (already_known (K.view known.old).rows rows) }
+    // promise: reading_is_bounded
     ensures work_unread { (IsRead release → ⊥) → (K.view known.new).work ≤ (K.view known.old).work }
 
     // The known rows don't change.

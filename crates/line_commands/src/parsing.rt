@@ -12,6 +12,7 @@ use crate::{arguments, columns};
 /// The request that the line spells, or the first reason why it spells none. The line is given
 /// without its end; nothing else is removed.
 pub fn parse(line: &[u8]) -> Result<Request<'_>, Unread>
+    // promise: a_line_is_read_as_it_is_spelled
     ensures { IsReading line.now result }
 {
     if line.len() > REQUEST_LIMIT {
@@ -55,6 +56,7 @@ fn named_request<'a>(word: Word, before: usize, name: &'a str) -> Result<Request
 
 /// The request in session 0 of the line that imports the release of this name.
 pub fn import_request(name: &str) -> Result<Request<'_>, Unread>
+    // promise: a_line_is_read_as_it_is_spelled
     ensures { IsReading (import_line name.now) result }
 {
     named_request(Word::Import, "0 IMPORT ".len(), name)
@@ -62,6 +64,7 @@ pub fn import_request(name: &str) -> Result<Request<'_>, Unread>
 
 /// The request in session 0 of the line that checks the release of this name.
 pub fn check_request(name: &str) -> Result<Request<'_>, Unread>
+    // promise: a_line_is_read_as_it_is_spelled
     ensures { IsReading (check_line name.now) result }
 {
     named_request(Word::Check, "0 CHECK ".len(), name)

@@ -61,6 +61,8 @@ pub fn feed<W: Write, S: Source, D: Disk>(
     ensures pins { AreWithin store.new.history.imports state.new.pins }
     // This holds whatever part of a line came before the piece; the buffer has its first bytes. The
     // source is unchanged if none of the lines asks it for a release.
+    // promise: a_question_reads_only_its_rows, a_confirmed_import_survives
+    // promise: replies_come_in_the_order_of_lines
     ensures fed { (part : List ℕ) → IsUnended part → line.old ≡ kept part → (taken : IsFed result
         (source_view (S.is_honest source.old) (S.releases source.old)) D.view
         (intake part piece.now line.new (W.contents writer.old) (W.contents writer.new))

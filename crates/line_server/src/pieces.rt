@@ -21,6 +21,7 @@ pub trait PieceReader {
     fn read(&mut self, piece: &mut [u8]) -> io::Result<usize>
         ensures bound { ReadsAtMost result piece.new }
         ensures bytes { ReadConsumes (remaining self.old) (remaining self.new) result piece.new }
+        // promise: replies_come_in_the_order_of_lines
         ensures made { Makes (reads self.old) (reads self.new) (reading result piece.new ∷ []) };
 }
 

@@ -65,6 +65,7 @@ impl LineRefusal {
 
     /// The number of the refusal in the protocol.
     pub fn code(self) -> u8
+        // promise: a_refusal_names_its_cause, each_line_gets_one_reply
         ensures { result ≡ (sign_of self).0 }
     {
         match self {
@@ -77,7 +78,9 @@ impl LineRefusal {
 
     /// The name of the refusal, which the protocol writes after the number.
     pub fn name(self) -> &'static str
+        // promise: a_refusal_names_its_cause, each_line_gets_one_reply
         ensures name { result.now ≡ (sign_of self).1 }
+        // promise: a_refusal_names_its_cause, each_line_gets_one_reply
         ensures short { length result.now ≤ 20 }
     {
         match self {
@@ -90,6 +93,7 @@ impl LineRefusal {
 
     /// The file and the line of a release at which it was refused.
     pub fn place(self) -> Option<(usize, usize)>
+        // promise: a_refusal_names_its_cause, each_line_gets_one_reply
         ensures { place_words result ≡ place_of self }
     {
         match self {

@@ -50,6 +50,7 @@ impl Reply {
     /// The last line.
     pub fn last(&self) -> &[u8]
         ensures value { result.now ≡ self.now.last }
+        // promise: a_refusal_names_its_cause, each_line_gets_one_reply
         ensures short { length result.now ≤ 128 }
     {
         self.last.as_str().as_bytes()

@@ -48,12 +48,15 @@ pub fn serve<R: PieceReader, W: Write, S: Source, D: Disk>(
     max_reads: u32,
 ) -> Result<u64, ServeFault>
     // The source is unchanged if none of the lines asks it for a release.
+    // promise: a_question_reads_only_its_rows, a_confirmed_import_survives
+    // promise: replies_come_in_the_order_of_lines
     ensures served { (done : IsServed result max_reads
         (source_view (S.is_honest source.old) (S.releases source.old)) D.view
         (with_reads (streams (R.remaining reader.old) (R.remaining reader.new)
         (W.contents writer.old) (W.contents writer.new)) (R.reads reader.old) (R.reads reader.new))
         store.old store.new) × (AskNoRelease false done.turns → source.new ≡ source.old) }
     // The buffer is allocated before anything else is done.
+    // promise: replies_come_in_the_order_of_lines
     ensures memory { IsErrOf result OutOfMemory
         → (reader.new ≡ reader.old) × (writer.new ≡ writer.old)
         × (source.new ≡ source.old) × (store.new ≡ store.old) }

@@ -42,6 +42,7 @@ pub trait Source {
 
 /// The scope of the releases for a store: the files that its version keeps.
 pub fn scope_for<D: Disk>(store: &Store<D>) -> Scope
+    // promise: files_are_taken_by_their_names
     ensures { result ≡ scope_of store.now.catalog.layout }
 {
     if store.version() < 3 {

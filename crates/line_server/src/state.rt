@@ -33,7 +33,9 @@ impl Model for ServerState {
 impl ServerState {
     /// The initial state: no session is pinned, and no damage was found.
     pub fn new() -> ServerState
+        // promise: a_session_is_not_disturbed
         ensures value { result ≡ fresh }
+        // promise: a_session_is_not_disturbed
         ensures within { (imports : ℕ) → AreWithin imports result.pins }
     {
         ServerState {

@@ -90,6 +90,8 @@ pub fn replacements<R: RowReader>(
     component: Sctid,
     as_of: AsOf,
 ) -> Result<Vec<Row>, ReadFault>
+    // promise: an_answer_is_the_defined_one, keys_are_right_on_every_disk, no_damage_is_invented
+    // promise: a_question_reads_only_its_rows
     ensures answer { IsOrderedRead result (λ rows. rows.items)
         (λ lists. replacements component as_of.date (rows_seen as_of lists))
         (λ lists. Lists index.now lists × EachPosted lists links.now) R.cost (R.view reader.old)
@@ -113,6 +115,8 @@ pub fn replaces<R: RowReader>(
     component: Sctid,
     as_of: AsOf,
 ) -> Result<Vec<Row>, ReadFault>
+    // promise: an_answer_is_the_defined_one, keys_are_right_on_every_disk, no_damage_is_invented
+    // promise: a_question_reads_only_its_rows
     ensures answer { IsOrderedRead result (λ rows. rows.items)
         (λ lists. replaces component as_of.date (rows_seen as_of lists))
         (λ lists. Lists index.now lists × EachPosted lists links.now) R.cost (R.view reader.old)

@@ -112,6 +112,8 @@ pub fn timeline<R: RowReader>(
     id: Sctid,
     pin: u32,
 ) -> Result<Vec<Row>, ReadFault>
+    // promise: an_answer_is_the_defined_one, keys_are_right_on_every_disk, no_damage_is_invented
+    // promise: a_question_reads_only_its_rows
     ensures answer { IsRowsRead result (λ rows. rows.items)
         (λ lists. timeline kind id (rows_at pin (listed lists)))
         (λ lists. Lists index.now lists × EachPosted lists links.now) R.cost (R.view reader.old)

@@ -120,6 +120,7 @@ pub fn children(
 ) -> Result<Vec<u64>, AllocError>
     // This holds for all lists of rows whose places the index lists, and whose postings the links
     // are.
+    // promise: an_answer_is_the_defined_one
     ensures found { IfOk result (λ ids. (lists : List (List StampedRow)) → Lists index.now lists
         → EachPosted lists links.now
         → ids.items ≡ children concept as_of.date (rows_seen as_of lists)) }

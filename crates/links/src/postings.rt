@@ -178,7 +178,9 @@ impl Postings {
     /// Adds the postings of the row with this number: if it is active, what it is about; and each
     /// two numbers by which it is found. An `Err` changes nothing.
     pub fn push(&mut self, row: &StampedRow, number: u32) -> Result<(), AllocError>
+        // promise: the_index_has_every_row
         ensures ok { OnOk result (self.new ≡ joined_edges self.old (edges_of row.now.row number)) }
+        // promise: the_index_has_every_row
         ensures err { OnErr result (self.new ≡ self.old) }
     {
         self.subjects.reserve(1)?;
@@ -190,7 +192,9 @@ impl Postings {
 
     /// The subjects and the postings, sorted. Allocates nothing.
     pub fn seal(self) -> Sealed
+        // promise: the_index_has_every_row
         ensures same { AreSameEdges self result }
+        // promise: the_index_has_every_row
         ensures rising { IsSealed result }
     {
         let Postings {

@@ -70,6 +70,7 @@ pub fn descendants(
     concept: Sctid,
     as_of: AsOf,
 ) -> Result<Vec<u64>, AllocError>
+    // promise: an_answer_is_the_defined_one
     ensures found { IfOk result (λ ids. (lists : List (List StampedRow)) → Lists index.now lists
         → EachPosted lists links.now
         → AreDescendants concept as_of.date (rows_seen as_of lists) ids.items) }
@@ -94,6 +95,7 @@ pub fn ancestors(
     concept: Sctid,
     as_of: AsOf,
 ) -> Result<Vec<u64>, AllocError>
+    // promise: an_answer_is_the_defined_one
     ensures found { IfOk result (λ ids. (lists : List (List StampedRow)) → Lists index.now lists
         → EachPosted lists links.now
         → AreAncestors concept as_of.date (rows_seen as_of lists) ids.items) }

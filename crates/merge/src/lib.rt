@@ -76,20 +76,26 @@ impl MergeProgress {
     ) -> Result<(Vec<Taken>, MergeProgress), AllocError>
         requires lengths { IsOf self a.now b.now }
         ensures of_both { IfOk result (λ r. IsOf r.1 a.now b.now) }
+        // promise: a_merge_changes_no_row
         ensures count { IfOk result (λ r. length r.0.items ≡ min n (count_left self)) }
+        // promise: a_merge_changes_no_row
         ensures left { IfOk result (λ r. count_left r.1 ≡ count_left self - n) }
         // Each list is taken from its front, in its order.
+        // promise: a_merge_changes_no_row
         ensures a_front { IfOk result
             (λ r. taken_of_a r.0.items ++ drop r.1.a_place a.now ≡ drop self.a_place a.now) }
+        // promise: a_merge_changes_no_row
         ensures b_front { IfOk result
             (λ r. taken_of_b r.0.items ++ drop r.1.b_place b.now ≡ drop self.b_place b.now) }
         // If they are the places of rows, the first rows that were left are those at the taken
         // places.
+        // promise: a_merge_changes_no_row
         ensures in_order { (xs ys : List StampedRow) → AreLists (xs ∷ ys ∷ [])
             → a.now ≡ places_of xs → b.now ≡ places_of ys
             → IfOk result (λ r. AllZip (StandsTaken xs ys) r.0.items
             (take n (rows_left self xs ys))) }
         // The rows that weren't taken are left.
+        // promise: a_merge_changes_no_row
         ensures others { (xs ys : List StampedRow) → AreLists (xs ∷ ys ∷ [])
             → a.now ≡ places_of xs → b.now ≡ places_of ys
             → IfOk result (λ r. rows_left r.1 xs ys ≡ drop n (rows_left self xs ys)) }

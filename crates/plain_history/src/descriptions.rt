@@ -64,6 +64,7 @@ pub fn terms<'a>(
     date: EffectiveTime,
     limit: u32,
 ) -> Result<Vec<&'a Row>, AllocError>
+    // promise: an_answer_is_the_defined_one
     ensures { IfOk result (λ found. map (λ row. row.now) found.items
         ≡ terms prefix.now date limit rows.now) }
 {
@@ -140,6 +141,7 @@ pub fn search_terms<'a>(
     after: Option<u128>,
     limit: u32,
 ) -> Result<Vec<&'a Row>, AllocError>
+    // promise: an_answer_is_the_defined_one
     ensures { IfOk result (λ found. map (λ row. row.now) found.items
         ≡ search_terms prefix.now date after limit rows.now) }
 {

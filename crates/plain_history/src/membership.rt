@@ -79,6 +79,7 @@ pub fn members(
     after: Option<u128>,
     limit: u32,
 ) -> Result<Vec<&Row>, AllocError>
+    // promise: an_answer_is_the_defined_one
     ensures { IfOk result (λ found. map (λ row. row.now) found.items
         ≡ members refset date after limit rows.now) }
 {
@@ -223,6 +224,7 @@ pub fn values(
     after: Option<u64>,
     limit: u32,
 ) -> Result<Vec<&Row>, AllocError>
+    // promise: an_answer_is_the_defined_one
     ensures { IfOk result (λ found. map (λ row. row.now) found.items
         ≡ values refset date after limit rows.now) }
 {
@@ -294,6 +296,7 @@ pub fn called(
     date: EffectiveTime,
     refset: Sctid,
 ) -> Result<Vec<&Row>, AllocError>
+    // promise: an_answer_is_the_defined_one
     ensures { IfOk result (λ found. map (λ row. row.now) found.items
         ≡ called concept date refset rows.now) }
 {

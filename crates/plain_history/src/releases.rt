@@ -17,6 +17,7 @@ use std::alloc::{AllocError, Global};
 /// The rows that the first `pin` imports brought.
 #[tactic(auto, unfolding(history_model::specs::History::rows_at))]
 pub fn rows_at(alloc: Global, pin: u32, rows: &[StampedRow]) -> Result<Vec<Row>, AllocError>
+    // promise: an_answer_is_the_defined_one
     ensures { IfOk result (λ shown. shown.items ≡ rows_at pin rows.now) }
 {
     let mut shown = Vec::new(alloc);
@@ -69,6 +70,7 @@ fn each_agrees(rows: &[StampedRow], release: &[Row]) -> bool
 
 /// Whether the rows of a release and the known ones are consistent.
 pub fn accepts(rows: &[StampedRow], release: &[Row]) -> bool
+    // promise: an_answer_is_the_defined_one
     ensures { IsTrue result ↔ IsConsistent (map (λ s. s.row) rows.now ++ release.now) }
 {
     each_known_agrees(rows) && each_agrees(rows, release)
@@ -118,6 +120,7 @@ pub fn after_release(
     release: &[Row],
 ) -> Result<Vec<StampedRow>, AllocError>
     requires { imports < u32.MAX }
+    // promise: an_answer_is_the_defined_one
     ensures { IfOk result (λ after. after.items
         ≡ (after_release (record { imports = imports; rows = rows.now }) release.now).rows) }
 {
@@ -138,6 +141,7 @@ pub fn receipt(
     release: &[Row],
 ) -> Result<Receipt, AllocError>
     requires { imports < u32.MAX }
+    // promise: an_answer_is_the_defined_one
     ensures { IfOk result (λ r. ReceiptOf
         (record { imports = imports; rows = rows.now }) release.now r.number r.new r.repeated) }
 {
@@ -184,6 +188,7 @@ fn latest_brought(rows: &[StampedRow], number: u32) -> Option<EffectiveTime>
 
 /// The receipt of an import, if there was one with this number.
 pub fn import_receipt(imports: u32, rows: &[StampedRow], number: u32) -> Option<ImportReceipt>
+    // promise: an_answer_is_the_defined_one
     ensures { MatchOption result (1 ≤ number → imports < number)
         (λ r. ImportReceiptOf
         (record { imports = imports; rows = rows.now }) number r.new r.latest) }

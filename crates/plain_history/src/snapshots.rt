@@ -49,6 +49,7 @@ pub(crate) fn is_current(rows: &[Row], date: EffectiveTime, row: &Row) -> bool
 /// The Snapshot at the date: of each component the version at the date.
 #[tactic(auto, unfolding(history_model::specs::Queries::snapshot))]
 pub fn snapshot(alloc: Global, rows: &[Row], date: EffectiveTime) -> Result<Vec<&Row>, AllocError>
+    // promise: an_answer_is_the_defined_one
     ensures { IfOk result (λ found. map (λ row. row.now) found.items ≡ snapshot rows.now date) }
 {
     rows.iter()
@@ -59,6 +60,7 @@ pub fn snapshot(alloc: Global, rows: &[Row], date: EffectiveTime) -> Result<Vec<
 /// The component's row at the date.
 #[tactic(auto, unfolding(history_model::specs::Queries::snapshot, history_model::specs::Queries::get))]
 pub fn get(rows: &[Row], kind: Kind, id: u128, date: EffectiveTime) -> Option<&Row>
+    // promise: an_answer_is_the_defined_one
     ensures { option_copied result ≡ get kind id date rows.now }
 {
     rows.iter()
@@ -69,6 +71,7 @@ pub fn get(rows: &[Row], kind: Kind, id: u128, date: EffectiveTime) -> Option<&R
 /// All versions of the component.
 #[tactic(auto, unfolding(history_model::specs::Queries::versions))]
 pub fn versions(alloc: Global, rows: &[Row], kind: Kind, id: u128) -> Result<Vec<&Row>, AllocError>
+    // promise: an_answer_is_the_defined_one
     ensures { IfOk result (λ found. map (λ row. row.now) found.items ≡ versions kind id rows.now) }
 {
     rows.iter()
@@ -134,6 +137,7 @@ pub fn page(
     after: Option<u128>,
     limit: u32,
 ) -> Result<Vec<&Row>, AllocError>
+    // promise: an_answer_is_the_defined_one
     ensures { IfOk result (λ found. map (λ row. row.now) found.items
         ≡ page kind date after limit rows.now) }
 {

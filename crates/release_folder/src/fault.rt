@@ -19,6 +19,7 @@ pub enum FolderFault {
     NoFolder,
 }
 
+// promise: a_refusal_names_its_cause
 impl From<AllocError> for FolderFault {
     ghost from_gives = { λ _ e. e ≡ OutOfMemory };
 
@@ -27,6 +28,7 @@ impl From<AllocError> for FolderFault {
     }
 }
 
+// promise: a_refusal_names_its_cause
 impl<T: Drop> From<AllocFailed<T>> for FolderFault {
     ghost from_gives = { λ _ e. e ≡ OutOfMemory };
 
@@ -35,6 +37,7 @@ impl<T: Drop> From<AllocFailed<T>> for FolderFault {
     }
 }
 
+// promise: a_refusal_names_its_cause
 impl From<io::Error> for FolderFault {
     ghost use Rattle.release_folder.specs.Faults.{IsFaultOf};
 

@@ -38,10 +38,13 @@ pub fn read_folder<R: Files<File = File> + AllocGlobal + Clone + Drop>(
 ) -> Result<Release, FolderFault>
     // Each file has the name of a release file and isn't too large, and there is at least one. No
     // clause can say what a folder contains.
+    // promise: files_are_taken_by_their_names
     ensures taken { IfOk result (λ release. All (IsTakenFile scope) release.files.items) }
+    // promise: files_are_taken_by_their_names
     ensures some { IfOk result (λ release. release.files.items ≢ []) }
     // The files of one folder come before those of the others, each folder in the byte order of
     // names; `release_of` says which come first.
+    // promise: files_are_taken_by_their_names
     ensures in_order { IfOk result (λ release. AreInOrder scope release.files.items) }
 {
     match read_release(rt, alloc, dir, name, scope, &mut Unwatched) {
@@ -62,8 +65,11 @@ pub fn read_release<R: Files<File = File> + AllocGlobal + Clone + Drop, W: Watch
     scope: Scope,
     watcher: &mut W,
 ) -> Result<Release, FolderReadFault>
+    // promise: files_are_taken_by_their_names
     ensures taken { IfOk result (λ release. All (IsTakenFile scope) release.files.items) }
+    // promise: files_are_taken_by_their_names
     ensures some { IfOk result (λ release. release.files.items ≢ []) }
+    // promise: files_are_taken_by_their_names
     ensures in_order { IfOk result (λ release. AreInOrder scope release.files.items) }
 {
     let root = format!(in alloc; "{dir}/{name}")?;
@@ -84,10 +90,12 @@ pub fn read_release<R: Files<File = File> + AllocGlobal + Clone + Drop, W: Watch
 /// of `Refset` in the byte order of the folders' names, each folder in the byte order of the files'
 /// names. Without a file there is no release.
 pub fn release_of(terminology: Vec<ReleaseFile>, refset: Vec<Part>) -> Result<Release, FolderFault>
+    // promise: files_are_taken_by_their_names
     ensures in_order { IfOk result
         (λ release. AreOfParts terminology.items refset.items release.files.items) }
     ensures some { IfOk result (λ release. release.files.items ≢ []) }
     // If there is no file, the result is never `OutOfMemory`.
+    // promise: files_are_taken_by_their_names
     ensures none { IsErrOf result NoFolder
         ↔ ((terminology.items ≡ []) × All (λ part. part.files.items ≡ []) refset.items) }
 {

@@ -9,6 +9,7 @@ use rf2_values::Kind;
 
 /// Whether a release has a Full file of concepts and no file of this kind.
 pub fn lacks(files: &[ReleaseFile], kind: Kind) -> bool
+    // promise: what_is_passed_over_is_told
     ensures { IsTrue result ↔ Lacks files.now kind }
 {
     has_concepts(files) && !has_kind(files, kind)

@@ -101,6 +101,7 @@ fn is_taken(scope: Scope, kind: Kind, name: &[u8]) -> bool
 /// The kind of the file with this name, if it is a release file in this scope: a text file of a
 /// Delta or a Full release. Names are compared byte by byte.
 pub fn kind_to_take(name: &[u8], scope: Scope) -> Option<Kind>
+    // promise: files_are_taken_by_their_names
     ensures { MatchOption result
         ((kind : Kind) → IsTaken scope kind name.now → ⊥)
         (λ kind. IsTaken scope kind name.now) }
@@ -125,6 +126,7 @@ pub fn kind_to_take(name: &[u8], scope: Scope) -> Option<Kind>
 /// A name or a path as it is shown to people: without control characters.
 pub(crate) fn shown_name(alloc: Global, name: &[u8]) -> Result<String, AllocError>
     ensures shown { IfOk result (λ text. string_bytes text ≡ encode_utf8_all (shown name.now)) }
+    // promise: what_is_passed_over_is_told
     ensures printable { IfOk result (λ text. AllByRecursion IsPrintable (string_bytes text)) }
 {
     shown_names::no_control_characters(name);

@@ -85,6 +85,7 @@ impl FolderReadFault {
 
     /// The fault without details.
     pub fn fault(&self) -> FolderFault
+        // promise: a_refusal_names_its_cause
         ensures { result ≡ folder_fault self.now }
     {
         match self {

@@ -177,6 +177,7 @@ fn slashes_in(path: &[u8]) -> usize
 
 /// Whether a file of this name in this folder of a release isn't read.
 fn is_passed_over(folder: &str, name: &[u8], scope: Scope) -> bool
+    // promise: what_is_passed_over_is_told
     ensures { IsTrue result ↔ IsPassedOver scope folder.now name.now }
 {
     !(is_read(folder, scope) && kind_to_take(name, scope).is_some())
@@ -184,6 +185,7 @@ fn is_passed_over(folder: &str, name: &[u8], scope: Scope) -> bool
 
 /// A file's path below the release's folder.
 fn path_of(alloc: Global, folder: &str, name: &[u8]) -> Result<Vec<u8>, AllocError>
+    // promise: what_is_passed_over_is_told
     ensures { IfOk result (λ path. path.items ≡ folder.now ++ name.now) }
 {
     let mut path = Vec::from_slice(alloc, folder.as_bytes())?;

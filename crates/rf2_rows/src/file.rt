@@ -46,6 +46,7 @@ const MEMBER_HEADER: &[u8] =
 /// The first line of a file of the kind, without its end: the column names, joined by TAB. In a
 /// file of members of reference sets any further names may follow.
 pub fn column_names(kind: Kind) -> &'static [u8]
+    // promise: a_release_file_is_read_exactly
     ensures { result.now ≡ header kind }
 {
     match kind {
@@ -145,13 +146,17 @@ fn read(alloc: Global, kind: Kind, bytes: &[u8]) -> Result<Vec<Row>, FileFault>
 /// may lack its end.
 pub fn read_file(alloc: Global, kind: Kind, bytes: &[u8]) -> Result<Vec<Row>, FileFault>
     // The rows that are read are those in the file.
+    // promise: a_release_file_is_read_exactly
     ensures found { IfOk result (λ rows. IsReleaseFile kind rows.items bytes.now) }
     // A file with these rows is read, unless memory runs out.
+    // promise: a_release_file_is_read_exactly
     ensures only { (rows : List RowValue) → IsReleaseFile kind rows bytes.now
         → MatchResult result (λ v. v.items ≡ rows) (λ e. e ≡ filefault.OutOfMemory) }
     // A fault says which line is faulty, and how.
+    // promise: a_refusal_names_its_cause
     ensures fault { IfErr result (IsFaultThat (IsFaultOfFile kind bytes.now)) }
     // A file with this fault is refused with it, unless memory runs out.
+    // promise: a_refusal_names_its_cause
     ensures refused { (n : ℕ) (f : LineFault) → IsFaultOfFile kind bytes.now n f
         → MatchResult result (λ v. ⊥) (λ e. (e ≡ filefault.OutOfMemory) ⊎ (e ≡ filefault.Row n f)) }
 {

@@ -282,13 +282,17 @@ pub(crate) fn read_line<'a>(
 /// The row that a line of a file of the shape spells, without its line end.
 pub fn parse_line(alloc: Global, shape: Shape, text: &[u8]) -> Result<Row, RowFault>
     // A row that is read is the one that the line spells.
+    // promise: a_release_file_is_read_exactly
     ensures found { IfOk result (λ v. HasShape shape v × Spells v text.now) }
     // A line that spells a row is read, unless memory runs out.
+    // promise: a_release_file_is_read_exactly
     ensures only { (v : RowValue) → HasShape shape v → Spells v text.now
         → MatchResult result (λ w. w ≡ v) (λ e. e ≡ rowfault.OutOfMemory) }
     // A fault is the line's first fault.
+    // promise: a_refusal_names_its_cause
     ensures fault { IfErr result (IsLineFaultThat (IsFaultOf shape text.now)) }
     // A line with this fault is refused with it, unless memory runs out.
+    // promise: a_refusal_names_its_cause
     ensures refused { (f : LineFault) → IsFaultOf shape text.now f
         → MatchResult result (λ v. ⊥) (λ e. (e ≡ rowfault.OutOfMemory) ⊎ (e ≡ rowfault.Line f)) }
 {

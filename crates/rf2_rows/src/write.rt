@@ -109,7 +109,9 @@ fn put_row(line: &mut Vec<u8>, row: &Row) -> Result<(), AllocError>
 /// Appends the row's canonical spelling, without a line end: it is that of the file, except that
 /// member ids are in lower case.
 pub fn write_row(row: &Row, out: &mut Vec<u8>) -> Result<(), AllocError>
+    // promise: a_release_file_is_read_exactly
     ensures ok { OnOk result (out.new.items ≡ out.old.items ++ canonical row.now) }
+    // promise: a_release_file_is_read_exactly
     ensures err { OnErr result (out.new.items ≡ out.old.items) }
 {
     let len = out.len();

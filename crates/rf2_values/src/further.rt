@@ -54,6 +54,7 @@ fn count_tabs(bytes: &[u8]) -> usize
 impl Further {
     /// The further columns that these bytes are, if they are valid.
     pub fn of(alloc: Global, bytes: &[u8]) -> Result<Option<Further>, AllocError>
+        // promise: ids_dates_and_texts_are_checked
         ensures { IfOk result
             (λ found. MatchOption found (IsFurther bytes.now → ⊥)
             (λ f. (f ≡ bytes.now) × IsFurther f)) }
@@ -68,6 +69,7 @@ impl Further {
 
     /// How many further columns these bytes have, if they are valid.
     pub fn count(bytes: &[u8]) -> Option<usize>
+        // promise: ids_dates_and_texts_are_checked
         ensures { MatchOption result (IsFurther bytes.now → ⊥)
             (λ n. IsFurther bytes.now × (n ≡ length (further_columns bytes.now))) }
     {

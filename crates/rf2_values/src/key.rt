@@ -29,6 +29,7 @@ const _: () = prove!(size_of::<Key>() == 32);
 impl Key {
     /// The order of the two keys, like `<` and `cmp`.
     pub fn compare(&self, other: &Key) -> Ordering
+        // promise: ids_dates_and_texts_are_checked
         ensures { result ≡ key_cmp self.now other.now }
     {
         let ids = self.id.cmp(&other.id).then(self.time.cmp(&other.time));

@@ -39,7 +39,9 @@ impl Member {
 
     /// The member id that the text spells: 36 bytes, in either case.
     pub fn parse(text: &[u8]) -> Option<Member>
+        // promise: ids_dates_and_texts_are_checked
         ensures found { IfSome result (λ n. (n < 2 ^ 128) × SpellsMember n text.now) }
+        // promise: ids_dates_and_texts_are_checked
         ensures only { (n : ℕ) → SpellsMember n text.now → result ≡ Some n }
     {
         if text.len() != 36 || !is_plain(text) {

@@ -207,6 +207,7 @@ impl Row {
         module_id: Sctid,
         body: Body,
     ) -> Option<Row>
+        // promise: ids_dates_and_texts_are_checked
         ensures { let row = version id time active module_id body in
             SomeIff result (IsVersion row) row }
     {

@@ -138,6 +138,7 @@ fn is_metadata(value: u64) -> bool
 impl Sctid {
     /// The identifier with this number, in any partition.
     pub fn of(value: u64) -> Option<Sctid>
+        // promise: ids_dates_and_texts_are_checked
         ensures { SomeIff result (IsSctid value) value }
     {
         if is_metadata(value) {
@@ -152,7 +153,9 @@ impl Sctid {
 
     /// The identifier that the text spells, without sign and leading zero.
     pub fn parse(text: &[u8]) -> Option<Sctid>
+        // promise: ids_dates_and_texts_are_checked
         ensures found { IfSome result (λ n. IsSctid n × (text.now ≡ decimal n)) }
+        // promise: ids_dates_and_texts_are_checked
         ensures only { (n : ℕ) → IsSctid n → text.now ≡ decimal n → result ≡ Some n }
     {
         Sctid::of(number::parse(text)?)

@@ -34,6 +34,7 @@ fn is_text(bytes: &[u8]) -> bool
 impl Text {
     /// The text of these bytes, if they are valid.
     pub fn of(alloc: Global, bytes: &[u8]) -> Result<Option<Text>, AllocError>
+        // promise: ids_dates_and_texts_are_checked
         ensures { IfOk result
             (λ found. MatchOption found (IsText bytes.now → ⊥) (λ t. (t ≡ bytes.now) × IsText t)) }
     {

@@ -26,6 +26,7 @@ impl Model for EffectiveTime {
 impl EffectiveTime {
     /// The day with this number.
     pub fn of(value: u32) -> Option<EffectiveTime>
+        // promise: ids_dates_and_texts_are_checked
         ensures { SomeIff result (IsTime value) value }
     {
         let (year, month, day) = (value / 10_000, value / 100 % 100, value % 100);
@@ -38,7 +39,9 @@ impl EffectiveTime {
 
     /// The day that the text spells, with eight digits.
     pub fn parse(text: &[u8]) -> Option<EffectiveTime>
+        // promise: ids_dates_and_texts_are_checked
         ensures found { IfSome result (λ t. IsTime t × (text.now ≡ decimal t)) }
+        // promise: ids_dates_and_texts_are_checked
         ensures only { (t : ℕ) → IsTime t → text.now ≡ decimal t → result ≡ Some t }
     {
         EffectiveTime::of(u32::try_from(number::parse(text)?).ok()?)

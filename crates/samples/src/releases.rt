@@ -110,6 +110,7 @@ fn release_of(alloc: Global, samples: &[SampleFile]) -> Result<Release, AllocErr
 /// The sample release with this name, one of `r1`, `r2` and `r3`: with files like those in a
 /// release folder of SNOMED CT, whose lines end with CR LF.
 pub fn sample(alloc: Global, name: &str) -> Result<Option<Release>, AllocError>
+    // promise: files_are_taken_by_their_names
     ensures { IfOk result (λ found. option_map files_of found ≡ sample_files name.now) }
 {
     match name {

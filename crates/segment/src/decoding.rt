@@ -51,7 +51,9 @@ fn comes_after(rows: &[StampedRow], row: &StampedRow) -> bool
 
 /// Decodes the rows of a segment. It accepts exactly the bytes that `encode` makes.
 pub fn decode(alloc: Global, form: Form, bytes: &[u8]) -> Result<Vec<StampedRow>, SegmentFault>
+    // promise: damage_is_noticed_and_named, bytes_are_those_of_the_layout
     ensures found { IfOk result (λ rows. IsSegmentIn form rows.items bytes.now) }
+    // promise: damage_is_noticed_and_named, bytes_are_those_of_the_layout
     ensures only { (rows : List StampedRow) → IsSegmentIn form rows bytes.now
         → MatchResult result (λ found. found.items ≡ rows) (λ e. e ≡ faults.OutOfMemory) }
 {
@@ -75,7 +77,9 @@ pub fn record_at(
     bytes: &[u8],
     place: usize,
 ) -> Result<(StampedRow, usize), SegmentFault>
+    // promise: damage_is_noticed_and_named, bytes_are_those_of_the_layout
     ensures found { IfOk result (λ r. IsRecordAt form bytes.now place r.0 r.1) }
+    // promise: damage_is_noticed_and_named, bytes_are_those_of_the_layout
     ensures only { (s : StampedRow) (next : ℕ) → IsRecordAt form bytes.now place s next
         → MatchResult result (λ r. (r.0 ≡ s) × (r.1 ≡ next)) (λ e. e ≡ faults.OutOfMemory) }
 {

@@ -204,6 +204,7 @@ pub fn encoded_len(rows: &[StampedRow]) -> u64
 pub fn encode(alloc: Global, form: Form, rows: &[StampedRow]) -> Result<Vec<u8>, AllocError>
     requires ascending { IsAscending stamped_cmp rows.now }
     requires from_one { AllByRecursion (λ s. 1 ≤ s.import) rows.now }
+    // promise: bytes_are_those_of_the_layout
     ensures { IfOk result (λ bytes. IsSegmentIn form rows.now bytes.items) }
 {
     let mut out = Vec::with_capacity(alloc, encoded_len(rows) as usize)?;

@@ -79,7 +79,9 @@ impl IndexBuilder {
     /// `Err` changes nothing.
     pub fn push(&mut self, row: &StampedRow) -> Result<(), AllocError>
         requires { length (segment_of (self.old ++ row.now ∷ [])) < 2 ^ 32 }
+        // promise: the_index_has_every_row
         ensures ok { OnOk result (self.new ≡ self.old ++ row.now ∷ []) }
+        // promise: the_index_has_every_row
         ensures err { OnErr result (self.new ≡ self.old) }
     {
         let at = RowPlace::new(row, self.bytes);
@@ -106,6 +108,7 @@ impl IndexBuilder {
     /// The finished index, whose postings are sorted. Allocates nothing.
     pub fn seal(self) -> SegmentIndex
         requires { IsAscending stamped_cmp self }
+        // promise: the_index_has_every_row
         ensures { result ≡ self }
     {
         let IndexBuilder {

@@ -64,8 +64,11 @@ impl IndexMerge {
         requires short { (a b : List StampedRow) → slice_get index.now i ≡ Some a
             → slice_get index.now j ≡ Some b
             → length (segment_of a) + length (segment_of b) < 2 ^ 32 }
+        // promise: a_merge_changes_no_row
         ensures first { slice_get index.now i ≡ Some result.a }
+        // promise: a_merge_changes_no_row
         ensures second { slice_get index.now j ≡ Some result.b }
+        // promise: a_merge_changes_no_row
         ensures none { result.taken ≡ 0 }
     {
         let rows = index.rows();
@@ -92,6 +95,7 @@ impl IndexMerge {
 
     /// How many rows are left.
     pub fn left(&self) -> u64
+        // promise: a_merge_changes_no_row
         ensures { result ≡ left_count self.now }
     {
         self.at.progress.left()
@@ -99,6 +103,7 @@ impl IndexMerge {
 
     /// Whether no row is left.
     pub fn is_done(&self) -> bool
+        // promise: a_merge_changes_no_row
         ensures { IsTrue result ↔ (left_count self.now ≡ 0) }
     {
         self.at.progress.is_done()
@@ -106,7 +111,9 @@ impl IndexMerge {
 
     /// The current progress, for `cut_to`, with the length of the taken rows' records.
     pub fn mark(&self) -> MergeMark
+        // promise: a_merge_changes_no_row
         ensures mark { IsMarkOf self.now result }
+        // promise: a_merge_changes_no_row
         ensures bytes { result.bytes ≡ length (segment_of (taken_rows self.now)) }
     {
         self.at
@@ -126,10 +133,14 @@ impl IndexMerge {
         requires places { i < j }
         requires first { slice_get index.old i ≡ Some self.old.a }
         requires second { slice_get index.old j ≡ Some self.old.b }
+        // promise: a_merge_changes_no_row
         ensures index { index.new ≡ index.old }
+        // promise: a_merge_changes_no_row
         ensures ok { OnOk result (self.new ≡ with_more n self.old) }
+        // promise: a_merge_changes_no_row
         ensures standing { IfOk result (λ taken. AllZip (StandsTaken self.old.a self.old.b)
             taken.items (take n (left_rows self.old))) }
+        // promise: a_merge_changes_no_row
         ensures err { OnErr result (self.new ≡ self.old) }
     {
         let a = index.places().list(i);
@@ -150,6 +161,7 @@ impl IndexMerge {
     pub fn cut_to(&mut self, mark: MergeMark)
         requires rows { mark.rows ≤ self.old.taken }
         requires mark { IsMarkOf (record self.old { taken = mark.rows }) mark }
+        // promise: a_merge_changes_no_row
         ensures { self.new ≡ record self.old { taken = mark.rows } }
     {
         self.places.cut_to(mark.rows);
@@ -159,6 +171,7 @@ impl IndexMerge {
     /// The index of the rows of both segments. Allocates nothing, and sorts nothing.
     pub fn seal(self) -> SegmentIndex
         requires { left_count self ≡ 0 }
+        // promise: a_merge_changes_no_row
         ensures { result ≡ union self.a self.b }
     {
         let IndexMerge {

@@ -51,6 +51,7 @@ impl StoreIndex {
 
     /// An index of no segments, with capacity for as many as there may be.
     pub fn new(alloc: Global) -> Result<StoreIndex, AllocError>
+        // promise: the_index_has_every_row
         ensures { IfOk result (λ index. index ≡ []) }
     {
         Ok(StoreIndex {
@@ -66,6 +67,7 @@ impl StoreIndex {
     pub fn of_segments(alloc: Global, segments: Vec<SegmentIndex>) -> Result<StoreIndex, AllocError>
         requires few { length segments.items ≤ max_lists }
         requires lists { AreLists segments.items }
+        // promise: the_index_has_every_row
         ensures { IfOk result (λ index. index ≡ segments.items) }
     {
         let mut index = StoreIndex::new(alloc)?;
@@ -79,6 +81,7 @@ impl StoreIndex {
     pub fn add(&mut self, segment: SegmentIndex)
         requires room { length self.old < max_lists }
         requires lists { AreLists (self.old ++ segment ∷ []) }
+        // promise: the_index_has_every_row
         ensures { self.new ≡ self.old ++ segment ∷ [] }
     {
         let SegmentIndex {
@@ -98,6 +101,7 @@ impl StoreIndex {
         requires places { i < j }
         requires within { j < length self.old }
         requires lists { AreLists (remove (slice_set self.old i segment) j) }
+        // promise: the_index_has_every_row
         ensures { self.new ≡ remove (slice_set self.old i segment) j }
     {
         let SegmentIndex {
@@ -153,6 +157,7 @@ impl StoreIndex {
 
     /// Drops the progress of merging postings.
     pub fn forget_merge(&mut self)
+        // promise: a_merge_changes_no_row
         ensures { self.new ≡ self.old }
     {
         self.merging = None;
@@ -160,6 +165,7 @@ impl StoreIndex {
 
     /// The place of each row.
     pub fn places(&self) -> &Index
+        // promise: the_index_has_every_row
         ensures { Lists result.now self.now }
     {
         &self.places
@@ -167,6 +173,7 @@ impl StoreIndex {
 
     /// The folded terms of the descriptions.
     pub fn terms(&self) -> &Terms
+        // promise: the_index_has_every_row
         ensures { ArePosted self.now result.now }
     {
         &self.terms
@@ -175,6 +182,7 @@ impl StoreIndex {
     /// What rows are about, and by which two numbers relationships, associations and members of
     /// reference sets are found.
     pub fn links(&self) -> &Links
+        // promise: the_index_has_every_row
         ensures { EachPosted self.now result.now }
     {
         &self.links
@@ -182,6 +190,7 @@ impl StoreIndex {
 
     /// The rows of each segment, which only clauses can see.
     pub fn rows(&self) -> &[GhostRows]
+        // promise: the_index_has_every_row
         ensures { result.now ≡ self.now }
     {
         self.rows.as_slice()

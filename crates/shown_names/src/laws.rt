@@ -8,6 +8,8 @@ ghost use Rattle.shown_names.specs.Shown.{shown, is_unseen, IsPrintable};
 /// and no mark of text direction: neither among its characters, nor among the bytes that are
 /// written.
 pub fn no_control_characters(name: &[u8])
+    // promise: what_is_passed_over_is_told
     ensures characters { AllByRecursion (λ c. is_unseen c ≡ false) (shown name.now) }
+    // promise: what_is_passed_over_is_told
     ensures bytes { AllByRecursion IsPrintable (encode_utf8_all (shown name.now)) }
 {}

@@ -12,6 +12,7 @@ use std::fmt::{self, Display, Formatter};
 #[derive(Clone, Copy)]
 pub struct Shown<'a>(pub &'a [u8]);
 
+// promise: what_is_passed_over_is_told
 impl Display for Shown<'_> {
     ghost use Rattle.std.specs.Prelude.{Some, encode_utf8_all};
     ghost use Rattle.shown_names.specs.Shown.{shown};

@@ -31,6 +31,7 @@ impl<T> Model for ShrinkingList<T> {
 impl<T: Drop> ShrinkingList<T> {
     /// All items of a vector.
     pub fn new(items: Vec<T>) -> ShrinkingList<T>
+        // promise: a_release_is_taken_whole_or_not_at_all
         ensures { result ≡ items.items }
     {
         let mut left = items;
@@ -53,6 +54,7 @@ impl<T: Drop> ShrinkingList<T> {
     }
 }
 
+// promise: a_release_is_taken_whole_or_not_at_all
 impl<T: Drop> Iterator for ShrinkingList<T> {
     type Item = T;
 

@@ -125,38 +125,47 @@ pub fn copy<S: Disk, T: Disk>(
     layout: Option<Layout>,
 ) -> Result<Directory, CopyFault>
     // After `Ok` every crash leaves the copy.
+    // promise: a_copy_is_whole_and_the_same
     ensures copied { (S.view source.old).is_honest → (T.view target.old).is_honest → IfOk result
         (λ copy. HasCopy imports layout (S.view source.old).moments.state.now copy
         (T.view target.new).moments.state) }
     // A crash at any moment leaves what it might have left before, no store, or the whole copy.
+    // promise: a_copy_is_whole_and_the_same
     ensures any_moment { (S.view source.old).is_honest → (T.view target.old).is_honest
         → LeavesOnly (T.view target.old).moments (T.view target.new).moments
         (λ c. IsImage (T.view target.old).moments.state c ⊎ (IsStore c → ⊥)
         ⊎ IsCopyOf imports layout (S.view source.old).moments.state.now c) }
     // The target has to be empty.
+    // promise: a_copy_is_whole_and_the_same
     ensures empty { (T.view target.old).is_honest
         → OnOk result (length (T.view target.old).moments.state.now ≡ 0) }
+    // promise: a_copy_is_whole_and_the_same
     ensures refused { (S.view source.old).is_honest → (T.view target.old).is_honest → IfErr result
         (λ e. IsNotCopied e imports layout (S.view source.old).moments.state.now
         (T.view target.old).moments.state.now) }
     // If it is refused for a reason other than a disk failure or lack of memory, the target is
     // unchanged.
+    // promise: a_copy_is_whole_and_the_same
     ensures stays { (S.view source.old).is_honest → (T.view target.old).is_honest
         → StaysUnlessFailed result (T.view target.old).moments (T.view target.new).moments }
     // The source is only read and synced: reads return what they returned before, and a crash
     // leaves what it might have left before.
+    // promise: a_copy_is_whole_and_the_same
     ensures source { (S.view source.old).is_honest
         → ((S.view source.new).moments ≡ (S.view source.old).moments)
         ⊎ ((S.view source.new).moments ≡ synced (S.view source.old).moments) }
+    // promise: a_copy_is_whole_and_the_same
     ensures source_any_moment { (S.view source.old).is_honest
         → LeavesOnly (S.view source.old).moments (S.view source.new).moments
         (IsImage (S.view source.old).moments.state) }
     // After `Ok`, on every disk: it has read the slots, and each byte of the segments twice, at most.
+    // promise: reading_is_bounded, a_copy_is_whole_and_the_same
     ensures source_meters { Calls (Counts CountsSource result)
         (λ before after. IfOk result
         (λ copy. IsReadTwice (S.view source.old).is_honest
         (S.view source.old).moments.state.now copy before after)) Unsaid
         (S.view source.old) (S.view source.new) }
+    // promise: a_copy_is_whole_and_the_same
     ensures target_meters { Calls (Counts CountsTarget result) Stays Unsaid
         (T.view target.old) (T.view target.new) }
 {

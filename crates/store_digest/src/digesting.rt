@@ -51,6 +51,7 @@ fn add_next<D: Disk>(
 /// order of kind, identifier and time. Only one row is in memory at a time.
 pub fn digest<D: Disk>(alloc: Global, store: &mut Store<D>, pin: u32) -> Result<[u8; 32], Refusal>
     requires { pin ≤ store.old.history.imports }
+    // promise: a_digest_is_that_of_the_rows
     ensures answer { IsDigestQuery result pin D.view store.old store.new }
 {
     let mut hasher = Sha256::new();

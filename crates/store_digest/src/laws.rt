@@ -14,5 +14,6 @@ pub fn digest_stays()
 
 /// A copy of the first imports of a store has the digest that the store has at that pin.
 pub fn copies_have_the_digest()
+    // promise: a_copy_is_whole_and_the_same
     ensures { CopiesHaveTheDigest }
 {}

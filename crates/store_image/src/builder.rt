@@ -36,5 +36,6 @@ pub trait SegmentBuilder: Drop {
 
     /// The places of a segment's rows.
     fn places(segment: &Self::Segment) -> &[RowPlace]
+        // promise: a_store_is_opened_as_it_was_left
         ensures { result.now ≡ places_of (sealed segment.now) };
 }

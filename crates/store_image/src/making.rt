@@ -35,6 +35,7 @@ pub fn check_empty<D: Disk>(disk: &mut D) -> Result<(), MakeFault>
     ensures exact { (D.view disk.old).is_honest
         → IsMade result (D.view disk.old).moments.state.now }
     ensures refused { IfErr result (λ e. (e ≡ faults.NotEmpty) ⊎ (e ≡ faults.DiskFault)) }
+    // promise: a_new_store_is_empty
     ensures moments { (D.view disk.old).is_honest
         → (D.view disk.new).moments ≡ (D.view disk.old).moments }
     ensures meters { Calls (CountsMaking result) Stays (AtMost 1)
@@ -62,22 +63,29 @@ pub fn make<D: Disk>(alloc: Global, disk: &mut D, layout: Layout) -> Result<Made
         → OnOk result (EachImage (D.view disk.new).moments.state
         (λ c. Represents c no_history layout 1 [])) }
     // A read then returns the two slots, and nothing after them.
+    // promise: a_new_store_is_empty
     ensures bytes { (D.view disk.old).is_honest
         → OnOk result (IsNewStore layout (D.view disk.new).moments.state.now) }
+    // promise: a_new_store_is_empty
     ensures refused { (D.view disk.old).is_honest
         → StaysIfRefused result (D.view disk.old).moments (D.view disk.new).moments }
     // A disk that isn't empty is unchanged, whatever the result, even if it fails.
+    // promise: a_new_store_is_empty
     ensures untouched { (D.view disk.old).is_honest → 1 ≤ length (D.view disk.old).moments.state.now
         → (D.view disk.new).moments ≡ (D.view disk.old).moments }
     // Whatever the result, a crash changes nothing after the slots.
+    // promise: a_new_store_is_empty
     ensures inside { (D.view disk.old).is_honest
         → LeavesOnly (D.view disk.old).moments (D.view disk.new).moments
         (StemsWithin (D.view disk.old).moments.state slots_range) }
+    // promise: a_new_store_is_empty
     ensures calls { (D.view disk.old).is_honest
         → MakesCalls result 9 (D.view disk.old).moments (D.view disk.new).moments }
+    // promise: reading_is_bounded
     ensures meters { Calls (CountsMaking result) Stays (AtMost 10)
         (D.view disk.old) (D.view disk.new) }
     // On every disk a refusal made one call at most: it asked for the length.
+    // promise: reading_is_bounded
     ensures looked { LooksIfRefused result (D.view disk.old).other_calls
         (D.view disk.new).other_calls }
 {

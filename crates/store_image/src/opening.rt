@@ -40,21 +40,25 @@ pub fn load<D: Disk, B: SegmentBuilder>(
     alloc: Global,
     disk: &mut D,
 ) -> Result<Loaded<B::Segment>, LoadFault>
+    // promise: a_store_is_opened_as_it_was_left, damage_is_noticed_and_named
     ensures exact { (D.view disk.old).is_honest
         → MatchResult result
         (λ l. HasStore l.slot l.directory (map B.sealed l.segments.items)
         (D.view disk.old).moments.state.now)
         (λ e. IsNotOpened e (D.view disk.old).moments.state.now) }
     // On every disk, the loaded parts are consistent.
+    // promise: a_store_is_opened_as_it_was_left
     ensures kept { IfOk result (λ l. IsKept l.directory (map B.sealed l.segments.items)) }
     // A crash at any moment leaves what it might have left before.
     ensures any_moment { (D.view disk.old).is_honest
         → LeavesOnly (D.view disk.old).moments (D.view disk.new).moments
         (IsImage (D.view disk.old).moments.state) }
     // Whatever the result, it syncs once and changes nothing else.
+    // promise: a_store_is_opened_as_it_was_left
     ensures synced { (D.view disk.old).is_honest
         → IsSynced result (D.view disk.old).moments (D.view disk.new).moments }
     // So reads return what they returned before.
+    // promise: a_store_is_opened_as_it_was_left
     ensures unchanged { (D.view disk.old).is_honest
         → (D.view disk.new).moments.state.now ≡ (D.view disk.old).moments.state.now }
     // After `Ok` every crash leaves what was loaded.
@@ -64,24 +68,29 @@ pub fn load<D: Disk, B: SegmentBuilder>(
     // After `Ok`, on every disk: it has read the slots, and each byte of the listed segments once,
     // at most. Besides its reads it made one sync, and asked for the length once for the slots and
     // once for each segment, at most.
+    // promise: reading_is_bounded
     ensures meters { Calls (CountsLoading result)
         (λ before after. IfOk result
         (λ l. after ≤ before + slots_read + bytes_listed l.directory.entries))
         (λ before after. IfOk result (λ l. after ≤ before + 2 + length l.directory.entries))
         (D.view disk.old) (D.view disk.new) }
     // Makes one call before the first read: a sync that failed isn't tried again.
+    // promise: reading_is_bounded
     ensures synced_once { ((D.view disk.new).other_calls ≤ (D.view disk.old).other_calls + 1)
         ⊎ (raised_by (D.view disk.old).bytes_read 1 ≤ (D.view disk.new).bytes_read) }
     // After an error it has read no further than the fault.
+    // promise: reading_is_bounded
     ensures stops { IfErr result
         (λ e. StopsAt e (D.view disk.old).bytes_read (D.view disk.new).bytes_read
         (D.view disk.old).other_calls (D.view disk.new).other_calls) }
     // If no gate is open, it made no other call than the sync and reads.
+    // promise: reading_is_bounded
     ensures no_store { IfErr result
         (λ e. e ≡ faults.NotAStore
         → (D.view disk.new).other_calls ≤ (D.view disk.old).other_calls + 1) }
     // Whatever the result: it reads the slots and the segments that a directory lists, and nothing
     // else.
+    // promise: reading_is_bounded
     ensures asked { (D.view disk.old).is_honest → AsksWithin (D.view disk.old).moments.state.now
         (D.view disk.old).bytes_read (D.view disk.new).bytes_read }
 {

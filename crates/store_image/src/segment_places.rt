@@ -35,6 +35,7 @@ impl Model for SegmentPlaces {
 impl SegmentPlaces {
     /// The places, in key order.
     pub fn places(&self) -> &[RowPlace]
+        // promise: a_store_is_opened_as_it_was_left
         ensures { result.now ≡ places_of self.now }
     {
         self.places.as_slice()

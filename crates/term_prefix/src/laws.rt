@@ -10,11 +10,13 @@ pub fn posted_terms_are_few()
 
 /// The lists are still the postings of their rows after a list is added.
 pub fn posted_terms_more()
+    // promise: the_index_has_every_row
     ensures { PostedTermsMore }
 {}
 
 /// The lists are still the postings of their rows after one replaces two.
 pub fn posted_terms_merged()
+    // promise: the_index_has_every_row
     ensures { PostedTermsMerged }
 {}
 

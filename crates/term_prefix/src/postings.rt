@@ -118,7 +118,9 @@ impl Postings {
 
     /// Adds the row's term, with the row's number in its list, if the row is an active description.
     pub fn push(&mut self, row: &StampedRow, number: u32) -> Result<(), AllocError>
+        // promise: the_index_has_every_row
         ensures ok { OnOk result (self.new ≡ self.old ++ posted_term row.now.row number) }
+        // promise: the_index_has_every_row
         ensures err { OnErr result (self.new ≡ self.old) }
     {
         match &row.row.body {

@@ -292,6 +292,8 @@ pub fn find<R: RowReader>(
     prefix: &str,
     search: &Search,
 ) -> Result<Vec<Row>, ReadFault>
+    // promise: an_answer_is_the_defined_one, keys_are_right_on_every_disk, no_damage_is_invented
+    // promise: a_question_reads_only_its_rows
     ensures answer { IsRowsRead result (λ rows. rows.items) (λ lists. search_terms prefix.now
         search.now.as_of.date search.now.after search.now.limit (rows_seen search.now.as_of lists))
         (λ lists. Lists index.now lists × ArePosted lists terms.now) R.cost (R.view reader.old)

@@ -59,6 +59,9 @@ fn output_that_is_taken_and_not_written(rt: HostRuntime) -> Result<(), Fail> {
         &mut faults,
     );
     assert!(rt; output.taken.starts_with(BEGINNING));
-    assert_eq!(rt; (status, faults.as_slice()), (1, b"ERR 51 Write\n".as_slice()));
+    assert_eq!(rt;
+        (status, faults.as_slice()),
+        (1, b"ERR 51 Write\n".as_slice())
+    );
     Ok(())
 }
