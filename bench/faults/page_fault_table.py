@@ -299,8 +299,8 @@ FAULTS = [
     Fault(
         "a change doesn't know what was before",
         "page_changes.py",
-        "Change(kind, old, row)",
-        "Change(kind, None, row)",
+        "(one._replace(before=row) for one, row in zip(told, rows))",
+        "iter(told)",
         CHANGES,
     ),
     Fault(

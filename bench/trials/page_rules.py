@@ -122,16 +122,20 @@ LANDMARKS = (
     "['html[lang]', 'main', 'header', 'footer', 'nav']"
     ".filter(one => document.querySelectorAll(one).length !== 1)"
 )
-# Of rows of which the head breaks within a word: heads whose longest word is wider than they are.
-BROKEN_HEADS = """[...document.querySelectorAll(".compared tbody th")].filter(one => {
+# The heads of rows and columns that break within a word, since one is wider than they are. (On a
+# phone those of columns aren't seen.)
+BROKEN_HEADS = """[...document.querySelectorAll("thead th, .compared tbody th")].filter(one => {
+  const heads = one.closest("thead");
+  if (heads && getComputedStyle(heads).position === "absolute") return false;
   const words = document.createElement("span");
-  words.style.whiteSpace = "nowrap";
+  words.style.cssText = "position: absolute; white-space: nowrap";
   return one.checkVisibility() && one.textContent.split(" ").some(word => {
     words.textContent = word;
     one.append(words);
-    const wide = words.getBoundingClientRect().width, room = one.clientWidth;
+    const style = getComputedStyle(one), around = parseFloat(style.paddingLeft) * 2;
+    const wide = words.getBoundingClientRect().width, room = one.clientWidth - around;
     words.remove();
-    return wide > room;
+    return wide > room + 1;
   });
 }).map(one => one.textContent)"""
 

@@ -43,8 +43,10 @@ class Crowd(View):
         for start in range(0, len(rows), limits.QUESTION_ROWS):
             yield rows[start : start + limits.QUESTION_ROWS]
 
-    async def rows_on(self, kind: str, names: Sequence[str], day: str) -> list[AnyRow | None]:
-        return [Concept(name, day, "1", "1", "1") for name in names]
+    async def rows_on(
+        self, components: Sequence[tuple[str, str]], day: str
+    ) -> list[AnyRow | None]:
+        return [Concept(name, day, "1", "1", "1") for _, name in components]
 
     async def concepts(
         self, codes: Sequence[str], day: str, keep: bool = True
@@ -189,7 +191,7 @@ class TestChanges(Asked):
             text = self.crowd(count)
             assert text.count('<th scope="row">') == most
             assert "<strong>%d concepts changed</strong>" % count in text
-            said = "The table has the first %d of them; the file has all." % most
+            said = "The table has the first %d of them; the file has all, or is refused" % most
             assert (said in text) == (count > most)
         assert self.crowd(most + 1, format="csv").count("\n") == most + 2
 

@@ -3,19 +3,23 @@
 Everything is made on the server, so the pages work without a script.
 """
 
+import asyncio
 import re
-from collections.abc import Mapping
+from collections.abc import Callable, Mapping, Sequence
 from pathlib import Path
-from typing import NamedTuple
+from typing import NamedTuple, TypeVar
 
 from markupsafe import Markup
 
+from . import limits
 from .http import Headers
 from .markup import joined, tag, time
 from .problems import invalid
 from .store import View
 from ..snomed import is_day
 
+Item = TypeVar("Item")
+Made = TypeVar("Made")
 FOLDER = Path(__file__).parent
 RECORD, RECORDS, CHANGES = "/", "/records", "/changes"
 # What leads to each of the pages, and the words of its form.
@@ -72,6 +76,15 @@ def pages(place: str) -> Markup:
     found = [tag("a", text, href=href, **({"aria_current": "page"} if one == place else {}))
              for one, (href, text) in LINKS.items()]
     return Markup(" ").join(found)
+
+
+async def made_of(items: Sequence[Item], make: Callable[[Item], Made]) -> list[Made]:
+    """What is made of each item. Other requests have their turn between slices of them."""
+    found = list[Made]()
+    for start in range(0, len(items), limits.SLICE_CONCEPTS):
+        found += map(make, items[start : start + limits.SLICE_CONCEPTS])
+        await asyncio.sleep(0)
+    return found
 
 
 def day_of(text: str, latest: str) -> str:

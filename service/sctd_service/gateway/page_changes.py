@@ -1,6 +1,7 @@
 """The page of what changed between two days: at a concept and below it, by the store's Delta."""
 
 import asyncio
+import itertools
 from collections.abc import Iterable, Sequence
 from typing import NamedTuple
 
@@ -8,7 +9,7 @@ from markupsafe import Markup
 
 from . import limits
 from .fhir.versions import Edition
-from .frame import CHANGES, Answer, Shown, day_of, for_good, framed
+from .frame import CHANGES, Answer, Shown, day_of, for_good, framed, made_of
 from .markup import address, aside, joined, tag, term, time, verdict
 from .page import EMPTY, NO_CONCEPT
 from .page_history import Names, changes, other_codes
@@ -47,8 +48,8 @@ class Change(NamedTuple):
     """A row of a Delta, and the version of its component that was there before, if one was."""
 
     kind: str
-    before: AnyRow | None
     row: AnyRow
+    before: AnyRow | None = None
 
     def told(self, names: Names) -> list[Markup]:
         """What it changed, in words."""
@@ -116,10 +117,9 @@ async def changed_by_concept(view: View, asked: Between) -> dict[str, list[Chang
             if count > limits.DELTA_ROWS:
                 raise too_costly("more than %d rows changed between these days: choose days that "
                                  "are nearer to each other" % limits.DELTA_ROWS)
-            new = [row for row in page if concept_of(row) in below]
-            before = await view.rows_on(kind, [row.id for row in new], asked.releases[0])
-            for old, row in zip(before, new):
-                found.setdefault(concept_of(row), []).append(Change(kind, old, row))
+            for row in page:
+                if (concept := concept_of(row)) in below:
+                    found.setdefault(concept, []).append(Change(kind, row))
     return found
 
 
@@ -134,11 +134,16 @@ def concept_of(row: AnyRow) -> str:
 
 async def described(view: View, asked: Between, codes: Sequence[str],
                     by_concept: dict[str, list[Change]]) -> list[Changed]:
-    """The changed concepts, with their names and what they were on both days."""
+    """The changed concepts, with their names and what they and their rows were on both days."""
+    told = [change for code in codes for change in by_concept[code]]
+    rows = await view.rows_on([(one.kind, one.row.id) for one in told], asked.releases[0])
+    new = (one._replace(before=row) for one, row in zip(told, rows))
     sides = [await view.concepts(codes, release) for release in asked.releases]
     names = await view.names(codes, asked.releases[1])
-    return [Changed(code, names[code], (status_of(before), status_of(after)), by_concept[code])
-            for code, before, after in zip(codes, *sides)]
+    return [
+        Changed(code, names[code], (status_of(before), status_of(after)),
+                [*itertools.islice(new, len(by_concept[code]))])
+        for code, before, after in zip(codes, *sides)]
 
 
 async def names_for(view: View, found: Iterable[Changed], day: str) -> Names:
@@ -151,11 +156,7 @@ async def shown(view: View, asked: Between, found: Sequence[Changed], count: int
                 is_pinned: bool) -> Shown:
     names, last = await names_for(view, found, asked.releases[1]), asked.releases[1]
     own = (await view.names([asked.concept], last))[asked.concept]
-    body = []
-    for number, one in enumerate(found):
-        body.append(row_of(one, names, asked.days[1]))
-        if number % limits.SLICE_CONCEPTS == 0:
-            await asyncio.sleep(0)
+    body = await made_of(found, lambda one: row_of(one, names, asked.days[1]))
     heads = [tag("th", text, scope="col") for text in ("Concept", "Status", "What changed")]
     table = tag("table", tag("caption", "By code; a concept that is new was absent before"),
                 tag("thead", tag("tr", *heads)), tag("tbody", *body), class_="listed")
@@ -168,7 +169,8 @@ async def shown(view: View, asked: Between, found: Sequence[Changed], count: int
 def summary(asked: Between, told: int, count: int) -> list[str]:
     said = "1 concept" if count == 1 else "%s concepts" % (count or "no")
     whole = [] if told == count else [
-        " The table has the first %d of them; the file has all." % told]
+        " The table has the first %d of them; the file has all, or is refused if they are too "
+        "many." % told]
     return ["After ", time(asked.days[0]), " and up to ", time(asked.days[1]), " ", tag(
         "strong", said, " changed"), " at it and below it.", *whole]
 

@@ -15,7 +15,7 @@ from markupsafe import Markup
 from . import limits
 from .fhir.outputs import USES
 from .fhir.versions import Edition
-from .frame import RECORDS, Answer, Shown, for_good, framed
+from .frame import RECORDS, Answer, Shown, for_good, framed, made_of
 from .markup import aside, joined, spoken, tag, term, time, verdict
 from .page import EMPTY
 from .page_record import (
@@ -80,12 +80,7 @@ async def answer(edition: Edition, view: View, form: dict[str, str], is_pinned: 
 
 async def judged(view: View, records: Sequence[Record]) -> list[Judged]:
     known = await known_of(view, records)
-    found = []
-    for number, record in enumerate(records):
-        found.append(judgement(view, known, record))
-        if number % limits.SLICE_CONCEPTS == 0:
-            await asyncio.sleep(0)
-    return found
+    return await made_of(records, lambda record: judgement(view, known, record))
 
 
 async def known_of(view: View, records: Iterable[Record]) -> Known:
@@ -148,11 +143,7 @@ def absent(known: Known, record: Record) -> Markup:
 
 
 async def page_of(view: View, found: Sequence[Judged], is_pinned: bool) -> Shown:
-    body = []
-    for number, one in enumerate(found):
-        body.append(row_of(one, view.latest))
-        if number % limits.SLICE_CONCEPTS == 0:
-            await asyncio.sleep(0)
+    body = await made_of(found, lambda one: row_of(one, view.latest))
     heads = [tag("th", text, scope="col") for text in (
         "Line", "Record", "Verdict", "On its day", "Now")]
     caption = "Pin %d; %s; read on %s" % (
@@ -160,7 +151,7 @@ async def page_of(view: View, found: Sequence[Judged], is_pinned: bool) -> Shown
     table = tag("table", tag("caption", caption), tag("thead", tag("tr", *heads)),
                 tag("tbody", *body), class_="listed")
     again = [] if is_pinned else [
-        tag("p", tag("a", "The same list for good, at pin %d" % view.pin,
+        tag("p", tag("a", "Lists as of pin %d, for good" % view.pin,
                      href=for_good(view, "records")), class_="links")]
     head = tag("h2", "1 record" if len(found) == 1 else "%d records" % len(found))
     return Shown("%d records at pin %d" % (len(found), view.pin),

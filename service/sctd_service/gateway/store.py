@@ -194,10 +194,17 @@ class View:
             yield page
             after = page[-1].id if len(page) == limits.QUESTION_ROWS else ""
 
-    async def rows_on(self, kind: str, names: Sequence[str], day: str) -> list[AnyRow | None]:
-        """The row of each of the components of a kind on a day, if it had one."""
-        told = await self.ask(["GET %s %s %s" % (kind, name, day) for name in names], keep=False)
-        return [next(iter(rows_about(kind, reply)), None) for reply in told]
+    async def rows_on(self, components: Sequence[tuple[str, str]],
+                      day: str) -> list[AnyRow | None]:
+        """The row on a day of each component, which is named by its kind and its id, if it had
+        one."""
+        found: list[AnyRow | None] = []
+        for start in range(0, len(components), limits.HUB_BATCH):
+            some = components[start : start + limits.HUB_BATCH]
+            told = await self.ask(["GET %s %s %s" % (*one, day) for one in some], keep=False)
+            found += [next(iter(rows_about(kind, reply)), None)
+                      for (kind, _), reply in zip(some, told)]
+        return found
 
     async def values(self, refset: str, day: str, after: str,
                      keep: bool = True) -> list[RefsetMember]:
