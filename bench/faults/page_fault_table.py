@@ -430,6 +430,13 @@ FAULTS = [
         RECORDS,
     ),
     Fault(
+        "an unknown format is passed over",
+        "frame.py",
+        'if wanted not in ("", "html", "csv"):',
+        "if False:",
+        CHANGES + " " + RECORDS,
+    ),
+    Fault(
         "the form is printed",
         "page.css",
         "  form, nav, .skip,",

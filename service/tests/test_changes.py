@@ -220,6 +220,8 @@ class TestChanges(Asked):
             {"concept": limb, "from_": "2019-02-31"},
             {"concept": limb, "from_": "20190131"},
             {"concept": limb, "from_": "2019-01-31", "other": "1"},
+            {"concept": limb, "from_": "2019-01-31", "format": "xml"},
+            {"format": "CSV"},
         ):
             assert self.page(**wrong)[0] == 400, wrong
 

@@ -284,7 +284,8 @@ class TestRecords(Asked):
             answer = self.send(body, kind)
             assert (answer.status, b"Refused: " in answer.body) == (status, True), (body, kind)
             assert answer.headers["content-type"].startswith("text/html")
-        assert self.send(line, CSV, "/records?list=1").status == 400
+        for words in ("list=1", "format=xml", "format=csv&format=csv"):
+            assert self.send(line, CSV, "/records?" + words).status == 400, words
         assert self.gateway.send("GET", "/records?list=1").status == 400
         assert self.gateway.send("PUT", "/records", line, {"Content-Type": CSV}).status == 405
 

@@ -97,6 +97,14 @@ def day_of(text: str, latest: str) -> str:
     return day
 
 
+def wants_file(form: Mapping[str, str]) -> bool:
+    """Whether an answer is wanted as CSV."""
+    wanted = form.get("format", "")
+    if wanted not in ("", "html", "csv"):
+        raise invalid("the format is html or csv")
+    return wanted == "csv"
+
+
 def for_good(view: View, target: str) -> str:
     """An address below the pin, seen from one that has none."""
     return "pin/%d/%s" % (view.pin, target)

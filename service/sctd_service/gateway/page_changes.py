@@ -9,7 +9,7 @@ from markupsafe import Markup
 
 from . import limits
 from .fhir.versions import Edition
-from .frame import CHANGES, Answer, Shown, day_of, for_good, framed, made_of
+from .frame import CHANGES, Answer, Shown, day_of, for_good, framed, made_of, wants_file
 from .markup import address, aside, joined, tag, term, time, verdict
 from .page import EMPTY, NO_CONCEPT
 from .page_history import Names, changes, other_codes
@@ -68,7 +68,7 @@ class Changed(NamedTuple):
 
 async def answer(edition: Edition, view: View, form: dict[str, str], is_pinned: bool) -> Answer:
     """The changes, as a page or as a file."""
-    found = between(view, form)
+    is_file, found = wants_file(form), between(view, form)
     if isinstance(found, Shown):
         return framed(CHANGES, form, found, view)
     if not await view.versions(found.concept):
@@ -76,7 +76,7 @@ async def answer(edition: Edition, view: View, form: dict[str, str], is_pinned: 
             "The store has no concept ", tag("code", found.concept), ".")), view)
     by_concept = await changed_by_concept(view, found)
     codes = sorted(by_concept, key=int)
-    if form.get("format") == "csv":
+    if is_file:
         return await as_file(view, found, await described(view, found, codes, by_concept))
     some = codes[: limits.CHANGED_CONCEPTS]
     told = await described(view, found, some, by_concept)

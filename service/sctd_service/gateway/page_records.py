@@ -15,7 +15,7 @@ from markupsafe import Markup
 from . import limits
 from .fhir.outputs import USES
 from .fhir.versions import Edition
-from .frame import RECORDS, Answer, Shown, for_good, framed, made_of
+from .frame import RECORDS, Answer, Shown, for_good, framed, made_of, wants_file
 from .markup import aside, joined, spoken, tag, term, time, verdict
 from .page import EMPTY
 from .page_record import (
@@ -62,7 +62,7 @@ class Known(NamedTuple):
 
 async def answer(edition: Edition, view: View, form: dict[str, str], is_pinned: bool) -> Answer:
     """The judged list, as a page or as a file."""
-    text, file = form.get("list", ""), form.get("file", "")
+    is_file, text, file = wants_file(form), form.get("list", ""), form.get("file", "")
     if text and file:
         raise invalid("paste a list or choose a file, but not both")
     if not (text or file) or not view.latest:
@@ -72,7 +72,7 @@ async def answer(edition: Edition, view: View, form: dict[str, str], is_pinned: 
         raise too_costly("a list may have %d bytes: divide it" % limits.RECORDS_BYTES)
     records = await asyncio.to_thread(records_of, text or file)
     found = await judged(view, records)
-    if form.get("format") == "csv":
+    if is_file:
         return await asyncio.to_thread(as_file, edition, view, found)
     shown = await page_of(view, found, is_pinned)
     return framed(RECORDS, {"list": text or file}, shown, view)
