@@ -39,6 +39,8 @@ from unproved import Builder, bytes_of, kit_folder, run_program, status_of  # no
 
 # How long a test may take, and a program of cases, with the checks of `rt try` in it.
 SECONDS = 300
+# How long all transcripts may take, which wait for the disk most of the time.
+TRANSCRIPT_SECONDS = 1200
 
 # What stands for a crate where the transcripts of bench/cases/ are asked, of the program of sctd.
 TRANSCRIPTS, PROGRAM = "try_cases", "sctd"
@@ -527,7 +529,7 @@ class Tests:
         script = TOP / "bench" / "trials" / "try_cases.py"
         done = subprocess.run(
             [sys.executable, str(script), str(path)],
-            stdout=subprocess.PIPE, timeout=SECONDS, check=False)
+            stdout=subprocess.PIPE, timeout=TRANSCRIPT_SECONDS, check=False)
         printed = cases_in(done.stdout)
         return [case for case in names_of_cases() if case not in printed]
 
