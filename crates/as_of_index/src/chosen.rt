@@ -19,11 +19,10 @@ pub struct Chosen {
     pub segment: usize,
     /// Its place.
     pub at: RowPlace,
-    /// The reference set of an association or another member, as an SCTID; 0 in queries that don't
-    /// sort or search by it.
+    /// Of a row that was found by a posting by two numbers, the first of them, as the reference set
+    /// of a member; 0 of others.
     pub refset: u64,
-    /// The component by which members of a reference set are sorted, as an SCTID: the target of an
-    /// association, or the component that a member refers to; 0 in queries that don't use it.
+    /// The second of them, as the component that a member refers to; 0 of others.
     pub target: u64,
 }
 

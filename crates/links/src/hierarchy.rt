@@ -109,7 +109,7 @@ pub(crate) fn find_next(
 }
 
 /// The distinct sources of active "is a" relationships to the concept at the date, ascending, among
-/// the rows that the pin shows. Reads no row: for each posted link to the concept it makes a binary
+/// the rows that the pin shows. Reads no row: for each posting of the concept it makes a binary
 /// search in each list, and at the end it sorts those that count.
 pub fn children(
     alloc: Global,
