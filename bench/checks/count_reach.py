@@ -48,7 +48,7 @@ HANDS_ON = re.compile(r"\bP\.stands")
 
 # Where the store's questions stand.
 STORE = "history_store/src"
-QUESTIONS = ("queries.rt", "auditing.rt", "membership.rt")
+QUESTIONS = ("queries.rt",)
 
 
 class Found(NamedTuple):

@@ -21,9 +21,9 @@ pub struct Chosen {
     pub at: RowPlace,
     /// Of a row that was found by a posting by two numbers, the first of them, as the reference set
     /// of a member; 0 of others.
-    pub refset: u64,
+    pub first: u64,
     /// The second of them, as the component that a member refers to; 0 of others.
-    pub target: u64,
+    pub second: u64,
 }
 
 /// Reads the rows at the places, in this order.

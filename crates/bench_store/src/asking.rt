@@ -3,7 +3,7 @@
 use crate::open_store;
 use bstr::ByteSlice;
 use disk_model::FileDisk;
-use history_store::{AsOf, Store};
+use history_store::{IdQuestion, RowQuestion, Store};
 use rf2_rows::{EffectiveTime, Kind, Sctid};
 use std::fs;
 use std::rt::HostRuntime;
@@ -50,19 +50,26 @@ fn ask(
     date: EffectiveTime,
 ) -> Option<usize> {
     let pin = store.imports();
-    let as_of = AsOf { date, pin };
+    let kind = Kind::Concept;
     let value = u128::from(id.value());
-    match question {
-        Question::Lookup => {
-            let row = store.get(Kind::Concept, value, as_of).ok()?;
-            Some(usize::from(row.is_some()))
+    let rows = match question {
+        Question::Lookup => RowQuestion::Get {
+            kind,
+            id: value,
+            date,
+        },
+        Question::Page => RowQuestion::Page {
+            kind,
+            date,
+            after: Some(value),
+            limit: 100,
+        },
+        Question::Children => {
+            let children = IdQuestion::Children { concept: id, date };
+            return Some(store.ids(&children, pin).ok()?.len());
         }
-        Question::Page => {
-            let rows = store.page(Kind::Concept, as_of, Some(value), 100).ok()?;
-            Some(rows.len())
-        }
-        Question::Children => Some(store.children(id, as_of).ok()?.len()),
-    }
+    };
+    Some(store.select(&rows, pin).ok()?.len())
 }
 
 /// Asks a question about each of these concepts. Returns how many rows or ids are found.
@@ -85,7 +92,12 @@ fn search(store: &mut Store<FileDisk>, prefix: &[u8], date: EffectiveTime) -> Op
         return Some(0);
     };
     let pin = store.imports();
-    Some(store.terms(prefix, AsOf { date, pin }, 10).ok()?.len())
+    let terms = RowQuestion::Terms {
+        prefix,
+        date,
+        limit: 10,
+    };
+    Some(store.select(&terms, pin).ok()?.len())
 }
 
 /// Searches for ten descriptions by each prefix in a file. Returns how many rows are found.
@@ -108,8 +120,13 @@ pub(crate) fn turn_page(
 ) -> Option<Option<u128>> {
     let date = EffectiveTime::of(DATE)?;
     let pin = store.imports();
-    let as_of = AsOf { date, pin };
-    let rows = store.page(Kind::Description, as_of, after, rows).ok()?;
+    let page = RowQuestion::Page {
+        kind: Kind::Description,
+        date,
+        after,
+        limit: rows,
+    };
+    let rows = store.select(&page, pin).ok()?;
     match rows.last() {
         Some(row) => Some(Some(row.id)),
         None => Some(None),

@@ -10,7 +10,7 @@ use Rattle.history_model.specs.declared.stamped.StampedRow.{StampedRow}
 use Rattle.history_model.specs.History.{rows_at}
 use Rattle.history_model.specs.Lists.{listed}
 use Rattle.disk_model.specs.View.{DiskView}
-use Rattle.as_of_index.specs.Reader.{ReaderView, AreSame, IsRowsReadBy, IsRowsRead}
+use Rattle.as_of_index.specs.Reader.{ReaderView, IsRowsReadBy}
 use Rattle.lru.specs.LruCache.{LruCache}
 use Rattle.blocks.specs.Cache.{AgreesWith, LooksUpSome}
 use Rattle.blocks.proofs.Looked.{none_looks_up}
@@ -24,7 +24,7 @@ use Rattle.history_store.specs.Reading.{row_cost}
 use Rattle.history_store.specs.Refusals.{of_read}
 use Rattle.history_store.specs.StoreValue.{StoreValue, IsAcknowledged}
 use Rattle.history_store.specs.Answers.{Counts, IsRefused, IsReadingOf}
-use Rattle.history_store.specs.Queries.{IsQuery, IsRowsQueryBy, IsRowsQuery, IsWithoutRead, is_listed}
+use Rattle.history_store.specs.Queries.{IsQuery, IsRowsQueryBy, IsWithoutRead, is_listed}
 use Rattle.history_store.proofs.Refusing.{read_undamaged}
 
 -- what was read, as the store answers it
@@ -117,7 +117,7 @@ module _ {T D : Type 0} (view : D → DiskView) (rows_of : T → List RowValue) 
     abbrev pub BoundOf : List (List StampedRow) → D → D → Type 0
     BoundOf ls before after = (view after).bytes_read ≤ (view before).bytes_read + sum_by row_cost (wanted (rows_at pin (listed ls)))
 
-    pub rows_answered_by : (SameKeys : List Key → List Key → Type 0) {left : List (List StampedRow)} {is_honest : Type 0} {m n : ℕ} → old.history.rows ≡ listed lists → old.needs_reopen ≡ false
+    pub rows_answered : (SameKeys : List Key → List Key → Type 0) {left : List (List StampedRow)} {is_honest : Type 0} {m n : ℕ} → old.history.rows ≡ listed lists → old.needs_reopen ≡ false
         → lent ≡ old.disk → lent_cache ≡ old.cache → entries ≡ old.catalog.entries → shown ≡ lists
         → Indexed lists → ((view old.disk).is_honest → IsHonestReader)
         → IsRowsReadBy SameKeys read rows_of (λ ls. wanted (rows_at pin (listed ls))) Indexed row_cost (shown_of lent shown IsHonestReader m) (shown_of disk left is_honest n)
@@ -127,7 +127,7 @@ module _ {T D : Type 0} (view : D → DiskView) (rows_of : T → List RowValue) 
         → IsAnswerOf read result → IsReadingOf result (record old { disk = disk; cache = cache }) new → new.disk ≡ disk → new.cache ≡ cache
         → ((view disk).is_honest → new.needs_reopen ≡ false → IsAcknowledged view new)
         → IsRowsQueryBy SameKeys result rows_of wanted pin view old new
-    rows_answered_by SameKeys rows_are still lent_is lent_cache_is entries_are shown_is indexed lends read_so stays looked_up calls answers left same kept acknowledged =
+    rows_answered SameKeys rows_are still lent_is lent_cache_is entries_are shown_is indexed lends read_so stays looked_up calls answers left same kept acknowledged =
         let rows = read_so.rows (subst Indexed (sym shown_is) indexed) in
         let all_are = ap (λ rows. wanted (rows_at pin rows)) (sym rows_are) in
         record {
@@ -151,22 +151,9 @@ module _ {T D : Type 0} (view : D → DiskView) (rows_of : T → List RowValue) 
               (subst (λ ls. BoundOf ls lent disk) shown_is rows.work_always)));
         }
 
-    pub rows_answered : {left : List (List StampedRow)} {is_honest : Type 0} {m n : ℕ} → old.history.rows ≡ listed lists → old.needs_reopen ≡ false
-        → lent ≡ old.disk → lent_cache ≡ old.cache → entries ≡ old.catalog.entries → shown ≡ lists
-        → Indexed lists → ((view old.disk).is_honest → IsHonestReader)
-        → IsRowsRead read rows_of (λ ls. wanted (rows_at pin (listed ls))) Indexed row_cost (shown_of lent shown IsHonestReader m) (shown_of disk left is_honest n)
-        → MomentsStay (view lent).is_honest (view disk).is_honest (view lent).moments (view disk).moments
-        → LooksUpSome (is_listed entries) lent_cache cache (view lent).bytes_read (view disk).bytes_read
-        → (view disk).other_calls ≡ (view lent).other_calls
-        → IsAnswerOf read result → IsReadingOf result (record old { disk = disk; cache = cache }) new → new.disk ≡ disk → new.cache ≡ cache
-        → ((view disk).is_honest → new.needs_reopen ≡ false → IsAcknowledged view new)
-        → IsRowsQuery result rows_of wanted pin view old new
-    rows_answered rows_are still lent_is lent_cache_is entries_are shown_is indexed lends read_so stays looked_up calls answers left same kept acknowledged =
-        rows_answered_by AreSame rows_are still lent_is lent_cache_is entries_are shown_is indexed lends read_so stays looked_up calls answers left same kept acknowledged
-
   -- a store that has to be opened again answers nothing, and isn't touched
-  pub closed_rows_by : (SameKeys : List Key → List Key → Type 0) (s : StoreValue D) → s.needs_reopen ≡ true → IsRowsQueryBy SameKeys (Err refusals.ReopenNeeded) rows_of wanted pin view s s
-  closed_rows_by SameKeys s needs = record {
+  pub closed_rows : (SameKeys : List Key → List Key → Type 0) (s : StoreValue D) → s.needs_reopen ≡ true → IsRowsQueryBy SameKeys (Err refusals.ReopenNeeded) rows_of wanted pin view s s
+  closed_rows SameKeys s needs = record {
     found = λ up. tt;
     keys = tt;
     causes = λ none. tt;
@@ -176,6 +163,3 @@ module _ {T D : Type 0} (view : D → DiskView) (rows_of : T → List RowValue) 
     bytes_read = tt;
     bytes_read_always = omega arith;
   }
-
-  pub closed_rows : (s : StoreValue D) → s.needs_reopen ≡ true → IsRowsQuery (Err refusals.ReopenNeeded) rows_of wanted pin view s s
-  closed_rows s needs = closed_rows_by AreSame s needs

@@ -14,7 +14,6 @@ use Rattle.blocks.specs.declared.slots.Slot.{Slot}
 use Rattle.blocks.specs.Slots.{slot_extent}
 use Rattle.directory.specs.declared.entry.Entry.{Entry}
 use Rattle.directory.specs.Places.{extent_of}
-use Rattle.as_of_index.specs.Reader.{AreSame, AreSameInAnyOrder}
 use Rattle.history_store.specs.declared.refusal.Refusal.{Refusal}
 use Rattle.history_store.specs.declared.refusal.Refusal.TheVariants as refusals
 use Rattle.history_store.specs.Catalog.{reserved_by}
@@ -115,17 +114,6 @@ pub record IsRowsQueryBy {T D : Type 0} (SameKeys : List Key → List Key → Ty
       (λ x. (view new.disk).bytes_read ≤ (view old.disk).bytes_read + sum_by row_cost (rows_of x))
   pub bytes_read_always : (view new.disk).bytes_read
       ≤ (view old.disk).bytes_read + sum_by row_cost (wanted (rows_at pin old.history.rows))
-
--- a query whose rows have the same keys in the same order on every disk
-abbrev pub IsRowsQuery : {T D : Type 0} → Result T Refusal → (T → List RowValue)
-    → (List RowValue → List RowValue) → ℕ → (D → DiskView) → StoreValue D → StoreValue D → Type 0
-IsRowsQuery = IsRowsQueryBy AreSame
-
--- a query whose rows are put in order once they are read, so that on a disk that isn't honest they
--- have the same keys in any order
-abbrev pub IsOrderedQuery : {T D : Type 0} → Result T Refusal → (T → List RowValue)
-    → (List RowValue → List RowValue) → ℕ → (D → DiskView) → StoreValue D → StoreValue D → Type 0
-IsOrderedQuery = IsRowsQueryBy AreSameInAnyOrder
 
 -- A query that the index answers on every disk, among the rows that the pin shows, without reading
 -- a row. Nothing changes, and it is refused only if the store has to be opened again or memory runs

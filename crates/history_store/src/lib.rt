@@ -5,17 +5,14 @@
 //! place of each row. Rows are read from their places through a cache of blocks.
 #![tactic(auto)]
 
-mod auditing;
 mod beginning;
 mod brought;
 mod checking;
 mod contradicting;
 mod counting;
-mod key_order;
 mod known;
 mod latest;
 pub mod laws;
-mod membership;
 mod merge_calls;
 mod merge_in_progress;
 mod placing;
@@ -30,9 +27,9 @@ mod stepping;
 mod store;
 mod taken_blocks;
 
-pub use as_of_index::AsOf;
 pub use directory::Layout;
 pub use history_model::{ImportReceipt, Receipt};
+pub use index_answers::{IdQuestion, RowQuestion};
 pub use refusal::Refusal;
 pub use store::Store;
 pub use store_image::Damage;

@@ -13,7 +13,7 @@ use crate::command::SESSIONS;
 use rf2_values::{Class, Kind, Member, Sctid, number};
 
 /// A session's number.
-pub(crate) fn session(text: &[u8]) -> Option<u16>
+pub(crate) fn session_number(text: &[u8]) -> Option<u16>
     ensures { MatchOption result ((n : ℕ) → n < sessions → text.now ≢ decimal n)
         (λ n. (n < sessions) × (text.now ≡ decimal n)) }
 {

@@ -19,7 +19,7 @@ pub fn parse(line: &[u8]) -> Result<Request<'_>, Unread>
         return Err(Unread::Long);
     }
     let (number, rest) = first_word(line);
-    let Some(session) = columns::session(number) else {
+    let Some(session) = columns::session_number(number) else {
         return Err(Unread::Session);
     };
     let Some(rest) = rest else {

@@ -29,24 +29,6 @@ abbrev pub AsksFound : Question → Type 0
 AsksFound (Receipt number) = ⊥
 AsksFound _ = Unit {0}
 
--- what the index alone answers
-abbrev pub AsksIndex : Question → Type 0
-AsksIndex (Children concept date) = Unit {0}
-AsksIndex (Ancestors concept date) = Unit {0}
-AsksIndex (Descendants concept date) = Unit {0}
-AsksIndex Dates = Unit {0}
-AsksIndex _ = ⊥
-
--- what is answered by rows
-abbrev pub AsksRows : Question → Type 0
-AsksRows (Children concept date) = ⊥
-AsksRows (Ancestors concept date) = ⊥
-AsksRows (Descendants concept date) = ⊥
-AsksRows Dates = ⊥
-AsksRows Digest = ⊥
-AsksRows (Receipt number) = ⊥
-AsksRows _ = Unit {0}
-
 -- ---- one answer
 
 -- a question finds one answer

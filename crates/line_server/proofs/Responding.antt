@@ -26,10 +26,10 @@ use Rattle.line_server.specs.Replies.{Server, imports_seen, IsFound, IsAnswer, I
 use Rattle.store_life.specs.Life.{Other}
 use Rattle.line_server.specs.Turns.{CountsOutcome, GoesBy, HasTurn, IsToldBy, LeavesAsked, LeavesDisk}
 use Rattle.line_server.specs.StateValue.{StateValue, IsHeldBack, HoldsBack}
-use Rattle.line_server.specs.Private.{IsResponse, IsQueried, IsCarriedOut}
+use Rattle.line_server.specs.Private.{IsResponse, IsQueried, IsCarriedOut, AsksIndex}
 use Rattle.line_server.proofs.Alike.{turn_of}
 use Rattle.store_life.proofs.Made.{unmade}
-use Rattle.line_server.proofs.Finding.{AsksIndex, same_from}
+use Rattle.line_server.proofs.Finding.{same_from}
 use Rattle.line_server.proofs.Queried.{responded, queried, refused_by}
 use Rattle.line_server.proofs.KnownRead.{none_known}
 

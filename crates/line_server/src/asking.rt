@@ -7,20 +7,13 @@ ghost use Rattle.line_commands.specs.Requests.{command_of, question_of};
 ghost use Rattle.line_server.specs.Replies.{NeedsLater, NeedsMembers};
 ghost use Rattle.line_server.specs.Private.{IsCarriedOut, IsQueried, QuestionCanBeAsked};
 
-use crate::auditing::{
-    answer_ancestors, answer_dates, answer_delta, answer_descendants, answer_digest,
-    answer_replaces, answer_timeline,
-};
-use crate::queries::{
-    answer_about, answer_children, answer_get, answer_history, answer_page, answer_receipt,
-    answer_replaced, answer_search, answer_terms,
-};
-use crate::refsets::{answer_called, answer_members, answer_values};
+use crate::queries::{answer_dates, answer_digest, answer_ids, answer_receipt, answer_rows};
+use crate::questions::{Asked, asked_by};
 use crate::refusal::LineRefusal;
 use crate::reply::Reply;
 use crate::source::scope_for;
 use disk_model::Disk;
-use history_store::{AsOf, Store};
+use history_store::Store;
 use import_check::Scope;
 use line_commands::{Command, Question};
 use rf2_rows::Kind;
@@ -69,68 +62,12 @@ pub(crate) fn ask<D: Disk>(
     requires within { pin ≤ store.old.history.imports }
     ensures { IsQueried result D.view (question_of question.now) pin store.old store.new }
 {
-    match *question {
-        Question::Get { kind, id, date } => answer_get(alloc, kind, id, AsOf { date, pin }, store),
-        Question::History { kind, id } => answer_history(alloc, kind, id, pin, store),
-        Question::Children { concept, date } => {
-            answer_children(alloc, concept, AsOf { date, pin }, store)
-        }
-        Question::Ancestors { concept, date } => {
-            answer_ancestors(alloc, concept, AsOf { date, pin }, store)
-        }
-        Question::Descendants { concept, date } => {
-            answer_descendants(alloc, concept, AsOf { date, pin }, store)
-        }
-        Question::Terms {
-            prefix,
-            date,
-            limit,
-        } => answer_terms(alloc, prefix, AsOf { date, pin }, limit, store),
-        Question::Search {
-            prefix,
-            date,
-            after,
-            limit,
-        } => answer_search(alloc, prefix, AsOf { date, pin }, after, limit, store),
-        Question::Replaced { id, date } => answer_replaced(alloc, id, AsOf { date, pin }, store),
-        Question::Replaces { id, date } => answer_replaces(alloc, id, AsOf { date, pin }, store),
-        Question::About { kind, id, date } => {
-            answer_about(alloc, kind, id, AsOf { date, pin }, store)
-        }
-        Question::Timeline { kind, id } => answer_timeline(alloc, kind, id, pin, store),
-        Question::Page {
-            kind,
-            date,
-            after,
-            limit,
-        } => answer_page(alloc, kind, AsOf { date, pin }, after, limit, store),
-        Question::Delta {
-            kind,
-            from,
-            date,
-            after,
-            limit,
-        } => answer_delta(alloc, kind, from, AsOf { date, pin }, after, limit, store),
-        Question::Members {
-            refset,
-            date,
-            after,
-            limit,
-        } => answer_members(alloc, refset, AsOf { date, pin }, after, limit, store),
-        Question::Values {
-            refset,
-            date,
-            after,
-            limit,
-        } => answer_values(alloc, refset, AsOf { date, pin }, after, limit, store),
-        Question::Called {
-            concept,
-            date,
-            refset,
-        } => answer_called(alloc, concept, AsOf { date, pin }, refset, store),
-        Question::Dates => answer_dates(alloc, pin, store),
-        Question::Digest => answer_digest(alloc, pin, store),
-        Question::Receipt { number } => answer_receipt(alloc, number, pin, store),
+    match asked_by(question) {
+        Asked::Rows(rows) => answer_rows(alloc, &rows, pin, store),
+        Asked::Ids(ids) => answer_ids(alloc, &ids, pin, store),
+        Asked::Dates => answer_dates(alloc, pin, store),
+        Asked::Digest => answer_digest(alloc, pin, store),
+        Asked::Receipt(number) => answer_receipt(alloc, number, pin, store),
     }
 }
 

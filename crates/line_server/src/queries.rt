@@ -1,147 +1,71 @@
-//! The questions: replies with what the store returns.
+//! The questions: replies with what the store returns, by kind of answer.
 
 ghost use Rattle.std.specs.Prelude.{◌≤◌};
-ghost use Rattle.line_commands.specs.Questions.{Get, History, Children, Terms, Search, Replaced};
-ghost use Rattle.line_commands.specs.Questions.{About, Page, Receipt};
-ghost use Rattle.line_server.specs.Private.{IsQueried};
+ghost use Rattle.line_commands.specs.Questions.{Question, Dates, Digest, Receipt};
+ghost use Rattle.line_server.specs.Private.{IsQueried, AsksForRows, AsksForIds};
 
 use crate::refusal::LineRefusal;
 use crate::reply::Reply;
-use crate::wording::{reply_ids, reply_receipt, reply_rows};
+use crate::wording::{reply_dates, reply_digest, reply_ids, reply_receipt, reply_rows};
 use disk_model::Disk;
-use history_store::{AsOf, Store};
-use rf2_rows::{Kind, Sctid};
+use history_store::{IdQuestion, RowQuestion, Store};
 use std::alloc::Global;
+use store_digest::digest;
 
-/// The row of a component on a date.
-pub(crate) fn answer_get<D: Disk>(
+/// The rows that a question asks for.
+pub(crate) fn answer_rows<D: Disk>(
     alloc: Global,
-    kind: Kind,
-    id: u128,
-    as_of: AsOf,
-    store: &mut Store<D>,
-) -> Result<Reply, LineRefusal>
-    requires { as_of.pin ≤ store.old.history.imports }
-    ensures { IsQueried result
-        D.view (Get kind id as_of.date)
-        as_of.pin store.old store.new }
-{
-    let found = store.get(kind, id, as_of)?;
-    Ok(reply_rows(alloc, found.as_slice())?)
-}
-
-/// All versions of a component.
-pub(crate) fn answer_history<D: Disk>(
-    alloc: Global,
-    kind: Kind,
-    id: u128,
+    rows: &RowQuestion<'_>,
     pin: u32,
     store: &mut Store<D>,
 ) -> Result<Reply, LineRefusal>
     requires { pin ≤ store.old.history.imports }
-    ensures { IsQueried result D.view (History kind id) pin
-        store.old store.new }
+    ensures { (question : Question) → AsksForRows question rows.now
+        → IsQueried result D.view question pin store.old store.new }
 {
-    let found = store.versions(kind, id, pin)?;
+    let found = store.select(rows, pin)?;
     Ok(reply_rows(alloc, &found)?)
 }
 
-/// The concepts with an "is a" relationship to a concept on a date.
-pub(crate) fn answer_children<D: Disk>(
+/// The identifiers that a question asks for.
+pub(crate) fn answer_ids<D: Disk>(
     alloc: Global,
-    concept: Sctid,
-    as_of: AsOf,
+    ids: &IdQuestion,
+    pin: u32,
     store: &mut Store<D>,
 ) -> Result<Reply, LineRefusal>
-    requires { as_of.pin ≤ store.old.history.imports }
-    ensures { IsQueried result D.view
-        (Children concept as_of.date) as_of.pin store.old store.new }
+    requires { pin ≤ store.old.history.imports }
+    ensures { (question : Question) → AsksForIds question ids.now
+        → IsQueried result D.view question pin store.old store.new }
 {
-    let found = store.children(concept, as_of)?;
+    let found = store.ids(ids, pin)?;
     Ok(reply_ids(alloc, &found)?)
 }
 
-/// The descriptions whose terms begin with a prefix on a date.
-pub(crate) fn answer_terms<D: Disk>(
+/// The effective times of all rows.
+pub(crate) fn answer_dates<D: Disk>(
     alloc: Global,
-    prefix: &str,
-    as_of: AsOf,
-    limit: u32,
+    pin: u32,
     store: &mut Store<D>,
 ) -> Result<Reply, LineRefusal>
-    requires { as_of.pin ≤ store.old.history.imports }
-    ensures { IsQueried result D.view
-        (Terms prefix.now as_of.date limit) as_of.pin store.old store.new }
+    requires { pin ≤ store.old.history.imports }
+    ensures { IsQueried result D.view Dates pin store.old store.new }
 {
-    let found = store.terms(prefix, as_of, limit)?;
-    Ok(reply_rows(alloc, &found)?)
+    let found = store.dates(pin)?;
+    Ok(reply_dates(alloc, &found)?)
 }
 
-/// The descriptions whose terms begin with a prefix on a date, in the order of their identifiers.
-pub(crate) fn answer_search<D: Disk>(
+/// The digest of all rows.
+pub(crate) fn answer_digest<D: Disk>(
     alloc: Global,
-    prefix: &str,
-    as_of: AsOf,
-    after: Option<u128>,
-    limit: u32,
+    pin: u32,
     store: &mut Store<D>,
 ) -> Result<Reply, LineRefusal>
-    requires { as_of.pin ≤ store.old.history.imports }
-    ensures { IsQueried result D.view
-        (Search prefix.now as_of.date after limit) as_of.pin store.old store.new }
+    requires { pin ≤ store.old.history.imports }
+    ensures { IsQueried result D.view Digest pin store.old store.new }
 {
-    let found = store.search(prefix, as_of, after, limit)?;
-    Ok(reply_rows(alloc, &found)?)
-}
-
-/// The active associations on a date that have a component as their referenced component.
-pub(crate) fn answer_replaced<D: Disk>(
-    alloc: Global,
-    id: Sctid,
-    as_of: AsOf,
-    store: &mut Store<D>,
-) -> Result<Reply, LineRefusal>
-    requires { as_of.pin ≤ store.old.history.imports }
-    ensures { IsQueried result
-        D.view (Replaced id as_of.date)
-        as_of.pin store.old store.new }
-{
-    let found = store.replacements(id, as_of)?;
-    Ok(reply_rows(alloc, &found)?)
-}
-
-/// The rows of a kind that are about a component on a date.
-pub(crate) fn answer_about<D: Disk>(
-    alloc: Global,
-    kind: Kind,
-    id: Sctid,
-    as_of: AsOf,
-    store: &mut Store<D>,
-) -> Result<Reply, LineRefusal>
-    requires { as_of.pin ≤ store.old.history.imports }
-    ensures { IsQueried result
-        D.view (About kind id as_of.date)
-        as_of.pin store.old store.new }
-{
-    let found = store.about(kind, id, as_of)?;
-    Ok(reply_rows(alloc, &found)?)
-}
-
-/// The rows of the components of a kind on a date, in the order of their identifiers.
-pub(crate) fn answer_page<D: Disk>(
-    alloc: Global,
-    kind: Kind,
-    as_of: AsOf,
-    after: Option<u128>,
-    limit: u32,
-    store: &mut Store<D>,
-) -> Result<Reply, LineRefusal>
-    requires { as_of.pin ≤ store.old.history.imports }
-    ensures { IsQueried result D.view
-        (Page kind as_of.date after limit) as_of.pin store.old store.new }
-{
-    let found = store.page(kind, as_of, after, limit)?;
-    Ok(reply_rows(alloc, &found)?)
+    let found = digest(alloc, store, pin)?;
+    Ok(reply_digest(alloc, found)?)
 }
 
 /// The receipt of an import, unless the session doesn't see that import.

@@ -11,13 +11,13 @@ use Rattle.as_of_index.specs.declared.chosen.Chosen.{Chosen}
 use Rattle.as_of_index.specs.Private.Chosen.{ranked_cmp}
 
 pub ranked_total : IsTotalOrder ranked_cmp
-ranked_total = then_total (on_total (λ (k : Chosen). k.refset) nat_cmp_total) (then_total (on_total (λ (k : Chosen). k.target) nat_cmp_total) (on_total (λ (k : Chosen). k.at.key.id) nat_cmp_total))
+ranked_total = then_total (on_total (λ (k : Chosen). k.first) nat_cmp_total) (then_total (on_total (λ (k : Chosen). k.second) nat_cmp_total) (on_total (λ (k : Chosen). k.at.key.id) nat_cmp_total))
 
 -- those of one rank have one id
 pub one_id : (j k : Chosen) → ranked_cmp j k ≡ Equal → j.at.key.id ≡ k.at.key.id
 one_id j k e =
-    let rest = (both_equal (nat_cmp j.refset k.refset) (ordering_then (nat_cmp j.target k.target) (nat_cmp j.at.key.id k.at.key.id)) e).1 in
-    number_ranked j.at.key.id k.at.key.id Equal (sym (both_equal (nat_cmp j.target k.target) (nat_cmp j.at.key.id k.at.key.id) rest).1)
+    let rest = (both_equal (nat_cmp j.first k.first) (ordering_then (nat_cmp j.second k.second) (nat_cmp j.at.key.id k.at.key.id)) e).1 in
+    number_ranked j.at.key.id k.at.key.id Equal (sym (both_equal (nat_cmp j.second k.second) (nat_cmp j.at.key.id k.at.key.id) rest).1)
 
 pub one_row_id : (a b : RowValue) → replacement_cmp a b ≡ Equal → a.id ≡ b.id
 one_row_id a b e =

@@ -44,25 +44,25 @@ use Rattle.links.proofs.MemberPages.{stand_take, enough_rows}
 use Rattle.links.proofs.Ties.{Rising, cut_up_to}
 
 -- places with the numbers of their rows
-numbers_are : (lists : List (List StampedRow)) (ks : List Chosen) (rows : List StampedRow) → StandAtAll lists ks rows → ((k : Chosen) (s : StampedRow) → Has ks k → StandsAt lists k.segment k.at s → component_of s.row ≡ k.target)
-    → map {B = ℕ} (λ (k : Chosen). k.target) ks ≡ map component_of (map (λ (s : StampedRow). s.row) rows)
+numbers_are : (lists : List (List StampedRow)) (ks : List Chosen) (rows : List StampedRow) → StandAtAll lists ks rows → ((k : Chosen) (s : StampedRow) → Has ks k → StandsAt lists k.segment k.at s → component_of s.row ≡ k.second)
+    → map {B = ℕ} (λ (k : Chosen). k.second) ks ≡ map component_of (map (λ (s : StampedRow). s.row) rows)
 numbers_are lists [] [] a own = refl
 numbers_are lists [] (s ∷ rows) a own = absurd a
 numbers_are lists (k ∷ ks) [] a own = absurd a
 numbers_are lists (k ∷ ks) (s ∷ rows) a own = λ i. sym (own k s (inl refl) a.0) i ∷ numbers_are lists ks rows a.1 (λ j t h. own j t (inr h)) i
 
 -- of one reference set those come first that refer to lesser components
-below_target : (refset : ℕ) (j k : Chosen) → j.refset ≡ refset → k.refset ≡ refset → ranked_cmp j k ≡ Less → j.target ≤ k.target
+below_target : (refset : ℕ) (j k : Chosen) → j.first ≡ refset → k.first ≡ refset → ranked_cmp j k ≡ Less → j.second ≤ k.second
 below_target refset j k r s less =
-    elim (first_half (nat_cmp j.refset k.refset) (ordering_then (nat_cmp j.target k.target) (nat_cmp j.at.key.id k.at.key.id)) less) [
-      | inl l ↦ (let lt = ranked j.refset k.refset Less (sym l) in absurd (omega (arith, lt, r, s)))
-      | inr e ↦ elim (first_half (nat_cmp j.target k.target) (nat_cmp j.at.key.id k.at.key.id) e.1) [
-        | inl l ↦ (let lt = ranked j.target k.target Less (sym l) in omega (arith, lt))
-        | inr f ↦ (let same = ranked j.target k.target Equal (sym f.0) in omega (arith, same))
+    elim (first_half (nat_cmp j.first k.first) (ordering_then (nat_cmp j.second k.second) (nat_cmp j.at.key.id k.at.key.id)) less) [
+      | inl l ↦ (let lt = ranked j.first k.first Less (sym l) in absurd (omega (arith, lt, r, s)))
+      | inr e ↦ elim (first_half (nat_cmp j.second k.second) (nat_cmp j.at.key.id k.at.key.id) e.1) [
+        | inl l ↦ (let lt = ranked j.second k.second Less (sym l) in omega (arith, lt))
+        | inr f ↦ (let same = ranked j.second k.second Equal (sym f.0) in omega (arith, same))
       ]
     ]
 
-pub targets_rise : (refset : ℕ) (ks : List Chosen) → IsAscending ranked_cmp ks → ((k : Chosen) → Has ks k → k.refset ≡ refset) → IsNonDecreasingBy (λ (k : Chosen). k.target) ks
+pub targets_rise : (refset : ℕ) (ks : List Chosen) → IsAscending ranked_cmp ks → ((k : Chosen) → Has ks k → k.first ≡ refset) → IsNonDecreasingBy (λ (k : Chosen). k.second) ks
 targets_rise refset [] up own i j d le lt = absurd (omega (arith, lt))
 targets_rise refset (k ∷ ks) up own zero zero d le lt = omega arith
 targets_rise refset (k ∷ ks) up own zero (suc j) d le lt =
@@ -109,18 +109,18 @@ module _ (lists : List (List StampedRow)) (are : ArePlaces (map places_of lists)
     value_kept : (k : Chosen) → Has kept k → IsValueFound k
     value_kept = row_kept lists are edges posts asked test (path_of_values refset after last) ranked_cmp one_member kept a
 
-    own_refset : (k : Chosen) → Has kept k → k.refset ≡ refset
+    own_refset : (k : Chosen) → Has kept k → k.first ≡ refset
     own_refset k h = let r = value_kept k h in r.first_is ∙ (wanted_parts asked.wanted r.key r.row.wanted_so).first_is
 
-    own_component : (k : Chosen) (s : StampedRow) → Has kept k → StandsAt lists k.segment k.at s → component_of s.row ≡ k.target
+    own_component : (k : Chosen) (s : StampedRow) → Has kept k → StandsAt lists k.segment k.at s → component_of s.row ≡ k.second
     unfolding value_kept
     own_component k s h v =
         let r = value_kept k h in
         let own = own_row lists are edges posts asked test (path_of_values refset after last) ranked_cmp one_member kept a k s h v in
-        let second : component_of r.row.s.row ≡ k.target = ap (λ n. second_at n r.row.s.row.body) (sym (wanted_parts asked.wanted r.key r.row.wanted_so).tag_is) ∙ second_is r.row.s.row.active r.row.s.row.body r.key r.row.key_there ∙ sym r.second_is in
-        subst (λ (z : StampedRow). component_of z.row ≡ k.target) own second
+        let second : component_of r.row.s.row ≡ k.second = ap (λ n. second_at n r.row.s.row.body) (sym (wanted_parts asked.wanted r.key r.row.wanted_so).tag_is) ∙ second_is r.row.s.row.active r.row.s.row.body r.key r.row.key_there ∙ sym r.second_is in
+        subst (λ (z : StampedRow). component_of z.row ≡ k.second) own second
 
-    pub kept_rise : IsNonDecreasingBy (λ (k : Chosen). k.target) kept
+    pub kept_rise : IsNonDecreasingBy (λ (k : Chosen). k.second) kept
     kept_rise = targets_rise refset kept a.2.ascending own_refset
 
     ranks : (j k : Chosen) (s t : StampedRow) → Has kept j → Has kept k → StandsAt lists j.segment j.at s → StandsAt lists k.segment k.at t → ranked_cmp j k ≡ Less → value_cmp s.row t.row ≡ Less
@@ -129,15 +129,15 @@ module _ (lists : List (List StampedRow)) (are : ArePlaces (map places_of lists)
         let id_t : t.row.id ≡ k.at.key.id = ap (λ (q : Key). q.id) (sym (standing_row lists are k.segment k.at t w).1) in
         let component_s = own_component j s g v in
         let component_t = own_component k t h w in
-        let one : j.refset ≡ k.refset = own_refset j g ∙ sym (own_refset k h) in
-        let tie : nat_cmp j.refset k.refset ≡ Equal = sym (nat_cmp_is j.refset k.refset Equal one) in
+        let one : j.first ≡ k.first = own_refset j g ∙ sym (own_refset k h) in
+        let tie : nat_cmp j.first k.first ≡ Equal = sym (nat_cmp_is j.first k.first Equal one) in
         (λ i. ordering_then (nat_cmp (component_s i) (component_t i)) (nat_cmp (id_s i) (id_t i)))
-        ∙ sym (ap (λ o. ordering_then o (ordering_then (nat_cmp j.target k.target) (nat_cmp j.at.key.id k.at.key.id))) tie) ∙ less
+        ∙ sym (ap (λ o. ordering_then o (ordering_then (nat_cmp j.second k.second) (nat_cmp j.at.key.id k.at.key.id))) tie) ∙ less
 
     shown_up : IsAscending row_cmp (rows_seen as_of lists)
     shown_up = IsAscending-rows_at as_of.pin (listed lists) (IsAscending-listed lists)
 
-    pub values_from_found : (limit count : ℕ) → (last ≡ None) ⊎ (limit ≤ length kept) → IsCutAt limit (map {B = ℕ} (λ (k : Chosen). k.target) kept) count
+    pub values_from_found : (limit count : ℕ) → (last ≡ None) ⊎ (limit ≤ length kept) → IsCutAt limit (map {B = ℕ} (λ (k : Chosen). k.second) kept) count
         → (rows : List StampedRow) × StandAtAll lists (take count kept) rows × (map (λ (s : StampedRow). s.row) rows ≡ values refset as_of.date after limit (rows_seen as_of lists))
     unfolding values
     values_from_found limit count enough cut =

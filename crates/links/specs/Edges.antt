@@ -34,15 +34,13 @@ row_key tag first second active =
 -- an active association by its target and its reference set; and a member, active or not, by its
 -- reference set and the component that it refers to
 abbrev pub keys_of_body : Bool → Body → List RowKey
-keys_of_body active (body.Concept c) = []
-keys_of_body active (body.Description d) = []
 keys_of_body active (body.Relationship r) = if active && r.type_id == is_a
     then row_key tags.Child r.destination r.source true
     ∷ row_key tags.Parent r.source r.destination true ∷ [] else []
 keys_of_body active (body.Association a) =
     if active then row_key tags.Target a.target a.refset true ∷ [] else []
-keys_of_body active (body.Concrete c) = []
 keys_of_body active (body.Member m) = row_key tags.Member m.refset m.referenced active ∷ []
+keys_of_body active _ = []
 
 abbrev pub keys_of : RowValue → List RowKey
 keys_of row = keys_of_body row.active row.body

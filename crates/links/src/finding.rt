@@ -82,8 +82,8 @@ fn chosen(segment: usize, p: &Posting, at: RowPlace) -> Chosen
     Chosen {
         segment,
         at,
-        refset: p.first,
-        target: p.second,
+        first: p.first,
+        second: p.second,
     }
 }
 

@@ -57,8 +57,8 @@ fn chosen(segment: usize, at: RowPlace) -> Chosen
     Chosen {
         segment,
         at,
-        refset: 0,
-        target: 0,
+        first: 0,
+        second: 0,
     }
 }
 

@@ -31,7 +31,7 @@ use std::cmp::Ordering;
 fn compare(a: &Chosen, b: &Chosen) -> Ordering
     ensures { result ≡ ranked_cmp a.now b.now }
 {
-    a.refset.cmp(&b.refset).then(a.target.cmp(&b.target).then(a.at.key.id.cmp(&b.at.key.id)))
+    a.first.cmp(&b.first).then(a.second.cmp(&b.second).then(a.at.key.id.cmp(&b.at.key.id)))
 }
 
 fn is_same_member(a: &Chosen, b: &Chosen) -> bool
@@ -134,8 +134,8 @@ fn enough_by_component(
 /// How many places there are up to the one with the number `limit`, counted from 1, together with
 /// all that refer to the same component as that one.
 fn count_with_ties(kept: &[Chosen], limit: u32) -> usize
-    ensures { IsNonDecreasingBy (λ k. k.target) kept.now
-        → IsCutAt limit (map {B = ℕ} (λ k. k.target) kept.now) result }
+    ensures { IsNonDecreasingBy (λ k. k.second) kept.now
+        → IsCutAt limit (map {B = ℕ} (λ k. k.second) kept.now) result }
 {
     let limit = limit as usize;
     if limit == 0 {
@@ -144,8 +144,8 @@ fn count_with_ties(kept: &[Chosen], limit: u32) -> usize
     if kept.len() <= limit {
         return kept.len();
     }
-    let last = kept[limit - 1].target;
-    kept.partition_point(|k| k.target <= last)
+    let last = kept[limit - 1].second;
+    kept.partition_point(|k| k.second <= last)
 }
 
 /// The first `limit` active members of the reference set at the date that refer to a component

@@ -82,12 +82,8 @@ columns_stand shape v texts has h s =
 
 -- the shape that a row has
 further_count : Body → ℕ
-further_count (body.Concept c) = 0
-further_count (body.Description d) = 0
-further_count (body.Relationship r) = 0
-further_count (body.Association a) = 0
-further_count (body.Concrete c) = 0
 further_count (body.Member m) = length (further_columns m.further)
+further_count _ = 0
 
 own_count : (b : Body) → length (body_columns b) ≡ length (own_columns (shape_with (kind_of_body b) (further_count b)))
 unfolding further_count

@@ -80,12 +80,8 @@ own_layout kind.Member =
 
 -- the columns after these: `n` for members, and none for other kinds
 abbrev pub further_layout : Kind → ℕ → List Column
-further_layout kind.Concept n = []
-further_layout kind.Description n = []
-further_layout kind.Relationship n = []
-further_layout kind.Association n = []
-further_layout kind.Concrete n = []
 further_layout kind.Member n = replicate n Any
+further_layout _ n = []
 
 abbrev pub columns_in : List (List ℕ × Column) → List Column
 columns_in layout = map (λ c. c.1) layout

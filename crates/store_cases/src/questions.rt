@@ -5,7 +5,7 @@
 use crate::calls::spell_refusal;
 use case_files::Answer;
 use case_values::{Question, first_word, number, read_question, spell_text, split_prefix};
-use history_store::Refusal;
+use history_store::{IdQuestion, Refusal, RowQuestion};
 use std::alloc::{AllocError, Global};
 use test_support::Example;
 
@@ -27,20 +27,58 @@ fn lines_of_ids(alloc: Global, ids: &[u64]) -> Result<Vec<u8>, AllocError> {
     Ok(lines)
 }
 
-/// The concepts that a question finds.
-fn find_concepts(
-    alloc: Global,
-    store: &mut Example,
-    pin: u32,
-    question: Question,
-) -> Result<Vec<u8>, Refusal> {
-    let ids = match question {
-        Question::Children(id, date) => store.children(id.value(), date.value(), pin)?,
-        Question::Descendants(id, date) => store.descendants(id.value(), date.value(), pin)?,
-        Question::Ancestors(id, date) => store.ancestors(id.value(), date.value(), pin)?,
-        _ => Vec::new(alloc),
-    };
-    Ok(lines_of_ids(alloc, ids.as_slice())?)
+/// The question for rows, if it is one.
+fn rows_asked(question: Question, prefix: &str) -> Option<RowQuestion<'_>> {
+    match question {
+        Question::Get(kind, id, date) => Some(RowQuestion::Get { kind, id, date }),
+        Question::Versions(kind, id) => Some(RowQuestion::Versions { kind, id }),
+        Question::Replacements(id, date) => Some(RowQuestion::Replaced { id, date }),
+        Question::Replaces(id, date) => Some(RowQuestion::Replaces { id, date }),
+        Question::About(kind, id, date) => Some(RowQuestion::About { kind, id, date }),
+        Question::Timeline(kind, id) => Some(RowQuestion::Timeline { kind, id }),
+        Question::Page(kind, date, after, limit) => Some(RowQuestion::Page {
+            kind,
+            date,
+            after,
+            limit,
+        }),
+        Question::Delta(kind, from, date, after, limit) => Some(RowQuestion::Delta {
+            kind,
+            from,
+            date,
+            after,
+            limit,
+        }),
+        Question::Members(refset, date, after, limit) => Some(RowQuestion::Members {
+            refset,
+            date,
+            after,
+            limit,
+        }),
+        Question::Values(refset, date, after, limit) => Some(RowQuestion::Values {
+            refset,
+            date,
+            after,
+            limit,
+        }),
+        Question::Called(concept, date, refset) => Some(RowQuestion::Called {
+            concept,
+            date,
+            refset,
+        }),
+        Question::Terms(date, limit) => Some(RowQuestion::Terms {
+            prefix,
+            date,
+            limit,
+        }),
+        Question::Search(date, after, limit) => Some(RowQuestion::Search {
+            prefix,
+            date,
+            after,
+            limit,
+        }),
+        _ => None,
+    }
 }
 
 /// The lines that a question finds.
@@ -51,37 +89,17 @@ fn find(
     question: Question,
     prefix: &str,
 ) -> Result<Vec<u8>, Refusal> {
-    match question {
-        Question::Get(kind, id, date) => store.line_at(kind, id, date.value(), pin),
-        Question::Versions(kind, id) => store.versions(kind, id, pin),
-        Question::Replacements(id, date) => store.replacements(id.value(), date.value(), pin),
-        Question::Replaces(id, date) => store.replaces(id.value(), date.value(), pin),
-        Question::About(kind, id, date) => store.about(kind, id.value(), date.value(), pin),
-        Question::Timeline(kind, id) => store.timeline(kind, id.value(), pin),
-        Question::Page(kind, date, after, limit) => {
-            store.page(kind, date.value(), after, limit, pin)
-        }
-        Question::Delta(kind, from, date, after, limit) => {
-            store.delta(kind, from.value(), date.value(), after, limit, pin)
-        }
-        Question::Members(refset, date, after, limit) => {
-            store.members(refset.value(), date.value(), after, limit, pin)
-        }
-        Question::Values(refset, date, after, limit) => {
-            store.values(refset.value(), date.value(), after, limit, pin)
-        }
-        Question::Called(id, date, refset) => {
-            store.called(id.value(), date.value(), refset.value(), pin)
-        }
-        Question::Dates => store.dates(pin),
-        Question::Terms(date, limit) => store.terms(prefix, date.value(), limit, pin),
-        Question::Search(date, after, limit) => {
-            store.search(prefix, date.value(), after, limit, pin)
-        }
-        Question::Children(_, _) | Question::Descendants(_, _) | Question::Ancestors(_, _) => {
-            find_concepts(alloc, store, pin, question)
-        }
+    if let Some(rows) = rows_asked(question, prefix) {
+        return store.select(&rows, pin);
     }
+    let concepts = match question {
+        Question::Children(concept, date) => IdQuestion::Children { concept, date },
+        Question::Descendants(concept, date) => IdQuestion::Descendants { concept, date },
+        Question::Ancestors(concept, date) => IdQuestion::Ancestors { concept, date },
+        _ => return store.dates(pin),
+    };
+    let ids = store.ids(&concepts, pin)?;
+    Ok(lines_of_ids(alloc, ids.as_slice())?)
 }
 
 /// The answer to a question about the rows that a pin shows.

@@ -10,7 +10,8 @@ use Rattle.rf2_values.specs.Key.{key_of}
 use Rattle.history_model.specs.KeyOrder.{is_after, rows_after}
 use Rattle.disk_model.specs.View.{DiskView}
 use Rattle.history_store.specs.StoreValue.{StoreValue}
-use Rattle.history_store.specs.Queries.{IsRowsQuery}
+use Rattle.as_of_index.specs.Reader.{AreSame}
+use Rattle.history_store.specs.Queries.{IsRowsQueryBy}
 use Rattle.store_digest.specs.Digest.{text_line, text_of}
 use Rattle.store_digest.specs.Private.{IsNextAdded}
 use Rattle.store_digest.proofs.Composed.{answered_otherwise}
@@ -36,7 +37,7 @@ none_first [] e = refl
 none_first (row ∷ rest) e = absurd (cc)
 
 module _ {D : Type 0} (view : D → DiskView) (pin : ℕ) (after : Option Key) (old new : StoreValue D) where
-  pub row_added : {T : Type 0} (rows_of : T → List RowValue) (x : T) (row : RowValue) (key : Key) (before more : Sha256) → IsRowsQuery (Ok x) rows_of (rows_after after 1) pin view old new → slice_get (rows_of x) 0 ≡ Some row → key ≡ key_of row → ((m : List ℕ) → Holds256 before m → Holds256 more (m ++ text_line row)) → IsNextAdded (Ok (Some key)) after pin before more view old new
+  pub row_added : {T : Type 0} (rows_of : T → List RowValue) (x : T) (row : RowValue) (key : Key) (before more : Sha256) → IsRowsQueryBy AreSame (Ok x) rows_of (rows_after after 1) pin view old new → slice_get (rows_of x) 0 ≡ Some row → key ≡ key_of row → ((m : List ℕ) → Holds256 before m → Holds256 more (m ++ text_line row)) → IsNextAdded (Ok (Some key)) after pin before more view old new
   row_added rows_of x row key before more q first key_is holds =
       let one = one_only (rows_of x) row after _ first q.keys in
       let text : text_line row ≡ text_of (row ∷ []) = sym (append-nil (text_line row)) ∙ sym (flat_map-cons text_line row []) in
@@ -54,7 +55,7 @@ module _ {D : Type 0} (view : D → DiskView) (pin : ℕ) (after : Option Key) (
         bytes_read = q.bytes_read_always;
       }
 
-  pub none_added : {T : Type 0} (rows_of : T → List RowValue) (x : T) (hasher : Sha256) → IsRowsQuery (Ok x) rows_of (rows_after after 1) pin view old new → rows_of x ≡ [] → IsNextAdded (Ok None) after pin hasher hasher view old new
+  pub none_added : {T : Type 0} (rows_of : T → List RowValue) (x : T) (hasher : Sha256) → IsRowsQueryBy AreSame (Ok x) rows_of (rows_after after 1) pin view old new → rows_of x ≡ [] → IsNextAdded (Ok None) after pin hasher hasher view old new
   none_added rows_of x hasher q none = record {
     hashed = record {
       read = [];

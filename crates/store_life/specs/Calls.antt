@@ -50,16 +50,15 @@ ListingIsACall D view =
     (result : Result Contradictions Refusal)
     → IsListing result release limit view old new → IsCall view old Other new
 
--- by `query` of the answers of `get`, `versions`, `page`, `about`, `search`, `terms`, `timeline`,
--- `delta`, `members`, `values` and `called` (`IsRowsQuery`), of `replacements` and `replaces`
--- (`IsOrderedQuery`), and of `store_digest::digest` (`IsDigestQuery`)
+-- by `query` of the answers of `select` (`IsRowsQueryBy`) and of `store_digest::digest`
+-- (`IsDigestQuery`)
 abbrev pub QueryIsACall : (T D : Type 0) → (D → DiskView) → Type 0
 QueryIsACall T D view = (result : Result T Refusal) (old new : StoreValue D)
     → IsQuery result view old new
     → IsCall view old Other new
 
--- by `unchanged` of the answers of `children`, `ancestors`, `descendants` and `dates`
--- (`IsIndexQuery`), and for a call that only borrows the store
+-- by `unchanged` of the answers of `ids` and `dates` (`IsIndexQuery`), and for a call that only
+-- borrows the store
 abbrev pub UnchangedIsACall : (D : Type 0) → (D → DiskView) → Type 0
 UnchangedIsACall D view = (old new : StoreValue D) → new ≡ old → IsCall view old Other new
 

@@ -24,12 +24,8 @@ use Rattle.term_prefix.specs.Pushed.{term_of_body, posted_term, ArePosted, Poste
 
 -- the body is a description's, and this is the folding of its term
 abbrev pub HasFolded : List ℕ → Body → Type 0
-HasFolded text (body.Concept c) = ⊥
 HasFolded text (body.Description d) = folded d.term ≡ text
-HasFolded text (body.Relationship r) = ⊥
-HasFolded text (body.Association a) = ⊥
-HasFolded text (body.Concrete c) = ⊥
-HasFolded text (body.Member m) = ⊥
+HasFolded text _ = ⊥
 
 -- what a posting says of the row that has its number
 pub record IsTermOf (t : TermAt) (row : RowValue) : Type 0 where

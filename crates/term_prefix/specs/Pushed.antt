@@ -11,12 +11,8 @@ use Rattle.as_of_index.specs.Postings.{posted_all, AllPosted}
 use Rattle.term_prefix.specs.Terms.{TermAt}
 
 abbrev pub term_of_body : Body → ℕ → List TermAt
-term_of_body (body.Concept c) i = []
 term_of_body (body.Description d) i = record { folded = folded d.term; row = i } ∷ []
-term_of_body (body.Relationship r) i = []
-term_of_body (body.Association a) i = []
-term_of_body (body.Concrete c) i = []
-term_of_body (body.Member m) i = []
+term_of_body _ i = []
 
 -- the posting of row `i`: the folded term of an active description
 abbrev pub posted_term : RowValue → ℕ → List TermAt

@@ -90,8 +90,8 @@ fn keep(kept: &mut Vec<Chosen>, limit: u32, segment: usize, at: RowPlace) -> Res
             Chosen {
                 segment,
                 at,
-                refset: 0,
-                target: 0,
+                first: 0,
+                second: 0,
             },
         )?;
         kept.truncate(limit as usize);

@@ -25,7 +25,7 @@ const ROOT: u64 = 138_875_005;
 const CALLS: [(Call, Wanted, u32); 31] = [
     (
         Call::Row(Kind::Concept, 138_875_005, 20_230_131, 0),
-        Wanted::Line(""),
+        Wanted::Lines(&[]),
         0,
     ),
     (Call::Import(0), Wanted::Imported(1, 6, 0), 150),
@@ -40,12 +40,12 @@ const CALLS: [(Call, Wanted, u32); 31] = [
     (Call::Trim, Wanted::Number(0), 0),
     (
         Call::Row(Kind::Concept, STREET, 20_200_831, 3),
-        Wanted::Line("1000004|20200731|0|CORE|PRIM"),
+        Wanted::Lines(&["1000004|20200731|0|CORE|PRIM"]),
         40,
     ),
     (
         Call::Row(Kind::Concept, STREET, 20_200_831, 1),
-        Wanted::Line("1000004|20200131|1|CORE|PRIM"),
+        Wanted::Lines(&["1000004|20200131|1|CORE|PRIM"]),
         40,
     ),
     (

@@ -1,10 +1,10 @@
 //! Calls of the store, and their answers.
 
-use history_store::{Receipt, Refusal};
+use history_store::{IdQuestion, Receipt, Refusal, RowQuestion};
 use import_check::Release;
 use rf2_rows::Kind;
 use std::alloc::{AllocError, Global};
-use test_support::{Example, copy_of, line, lines};
+use test_support::{Example, copy_of, date_of, id_of, lines};
 
 /// A call.
 #[derive(Clone, Copy)]
@@ -40,8 +40,6 @@ pub enum Answer {
     Imported(Receipt),
     /// A number, which is 0 if the call has no result.
     Number(u64),
-    /// The line of a row without LF, or no bytes if there is no row.
-    Line(Vec<u8>),
     /// Lines, each with an LF.
     Lines(Vec<u8>),
     Ids(Vec<u64>),
@@ -52,7 +50,6 @@ pub enum Answer {
 pub enum Wanted {
     Imported(u32, u64, u64),
     Number(u64),
-    Line(&'static str),
     Lines(&'static [&'static str]),
     Ids(&'static [u64]),
 }
@@ -91,15 +88,44 @@ fn change(call: Call, store: &mut Example) -> Result<u64, Refusal> {
     }
 }
 
+/// Asks for rows.
+fn select(store: &mut Example, question: &RowQuestion<'_>, pin: u32) -> Result<Answer, Refusal> {
+    Ok(Answer::Lines(store.select(question, pin)?))
+}
+
+/// Asks for identifiers.
+fn find(store: &mut Example, question: &IdQuestion, pin: u32) -> Result<Answer, Refusal> {
+    Ok(Answer::Ids(store.ids(question, pin)?))
+}
+
 /// Makes a call for an audit, or any call that is left except an import.
 fn audit(call: Call, store: &mut Example, pin: u32) -> Result<Answer, Refusal> {
     match call {
-        Call::Descendants(id, date) => Ok(Answer::Ids(store.descendants(id, date, pin)?)),
-        Call::Ancestors(id, date) => Ok(Answer::Ids(store.ancestors(id, date, pin)?)),
-        Call::Replaces(id, date) => Ok(Answer::Lines(store.replaces(id, date, pin)?)),
-        Call::Timeline(kind, id) => Ok(Answer::Lines(store.timeline(kind, id, pin)?)),
+        Call::Descendants(id, date) => {
+            let (concept, date) = (id_of(id)?, date_of(date)?);
+            find(store, &IdQuestion::Descendants { concept, date }, pin)
+        }
+        Call::Ancestors(id, date) => {
+            let (concept, date) = (id_of(id)?, date_of(date)?);
+            find(store, &IdQuestion::Ancestors { concept, date }, pin)
+        }
+        Call::Replaces(id, date) => {
+            let (id, date) = (id_of(id)?, date_of(date)?);
+            select(store, &RowQuestion::Replaces { id, date }, pin)
+        }
+        Call::Timeline(kind, id) => {
+            let id = id_of(id)?;
+            select(store, &RowQuestion::Timeline { kind, id }, pin)
+        }
         Call::Delta(kind, from, date) => {
-            Ok(Answer::Lines(store.delta(kind, from, date, None, 10, pin)?))
+            let delta = RowQuestion::Delta {
+                kind,
+                from: date_of(from)?,
+                date: date_of(date)?,
+                after: None,
+                limit: 10,
+            };
+            select(store, &delta, pin)
         }
         Call::Dates => Ok(Answer::Lines(store.dates(pin)?)),
         _ => Ok(Answer::Number(change(call, store)?)),
@@ -110,15 +136,40 @@ fn audit(call: Call, store: &mut Example, pin: u32) -> Result<Answer, Refusal> {
 fn ask(call: Call, store: &mut Example) -> Result<Answer, Refusal> {
     let pin = store.imports();
     match call {
-        Call::Row(kind, id, date, pin) => Ok(Answer::Line(store.line_at(kind, id, date, pin)?)),
-        Call::History(kind, id, pin) => Ok(Answer::Lines(store.versions(kind, id, pin)?)),
-        Call::Page(kind, date, limit) => {
-            Ok(Answer::Lines(store.page(kind, date, None, limit, pin)?))
+        Call::Row(kind, id, date, pin) => {
+            let date = date_of(date)?;
+            select(store, &RowQuestion::Get { kind, id, date }, pin)
         }
-        Call::About(kind, id, date) => Ok(Answer::Lines(store.about(kind, id, date, pin)?)),
-        Call::Terms(prefix, date) => Ok(Answer::Lines(store.terms(prefix, date, 10, pin)?)),
-        Call::Children(id, date) => Ok(Answer::Ids(store.children(id, date, pin)?)),
-        Call::Replacements(id, date) => Ok(Answer::Lines(store.replacements(id, date, pin)?)),
+        Call::History(kind, id, pin) => select(store, &RowQuestion::Versions { kind, id }, pin),
+        Call::Page(kind, date, limit) => {
+            let page = RowQuestion::Page {
+                kind,
+                date: date_of(date)?,
+                after: None,
+                limit,
+            };
+            select(store, &page, pin)
+        }
+        Call::About(kind, id, date) => {
+            let (id, date) = (id_of(id)?, date_of(date)?);
+            select(store, &RowQuestion::About { kind, id, date }, pin)
+        }
+        Call::Terms(prefix, date) => {
+            let terms = RowQuestion::Terms {
+                prefix,
+                date: date_of(date)?,
+                limit: 10,
+            };
+            select(store, &terms, pin)
+        }
+        Call::Children(id, date) => {
+            let (concept, date) = (id_of(id)?, date_of(date)?);
+            find(store, &IdQuestion::Children { concept, date }, pin)
+        }
+        Call::Replacements(id, date) => {
+            let (id, date) = (id_of(id)?, date_of(date)?);
+            select(store, &RowQuestion::Replaced { id, date }, pin)
+        }
         _ => audit(call, store, pin),
     }
 }
@@ -143,9 +194,6 @@ pub fn is_wanted(alloc: Global, answer: &Answer, wanted: Wanted) -> Result<bool,
             Ok(*receipt == want)
         }
         (Answer::Number(found), Wanted::Number(number)) => Ok(*found == number),
-        (Answer::Line(found), Wanted::Line(row)) => {
-            Ok(found.as_slice() == line(alloc, row)?.as_bytes())
-        }
         (Answer::Lines(found), Wanted::Lines(rows)) => Ok(*found == lines(alloc, rows)?),
         (Answer::Ids(found), Wanted::Ids(ids)) => Ok(found.as_slice() == ids),
         _ => Ok(false),

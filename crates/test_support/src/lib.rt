@@ -14,7 +14,8 @@ mod text;
 
 pub use disks::{CHOICES, image_after, image_before_end, patch, put};
 pub use example::{Example, merged_disk};
+pub use queries::{date_of, id_of};
 pub use releases::{MISUSED, copy_of, of_bytes, one_file, root_years, sample_named};
 pub use sample_rows::holds;
 pub use scarcity::Scarcity;
-pub use text::{line, line_of, lines, lines_of};
+pub use text::{line, lines, lines_of};

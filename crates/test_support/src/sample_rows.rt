@@ -2,7 +2,7 @@
 
 use crate::example::Example;
 use crate::text::lines;
-use history_store::Refusal;
+use history_store::{Refusal, RowQuestion};
 use rf2_rows::Kind;
 use std::alloc::{AllocError, Global};
 
@@ -73,7 +73,11 @@ fn versions(alloc: Global, kind: Kind, id: u128, imports: u32) -> Result<Vec<u8>
 fn shows(alloc: Global, store: &mut Example, pin: u32) -> Result<bool, Refusal> {
     for (_, kind, id, _) in &ROWS {
         let want = versions(alloc, *kind, *id, pin)?;
-        if store.versions(*kind, *id, pin)?.as_slice() != want.as_slice() {
+        let versions = RowQuestion::Versions {
+            kind: *kind,
+            id: *id,
+        };
+        if store.select(&versions, pin)?.as_slice() != want.as_slice() {
             return Ok(false);
         }
     }

@@ -40,15 +40,6 @@ pub fn lines(alloc: Global, rows: &[&str]) -> Result<Vec<u8>, AllocError> {
     Ok(text)
 }
 
-/// The line of a row; no bytes if there is none.
-pub fn line_of(alloc: Global, row: Option<&Row>) -> Result<Vec<u8>, AllocError> {
-    let mut text = Vec::new(alloc);
-    if let Some(row) = row {
-        write_row(row, &mut text)?;
-    }
-    Ok(text)
-}
-
 /// Days as lines, each followed by an LF.
 pub fn lines_of_days(alloc: Global, days: &[EffectiveTime]) -> Result<Vec<u8>, AllocError> {
     let mut text = Vec::new(alloc);

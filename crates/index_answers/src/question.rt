@@ -1,0 +1,119 @@
+//! The questions.
+
+use rf2_values::{EffectiveTime, Key, Kind, Sctid};
+
+/// A question for rows, among those that a pin shows.
+#[derive(Clone, Copy)]
+pub enum RowQuestion<'a> {
+    /// The component's row at the date.
+    Get {
+        kind: Kind,
+        id: u128,
+        date: EffectiveTime,
+    },
+    /// All versions of the component, ascending by time.
+    Versions {
+        kind: Kind,
+        id: u128,
+    },
+    /// The first rows of a kind at the date, at most `limit`, ascending by id and with ids greater
+    /// than `after`, if that is given.
+    Page {
+        kind: Kind,
+        date: EffectiveTime,
+        after: Option<u128>,
+        limit: u32,
+    },
+    /// What changed from one date to another: the first rows of a kind at the date that are later
+    /// than `from`, at most `limit`, ascending by id and with ids greater than `after`, if that is
+    /// given.
+    Delta {
+        kind: Kind,
+        from: EffectiveTime,
+        date: EffectiveTime,
+        after: Option<u128>,
+        limit: u32,
+    },
+    /// Active descriptions whose term begins with the prefix, ignoring case: the first `limit`,
+    /// ascending by id.
+    Terms {
+        prefix: &'a str,
+        date: EffectiveTime,
+        limit: u32,
+    },
+    /// The same, with ids greater than `after`, if that is given.
+    Search {
+        prefix: &'a str,
+        date: EffectiveTime,
+        after: Option<u128>,
+        limit: u32,
+    },
+    /// The active rows of a kind that are about a component, ascending by id: the descriptions of a
+    /// concept, the relationships whose source it is, the associations that refer to it.
+    About {
+        kind: Kind,
+        id: Sctid,
+        date: EffectiveTime,
+    },
+    /// All versions of each component of a kind that ever had an active row about a component,
+    /// ascending by id, then by time.
+    Timeline {
+        kind: Kind,
+        id: Sctid,
+    },
+    /// The active associations whose referenced component is the given one, ascending by refset,
+    /// target and member. It takes one step: it doesn't follow a target further.
+    Replaced {
+        id: Sctid,
+        date: EffectiveTime,
+    },
+    /// The active associations of which a component is the target, ascending by refset, referenced
+    /// component and member: those that name it as a replacement of other components.
+    Replaces {
+        id: Sctid,
+        date: EffectiveTime,
+    },
+    /// The first members of a reference set, active or not, at most `limit`, ascending by id and
+    /// with ids greater than `after`, if that is given.
+    Members {
+        refset: Sctid,
+        date: EffectiveTime,
+        after: Option<u128>,
+        limit: u32,
+    },
+    /// The active members of a reference set that refer to a component greater than `after`, if
+    /// that is given, ascending by that component, then by id: the first `limit`, and with the last
+    /// of them all that refer to the same component.
+    Values {
+        refset: Sctid,
+        date: EffectiveTime,
+        after: Option<u64>,
+        limit: u32,
+    },
+    /// What a concept is called in a language: the active descriptions about it, ascending by id,
+    /// that have active members in the language's reference set, each followed by these members.
+    Called {
+        concept: Sctid,
+        date: EffectiveTime,
+        refset: Sctid,
+    },
+    /// The first `limit` rows whose keys are greater than `after`, if that is given, in key order,
+    /// whatever their dates.
+    After {
+        after: Option<Key>,
+        limit: u32,
+    },
+}
+
+/// A question for concepts at a date, ascending, among the rows that a pin shows.
+#[derive(Clone, Copy)]
+pub enum IdQuestion {
+    /// The sources of the active "is a" relationships to a concept.
+    Children { concept: Sctid, date: EffectiveTime },
+    /// All concepts above a concept: those that are reached from it by one or more active "is a"
+    /// relationships, each from a concept to a parent.
+    Ancestors { concept: Sctid, date: EffectiveTime },
+    /// All concepts below a concept: those that are reached from it by one or more active "is a"
+    /// relationships, each from a concept to a child.
+    Descendants { concept: Sctid, date: EffectiveTime },
+}

@@ -1,0 +1,147 @@
+//! Selects the rows that a question asks for.
+
+ghost use Rattle.std.specs.Prelude.{◌≡◌, IfOk, option_to_list};
+ghost use Rattle.history_model.specs.History.{rows_at};
+ghost use Rattle.history_model.specs.Lists.{listed};
+ghost use Rattle.history_model.specs.Queries.{get};
+ghost use Rattle.as_of_index.specs.Current.{rows_seen};
+ghost use Rattle.as_of_index.specs.Places.{Lists};
+ghost use Rattle.as_of_index.specs.Reader.{IsRowsRead, IsRowsReadBy};
+ghost use Rattle.index_answers.specs.Questions.{rows_for, SameKeysFor};
+
+use crate::question::RowQuestion;
+use as_of_index::{AsOf, Index, ReadFault, RowReader};
+use links::{about, called, members, replacements, replaces, timeline, values};
+use rf2_values::{Kind, Row};
+use segment_index::StoreIndex;
+use std::alloc::{AllocError, Global};
+use term_prefix::{Search, find};
+
+/// The row, if there is one, as a list.
+fn as_list(alloc: Global, row: Option<Row>) -> Result<Vec<Row>, AllocError>
+    ensures { IfOk result (λ rows. rows.items ≡ option_to_list row) }
+{
+    let mut rows = Vec::new(alloc);
+    if let Some(row) = row {
+        rows.push(row)?;
+    }
+    Ok(rows)
+}
+
+/// The component's row at the date, if there is one.
+fn get<R: RowReader>(
+    alloc: Global,
+    places: &Index,
+    reader: &mut R,
+    kind: Kind,
+    id: u128,
+    as_of: AsOf,
+) -> Result<Vec<Row>, ReadFault>
+    ensures answer { IsRowsRead result (λ rows. rows.items)
+        (λ lists. option_to_list (get kind id as_of.date (rows_seen as_of lists)))
+        (Lists places.now) R.cost (R.view reader.old) (R.view reader.new) }
+    ensures stays { R.stays reader.old reader.new }
+{
+    let found = places.get(reader, kind, id, as_of)?;
+    Ok(as_list(alloc, found)?)
+}
+
+/// The rows that a question finds in those that the first `pin` imports brought.
+pub fn select<R: RowReader>(
+    alloc: Global,
+    index: &StoreIndex,
+    reader: &mut R,
+    question: &RowQuestion<'_>,
+    pin: u32,
+) -> Result<Vec<Row>, ReadFault>
+    ensures answer { IsRowsReadBy (SameKeysFor question.now) result (λ rows. rows.items)
+        (λ lists. rows_for question.now (rows_at pin (listed lists))) (λ lists. lists ≡ index.now)
+        R.cost (R.view reader.old) (R.view reader.new) }
+    ensures stays { R.stays reader.old reader.new }
+{
+    let places = index.places();
+    let links = index.links();
+    match *question {
+        RowQuestion::Get { kind, id, date } => {
+            get(alloc, places, reader, kind, id, AsOf { date, pin })
+        }
+        RowQuestion::Versions { kind, id } => places.versions(reader, kind, id, pin),
+        RowQuestion::Page {
+            kind,
+            date,
+            after,
+            limit,
+        } => places.page(reader, kind, AsOf { date, pin }, after, limit),
+        RowQuestion::Delta {
+            kind,
+            from,
+            date,
+            after,
+            limit,
+        } => places.delta(reader, kind, from, AsOf { date, pin }, after, limit),
+        RowQuestion::Terms {
+            prefix,
+            date,
+            limit,
+        } => {
+            let search = Search {
+                as_of: AsOf { date, pin },
+                after: None,
+                limit,
+            };
+            find(alloc, index.terms(), places, reader, prefix, &search)
+        }
+        RowQuestion::Search {
+            prefix,
+            date,
+            after,
+            limit,
+        } => {
+            let search = Search {
+                as_of: AsOf { date, pin },
+                after,
+                limit,
+            };
+            find(alloc, index.terms(), places, reader, prefix, &search)
+        }
+        RowQuestion::About { kind, id, date } => {
+            about(alloc, links, places, reader, kind, id, AsOf { date, pin })
+        }
+        RowQuestion::Timeline { kind, id } => {
+            timeline(alloc, links, places, reader, kind, id, pin)
+        }
+        RowQuestion::Replaced { id, date } => {
+            replacements(alloc, links, places, reader, id, AsOf { date, pin })
+        }
+        RowQuestion::Replaces { id, date } => {
+            replaces(alloc, links, places, reader, id, AsOf { date, pin })
+        }
+        RowQuestion::Members {
+            refset,
+            date,
+            after,
+            limit,
+        } => {
+            let as_of = AsOf { date, pin };
+            members(alloc, links, places, reader, refset, as_of, after, limit)
+        }
+        RowQuestion::Values {
+            refset,
+            date,
+            after,
+            limit,
+        } => {
+            let as_of = AsOf { date, pin };
+            values(alloc, links, places, reader, refset, as_of, after, limit)
+        }
+        RowQuestion::Called {
+            concept,
+            date,
+            refset,
+        } => {
+            let as_of = AsOf { date, pin };
+            called(alloc, links, places, reader, concept, as_of, refset)
+        }
+        RowQuestion::After { after, limit } => places.rows_after(reader, after, limit, pin),
+    }
+}
