@@ -68,7 +68,7 @@ RUN_SECONDS, TIMES_LONGER = 60, 4
 NOT_TRIED = 3
 PIPE_SIZE = 1 << 16
 # Where the layouts stand in the two directories of a store, and layout 1.
-VERSIONS_AT = (4111, 12303)
+LAYOUTS_AT = (4111, 12303)
 VERSION_ONE = b"1"
 
 
@@ -659,7 +659,7 @@ class Soak:
         if made.returncode or made.stdout != b"OK\n":
             raise Wrong("init: %r, status %d" % (made.stdout, made.returncode))
         if self.seed % 3 == 1:
-            self.make_version_one()
+            self.make_layout_one()
         self.start()
         begun = time.monotonic()
         while time.monotonic() < begun + seconds * (TIMES_LONGER if self.untried() else 1):
@@ -683,10 +683,10 @@ class Soak:
         if status:
             raise Wrong("the program ended with the status %d" % status)
 
-    def make_version_one(self) -> None:
+    def make_layout_one(self) -> None:
         """Makes of the new store one of layout 1."""
         with open(self.store, "r+b") as file:
-            for at in VERSIONS_AT:
+            for at in LAYOUTS_AT:
                 file.seek(at - 7)
                 if file.read(7) == b"SCTHIST":
                     file.write(VERSION_ONE)

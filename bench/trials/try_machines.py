@@ -46,7 +46,7 @@ from proxy_harness import (
     NOT_RUN, ROOT, SECONDS, Client, Process, Proxy, gateway_words, hub_words, missing, ready, stop)
 from sctd_service.protocol import HubClient, HubFailed
 from tests.compare_releases import Comparison, Differs
-from tests.house import SCT, Json, version
+from tests.fixtures import SCT, Json, version
 from tests.release_files import Rows, Snapshot
 
 
@@ -276,7 +276,7 @@ class Judge(Comparison):
         return ""
 
 
-class House:
+class Site:
     """The machines, nginx, and what is known of them."""
 
     def __init__(self, program: str, place: Path, size: Size) -> None:
@@ -375,16 +375,16 @@ class House:
 class Asking:
     """Clients that ask, and what came of it."""
 
-    def __init__(self, house: House) -> None:
-        self.house, self.counts = house, Counter[str]()
+    def __init__(self, site: Site) -> None:
+        self.site, self.counts = site, Counter[str]()
         self.asked, self.faults, self.is_over = 0, list[str](), False
         self.threads = [
             threading.Thread(target=self.ask_all, args=(seed,))
-            for seed in range(house.size.clients)]
+            for seed in range(site.size.clients)]
 
     def ask_all(self, seed: int) -> None:
         chance, judge = random.Random(seed), Judge()
-        client = Client(self.house.proxy, self.house.proxy.user)
+        client = Client(self.site.proxy, self.site.proxy.user)
         while not self.is_over:
             try:
                 self.ask(client, judge, self.question(chance))
@@ -395,7 +395,7 @@ class Asking:
             time.sleep(BETWEEN_SECONDS)
 
     def question(self, chance: random.Random) -> Question:
-        latest = self.house.imports
+        latest = self.site.imports
         asked = latest if chance.random() < LATEST else chance.randint(1, latest)
         # (A day that a pin doesn't show is refused.)
         days = days_of(asked)
@@ -425,7 +425,7 @@ class Asking:
 
     def newest(self) -> int:
         """How many imports there may be, with the one that is made."""
-        return self.house.imports + 1
+        return self.site.imports + 1
 
     def answer(self, client: Client, path: str) -> tuple[int, Any, bytes]:
         """An answer. A connection that has ended before it came is made again, once, as each
@@ -444,7 +444,7 @@ class Asking:
     def refused(self, question: Question, began: float, why: str) -> None:
         self.counts["refused"] += 1
         self.counts["refused: " + why] += 1
-        if not self.house.may_refuse(question.pin, began, time.monotonic()):
+        if not self.site.may_refuse(question.pin, began, time.monotonic()):
             self.counts["refused without need"] += 1
             self.faults.append("%s: refused without need: %s" % (question.path, why))
 
@@ -466,87 +466,87 @@ class Asking:
             thread.join(SECONDS * 2)
 
 
-def disturb(house: House) -> None:
+def disturb(site: Site) -> None:
     """The next import, and what happens beside it."""
-    turn = (house.imports + 1) % ROUND
+    turn = (site.imports + 1) % ROUND
     if turn == KILL_WRITER:
-        house.kill_in_an_import()
+        site.kill_in_an_import()
     else:
-        house.import_next()
+        site.import_next()
     if turn == START_BALANCER:
-        house.start_proxy_again()
+        site.start_proxy_again()
     elif turn == KILL_READER:
-        house.near.kill()
+        site.near.kill()
     elif turn == START_READER:
-        house.back(house.near)
-    if house.imports % FED_EVERY == 0:
-        house.feed([house.near] if turn in BEHIND else [house.near, house.far])
+        site.back(site.near)
+    if site.imports % FED_EVERY == 0:
+        site.feed([site.near] if turn in BEHIND else [site.near, site.far])
 
 
-def refused_copies(house: House) -> None:
+def refused_copies(site: Site) -> None:
     """A copy that is cut short, one that is behind and one of other imports aren't taken."""
-    near, copies = house.near, house.near.place / "copies"
+    near, copies = site.near, site.near.place / "copies"
     whole = copies / "whole"
-    house.writer.asked("BACKUP %s" % whole, house.writer.own)
+    site.writer.asked("BACKUP %s" % whole, site.writer.own)
     short, behind, other = (copies / name for name in ("short", "behind", "other"))
     short.write_bytes(whole.read_bytes()[:-1])
-    run(house.program, "copy", "--imports", "1", "--store", str(whole), "--to", str(behind))
-    run(house.program, "init", "--store", str(other))
-    for number in [2, 1, *range(3, house.imports + 1)]:
-        run(house.program, "import", "--quiet", "--store", str(other),
-            str(house.place / "releases" / ("r%d" % number)))
+    run(site.program, "copy", "--imports", "1", "--store", str(whole), "--to", str(behind))
+    run(site.program, "init", "--store", str(other))
+    for number in [2, 1, *range(3, site.imports + 1)]:
+        run(site.program, "import", "--quiet", "--store", str(other),
+            str(site.place / "releases" / ("r%d" % number)))
     before = near.store.read_bytes()
     for copy, why in ((short, "status"), (behind, "it has 1 imports"), (other, "has an import")):
-        done = subprocess.run(house.taking(near, copy), capture_output=True, check=False)
+        done = subprocess.run(site.taking(near, copy), capture_output=True, check=False)
         said = done.stderr.decode()
         same("%s: status, why" % copy.name, (done.returncode, why in said), (1, True))
         same("the store, the copy", (near.store.read_bytes() == before, copy.exists()),
              (True, True))
-    same("the imports", near.imports(), house.imports)
+    same("the imports", near.imports(), site.imports)
 
 
-def tried(house: House) -> None:
-    size = house.size
-    house.import_next()
-    house.feed([house.near, house.far])
+def tried(site: Site) -> None:
+    size = site.size
+    site.import_next()
+    site.feed([site.near, site.far])
     began = time.monotonic()
-    with Asking(house) as asking:
-        while house.imports < size.imports:
-            asking.wait_for(size.requests * house.imports // size.imports)
-            disturb(house)
+    with Asking(site) as asking:
+        while site.imports < size.imports:
+            asking.wait_for(size.requests * site.imports // size.imports)
+            disturb(site)
         asking.wait_for(size.requests)
     counts = asking.counts
     if asking.faults:
         raise Wrong("; ".join(asking.faults[:TOLD]))
-    house.feed([house.near, house.far])
-    digests = {one.asked("DIGEST") for one in house.machines}
+    site.feed([site.near, site.far])
+    digests = {one.asked("DIGEST") for one in site.machines}
     same("how many digests the machines have", len(digests), 1)
     shown = ", ".join("%s: %d" % one for one in sorted(counts.items()))
     print("%d imports, %d requests in %.0f s: 0 wrong, 0 mixed; %s" % (
-        house.imports, asking.asked, time.monotonic() - began, shown), flush=True)
+        site.imports, asking.asked, time.monotonic() - began, shown), flush=True)
     for what in ("answered at a pin", "answered without a pin"):
         same("whether some were " + what, counts[what] > 0, True)
 
 
 @contextlib.contextmanager
-def a_house(program: str, size: Size) -> Iterator[House]:
+def a_site(program: str, size: Size) -> Iterator[Site]:
     with tempfile.TemporaryDirectory(prefix="sctd-machines-") as place:
         # (nginx's workers are another user's where it is started by root.)
         os.chmod(place, 0o755)
-        house = House(program, Path(place), size)
+        site = Site(program, Path(place), size)
         try:
-            house.start()
-            yield house
+            site.start()
+            yield site
         finally:
-            house.end()
+            site.end()
 
 
 def inside(program: str, size: Size) -> int:
     """The trial, in networks that nobody else has."""
     try:
-        with a_house(program, size) as house:
-            tried(house)
-            refused_copies(house)
+        with a_site(program, size) as site:
+            tried(site)
+            refused_copies(site)
             print("copies that aren't taken: as it has to be", flush=True)
     except (Wrong, HubFailed, OSError, http.client.HTTPException) as why:
         print("WRONG: %s" % why)

@@ -41,7 +41,7 @@ BETWEEN_SECONDS = 0.05
 LOOKUP = "/fhir/CodeSystem/$lookup?system=http://snomed.info/sct&code=2000001&date=2020-06-30"
 
 
-class House:
+class Site:
     """The hubs, the gateways and nginx, in a folder."""
 
     def __init__(self, program: str, place: Path) -> None:
@@ -92,17 +92,17 @@ class House:
             stop(process)
 
 
-def who_may_ask(house: House) -> None:
+def who_may_ask(site: Site) -> None:
     """Who has a certificate of the authority is answered, and nobody else; the log has the name."""
-    status, answer = house.client().get(LOOKUP)
+    status, answer = site.client().get(LOOKUP)
     same("with a certificate", (status, b'"valueString":"Path"' in answer), (200, True))
-    same("without one", Client(house.proxy, None).get(LOOKUP)[0], 400)
-    same("with one of another authority", Client(house.proxy, house.stranger).get(LOOKUP)[0], 400)
+    same("without one", Client(site.proxy, None).get(LOOKUP)[0], 400)
+    same("with one of another authority", Client(site.proxy, site.stranger).get(LOOKUP)[0], 400)
     for path in ("/metrics", "//metrics", "/x/../metrics", "/%6detrics"):
-        status, answer = house.client().get(path)
+        status, answer = site.client().get(path)
         same("%s, and whether it is nginx's" % path, (status, b"nginx" in answer), (404, True))
-    line = next(one for one in house.log() if one["status"] == 200)
-    same("the gateway that is logged", line["gateway"] in house.addresses, True)
+    line = next(one for one in site.log() if one["status"] == 200)
+    same("the gateway that is logged", line["gateway"] in site.addresses, True)
     wanted = {"user": USER.replace(",", "\\,"), "method": "GET", "request": LOOKUP, "pin": "1"}
     same("what is logged", {name: line[name] for name in wanted}, wanted)
 
@@ -110,13 +110,13 @@ def who_may_ask(house: House) -> None:
 class Asking:
     """Clients that ask one after the other, and keep what isn't as the first answer was."""
 
-    def __init__(self, house: House) -> None:
-        self.house, self.wanted = house, house.client().get(LOOKUP)
+    def __init__(self, site: Site) -> None:
+        self.site, self.wanted = site, site.client().get(LOOKUP)
         self.answered, self.others = 0, list[tuple[int, bytes]]()
         self.threads = [threading.Thread(target=self.ask) for _ in range(CLIENTS)]
 
     def ask(self) -> None:
-        client = self.house.client()
+        client = self.site.client()
         for _ in range(ASKED):
             found = client.get(LOOKUP)
             self.answered += 1
@@ -139,45 +139,45 @@ class Asking:
             thread.join(SECONDS * 2)
 
 
-def restarts(house: House) -> None:
+def restarts(site: Site) -> None:
     """Each gateway is ended and started again while clients ask: none of them notices."""
-    with Asking(house) as asking:
+    with Asking(site) as asking:
         for number in range(GATEWAYS):
-            house.gateways[number].send_signal(signal.SIGTERM)
-            same("the end of a gateway", house.gateways[number].wait(SECONDS), 0)
-            house.gateways[number] = house.start_gateway(number)
+            site.gateways[number].send_signal(signal.SIGTERM)
+            same("the end of a gateway", site.gateways[number].wait(SECONDS), 0)
+            site.gateways[number] = site.start_gateway(number)
     asking.look()
 
 
-def without_a_hub(house: House) -> None:
+def without_a_hub(site: Site) -> None:
     """A gateway whose hub has ended is passed over; without any hub the answer is 503."""
-    before = house.log()
+    before = site.log()
     used = {one for line in before for one in str(line["gateway"]).split(", ") if ":" in one}
     same("gateways that were asked", len(used), GATEWAYS)
-    with Asking(house) as asking:
-        house.hubs[1].send_signal(signal.SIGTERM)
-        same("the end of a hub", house.hubs[1].wait(SECONDS), 0)
+    with Asking(site) as asking:
+        site.hubs[1].send_signal(signal.SIGTERM)
+        same("the end of a hub", site.hubs[1].wait(SECONDS), 0)
     asking.look()
-    last = house.addresses[HUB_OF.index(1)] + ", "
-    later = house.log()[len(before) :]
+    last = site.addresses[HUB_OF.index(1)] + ", "
+    later = site.log()[len(before) :]
     passed_over = [line for line in later if str(line["gateway"]).startswith(last)]
     same("whether its gateway was passed over", passed_over != [], True)
-    house.hubs[0].send_signal(signal.SIGTERM)
-    same("the end of the other hub", house.hubs[0].wait(SECONDS), 0)
-    same("without a hub", house.client().get("/health")[0], 503)
+    site.hubs[0].send_signal(signal.SIGTERM)
+    same("the end of the other hub", site.hubs[0].wait(SECONDS), 0)
+    same("without a hub", site.client().get("/health")[0], 503)
 
 
 @contextlib.contextmanager
-def a_house(program: str) -> Iterator[House]:
+def a_site(program: str) -> Iterator[Site]:
     with tempfile.TemporaryDirectory(prefix="sctd-proxy-") as place:
         # (nginx's workers are another user's where it is started by root.)
         os.chmod(place, 0o755)
-        house = House(program, Path(place))
+        site = Site(program, Path(place))
         try:
-            house.start()
-            yield house
+            site.start()
+            yield site
         finally:
-            house.end()
+            site.end()
 
 
 def main(words: Sequence[str]) -> int:
@@ -188,9 +188,9 @@ def main(words: Sequence[str]) -> int:
         print("not run: there is no %s" % lacks)
         return NOT_RUN
     try:
-        with a_house(os.path.abspath(words[0])) as house:
+        with a_site(os.path.abspath(words[0])) as site:
             for trial in (who_may_ask, restarts, without_a_hub):
-                trial(house)
+                trial(site)
                 print("%s: as it has to be" % trial.__name__, flush=True)
     except (Wrong, HubFailed, OSError, http.client.HTTPException) as why:
         print("WRONG: %s" % why)
