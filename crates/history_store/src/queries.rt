@@ -49,9 +49,14 @@ impl<D: Disk> Store<D> {
     /// The rows that a question finds, among those that the first `pin` imports brought.
     pub fn select(&mut self, question: &RowQuestion<'_>, pin: u32) -> Result<Vec<Row>, Refusal>
         requires { pin ≤ self.old.history.imports }
+        // promise: an_answer_is_the_defined_one, keys_are_right_on_every_disk
+        // promise: no_damage_is_invented, a_question_changes_nothing
+        // promise: a_question_reads_only_its_rows, what_is_cached_is_not_read_again
+        // promise: few_calls_reach_the_disk, a_digest_is_that_of_the_rows
         ensures answer { IsRowsQueryBy (SameKeysFor question.now) result (λ rows. rows.items)
             (rows_for question.now) pin D.view self.old self.new }
         // On every disk the store's rows are in key order, each with the number of an import.
+        // promise: an_answer_is_the_defined_one, a_digest_is_that_of_the_rows
         ensures history { IsHistory self.old.history }
     {
         if self.needs_reopen {
@@ -71,6 +76,9 @@ impl<D: Disk> Store<D> {
     /// no row.
     pub fn ids(&mut self, question: &IdQuestion, pin: u32) -> Result<Vec<u64>, Refusal>
         requires { pin ≤ self.old.history.imports }
+        // promise: an_answer_is_the_defined_one, no_damage_is_invented, a_question_changes_nothing
+        // promise: what_is_cached_is_not_read_again, a_crash_leaves_the_old_or_the_new
+        // promise: few_calls_reach_the_disk, a_failed_disk_is_told
         ensures answer { IsIndexQuery result (λ ids rows. AreIdsFor question.now rows ids.items)
             pin self.old self.new }
     {
@@ -85,6 +93,9 @@ impl<D: Disk> Store<D> {
     /// `pin` imports brought. Reads no row.
     pub fn dates(&mut self, pin: u32) -> Result<Vec<EffectiveTime>, Refusal>
         requires { pin ≤ self.old.history.imports }
+        // promise: an_answer_is_the_defined_one, no_damage_is_invented, a_question_changes_nothing
+        // promise: what_is_cached_is_not_read_again, a_crash_leaves_the_old_or_the_new
+        // promise: few_calls_reach_the_disk, a_failed_disk_is_told
         ensures answer { IsIndexQuery result (λ times rows. times.items ≡ dates rows) pin
             self.old self.new }
     {
