@@ -19,6 +19,7 @@ pub fn ids(
     question: &IdQuestion,
     pin: u32,
 ) -> Result<Vec<u64>, AllocError>
+    // promise: an_answer_is_the_defined_one
     ensures { IfOk result (λ ids. AreIdsFor question.now (rows_at pin (listed index.now))
         ids.items) }
 {

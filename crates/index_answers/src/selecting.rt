@@ -54,6 +54,8 @@ pub fn select<R: RowReader>(
     question: &RowQuestion<'_>,
     pin: u32,
 ) -> Result<Vec<Row>, ReadFault>
+    // promise: an_answer_is_the_defined_one, keys_are_right_on_every_disk, no_damage_is_invented
+    // promise: a_question_reads_only_its_rows
     ensures answer { IsRowsReadBy (SameKeysFor question.now) result (λ rows. rows.items)
         (λ lists. rows_for question.now (rows_at pin (listed lists))) (λ lists. lists ≡ index.now)
         R.cost (R.view reader.old) (R.view reader.new) }
