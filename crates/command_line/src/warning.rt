@@ -3,7 +3,7 @@
 ghost use Rattle.command_line.specs.Tasks.{IsOnlyRead};
 
 use disk_model::Disk;
-use history_store::{Refusal, RowQuestion, Store};
+use history_store::{Refusal, Store};
 use import_check::ReleaseFile;
 use rf2_values::{EffectiveTime, Key, Kind, Sctid};
 use std::alloc::{AllocFailed, Global};
@@ -148,11 +148,7 @@ fn has_own_row<D: Disk>(module: u64, store: &mut Store<D>) -> Result<bool, Refus
     ensures { IsOnlyRead D.view store.old.disk store.new.disk }
 {
     let pin = store.imports();
-    let versions = RowQuestion::Versions {
-        kind: Kind::Concept,
-        id: u128::from(module),
-    };
-    let rows = store.select(&versions, pin)?;
+    let rows = store.versions(Kind::Concept, u128::from(module), pin)?;
     Ok(rows.iter().any(|row| row.module_id.value() == module))
 }
 
@@ -166,11 +162,7 @@ fn meet_next<D: Disk>(
     ensures { IsOnlyRead D.view store.old.disk store.new.disk }
 {
     let pin = store.imports();
-    let next = RowQuestion::After {
-        after,
-        limit: ROWS_AT_ONCE,
-    };
-    let rows = store.select(&next, pin)?;
+    let rows = store.rows_after(after, ROWS_AT_ONCE, pin)?;
     for row in &rows {
         unmet.remove(&row.module_id.value());
     }

@@ -10,6 +10,7 @@ mod brought;
 mod checking;
 mod contradicting;
 mod counting;
+mod key_order;
 mod known;
 mod latest;
 pub mod laws;
@@ -29,7 +30,7 @@ mod taken_blocks;
 
 pub use directory::Layout;
 pub use history_model::{ImportReceipt, Receipt};
-pub use index_answers::{IdQuestion, RowQuestion};
+pub use questions::{IdQuestion, RowQuestion};
 pub use refusal::Refusal;
 pub use store::Store;
 pub use store_image::Damage;

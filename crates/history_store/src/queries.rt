@@ -9,14 +9,16 @@ use crate::store::Store;
 use as_of_index::ReadFault;
 use disk_model::Disk;
 use history_model::ImportReceipt;
-use index_answers::{IdQuestion, RowQuestion, ids, select};
+use index_answers::{ids, select};
+use questions::{IdQuestion, RowQuestion};
 use rf2_rows::{EffectiveTime, Row};
 
 impl<D: Disk> Store<D> {
     ghost use Rattle.history_model.specs.Brought.{ImportReceiptOf};
-    ghost use Rattle.history_model.specs.History.{IsHistory};
     ghost use Rattle.history_model.specs.Queries.{dates};
-    ghost use Rattle.index_answers.specs.Questions.{rows_for, SameKeysFor, AreIdsFor};
+    ghost use Rattle.questions.specs.Questions.{row_question_of, id_question_of};
+    ghost use Rattle.questions.specs.Wanted.{rows_for, AreIdsFor};
+    ghost use Rattle.index_answers.specs.Keys.{SameKeysFor};
     ghost use Rattle.history_store.specs.Answers.{IsReadingOf};
     ghost use Rattle.history_store.specs.Queries.{IsRowsQueryBy, IsIndexQuery};
     ghost use Rattle.history_store.specs.Refusals.{of_read};
@@ -52,12 +54,10 @@ impl<D: Disk> Store<D> {
         // promise: an_answer_is_the_defined_one, keys_are_right_on_every_disk
         // promise: no_damage_is_invented, a_question_changes_nothing
         // promise: a_question_reads_only_its_rows, what_is_cached_is_not_read_again
-        // promise: few_calls_reach_the_disk, a_digest_is_that_of_the_rows
-        ensures answer { IsRowsQueryBy (SameKeysFor question.now) result (λ rows. rows.items)
-            (rows_for question.now) pin D.view self.old self.new }
-        // On every disk the store's rows are in key order, each with the number of an import.
-        // promise: an_answer_is_the_defined_one, a_digest_is_that_of_the_rows
-        ensures history { IsHistory self.old.history }
+        // promise: few_calls_reach_the_disk
+        ensures answer { IsRowsQueryBy (SameKeysFor (row_question_of question.now)) result
+            (λ rows. rows.items) (rows_for (row_question_of question.now)) pin D.view self.old
+            self.new }
     {
         if self.needs_reopen {
             return Err(Refusal::ReopenNeeded);
@@ -79,7 +79,7 @@ impl<D: Disk> Store<D> {
         // promise: an_answer_is_the_defined_one, no_damage_is_invented, a_question_changes_nothing
         // promise: what_is_cached_is_not_read_again, a_crash_leaves_the_old_or_the_new
         // promise: few_calls_reach_the_disk, a_failed_disk_is_told
-        ensures answer { IsIndexQuery result (λ ids rows. AreIdsFor question.now rows ids.items)
+        ensures answer { IsIndexQuery result (λ ids rows. AreIdsFor (id_question_of question.now) rows ids.items)
             pin self.old self.new }
     {
         if self.needs_reopen {

@@ -3,11 +3,12 @@
 ghost use Rattle.std.specs.Prelude.{IfOk};
 ghost use Rattle.history_model.specs.History.{rows_at};
 ghost use Rattle.history_model.specs.Lists.{listed};
-ghost use Rattle.index_answers.specs.Questions.{AreIdsFor};
+ghost use Rattle.questions.specs.Questions.{id_question_of};
+ghost use Rattle.questions.specs.Wanted.{AreIdsFor};
 
-use crate::question::IdQuestion;
 use as_of_index::AsOf;
 use links::{ancestors, children, descendants};
+use questions::IdQuestion;
 use segment_index::StoreIndex;
 use std::alloc::{AllocError, Global};
 
@@ -20,7 +21,7 @@ pub fn ids(
     pin: u32,
 ) -> Result<Vec<u64>, AllocError>
     // promise: an_answer_is_the_defined_one
-    ensures { IfOk result (λ ids. AreIdsFor question.now (rows_at pin (listed index.now))
+    ensures { IfOk result (λ ids. AreIdsFor (id_question_of question.now) (rows_at pin (listed index.now))
         ids.items) }
 {
     let places = index.places();

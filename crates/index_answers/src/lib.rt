@@ -3,9 +3,7 @@
 #![tactic(auto)]
 
 mod finding;
-mod question;
 mod selecting;
 
 pub use finding::ids;
-pub use question::{IdQuestion, RowQuestion};
 pub use selecting::select;

@@ -7,11 +7,13 @@ ghost use Rattle.history_model.specs.Queries.{get};
 ghost use Rattle.as_of_index.specs.Current.{rows_seen};
 ghost use Rattle.as_of_index.specs.Places.{Lists};
 ghost use Rattle.as_of_index.specs.Reader.{IsRowsRead, IsRowsReadBy};
-ghost use Rattle.index_answers.specs.Questions.{rows_for, SameKeysFor};
+ghost use Rattle.questions.specs.Questions.{row_question_of};
+ghost use Rattle.questions.specs.Wanted.{rows_for};
+ghost use Rattle.index_answers.specs.Keys.{SameKeysFor};
 
-use crate::question::RowQuestion;
 use as_of_index::{AsOf, Index, ReadFault, RowReader};
 use links::{about, called, members, replacements, replaces, timeline, values};
+use questions::RowQuestion;
 use rf2_values::{Kind, Row};
 use segment_index::StoreIndex;
 use std::alloc::{AllocError, Global};
@@ -56,8 +58,8 @@ pub fn select<R: RowReader>(
 ) -> Result<Vec<Row>, ReadFault>
     // promise: an_answer_is_the_defined_one, keys_are_right_on_every_disk, no_damage_is_invented
     // promise: a_question_reads_only_its_rows
-    ensures answer { IsRowsReadBy (SameKeysFor question.now) result (λ rows. rows.items)
-        (λ lists. rows_for question.now (rows_at pin (listed lists))) (λ lists. lists ≡ index.now)
+    ensures answer { IsRowsReadBy (SameKeysFor (row_question_of question.now)) result (λ rows. rows.items)
+        (λ lists. rows_for (row_question_of question.now) (rows_at pin (listed lists))) (λ lists. lists ≡ index.now)
         R.cost (R.view reader.old) (R.view reader.new) }
     ensures stays { R.stays reader.old reader.new }
 {
@@ -67,7 +69,7 @@ pub fn select<R: RowReader>(
         RowQuestion::Get { kind, id, date } => {
             get(alloc, places, reader, kind, id, AsOf { date, pin })
         }
-        RowQuestion::Versions { kind, id } => places.versions(reader, kind, id, pin),
+        RowQuestion::History { kind, id } => places.versions(reader, kind, id, pin),
         RowQuestion::Page {
             kind,
             date,
@@ -144,6 +146,5 @@ pub fn select<R: RowReader>(
             let as_of = AsOf { date, pin };
             called(alloc, links, places, reader, concept, as_of, refset)
         }
-        RowQuestion::After { after, limit } => places.rows_after(reader, after, limit, pin),
     }
 }

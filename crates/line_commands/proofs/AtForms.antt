@@ -6,7 +6,8 @@ use Rattle.std.proofs.lemmas.Bool.{false≢true}
 use Rattle.std.proofs.lemmas.Option.{none-some}
 use Rattle.line_commands.specs.declared.command.Command.{Command as RustCommand}
 use Rattle.line_commands.specs.declared.words.QuestionWord.{QuestionWord}
-use Rattle.line_commands.specs.Questions.{Question, word_of_question, SpellsQuestion}
+use Rattle.line_commands.specs.Spelling.{word_of_question, SpellsQuestion}
+use Rattle.questions.specs.Questions.{Question}
 use Rattle.line_commands.specs.Commands.{Command, Ask, At}
 use Rattle.line_commands.specs.Requests.{with_rest}
 use Rattle.line_commands.specs.Private.{IsWord, text_of_question, behind, IsSpelledQuestion, IsSpelled, IsReadAs}

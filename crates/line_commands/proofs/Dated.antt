@@ -5,7 +5,8 @@ use Rattle.std.specs.Str.{bytes_eq}
 use Rattle.std.proofs.lemmas.Bool.{false≢true}
 use Rattle.rf2_values.specs.Time.{IsTime}
 use Rattle.rf2_values.specs.Row.{IsConcept, IsComponent}
-use Rattle.line_commands.specs.Questions.{Question, Children, Ancestors, Descendants, Replaced, Replaces}
+use Rattle.questions.specs.Questions.{Question, Children, Ancestors, Descendants, Replaced, Get}
+use Rattle.questions.specs.Questions.{Replaces, ForRows, ForIds}
 use Rattle.line_commands.specs.Private.{IsWord, IsSpelledQuestion}
 use Rattle.line_commands.proofs.FirstWords.{decimal_word, no_space, peel}
 use Rattle.line_commands.proofs.Forms.{told}
@@ -32,22 +33,27 @@ module _ (text a x : List ℕ) (is_word : IsWord a) (cut : text ≡ a ++ 32 ∷ 
 
 module _ (text : List ℕ) (none : (n t : ℕ) → IsConcept n → IsTime t → text ≢ decimal n ++ 32 ∷ decimal t) where
   pub no_children : (question : Question) → IsSpelledQuestion (codes "CHILDREN") (Some text) question → ⊥
-  no_children (Children concept date) s = none concept date s.spelled.0 s.spelled.1 (told _ _ text _ s.rest_is s.spelled.2 refl)
+  no_children (ForIds (Children concept date)) s = none concept date s.spelled.0 s.spelled.1 (told _ _ text _ s.rest_is s.spelled.2 refl)
+  no_children (ForRows (Get kind id date)) s = false≢true (ap (bytes_eq (codes "CHILDREN")) s.word_is)
   no_children question s = false≢true (ap (bytes_eq (codes "CHILDREN")) s.word_is)
 
   pub no_ancestors : (question : Question) → IsSpelledQuestion (codes "ANCESTORS") (Some text) question → ⊥
-  no_ancestors (Ancestors concept date) s = none concept date s.spelled.0 s.spelled.1 (told _ _ text _ s.rest_is s.spelled.2 refl)
+  no_ancestors (ForIds (Ancestors concept date)) s = none concept date s.spelled.0 s.spelled.1 (told _ _ text _ s.rest_is s.spelled.2 refl)
+  no_ancestors (ForRows (Get kind id date)) s = false≢true (ap (bytes_eq (codes "ANCESTORS")) s.word_is)
   no_ancestors question s = false≢true (ap (bytes_eq (codes "ANCESTORS")) s.word_is)
 
   pub no_descendants : (question : Question) → IsSpelledQuestion (codes "DESCENDANTS") (Some text) question → ⊥
-  no_descendants (Descendants concept date) s = none concept date s.spelled.0 s.spelled.1 (told _ _ text _ s.rest_is s.spelled.2 refl)
+  no_descendants (ForIds (Descendants concept date)) s = none concept date s.spelled.0 s.spelled.1 (told _ _ text _ s.rest_is s.spelled.2 refl)
+  no_descendants (ForRows (Get kind id date)) s = false≢true (ap (bytes_eq (codes "DESCENDANTS")) s.word_is)
   no_descendants question s = false≢true (ap (bytes_eq (codes "DESCENDANTS")) s.word_is)
 
 module _ (text : List ℕ) (none : (n t : ℕ) → IsComponent n → IsTime t → text ≢ decimal n ++ 32 ∷ decimal t) where
   pub no_replaced : (question : Question) → IsSpelledQuestion (codes "REPLACED") (Some text) question → ⊥
-  no_replaced (Replaced id date) s = none id date s.spelled.0 s.spelled.1 (told _ _ text _ s.rest_is s.spelled.2 refl)
+  no_replaced (ForRows (Replaced id date)) s = none id date s.spelled.0 s.spelled.1 (told _ _ text _ s.rest_is s.spelled.2 refl)
+  no_replaced (ForIds (Children concept date)) s = false≢true (ap (bytes_eq (codes "REPLACED")) s.word_is)
   no_replaced question s = false≢true (ap (bytes_eq (codes "REPLACED")) s.word_is)
 
   pub no_replaces : (question : Question) → IsSpelledQuestion (codes "REPLACES") (Some text) question → ⊥
-  no_replaces (Replaces id date) s = none id date s.spelled.0 s.spelled.1 (told _ _ text _ s.rest_is s.spelled.2 refl)
+  no_replaces (ForRows (Replaces id date)) s = none id date s.spelled.0 s.spelled.1 (told _ _ text _ s.rest_is s.spelled.2 refl)
+  no_replaces (ForIds (Children concept date)) s = false≢true (ap (bytes_eq (codes "REPLACES")) s.word_is)
   no_replaces question s = false≢true (ap (bytes_eq (codes "REPLACES")) s.word_is)

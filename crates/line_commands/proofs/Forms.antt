@@ -10,8 +10,10 @@ use Rattle.rf2_values.specs.Member.{SpellsMember}
 use Rattle.rf2_values.specs.Time.{IsTime}
 use Rattle.rf2_values.specs.Row.{IsIdOf, SpellsId}
 use Rattle.rf2_values.proofs.Decimals.{time_below}
-use Rattle.line_commands.specs.declared.question.Question.{Question as RustQuestion}
-use Rattle.line_commands.specs.Questions.{Question, Get, History, Terms, Search, About, Timeline, Page, Delta, most_rows, letter, IsSubjectOf, SpellsAfter}
+use Rattle.questions.specs.declared.question.Question.{Question as RustQuestion}
+use Rattle.line_commands.specs.Spelling.{most_rows, letter, IsSubjectOf, SpellsAfter}
+use Rattle.questions.specs.Questions.{Question, Get, History, Terms, Search, About, Timeline}
+use Rattle.questions.specs.Questions.{Page, Delta, ForRows, ForIds, Children}
 use Rattle.line_commands.specs.Private.{IsWord, behind, IsSpelledQuestion, IsQuestionReadAs}
 use Rattle.line_commands.proofs.FirstWords.{decimal_word, letter_word, id_word, no_space, peel, one_letter}
 use Rattle.line_commands.proofs.Readings.{after_word, subject_below}
@@ -40,7 +42,8 @@ record GetForm (text : List ℕ) : Type 0 where
   whole : text ≡ letter kind ++ 32 ∷ (id_text ++ 32 ∷ decimal date)
 
 get_form : (text : List ℕ) (question : Question) → IsSpelledQuestion (codes "GET") (Some text) question → GetForm text
-get_form text (Get k id date) s = record { kind = k; id = id; date = date; id_text = s.spelled.0; is_id = s.spelled.1; spells = s.spelled.2; is_time = s.spelled.3; whole = told _ _ text _ s.rest_is s.spelled.4 refl }
+get_form text (ForRows (Get k id date)) s = record { kind = k; id = id; date = date; id_text = s.spelled.0; is_id = s.spelled.1; spells = s.spelled.2; is_time = s.spelled.3; whole = told _ _ text _ s.rest_is s.spelled.4 refl }
+get_form text (ForIds (Children concept date)) s = absurd (false≢true (ap (bytes_eq (codes "GET")) s.word_is))
 get_form text c s = absurd (false≢true (ap (bytes_eq (codes "GET")) s.word_is))
 
 record HistoryForm (text : List ℕ) : Type 0 where
@@ -52,7 +55,8 @@ record HistoryForm (text : List ℕ) : Type 0 where
   whole : text ≡ letter kind ++ 32 ∷ id_text
 
 history_form : (text : List ℕ) (question : Question) → IsSpelledQuestion (codes "HISTORY") (Some text) question → HistoryForm text
-history_form text (History k id) s = record { kind = k; id = id; id_text = s.spelled.0; is_id = s.spelled.1; spells = s.spelled.2; whole = told _ _ text _ s.rest_is s.spelled.3 refl }
+history_form text (ForRows (History k id)) s = record { kind = k; id = id; id_text = s.spelled.0; is_id = s.spelled.1; spells = s.spelled.2; whole = told _ _ text _ s.rest_is s.spelled.3 refl }
+history_form text (ForIds (Children concept date)) s = absurd (false≢true (ap (bytes_eq (codes "HISTORY")) s.word_is))
 history_form text c s = absurd (false≢true (ap (bytes_eq (codes "HISTORY")) s.word_is))
 
 record TermsForm (text : List ℕ) : Type 0 where
@@ -67,7 +71,8 @@ record TermsForm (text : List ℕ) : Type 0 where
   whole : text ≡ decimal date ++ 32 ∷ (decimal limit ++ 32 ∷ prefix)
 
 terms_form : (text : List ℕ) (question : Question) → IsSpelledQuestion (codes "TERMS") (Some text) question → TermsForm text
-terms_form text (Terms prefix date limit) s = record { date = date; limit = limit; prefix = prefix; is_time = s.spelled.0; low = s.spelled.1; high = s.spelled.2; some = s.spelled.3; utf8 = s.spelled.4; whole = told _ _ text _ s.rest_is s.spelled.5 refl }
+terms_form text (ForRows (Terms prefix date limit)) s = record { date = date; limit = limit; prefix = prefix; is_time = s.spelled.0; low = s.spelled.1; high = s.spelled.2; some = s.spelled.3; utf8 = s.spelled.4; whole = told _ _ text _ s.rest_is s.spelled.5 refl }
+terms_form text (ForIds (Children concept date)) s = absurd (false≢true (ap (bytes_eq (codes "TERMS")) s.word_is))
 terms_form text c s = absurd (false≢true (ap (bytes_eq (codes "TERMS")) s.word_is))
 
 record SearchForm (text : List ℕ) : Type 0 where
@@ -85,7 +90,7 @@ record SearchForm (text : List ℕ) : Type 0 where
   whole : text ≡ decimal date ++ 32 ∷ (after_text ++ 32 ∷ (decimal limit ++ 32 ∷ prefix))
 
 search_form : (text : List ℕ) (question : Question) → IsSpelledQuestion (codes "SEARCH") (Some text) question → SearchForm text
-search_form text (Search prefix date after limit) s = record {
+search_form text (ForRows (Search prefix date after limit)) s = record {
   date = date;
   after = after;
   limit = limit;
@@ -99,6 +104,7 @@ search_form text (Search prefix date after limit) s = record {
   utf8 = s.spelled.6;
   whole = told _ _ text _ s.rest_is s.spelled.7 refl;
 }
+search_form text (ForIds (Children concept date)) s = absurd (false≢true (ap (bytes_eq (codes "SEARCH")) s.word_is))
 search_form text c s = absurd (false≢true (ap (bytes_eq (codes "SEARCH")) s.word_is))
 
 record AboutForm (text : List ℕ) : Type 0 where
@@ -110,7 +116,8 @@ record AboutForm (text : List ℕ) : Type 0 where
   whole : text ≡ letter kind ++ 32 ∷ (decimal id ++ 32 ∷ decimal date)
 
 about_form : (text : List ℕ) (question : Question) → IsSpelledQuestion (codes "ABOUT") (Some text) question → AboutForm text
-about_form text (About k id date) s = record { kind = k; id = id; date = date; is_subject = s.spelled.0; is_time = s.spelled.1; whole = told _ _ text _ s.rest_is s.spelled.2 refl }
+about_form text (ForRows (About k id date)) s = record { kind = k; id = id; date = date; is_subject = s.spelled.0; is_time = s.spelled.1; whole = told _ _ text _ s.rest_is s.spelled.2 refl }
+about_form text (ForIds (Children concept date)) s = absurd (false≢true (ap (bytes_eq (codes "ABOUT")) s.word_is))
 about_form text c s = absurd (false≢true (ap (bytes_eq (codes "ABOUT")) s.word_is))
 
 record PageForm (text : List ℕ) : Type 0 where
@@ -126,7 +133,8 @@ record PageForm (text : List ℕ) : Type 0 where
   whole : text ≡ letter kind ++ 32 ∷ (decimal date ++ 32 ∷ (after_text ++ 32 ∷ decimal limit))
 
 page_form : (text : List ℕ) (question : Question) → IsSpelledQuestion (codes "PAGE") (Some text) question → PageForm text
-page_form text (Page k date after limit) s = record { kind = k; date = date; after = after; limit = limit; after_text = s.spelled.0; spells = s.spelled.1; is_time = s.spelled.2; low = s.spelled.3; high = s.spelled.4; whole = told _ _ text _ s.rest_is s.spelled.5 refl }
+page_form text (ForRows (Page k date after limit)) s = record { kind = k; date = date; after = after; limit = limit; after_text = s.spelled.0; spells = s.spelled.1; is_time = s.spelled.2; low = s.spelled.3; high = s.spelled.4; whole = told _ _ text _ s.rest_is s.spelled.5 refl }
+page_form text (ForIds (Children concept date)) s = absurd (false≢true (ap (bytes_eq (codes "PAGE")) s.word_is))
 page_form text c s = absurd (false≢true (ap (bytes_eq (codes "PAGE")) s.word_is))
 
 record TimelineForm (text : List ℕ) : Type 0 where
@@ -136,7 +144,8 @@ record TimelineForm (text : List ℕ) : Type 0 where
   whole : text ≡ letter kind ++ 32 ∷ decimal id
 
 timeline_form : (text : List ℕ) (question : Question) → IsSpelledQuestion (codes "TIMELINE") (Some text) question → TimelineForm text
-timeline_form text (Timeline k id) s = record { kind = k; id = id; is_subject = s.spelled.0; whole = told _ _ text _ s.rest_is s.spelled.1 refl }
+timeline_form text (ForRows (Timeline k id)) s = record { kind = k; id = id; is_subject = s.spelled.0; whole = told _ _ text _ s.rest_is s.spelled.1 refl }
+timeline_form text (ForIds (Children concept date)) s = absurd (false≢true (ap (bytes_eq (codes "TIMELINE")) s.word_is))
 timeline_form text c s = absurd (false≢true (ap (bytes_eq (codes "TIMELINE")) s.word_is))
 
 record DeltaForm (text : List ℕ) : Type 0 where
@@ -154,7 +163,7 @@ record DeltaForm (text : List ℕ) : Type 0 where
   whole : text ≡ letter kind ++ 32 ∷ (decimal from ++ 32 ∷ (decimal date ++ 32 ∷ (after_text ++ 32 ∷ decimal limit)))
 
 delta_form : (text : List ℕ) (question : Question) → IsSpelledQuestion (codes "DELTA") (Some text) question → DeltaForm text
-delta_form text (Delta k from date after limit) s = record {
+delta_form text (ForRows (Delta k from date after limit)) s = record {
   kind = k;
   from = from;
   date = date;
@@ -168,6 +177,7 @@ delta_form text (Delta k from date after limit) s = record {
   high = s.spelled.5;
   whole = told _ _ text _ s.rest_is s.spelled.6 refl;
 }
+delta_form text (ForIds (Children concept date)) s = absurd (false≢true (ap (bytes_eq (codes "DELTA")) s.word_is))
 delta_form text c s = absurd (false≢true (ap (bytes_eq (codes "DELTA")) s.word_is))
 
 -- an identifier or none under another name of the kind
@@ -397,7 +407,7 @@ module _ (text a x : List ℕ) (is_word : IsWord a) (cut : text ≡ a ++ 32 ∷ 
 
 -- ---- what was found
 
-pub history_found : (text a x : List ℕ) (k : Kind) (id : ℕ) → text ≡ a ++ 32 ∷ x → a ≡ letter k → IsIdOf k id → SpellsId k id x → IsSpelledQuestion (codes "HISTORY") (Some text) (History k id)
+pub history_found : (text a x : List ℕ) (k : Kind) (id : ℕ) → text ≡ a ++ 32 ∷ x → a ≡ letter k → IsIdOf k id → SpellsId k id x → IsSpelledQuestion (codes "HISTORY") (Some text) (ForRows (History k id))
 history_found text a x k id e f is spells = record {
   word_is = refl;
   arguments = letter k ∷ x ∷ [];
@@ -405,7 +415,7 @@ history_found text a x k id e f is spells = record {
   rest_is = ap (λ (t : List ℕ). Some (t ++ 32 ∷ x)) (sym f) ∙ ap (λ (t : List ℕ). Some t) (sym e);
 }
 
-pub get_found : (text a b x : List ℕ) (k : Kind) (id date : ℕ) → text ≡ a ++ 32 ∷ (b ++ 32 ∷ x) → a ≡ letter k → IsIdOf k id → SpellsId k id b → IsTime date → x ≡ decimal date → IsSpelledQuestion (codes "GET") (Some text) (Get k id date)
+pub get_found : (text a b x : List ℕ) (k : Kind) (id date : ℕ) → text ≡ a ++ 32 ∷ (b ++ 32 ∷ x) → a ≡ letter k → IsIdOf k id → SpellsId k id b → IsTime date → x ≡ decimal date → IsSpelledQuestion (codes "GET") (Some text) (ForRows (Get k id date))
 get_found text a b x k id date e f is spells time last = record {
   word_is = refl;
   arguments = letter k ∷ b ∷ decimal date ∷ [];
@@ -413,7 +423,7 @@ get_found text a b x k id date e f is spells time last = record {
   rest_is = ap (λ (t : List ℕ). Some (t ++ 32 ∷ (b ++ 32 ∷ decimal date))) (sym f) ∙ ap (λ (t : List ℕ). Some (a ++ 32 ∷ (b ++ 32 ∷ t))) (sym last) ∙ ap (λ (t : List ℕ). Some t) (sym e);
 }
 
-pub about_found : (text a b x : List ℕ) (k : Kind) (id date : ℕ) → text ≡ a ++ 32 ∷ (b ++ 32 ∷ x) → a ≡ letter k → IsSubjectOf k id → b ≡ decimal id → IsTime date → x ≡ decimal date → IsSpelledQuestion (codes "ABOUT") (Some text) (About k id date)
+pub about_found : (text a b x : List ℕ) (k : Kind) (id date : ℕ) → text ≡ a ++ 32 ∷ (b ++ 32 ∷ x) → a ≡ letter k → IsSubjectOf k id → b ≡ decimal id → IsTime date → x ≡ decimal date → IsSpelledQuestion (codes "ABOUT") (Some text) (ForRows (About k id date))
 about_found text a b x k id date e f is second time last = record {
   word_is = refl;
   arguments = letter k ∷ decimal id ∷ decimal date ∷ [];
@@ -422,7 +432,7 @@ about_found text a b x k id date e f is second time last = record {
 }
 
 pub terms_found : (text a b x prefix : List ℕ) (date limit : ℕ) → text ≡ a ++ 32 ∷ (b ++ 32 ∷ x) → IsTime date → a ≡ decimal date → 1 ≤ limit → limit ≤ most_rows → b ≡ decimal limit → 1 ≤ length prefix → IsUtf8 prefix → prefix ≡ x
-    → IsSpelledQuestion (codes "TERMS") (Some text) (Terms prefix date limit)
+    → IsSpelledQuestion (codes "TERMS") (Some text) (ForRows (Terms prefix date limit))
 terms_found text a b x prefix date limit e time day low high most some utf8 last = record {
   word_is = refl;
   arguments = decimal date ∷ decimal limit ∷ prefix ∷ [];
@@ -432,7 +442,7 @@ terms_found text a b x prefix date limit e time day low high most some utf8 last
 }
 
 pub search_found : (text a b x u y prefix : List ℕ) (date : ℕ) (after : Option ℕ) (limit : ℕ) → text ≡ a ++ 32 ∷ (b ++ 32 ∷ x) → x ≡ u ++ 32 ∷ y → IsTime date → a ≡ decimal date → SpellsAfter kinds.Description after b → 1 ≤ limit → limit ≤ most_rows → u ≡ decimal limit
-    → 1 ≤ length prefix → IsUtf8 prefix → prefix ≡ y → IsSpelledQuestion (codes "SEARCH") (Some text) (Search prefix date after limit)
+    → 1 ≤ length prefix → IsUtf8 prefix → prefix ≡ y → IsSpelledQuestion (codes "SEARCH") (Some text) (ForRows (Search prefix date after limit))
 search_found text a b x u y prefix date after limit e g time day spells low high most some utf8 last = record {
   word_is = refl;
   arguments = decimal date ∷ b ∷ decimal limit ∷ prefix ∷ [];
@@ -442,7 +452,7 @@ search_found text a b x u y prefix date after limit e g time day spells low high
 }
 
 pub page_found : (text a b x u y : List ℕ) (k : Kind) (date : ℕ) (after : Option ℕ) (limit : ℕ) → text ≡ a ++ 32 ∷ (b ++ 32 ∷ x) → x ≡ u ++ 32 ∷ y → a ≡ letter k → IsTime date → b ≡ decimal date → SpellsAfter k after u → 1 ≤ limit → limit ≤ most_rows → y ≡ decimal limit
-    → IsSpelledQuestion (codes "PAGE") (Some text) (Page k date after limit)
+    → IsSpelledQuestion (codes "PAGE") (Some text) (ForRows (Page k date after limit))
 page_found text a b x u y k date after limit e g f time day spells low high last = record {
   word_is = refl;
   arguments = letter k ∷ decimal date ∷ u ∷ decimal limit ∷ [];
@@ -451,7 +461,7 @@ page_found text a b x u y k date after limit e g f time day spells low high last
       ∙ ap (λ (t : List ℕ). Some (a ++ 32 ∷ (b ++ 32 ∷ (u ++ 32 ∷ t)))) (sym last) ∙ ap (λ (t : List ℕ). Some (a ++ 32 ∷ (b ++ 32 ∷ t))) (sym g) ∙ ap (λ (t : List ℕ). Some t) (sym e);
 }
 
-pub timeline_found : (text a x : List ℕ) (k : Kind) (id : ℕ) → text ≡ a ++ 32 ∷ x → a ≡ letter k → IsSubjectOf k id → x ≡ decimal id → IsSpelledQuestion (codes "TIMELINE") (Some text) (Timeline k id)
+pub timeline_found : (text a x : List ℕ) (k : Kind) (id : ℕ) → text ≡ a ++ 32 ∷ x → a ≡ letter k → IsSubjectOf k id → x ≡ decimal id → IsSpelledQuestion (codes "TIMELINE") (Some text) (ForRows (Timeline k id))
 timeline_found text a x k id e f is last = record {
   word_is = refl;
   arguments = letter k ∷ decimal id ∷ [];
@@ -460,7 +470,7 @@ timeline_found text a x k id e f is last = record {
 }
 
 pub delta_found : (text a b x u v y : List ℕ) (k : Kind) (from date : ℕ) (after : Option ℕ) (limit : ℕ) → text ≡ a ++ 32 ∷ (b ++ 32 ∷ x) → x ≡ u ++ 32 ∷ (v ++ 32 ∷ y) → a ≡ letter k → IsTime from → b ≡ decimal from → IsTime date → u ≡ decimal date
-    → SpellsAfter k after v → 1 ≤ limit → limit ≤ most_rows → y ≡ decimal limit → IsSpelledQuestion (codes "DELTA") (Some text) (Delta k from date after limit)
+    → SpellsAfter k after v → 1 ≤ limit → limit ≤ most_rows → y ≡ decimal limit → IsSpelledQuestion (codes "DELTA") (Some text) (ForRows (Delta k from date after limit))
 delta_found text a b x u v y k from date after limit e g f since first time day spells low high last = record {
   word_is = refl;
   arguments = letter k ∷ decimal from ∷ decimal date ∷ v ∷ decimal limit ∷ [];

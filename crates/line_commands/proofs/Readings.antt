@@ -1,6 +1,6 @@
 -- A line is read in one way.
 use Rattle.std.proofs.Common.{◌≡◌, ℕ, ◌<◌, ◌≤◌, ◌^◌, Option, Some, None, List, ◌∷◌, ◌++◌, refl, sym, ap, subst, ◌∙◌, arith, append_assoc}
-use Rattle.std.specs.Prelude.{decimal}
+use Rattle.std.specs.Prelude.{decimal, nat_eq}
 use Rattle.std.specs.Str.{bytes_eq}
 use Rattle.std.proofs.lemmas.Bool.{false≢true}
 use Rattle.std.proofs.lemmas.Option.{same_Some}
@@ -12,12 +12,17 @@ use Rattle.rf2_values.specs.Row.{IsIdOf, SpellsId, IsConcept, IsComponent}
 use Rattle.rf2_values.proofs.Ids.{same_ids}
 use Rattle.rf2_values.proofs.Decimals.{time_below}
 use Rattle.line_commands.specs.declared.unread.Unread.TheVariants as unread
-use Rattle.line_commands.specs.Questions.{Question, Get, History, Children, Ancestors, Descendants, Terms, Search, Replaced, Replaces, About, Timeline, Page, Delta, Members, Values, Called, Dates, Digest, Receipt, word_of_question, letter, IsSubjectOf, SpellsQuestion, SpellsAfter, SpellsComponentAfter, most_rows}
+use Rattle.line_commands.specs.Spelling.{word_of_question, letter, IsSubjectOf, SpellsQuestion, SpellsAfter, SpellsComponentAfter, most_rows}
+use Rattle.questions.specs.Questions.{Question, Get, History, Children, Ancestors, Descendants}
+use Rattle.questions.specs.Questions.{Terms, Search, Replaced, Replaces, About, Timeline, Page}
+use Rattle.questions.specs.Questions.{Delta, Members, Values, Called, Dates, Digest, Receipt}
+use Rattle.questions.specs.Questions.{ForRows, ForIds}
+use Rattle.questions.specs.Questions.{RowQuestion, IdQuestion}
 use Rattle.line_commands.specs.Commands.{Command, Ask, At, Import, Check, Pin, Unpin, Merge, Step, Publish, Abandon, Trim, Status, word_of, SpellsArguments}
 use Rattle.line_commands.specs.Requests.{with_rest, sessions, Asks, HasSession, HasCommand}
 use Rattle.line_commands.specs.Private.{IsWord, behind}
 use Rattle.line_commands.specs.Laws.{OneReading, AskedIsRead, OneRefusal}
-use Rattle.line_commands.proofs.FirstWords.{decimal_word, letter_word, question_is_word, command_is_word, none_word, id_word, peel, one_head, spaced_is, not_asked, one_letter, not_dash, no_dash_number}
+use Rattle.line_commands.proofs.FirstWords.{decimal_word, letter_word, question_is_word, command_is_word, none_word, id_word, peel, one_head, spaced_is, not_asked, one_letter, not_dash, no_dash_number, form, form_of, form_is}
 
 -- ---- one number, one identifier
 
@@ -102,8 +107,8 @@ same_refset_words refset other date day a b limit most h g time also is_word oth
 rest_same : (xs ys : List (List ℕ)) (x y : List (List ℕ)) → xs ≡ x → ys ≡ y → behind xs ≡ behind ys → behind x ≡ behind y
 rest_same xs ys x y e f same = sym (ap behind e) ∙ same ∙ ap behind f
 
-one_question : (p q : Question) (xs ys : List (List ℕ)) → word_of_question p ≡ word_of_question q → SpellsQuestion p xs → SpellsQuestion q ys → behind xs ≡ behind ys → p ≡ q
-one_question (Get k id date) (Get l jd day) xs ys w s t same =
+one_row_question : (p q : RowQuestion) (xs ys : List (List ℕ)) → word_of_question (ForRows p) ≡ word_of_question (ForRows q) → SpellsQuestion (ForRows p) xs → SpellsQuestion (ForRows q) ys → behind xs ≡ behind ys → p ≡ q
+one_row_question (Get k id date) (Get l jd day) xs ys w s t same =
     let whole = same_Some _ _ (rest_same xs ys _ _ s.4 t.4 same) in
     let first = peel (letter k) (letter l) _ _ (letter_word k) (letter_word l) whole in
     let second = peel s.0 t.0 _ _ (id_word k id s.0 s.1 s.2) (id_word l jd t.0 t.1 t.2) first.1 in
@@ -111,22 +116,13 @@ one_question (Get k id date) (Get l jd day) xs ys w s t same =
     let ids = same_ids_of k l id jd s.0 t.0 kind second.0 s.1 t.1 s.2 t.2 in
     let days = same_times date day s.3 t.3 second.1 in
     ap (λ (x : Kind). Get x id date) kind ∙ ap (λ (x : ℕ). Get l x date) ids ∙ ap (λ (x : ℕ). Get l jd x) days
-one_question (History k id) (History l jd) xs ys w s t same =
+one_row_question (History k id) (History l jd) xs ys w s t same =
     let whole = same_Some _ _ (rest_same xs ys _ _ s.3 t.3 same) in
     let first = peel (letter k) (letter l) _ _ (letter_word k) (letter_word l) whole in
     let kind = one_letter k l first.0 in
     let ids = same_ids_of k l id jd s.0 t.0 kind first.1 s.1 t.1 s.2 t.2 in
     ap (λ (x : Kind). History x id) kind ∙ ap (λ (x : ℕ). History l x) ids
-one_question (Children id date) (Children jd day) xs ys w s t same =
-    let e = same_concept_dates id jd date day s.0 t.0 s.1 t.1 (same_Some _ _ (rest_same xs ys _ _ s.2 t.2 same)) in
-    ap (λ (x : ℕ). Children x date) e.0 ∙ ap (λ (x : ℕ). Children jd x) e.1
-one_question (Ancestors id date) (Ancestors jd day) xs ys w s t same =
-    let e = same_concept_dates id jd date day s.0 t.0 s.1 t.1 (same_Some _ _ (rest_same xs ys _ _ s.2 t.2 same)) in
-    ap (λ (x : ℕ). Ancestors x date) e.0 ∙ ap (λ (x : ℕ). Ancestors jd x) e.1
-one_question (Descendants id date) (Descendants jd day) xs ys w s t same =
-    let e = same_concept_dates id jd date day s.0 t.0 s.1 t.1 (same_Some _ _ (rest_same xs ys _ _ s.2 t.2 same)) in
-    ap (λ (x : ℕ). Descendants x date) e.0 ∙ ap (λ (x : ℕ). Descendants jd x) e.1
-one_question (Terms prefix date limit) (Terms other day most) xs ys w s t same =
+one_row_question (Terms prefix date limit) (Terms other day most) xs ys w s t same =
     let whole = same_Some _ _ (rest_same xs ys _ _ s.5 t.5 same) in
     let first = peel (decimal date) (decimal day) _ _ (decimal_word date (time_below date s.0)) (decimal_word day (time_below day t.0)) whole in
     let low = s.2 in
@@ -135,7 +131,7 @@ one_question (Terms prefix date limit) (Terms other day most) xs ys w s t same =
     let days = same_times date day s.0 t.0 first.0 in
     let limits = decimal_injective limit most (omega arith) (omega arith) second.0 in
     ap (λ (x : ℕ). Terms prefix x limit) days ∙ ap (λ (x : ℕ). Terms prefix day x) limits ∙ ap (λ (x : List ℕ). Terms x day most) second.1
-one_question (Search prefix date after limit) (Search other day since most) xs ys w s t same =
+one_row_question (Search prefix date after limit) (Search other day since most) xs ys w s t same =
     let whole = same_Some _ _ (rest_same xs ys _ _ s.7 t.7 same) in
     let first = peel (decimal date) (decimal day) _ _ (decimal_word date (time_below date s.2)) (decimal_word day (time_below day t.2)) whole in
     let second = peel s.0 t.0 _ _ (after_word kinds.Description after s.0 s.1) (after_word kinds.Description since t.0 t.1) first.1 in
@@ -146,13 +142,13 @@ one_question (Search prefix date after limit) (Search other day since most) xs y
     let afters = same_after kinds.Description kinds.Description after since s.0 t.0 refl second.0 s.1 t.1 in
     let limits = decimal_injective limit most (omega arith) (omega arith) third.0 in
     ap (λ (x : ℕ). Search prefix x after limit) days ∙ ap (λ (x : Option ℕ). Search prefix day x limit) afters ∙ ap (λ (x : ℕ). Search prefix day since x) limits ∙ ap (λ (x : List ℕ). Search x day since most) third.1
-one_question (Replaced id date) (Replaced jd day) xs ys w s t same =
+one_row_question (Replaced id date) (Replaced jd day) xs ys w s t same =
     let e = same_component_dates id jd date day s.0 t.0 s.1 t.1 (same_Some _ _ (rest_same xs ys _ _ s.2 t.2 same)) in
     ap (λ (x : ℕ). Replaced x date) e.0 ∙ ap (λ (x : ℕ). Replaced jd x) e.1
-one_question (Replaces id date) (Replaces jd day) xs ys w s t same =
+one_row_question (Replaces id date) (Replaces jd day) xs ys w s t same =
     let e = same_component_dates id jd date day s.0 t.0 s.1 t.1 (same_Some _ _ (rest_same xs ys _ _ s.2 t.2 same)) in
     ap (λ (x : ℕ). Replaces x date) e.0 ∙ ap (λ (x : ℕ). Replaces jd x) e.1
-one_question (About k id date) (About l jd day) xs ys w s t same =
+one_row_question (About k id date) (About l jd day) xs ys w s t same =
     let whole = same_Some _ _ (rest_same xs ys _ _ s.2 t.2 same) in
     let first = peel (letter k) (letter l) _ _ (letter_word k) (letter_word l) whole in
     let second = peel (decimal id) (decimal jd) _ _ (decimal_word id (subject_below k id s.0)) (decimal_word jd (subject_below l jd t.0)) first.1 in
@@ -160,13 +156,13 @@ one_question (About k id date) (About l jd day) xs ys w s t same =
     let ids = decimal_injective id jd (subject_below k id s.0) (subject_below l jd t.0) second.0 in
     let days = same_times date day s.1 t.1 second.1 in
     ap (λ (x : Kind). About x id date) kind ∙ ap (λ (x : ℕ). About l x date) ids ∙ ap (λ (x : ℕ). About l jd x) days
-one_question (Timeline k id) (Timeline l jd) xs ys w s t same =
+one_row_question (Timeline k id) (Timeline l jd) xs ys w s t same =
     let whole = same_Some _ _ (rest_same xs ys _ _ s.1 t.1 same) in
     let first = peel (letter k) (letter l) _ _ (letter_word k) (letter_word l) whole in
     let kind = one_letter k l first.0 in
     let ids = decimal_injective id jd (subject_below k id s.0) (subject_below l jd t.0) first.1 in
     ap (λ (x : Kind). Timeline x id) kind ∙ ap (λ (x : ℕ). Timeline l x) ids
-one_question (Page k date after limit) (Page l day since most) xs ys w s t same =
+one_row_question (Page k date after limit) (Page l day since most) xs ys w s t same =
     let whole = same_Some _ _ (rest_same xs ys _ _ s.5 t.5 same) in
     let first = peel (letter k) (letter l) _ _ (letter_word k) (letter_word l) whole in
     let kind = one_letter k l first.0 in
@@ -178,7 +174,7 @@ one_question (Page k date after limit) (Page l day since most) xs ys w s t same 
     let limits = decimal_injective limit most (omega arith) (omega arith) third.1 in
     let afters = same_after k l after since s.0 t.0 kind third.0 s.1 t.1 in
     ap (λ (x : Kind). Page x date after limit) kind ∙ ap (λ (x : ℕ). Page l x after limit) days ∙ ap (λ (x : Option ℕ). Page l day x limit) afters ∙ ap (λ (x : ℕ). Page l day since x) limits
-one_question (Delta k from date after limit) (Delta l since day last most) xs ys w s t same =
+one_row_question (Delta k from date after limit) (Delta l since day last most) xs ys w s t same =
     let whole = same_Some _ _ (rest_same xs ys _ _ s.6 t.6 same) in
     let first = peel (letter k) (letter l) _ _ (letter_word k) (letter_word l) whole in
     let kind = one_letter k l first.0 in
@@ -192,15 +188,15 @@ one_question (Delta k from date after limit) (Delta l since day last most) xs ys
     let limits = decimal_injective limit most (omega arith) (omega arith) fourth.1 in
     let afters = same_after k l after last s.0 t.0 kind fourth.0 s.1 t.1 in
     ap (λ (x : Kind). Delta x from date after limit) kind ∙ ap (λ (x : ℕ). Delta l x date after limit) froms ∙ ap (λ (x : ℕ). Delta l since x after limit) days ∙ ap (λ (x : Option ℕ). Delta l since day x limit) afters ∙ ap (λ (x : ℕ). Delta l since day last x) limits
-one_question (Members refset date after limit) (Members other day since most) xs ys w s t same =
+one_row_question (Members refset date after limit) (Members other day since most) xs ys w s t same =
     let e = same_refset_words refset other date day s.0 t.0 limit most s.2 t.2 s.3 t.3 (after_word kinds.Member after s.0 s.1) (after_word kinds.Member since t.0 t.1) s.5 t.5 (same_Some _ _ (rest_same xs ys _ _ s.6 t.6 same)) in
     let afters = same_after kinds.Member kinds.Member after since s.0 t.0 refl e.2 s.1 t.1 in
     ap (λ (x : ℕ). Members x date after limit) e.0 ∙ ap (λ (x : ℕ). Members other x after limit) e.1 ∙ ap (λ (x : Option ℕ). Members other day x limit) afters ∙ ap (λ (x : ℕ). Members other day since x) e.3
-one_question (Values refset date after limit) (Values other day since most) xs ys w s t same =
+one_row_question (Values refset date after limit) (Values other day since most) xs ys w s t same =
     let e = same_refset_words refset other date day s.0 t.0 limit most s.2 t.2 s.3 t.3 (component_after_word after s.0 s.1) (component_after_word since t.0 t.1) s.5 t.5 (same_Some _ _ (rest_same xs ys _ _ s.6 t.6 same)) in
     let afters = same_component_after after since s.0 t.0 e.2 s.1 t.1 in
     ap (λ (x : ℕ). Values x date after limit) e.0 ∙ ap (λ (x : ℕ). Values other x after limit) e.1 ∙ ap (λ (x : Option ℕ). Values other day x limit) afters ∙ ap (λ (x : ℕ). Values other day since x) e.3
-one_question (Called concept date refset) (Called other day also) xs ys w s t same =
+one_row_question (Called concept date refset) (Called other day also) xs ys w s t same =
     let whole = same_Some _ _ (rest_same xs ys _ _ s.3 t.3 same) in
     let below = s.0.sctid.high in
     let under = t.0.sctid.high in
@@ -210,13 +206,30 @@ one_question (Called concept date refset) (Called other day also) xs ys w s t sa
     let days = same_times date day s.1 t.1 second.0 in
     let refsets = same_concepts refset also s.2 t.2 second.1 in
     ap (λ (x : ℕ). Called x date refset) concepts ∙ ap (λ (x : ℕ). Called other x refset) days ∙ ap (λ (x : ℕ). Called other day x) refsets
+one_row_question p q xs ys w s t same = absurd (false≢true (sym (ap (bytes_eq (word_of_question (ForRows p))) w)))
+
+one_id_question : (p q : IdQuestion) (xs ys : List (List ℕ)) → word_of_question (ForIds p) ≡ word_of_question (ForIds q) → SpellsQuestion (ForIds p) xs → SpellsQuestion (ForIds q) ys → behind xs ≡ behind ys → p ≡ q
+one_id_question (Children id date) (Children jd day) xs ys w s t same =
+    let e = same_concept_dates id jd date day s.0 t.0 s.1 t.1 (same_Some _ _ (rest_same xs ys _ _ s.2 t.2 same)) in
+    ap (λ (x : ℕ). Children x date) e.0 ∙ ap (λ (x : ℕ). Children jd x) e.1
+one_id_question (Ancestors id date) (Ancestors jd day) xs ys w s t same =
+    let e = same_concept_dates id jd date day s.0 t.0 s.1 t.1 (same_Some _ _ (rest_same xs ys _ _ s.2 t.2 same)) in
+    ap (λ (x : ℕ). Ancestors x date) e.0 ∙ ap (λ (x : ℕ). Ancestors jd x) e.1
+one_id_question (Descendants id date) (Descendants jd day) xs ys w s t same =
+    let e = same_concept_dates id jd date day s.0 t.0 s.1 t.1 (same_Some _ _ (rest_same xs ys _ _ s.2 t.2 same)) in
+    ap (λ (x : ℕ). Descendants x date) e.0 ∙ ap (λ (x : ℕ). Descendants jd x) e.1
+one_id_question p q xs ys w s t same = absurd (false≢true (sym (ap (bytes_eq (word_of_question (ForIds p))) w)))
+
+one_question : (p q : Question) (xs ys : List (List ℕ)) → word_of_question p ≡ word_of_question q → SpellsQuestion p xs → SpellsQuestion q ys → behind xs ≡ behind ys → p ≡ q
+one_question (ForRows p) (ForRows q) xs ys w s t same = ap ForRows (one_row_question p q xs ys w s t same)
+one_question (ForIds p) (ForIds q) xs ys w s t same = ap ForIds (one_id_question p q xs ys w s t same)
 one_question Dates Dates xs ys w s t same = refl
 one_question Digest Digest xs ys w s t same = refl
 one_question (Receipt m) (Receipt n) xs ys w s t same =
     let low = s.1 in
     let high = t.1 in
     ap (λ (x : ℕ). Receipt x) (decimal_injective m n (omega arith) (omega arith) (same_Some _ _ (rest_same xs ys _ _ s.2 t.2 same)))
-one_question p q xs ys w s t same = absurd (false≢true (sym (ap (bytes_eq (word_of_question p)) w)))
+one_question p q xs ys w s t same = absurd (false≢true (sym (ap (nat_eq (form_of p)) (sym (form_is p) ∙ ap form w ∙ form_is q))))
 
 -- ---- one command
 

@@ -7,7 +7,8 @@ use Rattle.rf2_values.specs.declared.row.Kind.TheVariants as kinds
 use Rattle.rf2_values.specs.Time.{IsTime}
 use Rattle.rf2_values.specs.Row.{IsConcept}
 use Rattle.rf2_values.proofs.Decimals.{time_below}
-use Rattle.line_commands.specs.Questions.{Question, Members, Values, Called, most_rows, SpellsAfter, SpellsComponentAfter}
+use Rattle.line_commands.specs.Spelling.{most_rows, SpellsAfter, SpellsComponentAfter}
+use Rattle.questions.specs.Questions.{Question, Members, Values, Called, ForRows, ForIds, Children}
 use Rattle.line_commands.specs.Private.{IsWord, IsSpelledQuestion}
 use Rattle.line_commands.proofs.FirstWords.{decimal_word, no_space, peel}
 use Rattle.line_commands.proofs.Forms.{told}
@@ -45,7 +46,7 @@ pub record RefsetForm (Spells : Option ℕ → List ℕ → Type 0) (text : List
   whole : text ≡ decimal refset ++ 32 ∷ (decimal date ++ 32 ∷ (word ++ 32 ∷ decimal limit))
 
 pub members_form : (text : List ℕ) (question : Question) → IsSpelledQuestion (codes "MEMBERS") (Some text) question → RefsetForm (SpellsAfter kinds.Member) text
-members_form text (Members refset date after limit) s = record {
+members_form text (ForRows (Members refset date after limit)) s = record {
   refset = refset;
   date = date;
   after = after;
@@ -59,10 +60,11 @@ members_form text (Members refset date after limit) s = record {
   high = s.spelled.5;
   whole = told _ _ text _ s.rest_is s.spelled.6 refl;
 }
+members_form text (ForIds (Children concept date)) s = absurd (false≢true (ap (bytes_eq (codes "MEMBERS")) s.word_is))
 members_form text c s = absurd (false≢true (ap (bytes_eq (codes "MEMBERS")) s.word_is))
 
 pub values_form : (text : List ℕ) (question : Question) → IsSpelledQuestion (codes "VALUES") (Some text) question → RefsetForm SpellsComponentAfter text
-values_form text (Values refset date after limit) s = record {
+values_form text (ForRows (Values refset date after limit)) s = record {
   refset = refset;
   date = date;
   after = after;
@@ -76,6 +78,7 @@ values_form text (Values refset date after limit) s = record {
   high = s.spelled.5;
   whole = told _ _ text _ s.rest_is s.spelled.6 refl;
 }
+values_form text (ForIds (Children concept date)) s = absurd (false≢true (ap (bytes_eq (codes "VALUES")) s.word_is))
 values_form text c s = absurd (false≢true (ap (bytes_eq (codes "VALUES")) s.word_is))
 
 module _ (Spells : Option ℕ → List ℕ → Type 0) (text : List ℕ) (f : RefsetForm Spells text) where
@@ -107,10 +110,10 @@ module _ (text a b u y : List ℕ) (refset date : ℕ) (after : Option ℕ) (lim
   respelled last = ap (λ (t : List ℕ). Some (t ++ 32 ∷ (decimal date ++ 32 ∷ (u ++ 32 ∷ decimal limit)))) (sym first) ∙ ap (λ (t : List ℕ). Some (a ++ 32 ∷ (t ++ 32 ∷ (u ++ 32 ∷ decimal limit)))) (sym day)
       ∙ ap (λ (t : List ℕ). Some (a ++ 32 ∷ (b ++ 32 ∷ (u ++ 32 ∷ t)))) (sym last) ∙ ap (λ (t : List ℕ). Some t) (sym cut)
 
-  pub members_found : SpellsAfter kinds.Member after u → 1 ≤ limit → limit ≤ most_rows → y ≡ decimal limit → IsSpelledQuestion (codes "MEMBERS") (Some text) (Members refset date after limit)
+  pub members_found : SpellsAfter kinds.Member after u → 1 ≤ limit → limit ≤ most_rows → y ≡ decimal limit → IsSpelledQuestion (codes "MEMBERS") (Some text) (ForRows (Members refset date after limit))
   members_found spells low high last = record { word_is = refl; arguments = decimal refset ∷ decimal date ∷ u ∷ decimal limit ∷ []; spelled = (u, spells, concept, time, low, high, refl); rest_is = respelled last }
 
-  pub values_found : SpellsComponentAfter after u → 1 ≤ limit → limit ≤ most_rows → y ≡ decimal limit → IsSpelledQuestion (codes "VALUES") (Some text) (Values refset date after limit)
+  pub values_found : SpellsComponentAfter after u → 1 ≤ limit → limit ≤ most_rows → y ≡ decimal limit → IsSpelledQuestion (codes "VALUES") (Some text) (ForRows (Values refset date after limit))
   values_found spells low high last = record { word_is = refl; arguments = decimal refset ∷ decimal date ∷ u ∷ decimal limit ∷ []; spelled = (u, spells, concept, time, low, high, refl); rest_is = respelled last }
 
 -- ---- CALLED
@@ -125,7 +128,8 @@ record CalledForm (text : List ℕ) : Type 0 where
   whole : text ≡ decimal concept ++ 32 ∷ (decimal date ++ 32 ∷ decimal refset)
 
 called_form : (text : List ℕ) (question : Question) → IsSpelledQuestion (codes "CALLED") (Some text) question → CalledForm text
-called_form text (Called concept date refset) s = record { concept = concept; date = date; refset = refset; is_concept = s.spelled.0; is_time = s.spelled.1; is_refset = s.spelled.2; whole = told _ _ text _ s.rest_is s.spelled.3 refl }
+called_form text (ForRows (Called concept date refset)) s = record { concept = concept; date = date; refset = refset; is_concept = s.spelled.0; is_time = s.spelled.1; is_refset = s.spelled.2; whole = told _ _ text _ s.rest_is s.spelled.3 refl }
+called_form text (ForIds (Children concept date)) s = absurd (false≢true (ap (bytes_eq (codes "CALLED")) s.word_is))
 called_form text c s = absurd (false≢true (ap (bytes_eq (codes "CALLED")) s.word_is))
 
 pub called_uncut : (text : List ℕ) → ((a b x : List ℕ) → IsWord a → IsWord b → text ≢ a ++ 32 ∷ (b ++ 32 ∷ x)) → (question : Question) → IsSpelledQuestion (codes "CALLED") (Some text) question → ⊥
@@ -147,7 +151,7 @@ module _ (text a b x : List ℕ) (is_word : IsWord a) (other_word : IsWord b) (c
   pub called_no_refset : ((n : ℕ) → IsConcept n → x ≢ decimal n) → ⊥
   called_no_refset none = let f = called_form text question s in none f.refset f.is_refset (called_apart f).2
 
-pub called_found : (text a b x : List ℕ) (concept date refset : ℕ) → text ≡ a ++ 32 ∷ (b ++ 32 ∷ x) → IsConcept concept → a ≡ decimal concept → IsTime date → b ≡ decimal date → IsConcept refset → x ≡ decimal refset → IsSpelledQuestion (codes "CALLED") (Some text) (Called concept date refset)
+pub called_found : (text a b x : List ℕ) (concept date refset : ℕ) → text ≡ a ++ 32 ∷ (b ++ 32 ∷ x) → IsConcept concept → a ≡ decimal concept → IsTime date → b ≡ decimal date → IsConcept refset → x ≡ decimal refset → IsSpelledQuestion (codes "CALLED") (Some text) (ForRows (Called concept date refset))
 called_found text a b x concept date refset e is first time day also last = record {
   word_is = refl;
   arguments = decimal concept ∷ decimal date ∷ decimal refset ∷ [];

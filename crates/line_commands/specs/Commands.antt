@@ -2,7 +2,8 @@
 use Rattle.std.specs.Prelude.{◌≡◌, ℕ, ◌≤◌, ◌<◌, ◌^◌, List, [], ◌∷◌, codes, decimal, Option, Some}
 use Rattle.std.specs.Prelude.{None}
 use Rattle.line_commands.specs.Names.{IsName}
-use Rattle.line_commands.specs.Questions.{Question, word_of_question, SpellsQuestion}
+use Rattle.line_commands.specs.Spelling.{word_of_question, SpellsQuestion}
+use Rattle.questions.specs.Questions.{Question}
 
 pub data Command : Type 0 where
   Ask : (question : Question) → Command

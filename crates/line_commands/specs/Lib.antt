@@ -1,7 +1,8 @@
 pub use Rattle.rf2_values.specs.Row
 pub use Rattle.rf2_values.specs.Time
+pub use Rattle.questions.specs.Questions
 pub mod Names
-pub mod Questions
+pub mod Spelling
 pub mod Commands
 pub mod Requests
 pub mod Laws

@@ -5,8 +5,8 @@ ghost use Rattle.std.specs.Prelude.{length};
 ghost use Rattle.std.specs.Str.{IsUtf8};
 ghost use Rattle.rf2_values.specs.Member.{SpellsMember};
 ghost use Rattle.rf2_values.specs.Row.{IsOfClass, IsComponent, IsIdOf, SpellsId};
-ghost use Rattle.line_commands.specs.Questions.{letter, IsSubjectOf, SpellsAfter};
-ghost use Rattle.line_commands.specs.Questions.{SpellsComponentAfter};
+ghost use Rattle.line_commands.specs.Spelling.{letter, IsSubjectOf, SpellsAfter};
+ghost use Rattle.line_commands.specs.Spelling.{SpellsComponentAfter};
 ghost use Rattle.line_commands.specs.Requests.{sessions};
 
 use crate::command::SESSIONS;

@@ -8,12 +8,10 @@ mod command;
 pub mod laws;
 mod names;
 mod parsing;
-mod question;
 mod questions;
 mod unread;
 mod words;
 
 pub use command::{Command, REQUEST_LIMIT, Request, SESSIONS};
 pub use parsing::{check_request, import_request, parse};
-pub use question::Question;
 pub use unread::Unread;

@@ -10,8 +10,8 @@ ghost use Rattle.line_commands.specs.Private.{IsQuestionReadAs, text_of_question
 use crate::columns::{
     after, component, component_after, identifier, kind, limit, prefix, sctid_of, subject,
 };
-use crate::question::Question;
 use crate::words::{QuestionWord, cut, cut_thrice, cut_twice};
+use questions::{IdQuestion, Question, RowQuestion};
 use rf2_values::{Class, EffectiveTime, Kind, Sctid};
 
 /// The greatest number of rows that can be asked for.
@@ -48,7 +48,7 @@ fn get(text: &[u8]) -> Option<Question<'_>>
     let kind = kind(letter)?;
     let id = identifier(kind, id)?;
     let date = EffectiveTime::parse(day)?;
-    Some(Question::Get { kind, id, date })
+    Some(Question::ForRows(RowQuestion::Get { kind, id, date }))
 }
 
 fn history(text: &[u8]) -> Option<Question<'_>>
@@ -57,28 +57,28 @@ fn history(text: &[u8]) -> Option<Question<'_>>
     let (letter, id) = cut(text)?;
     let kind = kind(letter)?;
     let id = identifier(kind, id)?;
-    Some(Question::History { kind, id })
+    Some(Question::ForRows(RowQuestion::History { kind, id }))
 }
 
 fn children(text: &[u8]) -> Option<Question<'_>>
     ensures { IsQuestionReadAs (codes "CHILDREN") (Some text.now) result }
 {
     let (concept, date) = concept_and_date(text)?;
-    Some(Question::Children { concept, date })
+    Some(Question::ForIds(IdQuestion::Children { concept, date }))
 }
 
 fn ancestors(text: &[u8]) -> Option<Question<'_>>
     ensures { IsQuestionReadAs (codes "ANCESTORS") (Some text.now) result }
 {
     let (concept, date) = concept_and_date(text)?;
-    Some(Question::Ancestors { concept, date })
+    Some(Question::ForIds(IdQuestion::Ancestors { concept, date }))
 }
 
 fn descendants(text: &[u8]) -> Option<Question<'_>>
     ensures { IsQuestionReadAs (codes "DESCENDANTS") (Some text.now) result }
 {
     let (concept, date) = concept_and_date(text)?;
-    Some(Question::Descendants { concept, date })
+    Some(Question::ForIds(IdQuestion::Descendants { concept, date }))
 }
 
 fn terms(text: &[u8]) -> Option<Question<'_>>
@@ -88,11 +88,11 @@ fn terms(text: &[u8]) -> Option<Question<'_>>
     let date = EffectiveTime::parse(day)?;
     let limit = limit(most, MOST_ROWS)?;
     let prefix = prefix(rest)?;
-    Some(Question::Terms {
+    Some(Question::ForRows(RowQuestion::Terms {
         prefix,
         date,
         limit,
-    })
+    }))
 }
 
 fn search(text: &[u8]) -> Option<Question<'_>>
@@ -104,26 +104,26 @@ fn search(text: &[u8]) -> Option<Question<'_>>
     let after = after(Kind::Description, from)?;
     let limit = limit(most, MOST_ROWS)?;
     let prefix = prefix(rest)?;
-    Some(Question::Search {
+    Some(Question::ForRows(RowQuestion::Search {
         prefix,
         date,
         after,
         limit,
-    })
+    }))
 }
 
 fn replaced(text: &[u8]) -> Option<Question<'_>>
     ensures { IsQuestionReadAs (codes "REPLACED") (Some text.now) result }
 {
     let (id, date) = component_and_date(text)?;
-    Some(Question::Replaced { id, date })
+    Some(Question::ForRows(RowQuestion::Replaced { id, date }))
 }
 
 fn replaces(text: &[u8]) -> Option<Question<'_>>
     ensures { IsQuestionReadAs (codes "REPLACES") (Some text.now) result }
 {
     let (id, date) = component_and_date(text)?;
-    Some(Question::Replaces { id, date })
+    Some(Question::ForRows(RowQuestion::Replaces { id, date }))
 }
 
 fn about(text: &[u8]) -> Option<Question<'_>>
@@ -133,7 +133,7 @@ fn about(text: &[u8]) -> Option<Question<'_>>
     let kind = kind(letter)?;
     let id = subject(kind, id)?;
     let date = EffectiveTime::parse(day)?;
-    Some(Question::About { kind, id, date })
+    Some(Question::ForRows(RowQuestion::About { kind, id, date }))
 }
 
 fn timeline(text: &[u8]) -> Option<Question<'_>>
@@ -142,7 +142,7 @@ fn timeline(text: &[u8]) -> Option<Question<'_>>
     let (letter, id) = cut(text)?;
     let kind = kind(letter)?;
     let id = subject(kind, id)?;
-    Some(Question::Timeline { kind, id })
+    Some(Question::ForRows(RowQuestion::Timeline { kind, id }))
 }
 
 fn page(text: &[u8]) -> Option<Question<'_>>
@@ -154,12 +154,12 @@ fn page(text: &[u8]) -> Option<Question<'_>>
     let date = EffectiveTime::parse(day)?;
     let after = after(kind, from)?;
     let limit = limit(count, MOST_ROWS)?;
-    Some(Question::Page {
+    Some(Question::ForRows(RowQuestion::Page {
         kind,
         date,
         after,
         limit,
-    })
+    }))
 }
 
 fn delta(text: &[u8]) -> Option<Question<'_>>
@@ -172,13 +172,13 @@ fn delta(text: &[u8]) -> Option<Question<'_>>
     let date = EffectiveTime::parse(day)?;
     let after = after(kind, last)?;
     let limit = limit(count, MOST_ROWS)?;
-    Some(Question::Delta {
+    Some(Question::ForRows(RowQuestion::Delta {
         kind,
         from,
         date,
         after,
         limit,
-    })
+    }))
 }
 
 fn members(text: &[u8]) -> Option<Question<'_>>
@@ -189,12 +189,12 @@ fn members(text: &[u8]) -> Option<Question<'_>>
     let date = EffectiveTime::parse(day)?;
     let after = after(Kind::Member, from)?;
     let limit = limit(count, MOST_ROWS)?;
-    Some(Question::Members {
+    Some(Question::ForRows(RowQuestion::Members {
         refset,
         date,
         after,
         limit,
-    })
+    }))
 }
 
 fn values(text: &[u8]) -> Option<Question<'_>>
@@ -205,12 +205,12 @@ fn values(text: &[u8]) -> Option<Question<'_>>
     let date = EffectiveTime::parse(day)?;
     let after = component_after(from)?;
     let limit = limit(count, MOST_ROWS)?;
-    Some(Question::Values {
+    Some(Question::ForRows(RowQuestion::Values {
         refset,
         date,
         after,
         limit,
-    })
+    }))
 }
 
 fn called(text: &[u8]) -> Option<Question<'_>>
@@ -220,11 +220,11 @@ fn called(text: &[u8]) -> Option<Question<'_>>
     let concept = sctid_of(named, Class::Concept)?;
     let date = EffectiveTime::parse(day)?;
     let refset = sctid_of(language, Class::Concept)?;
-    Some(Question::Called {
+    Some(Question::ForRows(RowQuestion::Called {
         concept,
         date,
         refset,
-    })
+    }))
 }
 
 fn receipt(text: &[u8]) -> Option<Question<'_>>

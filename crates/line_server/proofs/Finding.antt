@@ -6,7 +6,8 @@ use Rattle.history_model.specs.History.{rows_at}
 use Rattle.history_model.proofs.Hierarchy.{one_list_of_ancestors, one_list_of_descendants}
 use Rattle.history_store.specs.declared.refusal.Refusal.{Refusal}
 use Rattle.history_store.specs.declared.refusal.Refusal.TheVariants as store
-use Rattle.line_commands.specs.Questions.{Question, Get, History, Children, Ancestors, Descendants, Terms, Search, Replaced, Replaces, About, Timeline, Page, Delta, Members, Values, Called, Dates, Digest, Receipt}
+use Rattle.questions.specs.Questions.{Question, Children, Ancestors, Descendants, Dates, Digest, Receipt, ForRows, ForIds, IdQuestion}
+use Rattle.questions.specs.Wanted.{AreIdsFor}
 use Rattle.line_server.specs.declared.refusal.LineRefusal.{LineRefusal}
 use Rattle.line_server.specs.declared.refusal.LineRefusal.TheVariants as refusals
 use Rattle.line_server.specs.ReplyValue.{Answer, Ids}
@@ -31,27 +32,19 @@ AsksFound _ = Unit {0}
 
 -- ---- one answer
 
+-- a question asks for one list of identifiers
+one_list_of_ids : (question : IdQuestion) (rows : List RowValue) (ids others : List ℕ) → AreIdsFor question rows ids → AreIdsFor question rows others → ids ≡ others
+one_list_of_ids (Children concept date) rows ids others are also = are ∙ sym also
+one_list_of_ids (Ancestors concept date) rows ids others are also = one_list_of_ancestors concept date rows ids others are also
+one_list_of_ids (Descendants concept date) rows ids others are also = one_list_of_descendants concept date rows ids others are also
+
 -- a question finds one answer
 pub one_found : (question : Question) (rows : List RowValue) (x y : Answer) → IsFound question rows x → IsFound question rows y → x ≡ y
-one_found (Ancestors concept date) rows x y (ids, are, is) (others, also, so) = is ∙ ap Ids (one_list_of_ancestors concept date rows ids others are also) ∙ sym so
-one_found (Descendants concept date) rows x y (ids, are, is) (others, also, so) = is ∙ ap Ids (one_list_of_descendants concept date rows ids others are also) ∙ sym so
-one_found (Receipt number) rows x y h k = absurd h
-one_found (Get kind id date) rows x y h k = h ∙ sym k
-one_found (History kind id) rows x y h k = h ∙ sym k
-one_found (Children concept date) rows x y h k = h ∙ sym k
-one_found (Terms prefix date limit) rows x y h k = h ∙ sym k
-one_found (Search prefix date after limit) rows x y h k = h ∙ sym k
-one_found (Replaced id date) rows x y h k = h ∙ sym k
-one_found (Replaces id date) rows x y h k = h ∙ sym k
-one_found (About kind id date) rows x y h k = h ∙ sym k
-one_found (Timeline kind id) rows x y h k = h ∙ sym k
-one_found (Page kind date after limit) rows x y h k = h ∙ sym k
-one_found (Delta kind from date after limit) rows x y h k = h ∙ sym k
-one_found (Members refset date after limit) rows x y h k = h ∙ sym k
-one_found (Values refset date after limit) rows x y h k = h ∙ sym k
-one_found (Called concept date refset) rows x y h k = h ∙ sym k
+one_found (ForRows question) rows x y h k = h ∙ sym k
+one_found (ForIds question) rows x y (ids, are, is) (others, also, so) = is ∙ ap Ids (one_list_of_ids question rows ids others are also) ∙ sym so
 one_found Dates rows x y h k = h ∙ sym k
 one_found Digest rows x y h k = h ∙ sym k
+one_found (Receipt number) rows x y h k = absurd h
 
 -- ---- how a question comes out
 
@@ -77,9 +70,7 @@ module _ {D : Type 0} (honest : Type 0) (up : honest) (seen : ℕ) (old new : Se
   answer_found : (question : Question) (answer : Answer) → AsksFound question → IsAnswerAt honest seen question answer old new
       → (old.store.needs_reopen ≡ false) × Same old new × IsFound question (rows_at seen old.store.history.rows) answer
   answer_found (Receipt number) answer q a = absurd q
-  answer_found (Children concept date) answer q a = (a.0, a.1, a.2)
-  answer_found (Ancestors concept date) answer q a = (a.0, a.1, a.2)
-  answer_found (Descendants concept date) answer q a = (a.0, a.1, a.2)
+  answer_found (ForIds ids) answer q a = (a.0, a.1, a.2)
   answer_found Dates answer q a = (a.0, a.1, a.2)
   answer_found Digest answer q a = (a.0, a.1, a.2.4 up)
   answer_found question answer q a = (a.0, a.1, a.2.3 up)
@@ -102,9 +93,7 @@ module _ {D : Type 0} (honest : Type 0) (up : honest) (seen : ℕ) (old new : Se
   refused : (question : Question) (refusal : Refusal) → AsksFound question → IsSure (Err (refusals.Store refusal)) → IsRefusalAt honest seen question refusal old new
       → IsShut (Err (refusals.Store refusal)) old × Same old new
   refused (Receipt number) refusal q sure r = absurd q
-  refused (Children concept date) refusal q sure r = unlisted refusal sure r
-  refused (Ancestors concept date) refusal q sure r = unlisted refusal sure r
-  refused (Descendants concept date) refusal q sure r = unlisted refusal sure r
+  refused (ForIds ids) refusal q sure r = unlisted refusal sure r
   refused Dates refusal q sure r = unlisted refusal sure r
   refused question refusal q sure r = unfound question refusal sure r
 

@@ -13,7 +13,7 @@ use Rattle.history_store.specs.Queries.{is_listed}
 use Rattle.blocks.proofs.Looked.{none_looks_up}
 use Rattle.history_store.specs.Answers.{CountsRefusal}
 use Rattle.line_commands.specs.declared.unread.Unread.{Unread}
-use Rattle.line_commands.specs.Questions.{Question, Children, Ancestors, Descendants, Dates, Digest, Receipt as AskReceipt}
+use Rattle.questions.specs.Questions.{Question, Dates, Digest, Receipt as AskReceipt, ForRows, ForIds}
 use Rattle.line_commands.specs.Commands.{Command, Ask, At, Import, Check, Pin, Unpin, Merge, Step, Publish, Status}
 use Rattle.line_commands.specs.Requests.{Asks, IsUnread}
 use Rattle.line_commands.proofs.Readings.{asked_is_read, one_reading}
@@ -50,24 +50,18 @@ IsUnlisted refusal s = ((refusal ≡ store.ReopenNeeded) × (s.needs_reopen ≡ 
 module _ {D : Type 0} (view : D → DiskView) (pin : ℕ) (s : StoreValue D) where
   index_answer : (question : Question) (answer : Answer) (state : StateValue) → AsksIndex question → s.needs_reopen ≡ false → IsFound question (rows_at pin s.history.rows) answer
       → IsAnswerAt (view s.disk).is_honest pin question answer (server state s) (server state s)
-  index_answer (Children concept date) answer state q still f = (still, same_from (server state s) (server state s) refl, f)
-  index_answer (Ancestors concept date) answer state q still f = (still, same_from (server state s) (server state s) refl, f)
-  index_answer (Descendants concept date) answer state q still f = (still, same_from (server state s) (server state s) refl, f)
+  index_answer (ForIds ids) answer state q still f = (still, same_from (server state s) (server state s) refl, f)
   index_answer Dates answer state q still f = (still, same_from (server state s) (server state s) refl, f)
   index_answer question answer state q still f = absurd q
 
   index_refused : (question : Question) (refusal : Refusal) (old new : Server D) → AsksIndex question → IsClosed refusal old new ⊎ IsLacking refusal old new
       → IsRefusalAt (view s.disk).is_honest pin question refusal old new
-  index_refused (Children concept date) refusal old new q why = why
-  index_refused (Ancestors concept date) refusal old new q why = why
-  index_refused (Descendants concept date) refusal old new q why = why
+  index_refused (ForIds ids) refusal old new q why = why
   index_refused Dates refusal old new q why = why
   index_refused question refusal old new q why = absurd q
 
   index_left : (question : Question) (outcome : Result Answer LineRefusal) → AsksIndex question → LeavesAsked view pin question outcome s s
-  index_left (Children concept date) outcome q = refl
-  index_left (Ancestors concept date) outcome q = refl
-  index_left (Descendants concept date) outcome q = refl
+  index_left (ForIds ids) outcome q = refl
   index_left Dates outcome q = refl
   index_left question outcome q = absurd q
 
@@ -169,13 +163,11 @@ module _ {D : Type 0} (view : D → DiskView) (number pin : ℕ) (s : StoreValue
 
 -- what a question leaves that is refused before the store is asked
 unasked_left : {D : Type 0} (view : D → DiskView) (seen : ℕ) (question : Question) (refusal : LineRefusal) (s : StoreValue D) → LeavesAsked view seen question (Err refusal) s s
-unasked_left view seen (Children concept date) refusal s = refl
-unasked_left view seen (Ancestors concept date) refusal s = refl
-unasked_left view seen (Descendants concept date) refusal s = refl
+unasked_left view seen (ForIds ids) refusal s = refl
 unasked_left view seen Dates refusal s = refl
 unasked_left view seen (AskReceipt other) refusal s = refl
 unasked_left view seen Digest refusal s = ((λ h. refl, none_looks_up (is_listed s.catalog.entries) s.cache (view s.disk).bytes_read), omega arith)
-unasked_left view seen other refusal s = ((λ h. refl, none_looks_up (is_listed s.catalog.entries) s.cache (view s.disk).bytes_read), tt, λ wanted found. omega arith)
+unasked_left view seen (ForRows question) refusal s = ((λ h. refl, none_looks_up (is_listed s.catalog.entries) s.cache (view s.disk).bytes_read), tt, omega arith)
 
 module _ {D : Type 0} (view : D → DiskView) (number : ℕ) (question : Question) (old new : StoreValue D) where
   -- as the question is answered that is asked of the first so many imports

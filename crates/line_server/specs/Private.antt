@@ -1,23 +1,16 @@
 -- Definitions for private functions and proofs, of this crate or of one above it. No public clause
 -- cites them.
 use Rattle.std.specs.Prelude.{◌≡◌, ℕ, List, Result, ◌≤◌}
-use Rattle.rf2_values.specs.declared.key.Key.{Key}
-use Rattle.rf2_values.specs.Row.{RowValue}
 use Rattle.disk_model.specs.View.{DiskView}
-use Rattle.index_answers.specs.declared.question.RowQuestion.{RowQuestion}
-use Rattle.index_answers.specs.declared.question.IdQuestion.{IdQuestion}
-use Rattle.index_answers.specs.Questions.{rows_for, SameKeysFor, AreIdsFor}
 use Rattle.history_store.specs.StoreValue.{StoreValue}
-use Rattle.line_commands.specs.Questions.{Question, Children, Ancestors, Descendants, Dates, Digest}
-use Rattle.line_commands.specs.Questions.{Receipt, SpellsQuestion}
+use Rattle.questions.specs.Questions.{Question, ForIds, Dates}
+use Rattle.line_commands.specs.Spelling.{SpellsQuestion}
 use Rattle.line_commands.specs.Commands.{Command, SpellsArguments}
 use Rattle.line_commands.specs.Requests.{Asks}
-use Rattle.line_server.specs.declared.questions.Asked.{Asked}
-use Rattle.line_server.specs.declared.questions.Asked.TheVariants as asks
 use Rattle.line_server.specs.declared.refusal.LineRefusal.{LineRefusal}
 use Rattle.line_server.specs.Sources.{Releases, SourceView, source_view}
-use Rattle.line_server.specs.ReplyValue.{Answer, Rows, Ids, ReplyValue}
-use Rattle.line_server.specs.Replies.{server, Server, IsAskedOf, NeedsLater, IsFound, AreKeysFor}
+use Rattle.line_server.specs.ReplyValue.{ReplyValue}
+use Rattle.line_server.specs.Replies.{server, Server, IsAskedOf, NeedsLater}
 use Rattle.line_server.specs.StateValue.{StateValue, HoldsBack, met_after}
 use Rattle.line_server.specs.Turns.{HasTurn, IsToldBy}
 
@@ -59,43 +52,8 @@ IsQueried result view question pin old new =
     → IsResponse result (source_view (Unit {0}) has) view session command (server state old)
     (server (noted result state) new)
 
--- ---- what a question asks the store for
-
 -- what the index alone answers
 abbrev pub AsksIndex : Question → Type 0
-AsksIndex (Children concept date) = Unit {0}
-AsksIndex (Ancestors concept date) = Unit {0}
-AsksIndex (Descendants concept date) = Unit {0}
+AsksIndex (ForIds question) = Unit {0}
 AsksIndex Dates = Unit {0}
 AsksIndex _ = ⊥
-
--- what is answered by rows
-abbrev pub AsksRows : Question → Type 0
-AsksRows (Children concept date) = ⊥
-AsksRows (Ancestors concept date) = ⊥
-AsksRows (Descendants concept date) = ⊥
-AsksRows Dates = ⊥
-AsksRows Digest = ⊥
-AsksRows (Receipt number) = ⊥
-AsksRows _ = Unit {0}
-
--- it finds these rows and no others, and compares their keys as they are compared
-pub record AsksForRows (question : Question) (asked : RowQuestion) : Type 0 where
-  pub by_rows : AsksRows question
-  pub finds : (rows : List RowValue) (answer : Answer)
-      → answer ≡ Rows (rows_for asked rows) → IsFound question rows answer
-  pub keys : (given wanted : List Key)
-      → SameKeysFor asked given wanted → AreKeysFor question given wanted
-
--- it finds these identifiers
-pub record AsksForIds (question : Question) (asked : IdQuestion) : Type 0 where
-  pub by_index : AsksIndex question
-  pub finds : (rows : List RowValue) (found : List ℕ)
-      → AreIdsFor asked rows found → IsFound question rows (Ids found)
-
-abbrev pub AsksFor : Question → Asked → Type 0
-AsksFor question (asks.Rows asked) = AsksForRows question asked
-AsksFor question (asks.Ids asked) = AsksForIds question asked
-AsksFor question asks.Dates = question ≡ Dates
-AsksFor question asks.Digest = question ≡ Digest
-AsksFor question (asks.Receipt number) = question ≡ Receipt number

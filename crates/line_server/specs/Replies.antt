@@ -2,19 +2,13 @@
 use Rattle.std.specs.Prelude.{◌≡◌, ◌≢◌, ℕ, ◌≤◌, ◌<◌, ◌⊎◌, Bool, true, false, List, [], ◌∷◌, length}
 use Rattle.std.specs.Prelude.{map, codes}
 use Rattle.std.specs.Prelude.{decimal, slice_set, option_map, Option, Some, None, Result, Ok, Err}
-use Rattle.std.specs.Prelude.{option_to_list}
-use Rattle.std.specs.List.Sorted.{IsPermutation}
 use Rattle.rf2_values.specs.declared.row.Kind.TheVariants as kinds
-use Rattle.rf2_values.specs.declared.key.Key.{Key}
 use Rattle.rf2_values.specs.Row.{RowValue}
 use Rattle.rf2_values.specs.Key.{key_of}
 use Rattle.history_model.specs.declared.receipt.Receipt.{Receipt}
 use Rattle.history_model.specs.History.{rows_at}
 use Rattle.history_model.specs.Brought.{ImportReceiptOf}
-use Rattle.history_model.specs.Queries.{get, versions, page, delta, terms, search_terms, children}
-use Rattle.history_model.specs.Queries.{replacements, replaces, about, timeline, dates}
-use Rattle.history_model.specs.Queries.{members, values, called}
-use Rattle.history_model.specs.Hierarchy.{AreAncestors, AreDescendants}
+use Rattle.history_model.specs.Queries.{dates}
 use Rattle.import_check.specs.declared.scope.Scope.TheVariants as scopes
 use Rattle.import_check.specs.declared.release.Release.{Release}
 use Rattle.import_check.specs.Release.{files_of}
@@ -29,10 +23,12 @@ use Rattle.history_store.specs.Checking.{IsCheckingOf, IsCheckingOnAnyDisk}
 use Rattle.history_store.specs.MergeAnswers.{IsBeginningOf, IsSteppingOf, IsPublishingOf}
 use Rattle.history_store.specs.MergeAnswers.{IsAbandoningOf, IsTrimmingOf}
 use Rattle.line_commands.specs.declared.unread.Unread.{Unread}
-use Rattle.line_commands.specs.Questions.{Question, Get, History, Children, Ancestors, Descendants}
-use Rattle.line_commands.specs.Questions.{Terms, Search, Replaced, Replaces, About, Timeline, Page}
-use Rattle.line_commands.specs.Questions.{Delta, Members, Values, Called, Dates as AskDates}
-use Rattle.line_commands.specs.Questions.{Digest, Receipt as AskReceipt}
+use Rattle.questions.specs.Questions.{RowQuestion, Get, History, About, Timeline, Page, Delta}
+use Rattle.questions.specs.Questions.{Members, Values, Called}
+use Rattle.questions.specs.Questions.{Question, ForRows, ForIds, Dates as AskDates, Digest}
+use Rattle.questions.specs.Questions.{Receipt as AskReceipt}
+use Rattle.questions.specs.Wanted.{rows_for, AreIdsFor}
+use Rattle.index_answers.specs.Keys.{SameKeysFor}
 use Rattle.line_commands.specs.Commands.{Command, Ask, At, Import, Check, Pin, Unpin, Merge, Step}
 use Rattle.line_commands.specs.Commands.{Publish, Abandon, Trim, Status}
 use Rattle.line_commands.specs.Requests.{Asks, IsUnread}
@@ -76,63 +72,27 @@ imports_seen server session = pin_of server.pins session server.store.history.im
 
 -- What a question finds in the rows shown by a pin. A receipt isn't found in them.
 abbrev pub IsFound : Question → List RowValue → Answer → Type 0
-IsFound (Get kind id date) rows answer = answer ≡ Rows (option_to_list (get kind id date rows))
-IsFound (History kind id) rows answer = answer ≡ Rows (versions kind id rows)
-IsFound (Children concept date) rows answer = answer ≡ Ids (children concept date rows)
-IsFound (Ancestors concept date) rows answer =
-    (ids : List ℕ) × AreAncestors concept date rows ids × (answer ≡ Ids ids)
-IsFound (Descendants concept date) rows answer =
-    (ids : List ℕ) × AreDescendants concept date rows ids × (answer ≡ Ids ids)
-IsFound (Terms prefix date limit) rows answer = answer ≡ Rows (terms prefix date limit rows)
-IsFound (Search prefix date after limit) rows answer =
-    answer ≡ Rows (search_terms prefix date after limit rows)
-IsFound (Replaced id date) rows answer = answer ≡ Rows (replacements id date rows)
-IsFound (Replaces id date) rows answer = answer ≡ Rows (replaces id date rows)
-IsFound (About kind id date) rows answer = answer ≡ Rows (about kind id date rows)
-IsFound (Timeline kind id) rows answer = answer ≡ Rows (timeline kind id rows)
-IsFound (Page kind date after limit) rows answer = answer ≡ Rows (page kind date after limit rows)
-IsFound (Delta kind from date after limit) rows answer =
-    answer ≡ Rows (delta kind from date after limit rows)
-IsFound (Members refset date after limit) rows answer =
-    answer ≡ Rows (members refset date after limit rows)
-IsFound (Values refset date after limit) rows answer =
-    answer ≡ Rows (values refset date after limit rows)
-IsFound (Called concept date refset) rows answer = answer ≡ Rows (called concept date refset rows)
+IsFound (ForRows question) rows answer = answer ≡ Rows (rows_for question rows)
+IsFound (ForIds question) rows answer =
+    (ids : List ℕ) × AreIdsFor question rows ids × (answer ≡ Ids ids)
 IsFound AskDates rows answer = answer ≡ Dates (dates rows)
 IsFound Digest rows answer = answer ≡ digits_of (digest_of rows)
 IsFound (AskReceipt number) rows answer = ⊥
-
--- these are the wanted keys; in any order for REPLACED and REPLACES, whose rows are put in order
--- once they are read
-abbrev pub AreKeysFor : Question → List Key → List Key → Type 0
-AreKeysFor (Replaced id date) given wanted = IsPermutation wanted given
-AreKeysFor (Replaces id date) given wanted = IsPermutation wanted given
-AreKeysFor question given wanted = given ≡ wanted
-
--- the rows have the same keys as those that the question finds
-abbrev pub HaveKeysFound : Question → List RowValue → List RowValue → Type 0
-HaveKeysFound question rows given =
-    (wanted : List RowValue) → IsFound question rows (Rows wanted)
-    → AreKeysFor question (map key_of given) (map key_of wanted)
 
 -- The answer is what the question finds: on every disk if the index alone finds it, and otherwise,
 -- when rows are read, on an honest disk. On every disk the answer consists of rows with the same
 -- keys as those that the question finds (those of REPLACED and REPLACES in any order), and for
 -- DIGEST of the digits of a digest of rows with the keys of all.
 abbrev pub IsFinding : Type 0 → Question → List RowValue → Answer → Type 0
-IsFinding honest (Children concept date) rows answer =
-    IsFound (Children concept date) rows answer
-IsFinding honest (Ancestors concept date) rows answer =
-    IsFound (Ancestors concept date) rows answer
-IsFinding honest (Descendants concept date) rows answer =
-    IsFound (Descendants concept date) rows answer
+IsFinding honest (ForRows question) rows answer = (given : List RowValue) × (answer ≡ Rows given)
+    × SameKeysFor question (map key_of given) (map key_of (rows_for question rows))
+    × (honest → IsFound (ForRows question) rows answer)
+IsFinding honest (ForIds question) rows answer = IsFound (ForIds question) rows answer
 IsFinding honest AskDates rows answer = IsFound AskDates rows answer
-IsFinding honest (AskReceipt number) rows answer = ⊥
 IsFinding honest Digest rows answer = (digest : List ℕ) × (length digest ≡ 32)
     × (answer ≡ digits_of digest) × IsDigestByKey digest rows
     × (honest → IsFound Digest rows answer)
-IsFinding honest question rows answer = (given : List RowValue) × (answer ≡ Rows given)
-    × HaveKeysFound question rows given × (honest → IsFound question rows answer)
+IsFinding honest (AskReceipt number) rows answer = ⊥
 
 -- the session's pin is set or removed; the store and its disk are unchanged
 abbrev pub IsPinned : {D : Type 0} → Server D → Server D → ℕ → Option ℕ → Type 0
@@ -271,11 +231,7 @@ abbrev pub IsRefusalAt : {D : Type 0} → Type 0 → ℕ → Question → Refusa
     → Type 0
 IsRefusalAt honest seen (AskReceipt number) refusal old new =
     (number ≤ seen) × IsClosed refusal old new
-IsRefusalAt honest seen (Children concept date) refusal old new =
-    IsClosed refusal old new ⊎ IsLacking refusal old new
-IsRefusalAt honest seen (Ancestors concept date) refusal old new =
-    IsClosed refusal old new ⊎ IsLacking refusal old new
-IsRefusalAt honest seen (Descendants concept date) refusal old new =
+IsRefusalAt honest seen (ForIds question) refusal old new =
     IsClosed refusal old new ⊎ IsLacking refusal old new
 IsRefusalAt honest seen AskDates refusal old new =
     IsClosed refusal old new ⊎ IsLacking refusal old new
@@ -358,17 +314,21 @@ IsOutcome honest releases session command (Err refusal) old new =
     IsRefusal honest releases session command refusal old new
 
 -- the question asks for members of reference sets, or is answered by what they say
+abbrev pub AsksMembers : RowQuestion → Type 0
+AsksMembers (Get kind id date) = kind ≡ kinds.Member
+AsksMembers (History kind id) = kind ≡ kinds.Member
+AsksMembers (About kind id date) = kind ≡ kinds.Member
+AsksMembers (Timeline kind id) = kind ≡ kinds.Member
+AsksMembers (Page kind date after limit) = kind ≡ kinds.Member
+AsksMembers (Delta kind from date after limit) = kind ≡ kinds.Member
+AsksMembers (Members refset date after limit) = Unit {0}
+AsksMembers (Values refset date after limit) = Unit {0}
+AsksMembers (Called concept date refset) = Unit {0}
+AsksMembers _ = ⊥
+
 abbrev pub NeedsMembers : Question → Type 0
-NeedsMembers (Get kind id date) = kind ≡ kinds.Member
-NeedsMembers (History kind id) = kind ≡ kinds.Member
-NeedsMembers (About kind id date) = kind ≡ kinds.Member
-NeedsMembers (Timeline kind id) = kind ≡ kinds.Member
-NeedsMembers (Page kind date after limit) = kind ≡ kinds.Member
-NeedsMembers (Delta kind from date after limit) = kind ≡ kinds.Member
-NeedsMembers (Members refset date after limit) = Unit {0}
-NeedsMembers (Values refset date after limit) = Unit {0}
-NeedsMembers (Called concept date refset) = Unit {0}
-NeedsMembers question = ⊥
+NeedsMembers (ForRows question) = AsksMembers question
+NeedsMembers _ = ⊥
 
 -- the command needs a later layout than the store's: it asks a question that needs members, and
 -- the store's layout keeps none; after AT, about imports that the store has

@@ -13,10 +13,9 @@ use Rattle.history_store.specs.Meters.{ReadsKnown}
 use Rattle.history_store.specs.Merging.{trimmed_len, step_cost}
 use Rattle.history_store.specs.Queries.{ReadsThroughCache, StepsThroughCache}
 use Rattle.history_store.specs.Reading.{row_cost}
-use Rattle.rf2_values.specs.Row.{RowValue}
 use Rattle.history_model.specs.History.{rows_at}
-use Rattle.line_commands.specs.Questions.{Question, Children, Ancestors, Descendants, Dates}
-use Rattle.line_commands.specs.Questions.{Digest, Receipt}
+use Rattle.questions.specs.Questions.{Question, ForRows, ForIds, Dates, Digest, Receipt}
+use Rattle.questions.specs.Wanted.{rows_for}
 use Rattle.line_commands.specs.Commands.{Command, Ask, At, Import, Check, Step, Publish, Trim}
 use Rattle.line_commands.specs.Requests.{Asks}
 use Rattle.line_server.specs.declared.refusal.LineRefusal.{LineRefusal}
@@ -24,7 +23,7 @@ use Rattle.line_server.specs.declared.refusal.LineRefusal.TheVariants as refusal
 use Rattle.line_server.specs.Sources.{Releases, SourceView, scope_of}
 use Rattle.line_server.specs.ReplyValue.{Answer, Rows, ReplyValue, reply_value, bytes_of}
 use Rattle.line_server.specs.StateValue.{met_after}
-use Rattle.line_server.specs.Replies.{Server, Replies, IsFound, AsksNoRelease, imports_seen}
+use Rattle.line_server.specs.Replies.{Server, Replies, AsksNoRelease, imports_seen}
 use Rattle.store_life.specs.Life.{Call, Imported, Failed, Other, IsCall}
 
 -- a line, its outcome, and how it changed the store's history
@@ -63,12 +62,6 @@ abbrev pub ReadsFor : Result Answer LineRefusal → ℕ → ℕ → Type 0
 ReadsFor (Ok (Rows rows)) old new = new ≤ old + sum_by row_cost rows
 ReadsFor _ old new = Unit {0}
 
--- Whatever the outcome, no more was read than the rows take that the question finds.
-abbrev pub ReadsFound : Question → List RowValue → ℕ → ℕ → Type 0
-ReadsFound question rows old new =
-    (wanted : List RowValue) → IsFound question rows (Rows wanted)
-    → new ≤ old + sum_by row_cost wanted
-
 -- Reads asked for at most so many bytes, and at most so many other calls were made.
 abbrev pub CostsAtMost : (bytes calls : ℕ) → DiskView → DiskView → Type 0
 CostsAtMost bytes calls old new =
@@ -85,19 +78,17 @@ LeavesQueried view old new =
 -- index alone answers it
 abbrev pub LeavesAsked : {D : Type 0} → (D → DiskView) → ℕ → Question → Result Answer LineRefusal
     → StoreValue D → StoreValue D → Type 0
-LeavesAsked view seen (Children concept date) outcome old new = new.disk ≡ old.disk
-LeavesAsked view seen (Ancestors concept date) outcome old new = new.disk ≡ old.disk
-LeavesAsked view seen (Descendants concept date) outcome old new = new.disk ≡ old.disk
+LeavesAsked view seen (ForRows question) outcome old new =
+    LeavesQueried view old new
+    × ReadsFor outcome (view old.disk).bytes_read (view new.disk).bytes_read
+    × ((view new.disk).bytes_read ≤ (view old.disk).bytes_read
+    + sum_by row_cost (rows_for question (rows_at seen old.history.rows)))
+LeavesAsked view seen (ForIds question) outcome old new = new.disk ≡ old.disk
 LeavesAsked view seen Dates outcome old new = new.disk ≡ old.disk
-LeavesAsked view seen (Receipt number) outcome old new = new.disk ≡ old.disk
 LeavesAsked view seen Digest outcome old new = LeavesQueried view old new
     × ((view new.disk).bytes_read
     ≤ (view old.disk).bytes_read + sum_by row_cost (rows_at seen old.history.rows))
-LeavesAsked view seen question outcome old new =
-    LeavesQueried view old new
-    × ReadsFor outcome (view old.disk).bytes_read (view new.disk).bytes_read
-    × ReadsFound question (rows_at seen old.history.rows) (view old.disk).bytes_read
-    (view new.disk).bytes_read
+LeavesAsked view seen (Receipt number) outcome old new = new.disk ≡ old.disk
 
 -- the stored rows whose keys are in the release of the name are read, in the scope of the store's
 -- version, and so many bytes besides

@@ -3,19 +3,20 @@
 ghost use Rattle.std.specs.Prelude.{◌≤◌, ℕ, List, Option};
 ghost use Rattle.std.specs.Prelude.{◌↔◌, IsTrue};
 ghost use Rattle.line_commands.specs.Commands.{At};
-ghost use Rattle.line_commands.specs.Requests.{command_of, question_of};
+ghost use Rattle.line_commands.specs.Requests.{command_of};
+ghost use Rattle.questions.specs.Questions.{question_of};
 ghost use Rattle.line_server.specs.Replies.{NeedsLater, NeedsMembers};
 ghost use Rattle.line_server.specs.Private.{IsCarriedOut, IsQueried, QuestionCanBeAsked};
 
 use crate::queries::{answer_dates, answer_digest, answer_ids, answer_receipt, answer_rows};
-use crate::questions::{Asked, asked_by};
 use crate::refusal::LineRefusal;
 use crate::reply::Reply;
 use crate::source::scope_for;
 use disk_model::Disk;
 use history_store::Store;
 use import_check::Scope;
-use line_commands::{Command, Question};
+use line_commands::Command;
+use questions::{Question, RowQuestion};
 use rf2_rows::Kind;
 use std::alloc::Global;
 
@@ -23,14 +24,19 @@ use std::alloc::Global;
 fn needs_members(question: &Question<'_>) -> bool
     ensures { IsTrue result ↔ NeedsMembers (question_of question.now) }
 {
-    match *question {
-        Question::Get { kind, .. }
-        | Question::History { kind, .. }
-        | Question::About { kind, .. }
-        | Question::Timeline { kind, .. }
-        | Question::Page { kind, .. }
-        | Question::Delta { kind, .. } => kind == Kind::Member,
-        Question::Members { .. } | Question::Values { .. } | Question::Called { .. } => true,
+    let Question::ForRows(question) = *question else {
+        return false;
+    };
+    match question {
+        RowQuestion::Get { kind, .. }
+        | RowQuestion::History { kind, .. }
+        | RowQuestion::About { kind, .. }
+        | RowQuestion::Timeline { kind, .. }
+        | RowQuestion::Page { kind, .. }
+        | RowQuestion::Delta { kind, .. } => kind == Kind::Member,
+        RowQuestion::Members { .. } | RowQuestion::Values { .. } | RowQuestion::Called { .. } => {
+            true
+        }
         _ => false,
     }
 }
@@ -62,12 +68,12 @@ pub(crate) fn ask<D: Disk>(
     requires within { pin ≤ store.old.history.imports }
     ensures { IsQueried result D.view (question_of question.now) pin store.old store.new }
 {
-    match asked_by(question) {
-        Asked::Rows(rows) => answer_rows(alloc, &rows, pin, store),
-        Asked::Ids(ids) => answer_ids(alloc, &ids, pin, store),
-        Asked::Dates => answer_dates(alloc, pin, store),
-        Asked::Digest => answer_digest(alloc, pin, store),
-        Asked::Receipt(number) => answer_receipt(alloc, number, pin, store),
+    match *question {
+        Question::ForRows(question) => answer_rows(alloc, &question, pin, store),
+        Question::ForIds(question) => answer_ids(alloc, &question, pin, store),
+        Question::Dates => answer_dates(alloc, pin, store),
+        Question::Digest => answer_digest(alloc, pin, store),
+        Question::Receipt { number } => answer_receipt(alloc, number, pin, store),
     }
 }
 

@@ -1,44 +1,46 @@
 //! The questions: replies with what the store returns, by kind of answer.
 
 ghost use Rattle.std.specs.Prelude.{◌≤◌};
-ghost use Rattle.line_commands.specs.Questions.{Question, Dates, Digest, Receipt};
-ghost use Rattle.line_server.specs.Private.{IsQueried, AsksForRows, AsksForIds};
+ghost use Rattle.questions.specs.Questions.{ForRows, ForIds, Dates, Digest, Receipt};
+ghost use Rattle.questions.specs.Questions.{row_question_of, id_question_of};
+ghost use Rattle.line_server.specs.Private.{IsQueried};
 
 use crate::refusal::LineRefusal;
 use crate::reply::Reply;
 use crate::wording::{reply_dates, reply_digest, reply_ids, reply_receipt, reply_rows};
 use disk_model::Disk;
-use history_store::{IdQuestion, RowQuestion, Store};
+use history_store::Store;
+use questions::{IdQuestion, RowQuestion};
 use std::alloc::Global;
 use store_digest::digest;
 
 /// The rows that a question asks for.
 pub(crate) fn answer_rows<D: Disk>(
     alloc: Global,
-    rows: &RowQuestion<'_>,
+    question: &RowQuestion<'_>,
     pin: u32,
     store: &mut Store<D>,
 ) -> Result<Reply, LineRefusal>
     requires { pin ≤ store.old.history.imports }
-    ensures { (question : Question) → AsksForRows question rows.now
-        → IsQueried result D.view question pin store.old store.new }
+    ensures { IsQueried result D.view (ForRows (row_question_of question.now)) pin
+        store.old store.new }
 {
-    let found = store.select(rows, pin)?;
+    let found = store.select(question, pin)?;
     Ok(reply_rows(alloc, &found)?)
 }
 
 /// The identifiers that a question asks for.
 pub(crate) fn answer_ids<D: Disk>(
     alloc: Global,
-    ids: &IdQuestion,
+    question: &IdQuestion,
     pin: u32,
     store: &mut Store<D>,
 ) -> Result<Reply, LineRefusal>
     requires { pin ≤ store.old.history.imports }
-    ensures { (question : Question) → AsksForIds question ids.now
-        → IsQueried result D.view question pin store.old store.new }
+    ensures { IsQueried result D.view (ForIds (id_question_of question.now)) pin
+        store.old store.new }
 {
-    let found = store.ids(ids, pin)?;
+    let found = store.ids(question, pin)?;
     Ok(reply_ids(alloc, &found)?)
 }
 

@@ -139,8 +139,8 @@ module _ (lists : List (List StampedRow)) (are : ArePlaces (map places_of lists)
   pub record IsRowFound (k : Chosen) : Type 0 where
     pub key : RowKey
     pub row : IsRowAsked k.segment k.at key
-    pub first_is : k.refset ≡ key.first
-    pub second_is : k.target ≡ key.second
+    pub first_is : k.first ≡ key.first
+    pub second_is : k.second ≡ key.second
 
   row_found : (x : ℕ × Posting) (k : Chosen) → Has (numbered 0 (postings_in edges)) x → GivesAsked placed lists asked x.0 x.1 k → IsRowFound k
   row_found x k h g =

@@ -10,7 +10,7 @@ use Rattle.rf2_rows.specs.Line.{columns}
 use Rattle.rf2_rows.proofs.Splits.{IsFree}
 use Rattle.rf2_rows.proofs.Clean.{all_clean, line_no_lf}
 use Rattle.rf2_rows.proofs.RowLaws.{spells_one_row, canonical_spells, columns_stand, shape_of, has_own_shape}
-use Rattle.line_commands.specs.Questions.{letter}
+use Rattle.line_commands.specs.Spelling.{letter}
 use Rattle.line_commands.proofs.FirstWords.{one_letter}
 use Rattle.history_model.proofs.Chains.{pinned_stays}
 use Rattle.store_digest.specs.Digest.{text_line, text_of, digest_of}

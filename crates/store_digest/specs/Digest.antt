@@ -6,7 +6,7 @@ use Rattle.rf2_values.specs.Row.{RowValue, kind_of, canonical}
 use Rattle.rf2_values.specs.Key.{key_of}
 use Rattle.history_model.specs.History.{rows_at}
 use Rattle.disk_model.specs.View.{DiskView}
-use Rattle.line_commands.specs.Questions.{letter}
+use Rattle.line_commands.specs.Spelling.{letter}
 use Rattle.history_store.specs.declared.refusal.Refusal.{Refusal}
 use Rattle.history_store.specs.Reading.{row_cost}
 use Rattle.history_store.specs.StoreValue.{StoreValue}

@@ -8,7 +8,7 @@ ghost use Rattle.store_digest.specs.Private.{IsNextAdded};
 
 use crate::text::put_line;
 use disk_model::Disk;
-use history_store::{Refusal, RowQuestion, Store};
+use history_store::{Refusal, Store};
 use rf2_rows::{Key, Row};
 use sha2::{Digest, Sha256};
 use std::alloc::{AllocError, Global};
@@ -37,7 +37,7 @@ fn add_next<D: Disk>(
     ensures added { IsNextAdded result after pin hasher.old hasher.new D.view store.old store.new }
     ensures history { IsHistory store.old.history }
 {
-    let rows = store.select(&RowQuestion::After { after, limit: 1 }, pin)?;
+    let rows = store.rows_after(after, 1, pin)?;
     match rows.first() {
         Some(row) => {
             add_row(alloc, row, hasher)?;

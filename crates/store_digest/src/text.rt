@@ -1,7 +1,7 @@
 //! The text that is hashed: a line for each row.
 
 ghost use Rattle.std.specs.Prelude.{◌≡◌, ◌++◌, ◌∷◌, [], OnOk};
-ghost use Rattle.line_commands.specs.Questions.{letter};
+ghost use Rattle.line_commands.specs.Spelling.{letter};
 ghost use Rattle.store_digest.specs.Digest.{text_line};
 
 use rf2_rows::{Kind, Row, write_row};

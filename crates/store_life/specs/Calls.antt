@@ -50,8 +50,8 @@ ListingIsACall D view =
     (result : Result Contradictions Refusal)
     → IsListing result release limit view old new → IsCall view old Other new
 
--- by `query` of the answers of `select` (`IsRowsQueryBy`) and of `store_digest::digest`
--- (`IsDigestQuery`)
+-- by `query` of the answers of `select` and `rows_after` (`IsRowsQueryBy`), and of
+-- `store_digest::digest` (`IsDigestQuery`)
 abbrev pub QueryIsACall : (T D : Type 0) → (D → DiskView) → Type 0
 QueryIsACall T D view = (result : Result T Refusal) (old new : StoreValue D)
     → IsQuery result view old new

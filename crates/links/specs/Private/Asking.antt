@@ -93,7 +93,7 @@ is_asked asked p id = is_between asked.above asked.up_to id && is_wanted asked.w
 
 -- the row to read for a posting of list `n`
 abbrev pub placed : ℕ → Posting → RowPlace → Chosen
-placed n p at = record { segment = n; at = at; refset = p.first; target = p.second }
+placed n p at = record { segment = n; at = at; first = p.first; second = p.second }
 
 -- a posting of list `n` that is asked for and whose row is current gives an item, which is made
 -- from the posting and from the row's place

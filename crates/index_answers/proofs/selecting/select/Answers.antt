@@ -11,8 +11,8 @@ use Rattle.index_answers.proofs.selecting.select.Goals as goal
 pub returns-in-Get-clause-answer : goal.returns-in-Get-clause-answer
 returns-in-Get-clause-answer g c = rw c.in-Get.is (of_index c.args.index.now c.get.ensures.answer c.places-places.ensures)
 
-pub returns-in-Versions-clause-answer : goal.returns-in-Versions-clause-answer
-returns-in-Versions-clause-answer g c = rw c.in-Versions.is (of_index c.args.index.now c.versions.ensures.answer c.places-places.ensures)
+pub returns-in-History-clause-answer : goal.returns-in-History-clause-answer
+returns-in-History-clause-answer g c = rw c.in-History.is (of_index c.args.index.now c.versions.ensures.answer c.places-places.ensures)
 
 pub returns-in-Page-clause-answer : goal.returns-in-Page-clause-answer
 returns-in-Page-clause-answer g c = rw c.in-Page.is (of_index c.args.index.now c.page.ensures.answer c.places-places.ensures)
@@ -51,6 +51,3 @@ returns-in-Values-clause-answer g c = rw c.in-Values.is (of_index c.args.index.n
 
 pub returns-in-Called-clause-answer : goal.returns-in-Called-clause-answer
 returns-in-Called-clause-answer g c = rw c.in-Called.is (of_index c.args.index.now c.called.ensures.answer (c.places-places.ensures, c.links-links.ensures))
-
-pub returns-in-After-clause-answer : goal.returns-in-After-clause-answer
-returns-in-After-clause-answer g c = rw c.in-After.is (of_index c.args.index.now c.rows_after.ensures.answer c.places-places.ensures)

@@ -1,5 +1,5 @@
 use Rattle.rf2_values.specs.declared.row.Kind.TheVariants as kinds
-use Rattle.line_commands.specs.Questions.{SpellsAfter}
+use Rattle.line_commands.specs.Spelling.{SpellsAfter}
 use Rattle.line_commands.proofs.Forms.{none_read, not_a_time}
 use Rattle.line_commands.proofs.Refsets.{members_form, refset_uncut, refset_no_concept, refset_no_time, refset_no_after, refset_no_limit, members_found}
 use Rattle.line_commands.proofs.questions.members.Goals as goal

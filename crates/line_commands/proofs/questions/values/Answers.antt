@@ -1,4 +1,4 @@
-use Rattle.line_commands.specs.Questions.{SpellsComponentAfter}
+use Rattle.line_commands.specs.Spelling.{SpellsComponentAfter}
 use Rattle.line_commands.proofs.Forms.{none_read, not_a_time}
 use Rattle.line_commands.proofs.Refsets.{values_form, refset_uncut, refset_no_concept, refset_no_time, refset_no_after, refset_no_limit, values_found}
 use Rattle.line_commands.proofs.questions.values.Goals as goal

@@ -1,23 +1,22 @@
 use Rattle.std.proofs.Common.{subst}
-use Rattle.line_commands.specs.Questions.{Question}
-use Rattle.line_commands.specs.Requests.{question_of}
-use Rattle.line_server.specs.Private.{IsQueried, QuestionCanBeAsked}
+use Rattle.questions.specs.Questions.{question_of}
+use Rattle.line_server.specs.Private.{QuestionCanBeAsked}
 use Rattle.line_server.proofs.asking.ask.Goals as goal
 
-pub returns-in-Rows : goal.returns-in-Rows
-returns-in-Rows g c = c.answer_rows.ensures (question_of c.args.question.now) (rw c.in-Rows.is at c.asked_by.ensures)
+pub returns-in-ForRows : goal.returns-in-ForRows
+returns-in-ForRows g c = rw c.in-ForRows.is c.answer_rows.ensures
 
-pub returns-in-Ids : goal.returns-in-Ids
-returns-in-Ids g c = c.answer_ids.ensures (question_of c.args.question.now) (rw c.in-Ids.is at c.asked_by.ensures)
+pub returns-in-ForIds : goal.returns-in-ForIds
+returns-in-ForIds g c = rw c.in-ForIds.is c.answer_ids.ensures
 
 pub returns-in-Dates : goal.returns-in-Dates
-returns-in-Dates g c = rw (rw c.in-Dates.is at c.asked_by.ensures) c.answer_dates.ensures
+returns-in-Dates g c = rw c.in-Dates.is c.answer_dates.ensures
 
 pub returns-in-Digest : goal.returns-in-Digest
-returns-in-Digest g c = rw (rw c.in-Digest.is at c.asked_by.ensures) c.answer_digest.ensures
+returns-in-Digest g c = rw c.in-Digest.is c.answer_digest.ensures
 
 pub returns-in-Receipt : goal.returns-in-Receipt
-returns-in-Receipt g c = rw (rw c.in-Receipt.is at c.asked_by.ensures) c.answer_receipt.ensures
+returns-in-Receipt g c = rw c.in-Receipt.is c.answer_receipt.ensures
 
 pub answer_receipt-requires-clause-first : goal.answer_receipt-requires-clause-first
-answer_receipt-requires-clause-first g c = (subst QuestionCanBeAsked (rw c.in-Receipt.is at c.asked_by.ensures) c.requires.asked).1.0
+answer_receipt-requires-clause-first g c = (rw c.in-Receipt.is at c.requires.asked).1.0

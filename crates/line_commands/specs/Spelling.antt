@@ -1,4 +1,4 @@
--- Questions, and how they are spelled.
+-- How questions are spelled.
 use Rattle.std.specs.Prelude.{◌≡◌, ℕ, ◌≤◌, ◌<◌, ◌^◌, List, [], ◌∷◌, length, codes, decimal, Option}
 use Rattle.std.specs.Prelude.{Some, None}
 use Rattle.std.specs.Str.{IsUtf8}
@@ -6,48 +6,29 @@ use Rattle.rf2_values.specs.declared.row.Kind.{Kind}
 use Rattle.rf2_values.specs.declared.row.Kind.TheVariants as kinds
 use Rattle.rf2_values.specs.Row.{IsIdOf, SpellsId, IsConcept, IsComponent}
 use Rattle.rf2_values.specs.Time.{IsTime}
-
--- A question about the imports that a session sees. A question changes nothing, and its answer
--- depends on the session's pin.
-pub data Question : Type 0 where
-  Get : (kind : Kind) (id date : ℕ) → Question
-  History : (kind : Kind) (id : ℕ) → Question
-  Children : (concept date : ℕ) → Question
-  Ancestors : (concept date : ℕ) → Question
-  Descendants : (concept date : ℕ) → Question
-  Terms : (prefix : List ℕ) (date limit : ℕ) → Question
-  Search : (prefix : List ℕ) (date : ℕ) (after : Option ℕ) (limit : ℕ) → Question
-  Replaced : (id date : ℕ) → Question
-  Replaces : (id date : ℕ) → Question
-  About : (kind : Kind) (id date : ℕ) → Question
-  Timeline : (kind : Kind) (id : ℕ) → Question
-  Page : (kind : Kind) (date : ℕ) (after : Option ℕ) (limit : ℕ) → Question
-  Delta : (kind : Kind) (from date : ℕ) (after : Option ℕ) (limit : ℕ) → Question
-  Members : (refset date : ℕ) (after : Option ℕ) (limit : ℕ) → Question
-  Values : (refset date : ℕ) (after : Option ℕ) (limit : ℕ) → Question
-  Called : (concept date refset : ℕ) → Question
-  Dates : Question
-  Digest : Question
-  Receipt : (number : ℕ) → Question
+use Rattle.questions.specs.Questions.{Question, ForRows, ForIds, Dates, Digest, Receipt}
+use Rattle.questions.specs.Questions.{Get, History, Terms, Search, Replaced, Replaces, About, Timeline}
+use Rattle.questions.specs.Questions.{Page, Delta, Members, Values, Called}
+use Rattle.questions.specs.Questions.{Children, Ancestors, Descendants}
 
 -- the word of a question
 abbrev pub word_of_question : Question → List ℕ
-word_of_question (Get kind id date) = codes "GET"
-word_of_question (History kind id) = codes "HISTORY"
-word_of_question (Children concept date) = codes "CHILDREN"
-word_of_question (Ancestors concept date) = codes "ANCESTORS"
-word_of_question (Descendants concept date) = codes "DESCENDANTS"
-word_of_question (Terms prefix date limit) = codes "TERMS"
-word_of_question (Search prefix date after limit) = codes "SEARCH"
-word_of_question (Replaced id date) = codes "REPLACED"
-word_of_question (Replaces id date) = codes "REPLACES"
-word_of_question (About kind id date) = codes "ABOUT"
-word_of_question (Timeline kind id) = codes "TIMELINE"
-word_of_question (Page kind date after limit) = codes "PAGE"
-word_of_question (Delta kind from date after limit) = codes "DELTA"
-word_of_question (Members refset date after limit) = codes "MEMBERS"
-word_of_question (Values refset date after limit) = codes "VALUES"
-word_of_question (Called concept date refset) = codes "CALLED"
+word_of_question (ForRows (Get kind id date)) = codes "GET"
+word_of_question (ForRows (History kind id)) = codes "HISTORY"
+word_of_question (ForIds (Children concept date)) = codes "CHILDREN"
+word_of_question (ForIds (Ancestors concept date)) = codes "ANCESTORS"
+word_of_question (ForIds (Descendants concept date)) = codes "DESCENDANTS"
+word_of_question (ForRows (Terms prefix date limit)) = codes "TERMS"
+word_of_question (ForRows (Search prefix date after limit)) = codes "SEARCH"
+word_of_question (ForRows (Replaced id date)) = codes "REPLACED"
+word_of_question (ForRows (Replaces id date)) = codes "REPLACES"
+word_of_question (ForRows (About kind id date)) = codes "ABOUT"
+word_of_question (ForRows (Timeline kind id)) = codes "TIMELINE"
+word_of_question (ForRows (Page kind date after limit)) = codes "PAGE"
+word_of_question (ForRows (Delta kind from date after limit)) = codes "DELTA"
+word_of_question (ForRows (Members refset date after limit)) = codes "MEMBERS"
+word_of_question (ForRows (Values refset date after limit)) = codes "VALUES"
+word_of_question (ForRows (Called concept date refset)) = codes "CALLED"
 word_of_question Dates = codes "DATES"
 word_of_question Digest = codes "DIGEST"
 word_of_question (Receipt number) = codes "RECEIPT"
@@ -88,48 +69,48 @@ SpellsComponentAfter (Some id) text = IsComponent id × (text ≡ decimal id)
 
 -- How the arguments of a question are spelled. The last one of TERMS and SEARCH may contain spaces.
 abbrev pub SpellsQuestion : Question → List (List ℕ) → Type 0
-SpellsQuestion (Get kind id date) texts =
+SpellsQuestion (ForRows (Get kind id date)) texts =
     (text : List ℕ) × IsIdOf kind id × SpellsId kind id text × IsTime date
     × (texts ≡ letter kind ∷ text ∷ decimal date ∷ [])
-SpellsQuestion (History kind id) texts =
+SpellsQuestion (ForRows (History kind id)) texts =
     (text : List ℕ) × IsIdOf kind id × SpellsId kind id text × (texts ≡ letter kind ∷ text ∷ [])
-SpellsQuestion (Children concept date) texts =
+SpellsQuestion (ForIds (Children concept date)) texts =
     IsConcept concept × IsTime date × (texts ≡ decimal concept ∷ decimal date ∷ [])
-SpellsQuestion (Ancestors concept date) texts =
+SpellsQuestion (ForIds (Ancestors concept date)) texts =
     IsConcept concept × IsTime date × (texts ≡ decimal concept ∷ decimal date ∷ [])
-SpellsQuestion (Descendants concept date) texts =
+SpellsQuestion (ForIds (Descendants concept date)) texts =
     IsConcept concept × IsTime date × (texts ≡ decimal concept ∷ decimal date ∷ [])
-SpellsQuestion (Terms prefix date limit) texts =
+SpellsQuestion (ForRows (Terms prefix date limit)) texts =
     IsTime date × (1 ≤ limit) × (limit ≤ most_rows) × (1 ≤ length prefix) × IsUtf8 prefix
     × (texts ≡ decimal date ∷ decimal limit ∷ prefix ∷ [])
-SpellsQuestion (Search prefix date after limit) texts =
+SpellsQuestion (ForRows (Search prefix date after limit)) texts =
     (text : List ℕ) × SpellsAfter kinds.Description after text × IsTime date × (1 ≤ limit)
     × (limit ≤ most_rows) × (1 ≤ length prefix) × IsUtf8 prefix
     × (texts ≡ decimal date ∷ text ∷ decimal limit ∷ prefix ∷ [])
-SpellsQuestion (Replaced id date) texts =
+SpellsQuestion (ForRows (Replaced id date)) texts =
     IsComponent id × IsTime date × (texts ≡ decimal id ∷ decimal date ∷ [])
-SpellsQuestion (Replaces id date) texts =
+SpellsQuestion (ForRows (Replaces id date)) texts =
     IsComponent id × IsTime date × (texts ≡ decimal id ∷ decimal date ∷ [])
-SpellsQuestion (About kind id date) texts =
+SpellsQuestion (ForRows (About kind id date)) texts =
     IsSubjectOf kind id × IsTime date × (texts ≡ letter kind ∷ decimal id ∷ decimal date ∷ [])
-SpellsQuestion (Timeline kind id) texts =
+SpellsQuestion (ForRows (Timeline kind id)) texts =
     IsSubjectOf kind id × (texts ≡ letter kind ∷ decimal id ∷ [])
-SpellsQuestion (Page kind date after limit) texts =
+SpellsQuestion (ForRows (Page kind date after limit)) texts =
     (text : List ℕ) × SpellsAfter kind after text × IsTime date × (1 ≤ limit) × (limit ≤ most_rows)
     × (texts ≡ letter kind ∷ decimal date ∷ text ∷ decimal limit ∷ [])
-SpellsQuestion (Delta kind from date after limit) texts =
+SpellsQuestion (ForRows (Delta kind from date after limit)) texts =
     (text : List ℕ) × SpellsAfter kind after text × IsTime from × IsTime date × (1 ≤ limit)
     × (limit ≤ most_rows)
     × (texts ≡ letter kind ∷ decimal from ∷ decimal date ∷ text ∷ decimal limit ∷ [])
-SpellsQuestion (Members refset date after limit) texts =
+SpellsQuestion (ForRows (Members refset date after limit)) texts =
     (text : List ℕ) × SpellsAfter kinds.Member after text × IsConcept refset × IsTime date
     × (1 ≤ limit) × (limit ≤ most_rows)
     × (texts ≡ decimal refset ∷ decimal date ∷ text ∷ decimal limit ∷ [])
-SpellsQuestion (Values refset date after limit) texts =
+SpellsQuestion (ForRows (Values refset date after limit)) texts =
     (text : List ℕ) × SpellsComponentAfter after text × IsConcept refset × IsTime date
     × (1 ≤ limit) × (limit ≤ most_rows)
     × (texts ≡ decimal refset ∷ decimal date ∷ text ∷ decimal limit ∷ [])
-SpellsQuestion (Called concept date refset) texts =
+SpellsQuestion (ForRows (Called concept date refset)) texts =
     IsConcept concept × IsTime date × IsConcept refset
     × (texts ≡ decimal concept ∷ decimal date ∷ decimal refset ∷ [])
 SpellsQuestion Dates texts = texts ≡ []

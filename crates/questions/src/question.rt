@@ -1,9 +1,9 @@
-//! The questions.
+//! The questions, by what they are answered with.
 
-use rf2_values::{EffectiveTime, Key, Kind, Sctid};
+use rf2_values::{EffectiveTime, Kind, Sctid};
 
 /// A question for rows, among those that a pin shows.
-#[derive(Clone, Copy)]
+#[derive(Clone, Copy, Debug, PartialEq, Eq)]
 pub enum RowQuestion<'a> {
     /// The component's row at the date.
     Get {
@@ -12,7 +12,7 @@ pub enum RowQuestion<'a> {
         date: EffectiveTime,
     },
     /// All versions of the component, ascending by time.
-    Versions {
+    History {
         kind: Kind,
         id: u128,
     },
@@ -97,16 +97,10 @@ pub enum RowQuestion<'a> {
         date: EffectiveTime,
         refset: Sctid,
     },
-    /// The first `limit` rows whose keys are greater than `after`, if that is given, in key order,
-    /// whatever their dates.
-    After {
-        after: Option<Key>,
-        limit: u32,
-    },
 }
 
 /// A question for concepts at a date, ascending, among the rows that a pin shows.
-#[derive(Clone, Copy)]
+#[derive(Clone, Copy, Debug, PartialEq, Eq)]
 pub enum IdQuestion {
     /// The sources of the active "is a" relationships to a concept.
     Children { concept: Sctid, date: EffectiveTime },
@@ -116,4 +110,20 @@ pub enum IdQuestion {
     /// All concepts below a concept: those that are reached from it by one or more active "is a"
     /// relationships, each from a concept to a child.
     Descendants { concept: Sctid, date: EffectiveTime },
+}
+
+/// A question about the imports that a session sees. A question changes nothing, and its answer
+/// depends on the session's pin.
+#[derive(Clone, Copy, Debug, PartialEq, Eq)]
+pub enum Question<'a> {
+    /// For rows.
+    ForRows(RowQuestion<'a>),
+    /// For identifiers.
+    ForIds(IdQuestion),
+    /// The effective times of all rows.
+    Dates,
+    /// The digest of all rows.
+    Digest,
+    /// How many rows an import brought, and the latest date among them.
+    Receipt { number: u32 },
 }

@@ -1,0 +1,32 @@
+-- What questions ask for. `rows` are the rows that a pin shows.
+use Rattle.std.specs.Prelude.{◌≡◌, ℕ, List, option_to_list}
+use Rattle.rf2_values.specs.Row.{RowValue}
+use Rattle.history_model.specs.Queries.{get, versions, page, delta, terms, search_terms, about}
+use Rattle.history_model.specs.Queries.{timeline, replacements, replaces, members, values, called}
+use Rattle.history_model.specs.Queries.{children}
+use Rattle.history_model.specs.Hierarchy.{AreAncestors, AreDescendants}
+use Rattle.questions.specs.Questions.{RowQuestion, Get, History, Terms, Search, Replaced, Replaces}
+use Rattle.questions.specs.Questions.{About, Timeline, Page, Delta, Members, Values, Called}
+use Rattle.questions.specs.Questions.{IdQuestion, Children, Ancestors, Descendants}
+
+-- the rows that a question asks for
+abbrev pub rows_for : RowQuestion → List RowValue → List RowValue
+rows_for (Get kind id date) rows = option_to_list (get kind id date rows)
+rows_for (History kind id) rows = versions kind id rows
+rows_for (Terms prefix date limit) rows = terms prefix date limit rows
+rows_for (Search prefix date after limit) rows = search_terms prefix date after limit rows
+rows_for (Replaced id date) rows = replacements id date rows
+rows_for (Replaces id date) rows = replaces id date rows
+rows_for (About kind id date) rows = about kind id date rows
+rows_for (Timeline kind id) rows = timeline kind id rows
+rows_for (Page kind date after limit) rows = page kind date after limit rows
+rows_for (Delta kind from date after limit) rows = delta kind from date after limit rows
+rows_for (Members refset date after limit) rows = members refset date after limit rows
+rows_for (Values refset date after limit) rows = values refset date after limit rows
+rows_for (Called concept date refset) rows = called concept date refset rows
+
+-- the identifiers that a question asks for
+abbrev pub AreIdsFor : IdQuestion → List RowValue → List ℕ → Type 0
+AreIdsFor (Children concept date) rows ids = ids ≡ children concept date rows
+AreIdsFor (Ancestors concept date) rows ids = AreAncestors concept date rows ids
+AreIdsFor (Descendants concept date) rows ids = AreDescendants concept date rows ids

@@ -1,0 +1,6 @@
+//! The questions that can be asked of a history, as values, and what each of them asks for.
+#![tactic(auto)]
+
+mod question;
+
+pub use question::{IdQuestion, Question, RowQuestion};
