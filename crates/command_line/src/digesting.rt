@@ -11,8 +11,9 @@ use crate::endings::Ending;
 use disk_model::Disk;
 use history_store::{Refusal, Store};
 use import_check::{Release, Scope};
-use line_commands::{Command, Question, Request};
+use line_commands::{Command, Request};
 use line_server::{ServeFault, Source, SourceFault};
+use questions::Question;
 use std::alloc::Global;
 use std::io::Write;
 

@@ -31,7 +31,7 @@ fn lines_of_ids(alloc: Global, ids: &[u64]) -> Result<Vec<u8>, AllocError> {
 fn rows_asked(question: Question, prefix: &str) -> Option<RowQuestion<'_>> {
     match question {
         Question::Get(kind, id, date) => Some(RowQuestion::Get { kind, id, date }),
-        Question::Versions(kind, id) => Some(RowQuestion::Versions { kind, id }),
+        Question::Versions(kind, id) => Some(RowQuestion::History { kind, id }),
         Question::Replacements(id, date) => Some(RowQuestion::Replaced { id, date }),
         Question::Replaces(id, date) => Some(RowQuestion::Replaces { id, date }),
         Question::About(kind, id, date) => Some(RowQuestion::About { kind, id, date }),

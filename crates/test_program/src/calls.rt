@@ -140,7 +140,7 @@ fn ask(call: Call, store: &mut Example) -> Result<Answer, Refusal> {
             let date = date_of(date)?;
             select(store, &RowQuestion::Get { kind, id, date }, pin)
         }
-        Call::History(kind, id, pin) => select(store, &RowQuestion::Versions { kind, id }, pin),
+        Call::History(kind, id, pin) => select(store, &RowQuestion::History { kind, id }, pin),
         Call::Page(kind, date, limit) => {
             let page = RowQuestion::Page {
                 kind,

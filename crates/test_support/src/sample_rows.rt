@@ -73,7 +73,7 @@ fn versions(alloc: Global, kind: Kind, id: u128, imports: u32) -> Result<Vec<u8>
 fn shows(alloc: Global, store: &mut Example, pin: u32) -> Result<bool, Refusal> {
     for (_, kind, id, _) in &ROWS {
         let want = versions(alloc, *kind, *id, pin)?;
-        let versions = RowQuestion::Versions {
+        let versions = RowQuestion::History {
             kind: *kind,
             id: *id,
         };
