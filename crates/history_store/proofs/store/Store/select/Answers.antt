@@ -13,17 +13,20 @@ invariant_of-self g c =
     held_after g.D.Disk.view _ _ _ _ _ _ _ _ _ _ c.self.invariant.0 r.disk r.cache r.entries r.shown c.self.inside.merge now.disk.now now.cache.now now.entries.now now.shown.now c.self.invariant.1 c.select-read.ensures.stays.0
     (g.met.D.Disk.now_is_image c.self.inside.disk) c.select-read.ensures.answer.reader.honesty
 
-pub returns-clause-answer : goal.returns-clause-answer
-returns-clause-answer g c = rw (← c.self.view_is) (
+pub returns : goal.returns
+returns g c = rw (← c.self.view_is) (
     let r = c.new-reader.ensures in
     let e = c.select-read.ensures in
     let a = c.answered.ensures in
-    rows_answered g.D.Disk.view row_items (rows_for (row_question_of c.args.question.now)) c.args.pin
-    (λ ls. ls ≡ c.self.inside.index) _ c.answered.new.self c.self.inside.index c.new-reader.result.shown.now c.new-reader.result.entries.now
-    c.new-reader.result.disk.now c.select-read.new.reader.disk.now c.new-reader.result.cache.now c.select-read.new.reader.cache.now c.select-read.result c.answered.result
-    (SameKeysFor (row_question_of c.args.question.now)) refl c.if-self.false r.disk r.cache r.entries r.shown
-    refl (λ up. reader_honest g.D.Disk.view _ _ _ _ _ _ _ _ _ _ c.self.invariant.0 r.disk r.cache r.entries r.shown up c.if-self.false (g.met.D.Disk.now_is_image c.self.inside.disk up))
-    e.answer e.stays.0 e.stays.5 e.stays.6 a.same a.left a.disk a.cache a.acknowledged)
+    record {
+      answer = rows_answered g.D.Disk.view row_items (rows_for (row_question_of c.args.question.now)) c.args.pin
+          (λ ls. ls ≡ c.self.inside.index) _ c.answered.new.self c.self.inside.index c.new-reader.result.shown.now c.new-reader.result.entries.now
+          c.new-reader.result.disk.now c.select-read.new.reader.disk.now c.new-reader.result.cache.now c.select-read.new.reader.cache.now c.select-read.result c.answered.result
+          (SameKeysFor (row_question_of c.args.question.now)) refl c.if-self.false r.disk r.cache r.entries r.shown
+          refl (λ up. reader_honest g.D.Disk.view _ _ _ _ _ _ _ _ _ _ c.self.invariant.0 r.disk r.cache r.entries r.shown up c.if-self.false (g.met.D.Disk.now_is_image c.self.inside.disk up))
+          e.answer e.stays.0 e.stays.5 e.stays.6 a.same a.left a.disk a.cache a.acknowledged;
+    })
 
-pub returns-then-self-clause-answer : goal.returns-then-self-clause-answer
-returns-then-self-clause-answer g c = rw (← c.self.view_is) (closed_rows g.D.Disk.view row_items (rows_for (row_question_of c.args.question.now)) c.args.pin (SameKeysFor (row_question_of c.args.question.now)) _ c.if-self.true)
+pub returns-then-self : goal.returns-then-self
+returns-then-self g c =
+    rw (← c.self.view_is) (record { answer = closed_rows g.D.Disk.view row_items (rows_for (row_question_of c.args.question.now)) c.args.pin (SameKeysFor (row_question_of c.args.question.now)) _ c.if-self.true })
