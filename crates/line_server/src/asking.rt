@@ -68,12 +68,12 @@ pub(crate) fn ask<D: Disk>(
     requires within { pin ≤ store.old.history.imports }
     ensures { IsQueried result D.view (question_of question.now) pin store.old store.new }
 {
-    match *question {
-        Question::ForRows(question) => answer_rows(alloc, &question, pin, store),
-        Question::ForIds(question) => answer_ids(alloc, &question, pin, store),
+    match question {
+        Question::ForRows(rows) => answer_rows(alloc, rows, pin, store),
+        Question::ForIds(ids) => answer_ids(alloc, ids, pin, store),
         Question::Dates => answer_dates(alloc, pin, store),
         Question::Digest => answer_digest(alloc, pin, store),
-        Question::Receipt { number } => answer_receipt(alloc, number, pin, store),
+        Question::Receipt { number } => answer_receipt(alloc, *number, pin, store),
     }
 }
 
