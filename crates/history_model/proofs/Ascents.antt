@@ -20,8 +20,8 @@ use Rattle.history_model.specs.InOrder.{Has, IsAscending}
 use Rattle.history_model.specs.History.{row_cmp}
 use Rattle.history_model.specs.Queries.{is_version_of, is_above, snapshot, versions, page, all_above, begins_with, is_term, terms, is_child_of, source_of, children, refers_to, is_replacement_of, replacement_cmp, refset_of, target_of, replacements}
 use Rattle.history_model.specs.Queries.{is_kind, subject_of_body, subject_of, is_subject, is_about, about, is_term_above, terms_above, search_terms}
-use Rattle.history_model.specs.Laws.{AboutIsAll, EachIsAboutOne, AboutAscends, SearchAscends}
-use Rattle.history_model.specs.Laws.{WhatIsShownAscends, OneRowOfAComponent, by_time, by_id, AnswersAscend, ChildrenAreAll, ReplacementsAreAll}
+use Rattle.history_model.specs.Laws.{AboutIsAll, EachIsAboutOne}
+use Rattle.history_model.specs.Laws.{WhatIsShownAscends, OneRowOfAComponent, by_time, by_id, ChildrenAreAll, ReplacementsAreAll}
 use Rattle.history_model.proofs.InOrder.{Has-put_all_cases, Has-put_all_new, IsAscending-in_order}
 use Rattle.history_model.proofs.Filtered.{Has-filter, Has-filter_from, Has-map, Has-map_from, Rises, IsAscending-take}
 use Rattle.history_model.proofs.Snapshots.{IsAscending-rows_at, IsAscending-snapshot, IsConsistent-from_ascending, current_from_snapshot, kind_from_test, of_page, Rises-page, Rises-current, Rises-versions, versions-above_none}
@@ -62,12 +62,12 @@ module _ (p : RowValue → Bool) (rank : RowValue → ℕ) where
 
 -- ---- each answer
 
-versions_ascend : (rows : List RowValue) → IsAscending row_cmp rows → (kind : Kind) (id : ℕ) → IsAscending by_time (versions kind id rows)
+pub versions_ascend : (rows : List RowValue) → IsAscending row_cmp rows → (kind : Kind) (id : ℕ) → IsAscending by_time (versions kind id rows)
 versions_ascend rows up kind id =
     subst (λ xs. IsAscending by_time xs) (sym (versions-above_none kind id rows))
     (ascends (λ row. is_version_of kind id row && is_above None row.time) (λ row. row.time) rows (Rises-versions kind id None rows up))
 
-page_ascends : (rows : List RowValue) → IsAscending row_cmp rows → (kind : Kind) (date : ℕ) (after : Option ℕ) (limit : ℕ) → IsAscending by_id (page kind date after limit rows)
+pub page_ascends : (rows : List RowValue) → IsAscending row_cmp rows → (kind : Kind) (date : ℕ) (after : Option ℕ) (limit : ℕ) → IsAscending by_id (page kind date after limit rows)
 unfolding page all_above
 page_ascends rows up kind date after limit =
     IsAscending-take by_id limit _ (ascends (of_page kind after) (λ row. row.id) (snapshot rows date) (Rises-page kind date after rows up))
@@ -80,14 +80,14 @@ term_kind prefix (body.Association a) e = cc
 term_kind prefix (body.Concrete c) e = cc
 term_kind prefix (body.Member m) e = cc
 
-terms_ascend : (rows : List RowValue) → IsAscending row_cmp rows → (prefix : List ℕ) (date limit : ℕ) → IsAscending by_id (terms prefix date limit rows)
+pub terms_ascend : (rows : List RowValue) → IsAscending row_cmp rows → (prefix : List ℕ) (date limit : ℕ) → IsAscending by_id (terms prefix date limit rows)
 unfolding terms
 terms_ascend rows up prefix date limit =
     IsAscending-take by_id limit _
     (ascends (is_term prefix) (λ row. row.id) (snapshot rows date)
     (Rises-current (is_term prefix) Description rows date (λ x e. term_kind prefix x.body (and_parts x.active (begins_with prefix x.body) e).1) (snapshot rows date) (IsAscending-snapshot rows date up) (λ x there. current_from_snapshot rows date x there)))
 
-children_ascend : (rows : List RowValue) (concept date : ℕ) → IsAscending nat_cmp (children concept date rows)
+pub children_ascend : (rows : List RowValue) (concept date : ℕ) → IsAscending nat_cmp (children concept date rows)
 unfolding children
 children_ascend rows concept date = IsAscending-in_order nat_cmp_total (map (λ row. source_of row.body) (filter (is_child_of concept) (snapshot rows date)))
 
@@ -100,18 +100,9 @@ pub replacements_total : IsTotalOrder replacement_cmp
 replacements_total = then_total (on_total (λ row. refset_of row.body) nat_cmp_total)
     (then_total (on_total (λ row. target_of row.body) nat_cmp_total) (on_total (λ row. row.id) nat_cmp_total))
 
-replacements_ascend : (rows : List RowValue) (id date : ℕ) → IsAscending replacement_cmp (replacements id date rows)
+pub replacements_ascend : (rows : List RowValue) (id date : ℕ) → IsAscending replacement_cmp (replacements id date rows)
 unfolding replacements
 replacements_ascend rows id date = IsAscending-in_order replacements_total (filter (is_replacement_of id) (snapshot rows date))
-
-pub answers_ascend : AnswersAscend
-answers_ascend rows up = record {
-  versions_ascend = versions_ascend rows up;
-  pages_ascend = page_ascends rows up;
-  terms_ascend = terms_ascend rows up;
-  children_ascend = children_ascend rows;
-  replacements_ascend = replacements_ascend rows;
-}
 
 -- ---- nothing is left out
 
@@ -207,7 +198,7 @@ each_is_about_one kind date rows row other active =
       λ id there. same_Some id own.0 (sym ((about_is_all kind id date rows row).0 there).1 ∙ own.1),
     )
 
-pub about_ascends : AboutAscends
+pub about_ascends : (kind : Kind) (id date : ℕ) (rows : List RowValue) → IsAscending row_cmp rows → IsAscending by_id (about kind id date rows)
 unfolding about
 about_ascends kind id date rows up =
     ascends (is_about kind id) (λ row. row.id) (snapshot rows date)
@@ -221,7 +212,7 @@ Rises-terms prefix date after rows up =
     (λ x e. term_kind prefix x.body (and_parts x.active (begins_with prefix x.body) (and_parts (is_term prefix x) (is_above after x.id) e).0).1)
     (snapshot rows date) (IsAscending-snapshot rows date up) (λ x there. current_from_snapshot rows date x there)
 
-pub search_ascends : SearchAscends
+pub search_ascends : (prefix : List ℕ) (date : ℕ) (after : Option ℕ) (limit : ℕ) (rows : List RowValue) → IsAscending row_cmp rows → IsAscending by_id (search_terms prefix date after limit rows)
 unfolding search_terms terms_above
 search_ascends prefix date after limit rows up =
     IsAscending-take by_id limit _ (ascends (is_term_above prefix after) (λ row. row.id) (snapshot rows date) (Rises-terms prefix date after rows up))

@@ -1,11 +1,12 @@
 -- What changed, what was ever about a component, what it replaces, and which days have rows.
 use Rattle.std.proofs.Common.{◌≡◌, ◌⊎◌, ℕ, zero, suc, ◌+◌, ◌<◌, ◌≤◌, Bool, true, false, cond, List, [], ◌∷◌, map, take, refl, sym, ap, subst, inl, inr, ◌∙◌, arith}
-use Rattle.std.specs.Prelude.{◌&&◌, ◌==◌, nat_lt, nat_le, Some, None}
+use Rattle.std.specs.Prelude.{◌&&◌, ◌==◌, nat_lt, nat_le, Option, Some, None}
 use Rattle.std.specs.List.{filter, find, list_any}
 use Rattle.std.specs.Ordering.{nat_cmp, ordering_then}
 use Rattle.std.specs.Cmp.{IsTotalOrder, nat_cmp_total, nat_cmp_is, on_total, then_total, ranked}
 use Rattle.std.specs.declared.cmp.Ordering.TheVariants.{Less, Equal}
 use Rattle.std.proofs.lemmas.Bool.Decides.{nat_tests}
+use Rattle.std.proofs.lemmas.List.Elements.{filter_agree}
 use Rattle.std.proofs.lemmas.Bool.{eqb-true, eq-eqb, and_from, and_parts, and_right}
 use Rattle.list_lemmas.proofs.Tests.{both_equal}
 use Rattle.rf2_values.specs.declared.row.Kind.{Kind}
@@ -19,12 +20,12 @@ use Rattle.history_model.specs.Queries.{is_kind, is_version_of, is_later_version
 use Rattle.history_model.specs.Queries.{is_changed_above, changed_above, delta, is_about, is_subject, subject_of, about, was_about, timeline, dates}
 use Rattle.history_model.specs.Queries.{refers_to, refset_of, target_of, has_target, is_replaced_by, referenced_of, replaced_cmp, replaces}
 use Rattle.history_model.specs.Laws.{by_id}
-use Rattle.history_model.specs.Audit.{DeltaIsWhatDiffers, DeltaHasTheLaterRow, DeltaFromTheFirst, DeltaBackwardsIsEmpty, TwoDeltasCoverBoth, DeltaAscends, DeltaStays, changed_ids}
-use Rattle.history_model.specs.Audit.{TimelineIsAll, TimelineHasWhatIsAbout, by_version, TimelineAscends, TimelineStays}
-use Rattle.history_model.specs.Audit.{ReplacesAreAll, BothEndsAreOne, ReplacesAscend, ReplacesStay, DatesAreThoseOfVersions, DatesAscend, DatesStay}
+use Rattle.history_model.specs.Audit.{DeltaIsWhatDiffers, DeltaHasTheLaterRow, DeltaFromTheFirst, DeltaBackwardsIsEmpty, TwoDeltasCoverBoth, changed_ids}
+use Rattle.history_model.specs.Audit.{TimelineIsAll, TimelineHasWhatIsAbout, by_version}
+use Rattle.history_model.specs.Audit.{ReplacesAreAll, BothEndsAreOne, DatesAreThoseOfVersions, DatesAscend, DatesStay}
 use Rattle.history_model.proofs.InOrder.{Has-put_all_cases, Has-put_all_new, IsAscending-in_order, Has-all, all_from_has}
 use Rattle.history_model.proofs.Filtered.{Has-filter, Has-filter_from, Has-map, Has-map_from, IsAscending-filter, filter_none, list_any_at, filter_same, IsAscending-take}
-use Rattle.history_model.proofs.Snapshots.{IsVersionOf, version_from_test, test_from_version, Has-snapshot_from, current_from_snapshot, get_is, IsConsistent-from_ascending, IsAscending-snapshot, kind_from_test, below_in_kind, Rises-current, take-nil}
+use Rattle.history_model.proofs.Snapshots.{IsVersionOf, version_from_test, test_from_version, Has-snapshot_from, current_from_snapshot, get_is, IsConsistent-from_ascending, IsAscending-snapshot, kind_from_test, below_in_kind, above_cons, Rises-current, take-nil}
 use Rattle.history_model.proofs.Ascents.{ascends, one_row_of_a_component, replacements_are_all}
 use Rattle.history_model.proofs.Chains.{pinned_stays}
 use Rattle.history_model.proofs.Searched.{in_order_has, has_in_order}
@@ -220,7 +221,7 @@ delta_backwards_is_empty kind from date after limit rows le =
     let early = (current_from_snapshot rows date row h).early in
     and_right (is_kind_above kind after row) (nat_lt from row.time) (grind (arith, nat_tests)))) ∙ take-nil limit
 
-pub delta_ascends : DeltaAscends
+pub delta_ascends : (kind : Kind) (from date : ℕ) (after : Option ℕ) (limit : ℕ) (rows : List RowValue) → IsAscending row_cmp rows → IsAscending by_id (delta kind from date after limit rows)
 unfolding delta changed_above
 delta_ascends kind from date after limit rows up =
     IsAscending-take by_id limit (filter (is_changed_above kind from after) (snapshot rows date))
@@ -228,6 +229,24 @@ delta_ascends kind from date after limit rows up =
     (Rises-current (is_changed_above kind from after) kind rows date
     (λ row e. kind_from_test kind row (and_parts (is_kind kind row) (is_above after row.id) (and_parts (is_kind_above kind after row) (nat_lt from row.time) e).0).0)
     (snapshot rows date) (IsAscending-snapshot rows date up) (λ row h. current_from_snapshot rows date row h)))
+
+and_swapped : (a b c : Bool) → ((a && b) && c) ≡ ((a && c) && b)
+and_swapped true true true = refl
+and_swapped true true false = refl
+and_swapped true false true = refl
+and_swapped true false false = refl
+and_swapped false b c = refl
+
+-- the first that changed, and then those above it
+pub changed_cons : (kind : Kind) (from date : ℕ) (after : Option ℕ) (rows : List RowValue) (b : RowValue) (ys : List RowValue) → IsAscending row_cmp rows → changed_above kind from date after rows ≡ b ∷ ys → changed_above kind from date after rows ≡ b ∷ changed_above kind from date (Some b.id) rows
+unfolding changed_above
+changed_cons kind from date after rows b ys up here =
+    let test : RowValue → Bool = λ row. is_kind kind row && nat_lt from row.time in
+    let same = λ (id : Option ℕ). filter_agree (is_changed_above kind from id) (λ (row : RowValue). test row && is_above id row.id) (λ (row : RowValue). and_swapped (is_kind kind row) (is_above id row.id) (nat_lt from row.time)) (snapshot rows date) in
+    let rises = Rises-current (λ (row : RowValue). test row && is_above after row.id) kind rows date
+    (λ row e. kind_from_test kind row (and_parts (is_kind kind row) (nat_lt from row.time) (and_parts (test row) (is_above after row.id) e).0).0)
+    (snapshot rows date) (IsAscending-snapshot rows date up) (λ row h. current_from_snapshot rows date row h) in
+    same after ∙ above_cons test after (snapshot rows date) b ys rises (sym (same after) ∙ here) ∙ ap (λ zs. b ∷ zs) (sym (same (Some b.id)))
 
 -- ---- what was ever about a component
 
@@ -283,7 +302,7 @@ versions_ascend kind (x ∷ xs) kinds up = (
   versions_ascend kind xs (λ y h. kinds y (inr h)) up.1,
 )
 
-pub timeline_ascends : TimelineAscends
+pub timeline_ascends : (kind : Kind) (id : ℕ) (rows : List RowValue) → IsAscending row_cmp rows → IsAscending by_version (timeline kind id rows)
 unfolding timeline
 timeline_ascends kind id rows up =
     versions_ascend kind (filter (was_about kind id rows) rows)
@@ -351,7 +370,7 @@ pub replaced_total : IsTotalOrder replaced_cmp
 replaced_total = then_total (on_total (λ row. refset_of row.body) nat_cmp_total)
     (then_total (on_total (λ row. referenced_of row.body) nat_cmp_total) (on_total (λ row. row.id) nat_cmp_total))
 
-pub replaces_ascend : ReplacesAscend
+pub replaces_ascend : (id date : ℕ) (rows : List RowValue) → IsAscending replaced_cmp (replaces id date rows)
 unfolding replaces
 replaces_ascend id date rows = IsAscending-in_order replaced_total (filter (is_replaced_by id) (snapshot rows date))
 
@@ -373,15 +392,6 @@ unfolding dates
 dates_ascend rows = IsAscending-in_order nat_cmp_total (map (λ row. row.time) rows)
 
 -- ---- later imports
-
-pub delta_stays : DeltaStays
-delta_stays h release pin kind from date after limit is le = ap (delta kind from date after limit) (pinned_stays h release pin is le)
-
-pub timeline_stays : TimelineStays
-timeline_stays h release pin kind id is le = ap (timeline kind id) (pinned_stays h release pin is le)
-
-pub replaces_stay : ReplacesStay
-replaces_stay h release pin id date is le = ap (replaces id date) (pinned_stays h release pin is le)
 
 pub dates_stay : DatesStay
 dates_stay h release pin is le = ap dates (pinned_stays h release pin is le)

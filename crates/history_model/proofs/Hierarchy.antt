@@ -12,10 +12,9 @@ use Rattle.rf2_values.specs.Row.{RowValue}
 use Rattle.history_model.specs.InOrder.{Has, in_order}
 use Rattle.history_model.specs.Queries.{snapshot, children, parents, is_a, is_child_of, is_parent_of, says_is_a, says_is_kind, source_of, destination_of}
 use Rattle.history_model.specs.Hierarchy.{IsPath, IsReached, AreReached, AreDescendants, AreAncestors}
-use Rattle.history_model.specs.Hierarchy.{ParentsHaveChildren, AncestorsHaveDescendants, ChildrenAreDescendants, DescendantsOfDescendants, OneListOfDescendants, OneListOfAncestors, DescendantsStay, AncestorsStay}
+use Rattle.history_model.specs.Hierarchy.{ParentsHaveChildren, AncestorsHaveDescendants, ChildrenAreDescendants, DescendantsOfDescendants}
 use Rattle.history_model.proofs.InOrder.{same_ascending, Has-put_all_cases, Has-put_all_new}
 use Rattle.history_model.proofs.Filtered.{Has-filter, Has-filter_from, Has-map, Has-map_from}
-use Rattle.history_model.proofs.Chains.{pinned_stays}
 
 -- ---- numbers in order are those of the list
 
@@ -111,24 +110,10 @@ pub descendants_of_descendants : DescendantsOfDescendants
 descendants_of_descendants concept other date rows descendants lower d l h id k =
     (d.members id).1 (reached_then (λ c. children c date rows) concept other id ((d.members other).0 h) ((l.members id).0 k))
 
-pub one_list_of_descendants : OneListOfDescendants
+pub one_list_of_descendants : (concept date : ℕ) (rows : List RowValue) (ids others : List ℕ) → AreDescendants concept date rows ids → AreDescendants concept date rows others → ids ≡ others
 one_list_of_descendants concept date rows ids others a b = one_list (λ c. children c date rows) concept ids others a b
 
-pub one_list_of_ancestors : OneListOfAncestors
+pub one_list_of_ancestors : (concept date : ℕ) (rows : List RowValue) (ids others : List ℕ) → AreAncestors concept date rows ids → AreAncestors concept date rows others → ids ≡ others
 one_list_of_ancestors concept date rows ids others a b = one_list (λ c. parents c date rows) concept ids others a b
 
 -- ---- later imports
-
-pub descendants_stay : DescendantsStay
-descendants_stay h release pin concept date ids is le =
-    let same = pinned_stays h release pin is le in (
-      subst (λ rows. AreDescendants concept date rows ids) same,
-      subst (λ rows. AreDescendants concept date rows ids) (sym same),
-    )
-
-pub ancestors_stay : AncestorsStay
-ancestors_stay h release pin concept date ids is le =
-    let same = pinned_stays h release pin is le in (
-      subst (λ rows. AreAncestors concept date rows ids) same,
-      subst (λ rows. AreAncestors concept date rows ids) (sym same),
-    )

@@ -20,15 +20,14 @@ use Rattle.history_model.specs.History.{row_cmp}
 use Rattle.history_model.specs.Queries.{is_kind, is_above, is_kind_above, snapshot, all_above, about}
 use Rattle.history_model.specs.Queries.{is_member_of, is_member_above, members_above, members, component_of, is_value_above, value_cmp, values_above, is_among_first, values, members_about, with_others, called}
 use Rattle.history_model.specs.Laws.{by_id}
-use Rattle.history_model.specs.Membership.{MembersAreOfTheKind, EachIsOfOneSet, MembersAscend, MembersAndTheRest, FewMembersAreLast, ArePagesOfMembers, PagesOfMembersAreAll, PagesOfMembersEnd}
-use Rattle.history_model.specs.Membership.{ValuesAreAll, ValuesAreTheActiveMembers, ValuesAscend, ValuesAreTheFirstWithTies, ValuesOfOneComponentStayTogether, ValuesFillTheLimit, FewValuesAreAll, last_component, ValuesAndTheRest, ArePagesOfValues, PagesOfValuesAreAll, PagesOfValuesEnd}
-use Rattle.history_model.specs.Membership.{CalledAreNames, CalledAscend, CalledAreAmongValues, MembersStay, ValuesStay, CalledStays}
+use Rattle.history_model.specs.Membership.{MembersAreOfTheKind, EachIsOfOneSet}
+use Rattle.history_model.specs.Membership.{ValuesAreAll, ValuesAreTheActiveMembers, ValuesAreTheFirstWithTies, ValuesFillTheLimit, last_component}
+use Rattle.history_model.specs.Membership.{CalledAreNames, CalledAreAmongValues}
 use Rattle.history_model.proofs.InOrder.{Has-put_all_cases, Has-put_all_new, IsAscending-in_order, Has-all, all_from_has, Has-append_left, Has-append_right, Has-append_cases, same_ascending}
 use Rattle.history_model.proofs.Filtered.{Has-filter, Has-filter_from, IsAscending-filter, filter_none, Rises, IsAscending-take}
 use Rattle.history_model.proofs.Snapshots.{IsAscending-snapshot, current_from_snapshot, kind_from_test, Rises-current, above_cons, above_again, first_half}
 use Rattle.history_model.proofs.Ascents.{ascends, one_row_of_a_component, about_is_all, about_ascends}
-use Rattle.history_model.proofs.Paging.{take_short, goes_on, are_all, ends}
-use Rattle.history_model.proofs.Chains.{pinned_stays}
+use Rattle.history_model.proofs.Paging.{take_short}
 use Rattle.history_model.proofs.Items.{Has-flat_map, Has-flat_map_from}
 
 -- ---- tests
@@ -89,33 +88,14 @@ Rises-members refset date after rows up =
     (λ x e. member_kind refset x.body (and_parts (is_member_of refset x.body) (is_above after x.id) e).0)
     (snapshot rows date) (IsAscending-snapshot rows date up) (λ x there. current_from_snapshot rows date x there)
 
-pub members_ascend : MembersAscend
+pub members_ascend : (refset date : ℕ) (after : Option ℕ) (limit : ℕ) (rows : List RowValue) → IsAscending row_cmp rows → IsAscending by_id (members refset date after limit rows)
 unfolding members members_above
 members_ascend refset date after limit rows up =
     IsAscending-take by_id limit _ (ascends (is_member_above refset after) (λ row. row.id) (snapshot rows date) (Rises-members refset date after rows up))
 
-pub few_members_are_last : FewMembersAreLast
-unfolding members
-few_members_are_last refset date after limit rows few = take_short limit (members_above refset date after rows) few
-
-members_cons : (refset date : ℕ) (after : Option ℕ) (rows : List RowValue) (b : RowValue) (ys : List RowValue) → IsAscending row_cmp rows → members_above refset date after rows ≡ b ∷ ys → members_above refset date after rows ≡ b ∷ members_above refset date (Some b.id) rows
+pub members_cons : (refset date : ℕ) (after : Option ℕ) (rows : List RowValue) (b : RowValue) (ys : List RowValue) → IsAscending row_cmp rows → members_above refset date after rows ≡ b ∷ ys → members_above refset date after rows ≡ b ∷ members_above refset date (Some b.id) rows
 unfolding members_above
 members_cons refset date after rows b ys up here = above_cons (λ row. is_member_of refset row.body) after (snapshot rows date) b ys (Rises-members refset date after rows up) here
-
-pub members_and_the_rest : MembersAndTheRest
-unfolding members
-members_and_the_rest refset date after limit rows up =
-    goes_on (λ id. members_above refset date id rows) (λ id b ys e. members_cons refset date id rows b ys up e) limit after
-
-pub pages_of_members_are_all : PagesOfMembersAreAll
-unfolding members
-pages_of_members_are_all refset date after limit rows pages up some are =
-    are_all (λ id. members_above refset date id rows) (λ id b ys e. members_cons refset date id rows b ys up e) limit some (ArePagesOfMembers refset date limit rows) (λ id. (λ e. e, λ e. e)) (λ id first others. (λ e. e, λ e. e)) after pages are
-
-pub pages_of_members_end : PagesOfMembersEnd
-unfolding members
-pages_of_members_end refset date after limit rows up some =
-    ends (λ id. members_above refset date id rows) (λ id b ys e. members_cons refset date id rows b ys up e) limit some (ArePagesOfMembers refset date limit rows) (λ id. (λ e. e, λ e. e)) (λ id first others. (λ e. e, λ e. e)) (length (members_above refset date after rows)) after (omega arith)
 
 -- ---- the active members
 
@@ -169,7 +149,7 @@ pub values_above_ascend : (refset date : ℕ) (after : Option ℕ) (rows : List 
 unfolding values_above
 values_above_ascend refset date after rows = IsAscending-in_order value_total (filter (is_value_above refset after) (snapshot rows date))
 
-pub values_ascend : ValuesAscend
+pub values_ascend : (refset date : ℕ) (after : Option ℕ) (limit : ℕ) (rows : List RowValue) → IsAscending value_cmp (values refset date after limit rows)
 unfolding values
 values_ascend refset date after limit rows = IsAscending-filter _ value_cmp (values_above refset date after rows) (values_above_ascend refset date after rows)
 
@@ -242,13 +222,6 @@ values_are_the_first_with_ties refset date after limit rows row =
       λ w. Has-filter_from (is_among_first limit all) all row w.0 (lt-ltb (before (component_of row) all) limit (few_before limit all row w.1.0 up w.1.1 w.1.2)),
     )
 
-pub values_of_one_component_stay_together : ValuesOfOneComponentStayTogether
-unfolding values
-values_of_one_component_stay_together refset date after limit rows a b first second same h =
-    let all = values_above refset date after rows in
-    let f = Has-filter (is_among_first limit all) all a h in
-    Has-filter_from (is_among_first limit all) all b second (subst (λ c. nat_lt (before c all) limit ≡ true) same f.1)
-
 enough : (p : RowValue → Bool) (n : ℕ) (xs : List RowValue) → ((x : RowValue) → Has (take n xs) x → p x ≡ true) → length (take n xs) ≤ length (filter p xs)
 enough p zero xs each = omega arith
 enough p (suc n) [] each = omega arith
@@ -275,7 +248,7 @@ all_among refset date after limit rows first =
     let all = values_above refset date after rows in
     all_pass (is_among_first limit all) all (λ x h. among limit all x (values_above_ascend refset date after rows) (subst (λ ys. Has ys x) first h))
 
-pub few_values_are_all : FewValuesAreAll
+pub few_values_are_all : (refset date : ℕ) (after : Option ℕ) (limit : ℕ) (rows : List RowValue) → length (values refset date after limit rows) < limit → values_above refset date after rows ≡ values refset date after limit rows
 few_values_are_all refset date after limit rows few =
     all_among refset date after limit rows (take_short limit (values_above refset date after rows) (omega (arith, few, values_fill_the_limit refset date after limit rows)))
 
@@ -358,7 +331,7 @@ rest_above refset date after limit rows x xs up e =
           (values_are_all refset date after rows z up).1 (r.0, row_value refset after z (record { active = r.1.active; of_refset = r.1.of_refset; above = above_again after (component_of last.0) (component_of z) first r.1.above }))
     ]))
 
-pub values_and_the_rest : ValuesAndTheRest
+pub values_and_the_rest : (refset date : ℕ) (after : Option ℕ) (limit : ℕ) (rows : List RowValue) → IsAscending row_cmp rows → values_above refset date after rows ≡ values refset date after limit rows ++ values_above refset date (last_component after (values refset date after limit rows)) rows
 values_and_the_rest refset date after limit rows up =
     elim (values refset date after limit rows) as (λ ys. values refset date after limit rows ≡ ys → values_above refset date after rows ≡ ys ++ values_above refset date (last_component after ys) rows) [
       | [] ↦ λ e. refl
@@ -367,7 +340,7 @@ values_and_the_rest refset date after limit rows up =
 
 -- answers one after the other, each of which has some where any are left
 module _ (all first : Option ℕ → List RowValue) (last : Option ℕ → List RowValue → Option ℕ) (split : (after : Option ℕ) → all after ≡ first after ++ all (last after (first after))) (some : (after : Option ℕ) → first after ≡ [] → all after ≡ []) (Are : Option ℕ → List (List RowValue) → Type 0) (none : (after : Option ℕ) → Are after [] ↔ (first after ≡ [])) (more : (after : Option ℕ) (page : List RowValue) (pages : List (List RowValue)) → Are after (page ∷ pages) ↔ ((page ≡ first after) × Are (last after page) pages)) where
-  joined_are_all : (after : Option ℕ) (pages : List (List RowValue)) → Are after pages → joined pages ≡ all after
+  pub joined_are_all : (after : Option ℕ) (pages : List (List RowValue)) → Are after pages → joined pages ≡ all after
   joined_are_all after [] e = sym (some after ((none after).0 e))
   joined_are_all after (page ∷ pages) e =
       let w = (more after page pages).0 e in
@@ -386,20 +359,12 @@ module _ (all first : Option ℕ → List RowValue) (last : Option ℕ → List 
       let others = shorter (last after (first after)) (omega (arith, long, sum)) in
       (first after ∷ others.0, (more after (first after) others.0).1 (refl, others.1), λ h. elim h [ inl n ↦ (let no = ap length n in omega (arith, no, long)) | inr t ↦ others.2 t ])
 
-  some_end : (n : ℕ) (after : Option ℕ) → length (all after) ≤ n → AreSome after
+  pub some_end : (n : ℕ) (after : Option ℕ) → length (all after) ≤ n → AreSome after
   some_end zero after le = next_some after (first after) refl (λ later lt. absurd (omega (arith, lt, le)))
   some_end (suc n) after le = next_some after (first after) refl (λ later lt. some_end n later (omega (arith, lt, le)))
 
-none_above : (refset date : ℕ) (after : Option ℕ) (limit : ℕ) (rows : List RowValue) → 1 ≤ limit → values refset date after limit rows ≡ [] → values_above refset date after rows ≡ []
+pub none_above : (refset date : ℕ) (after : Option ℕ) (limit : ℕ) (rows : List RowValue) → 1 ≤ limit → values refset date after limit rows ≡ [] → values_above refset date after rows ≡ []
 none_above refset date after limit rows some e = let nothing = ap length e in few_values_are_all refset date after limit rows (omega (arith, nothing, some)) ∙ e
-
-pub pages_of_values_are_all : PagesOfValuesAreAll
-pages_of_values_are_all refset date after limit rows pages up some are =
-    joined_are_all (λ c. values_above refset date c rows) (λ c. values refset date c limit rows) last_component (λ c. values_and_the_rest refset date c limit rows up) (λ c e. none_above refset date c limit rows some e) (ArePagesOfValues refset date limit rows) (λ c. (λ e. e, λ e. e)) (λ c page others. (λ e. e, λ e. e)) after pages are
-
-pub pages_of_values_end : PagesOfValuesEnd
-pages_of_values_end refset date after limit rows up some =
-    some_end (λ c. values_above refset date c rows) (λ c. values refset date c limit rows) last_component (λ c. values_and_the_rest refset date c limit rows up) (λ c e. none_above refset date c limit rows some e) (ArePagesOfValues refset date limit rows) (λ c. (λ e. e, λ e. e)) (λ c page others. (λ e. e, λ e. e)) (length (values_above refset date after rows)) after (omega arith)
 
 -- ---- what a concept is called
 
@@ -456,7 +421,7 @@ descriptions of (x ∷ xs) are none =
           filter-append (is_kind Description) (x ∷ m ∷ ms) (flat_map (λ x. with_others x (of x)) xs) ∙ ap (λ ys. ys ++ filter (is_kind Description) (flat_map (λ x. with_others x (of x)) xs)) one ∙ ap (λ ys. x ∷ ys) rest
     ] (none x)
 
-pub called_ascend : CalledAscend
+pub called_ascend : (concept date refset : ℕ) (rows : List RowValue) → IsAscending row_cmp rows → IsAscending by_id (filter (is_kind Description) (called concept date refset rows))
 unfolding called members_about
 called_ascend concept date refset rows up =
     subst (λ xs. IsAscending by_id xs) (sym (descriptions (λ d. members_about refset d.id date rows) (about Description concept date rows)
@@ -467,12 +432,3 @@ called_ascend concept date refset rows up =
     (IsAscending-filter _ by_id (about Description concept date rows) (about_ascends Description concept date rows up))
 
 -- ---- later imports
-
-pub members_stay : MembersStay
-members_stay h release pin refset date after limit is le = ap (members refset date after limit) (pinned_stays h release pin is le)
-
-pub values_stay : ValuesStay
-values_stay h release pin refset date after limit is le = ap (values refset date after limit) (pinned_stays h release pin is le)
-
-pub called_stays : CalledStays
-called_stays h release pin concept date refset is le = ap (called concept date refset) (pinned_stays h release pin is le)

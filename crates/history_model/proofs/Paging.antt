@@ -7,24 +7,16 @@ use Rattle.list_lemmas.proofs.Kept.{kept_at_most}
 use Rattle.rf2_values.specs.Row.{RowValue}
 use Rattle.history_model.specs.InOrder.{Has, IsAscending, joined}
 use Rattle.history_model.specs.History.{row_cmp}
-use Rattle.history_model.specs.Queries.{page, all_above, is_term, is_term_above, is_current, snapshot, terms, terms_above, search_terms}
-use Rattle.history_model.specs.Laws.{last_id, ArePages, PageAndTheRest, ShortPageIsLast, PagesAreAll, PagesEnd}
-use Rattle.history_model.specs.Laws.{AreSearches, SearchFromTheFirst, SearchAndTheRest, ShortSearchIsLast, SearchesAreAll, SearchesAreTerms, SearchesEnd}
-use Rattle.history_model.proofs.Snapshots.{page_cons, above_cons, and-true}
+use Rattle.history_model.specs.Queries.{page, is_term, is_term_above, is_current, snapshot, terms, terms_above, search_terms}
+use Rattle.history_model.specs.Laws.{last_id}
+use Rattle.history_model.specs.Laws.{SearchFromTheFirst}
+use Rattle.history_model.proofs.Snapshots.{above_cons, and-true}
 use Rattle.history_model.proofs.Ascents.{Rises-terms}
 
 pub take_short : {X : Type 0} (n : ℕ) (xs : List X) → length (take n xs) < n → xs ≡ take n xs
 take_short zero xs lt = absurd (omega arith)
 take_short (suc n) [] lt = refl
 take_short (suc n) (x ∷ xs) lt = ap (λ ys. x ∷ ys) (take_short n xs (omega arith))
-
-pub short_page_is_last : ShortPageIsLast
-unfolding page
-short_page_is_last kind date after limit rows short = take_short limit (all_above kind date after rows) short
-
-pub short_search_is_last : ShortSearchIsLast
-unfolding search_terms
-short_search_is_last prefix date after limit rows short = take_short limit (terms_above prefix date after rows) short
 
 none_left : (limit : ℕ) (xs : List RowValue) → 1 ≤ limit → take limit xs ≡ [] → xs ≡ []
 none_left zero xs le e = absurd (omega arith)
@@ -75,43 +67,11 @@ module _ (all : Option ℕ → List RowValue) (split : (after : Option ℕ) (b :
     ends zero after le = next after (all after) refl (λ later lt. absurd (omega (arith, lt, le)))
     ends (suc n) after le = next after (all after) refl (λ later lt. ends n later (omega (arith, lt, le)))
 
--- ---- pages
-
-pub page_and_the_rest : PageAndTheRest
-unfolding page
-page_and_the_rest kind date after limit rows up =
-    goes_on (λ id. all_above kind date id rows) (λ id b ys e. page_cons kind date id rows b ys up e) limit after
-
-pub pages_are_all : PagesAreAll
-unfolding page
-pages_are_all kind date after limit rows pages up some are =
-    are_all (λ id. all_above kind date id rows) (λ id b ys e. page_cons kind date id rows b ys up e) limit some (ArePages kind date limit rows) (λ id. (λ e. e, λ e. e)) (λ id first others. (λ e. e, λ e. e)) after pages are
-
-pub pages_end : PagesEnd
-unfolding page
-pages_end kind date after limit rows up some =
-    ends (λ id. all_above kind date id rows) (λ id b ys e. page_cons kind date id rows b ys up e) limit some (ArePages kind date limit rows) (λ id. (λ e. e, λ e. e)) (λ id first others. (λ e. e, λ e. e)) (length (all_above kind date after rows)) after (omega arith)
-
 -- ---- searches
 
-search_cons : (prefix : List ℕ) (date : ℕ) (after : Option ℕ) (rows : List RowValue) (b : RowValue) (ys : List RowValue) → IsAscending row_cmp rows → terms_above prefix date after rows ≡ b ∷ ys → terms_above prefix date after rows ≡ b ∷ terms_above prefix date (Some b.id) rows
+pub search_cons : (prefix : List ℕ) (date : ℕ) (after : Option ℕ) (rows : List RowValue) (b : RowValue) (ys : List RowValue) → IsAscending row_cmp rows → terms_above prefix date after rows ≡ b ∷ ys → terms_above prefix date after rows ≡ b ∷ terms_above prefix date (Some b.id) rows
 unfolding terms_above
 search_cons prefix date after rows b ys up here = above_cons (is_term prefix) after (snapshot rows date) b ys (Rises-terms prefix date after rows up) here
-
-pub search_and_the_rest : SearchAndTheRest
-unfolding search_terms
-search_and_the_rest prefix date after limit rows up =
-    goes_on (λ id. terms_above prefix date id rows) (λ id b ys e. search_cons prefix date id rows b ys up e) limit after
-
-pub searches_are_all : SearchesAreAll
-unfolding search_terms
-searches_are_all prefix date after limit rows pages up some are =
-    are_all (λ id. terms_above prefix date id rows) (λ id b ys e. search_cons prefix date id rows b ys up e) limit some (AreSearches prefix date limit rows) (λ id. (λ e. e, λ e. e)) (λ id first others. (λ e. e, λ e. e)) after pages are
-
-pub searches_end : SearchesEnd
-unfolding search_terms
-searches_end prefix date after limit rows up some =
-    ends (λ id. terms_above prefix date id rows) (λ id b ys e. search_cons prefix date id rows b ys up e) limit some (AreSearches prefix date limit rows) (λ id. (λ e. e, λ e. e)) (λ id first others. (λ e. e, λ e. e)) (length (terms_above prefix date after rows)) after (omega arith)
 
 -- with no id to begin behind, the test of the id passes
 terms_above-none : (prefix : List ℕ) (date : ℕ) (rows : List RowValue) → terms_above prefix date None rows ≡ filter (is_term prefix) (snapshot rows date)
@@ -125,10 +85,3 @@ search_from_the_first prefix date limit rows = ap (take limit) (terms_above-none
 few_terms : (prefix : List ℕ) (date : ℕ) (rows : List RowValue) → length (filter (is_term prefix) (snapshot rows date)) ≤ length rows
 unfolding snapshot
 few_terms prefix date rows = omega (arith, kept_at_most (is_term prefix) (filter (is_current rows date) rows), kept_at_most (is_current rows date) rows)
-
-pub searches_are_terms : SearchesAreTerms
-unfolding terms
-searches_are_terms prefix date limit many rows pages up some le are =
-    searches_are_all prefix date None limit rows pages up some are
-    ∙ terms_above-none prefix date rows
-    ∙ sym (take_all many (filter (is_term prefix) (snapshot rows date)) (omega (arith, few_terms prefix date rows, le)))

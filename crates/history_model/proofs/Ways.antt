@@ -8,7 +8,7 @@ use Rattle.std.proofs.lemmas.Bool.{eq-eqb, and_from, or_left, or_right, or_cases
 use Rattle.rf2_values.specs.Row.{RowValue}
 use Rattle.history_model.specs.InOrder.{Has, in_order}
 use Rattle.history_model.specs.Queries.{snapshot, children, parents, is_child_of, is_parent_of, source_of, destination_of}
-use Rattle.history_model.specs.Hierarchy.{IsPath, IsReached, AreReached, EachHasDescendants, EachHasAncestors}
+use Rattle.history_model.specs.Hierarchy.{IsPath, IsReached, AreReached, AreDescendants, AreAncestors}
 use Rattle.history_model.proofs.InOrder.{IsAscending-in_order}
 use Rattle.history_model.proofs.Filtered.{Has-filter, Has-filter_from, Has-map_from}
 use Rattle.history_model.proofs.Hierarchy.{row_from, reached_next, reached_then}
@@ -89,10 +89,10 @@ parent_row : (concept date : ℕ) (rows : List RowValue) (parent : ℕ) → Has 
 unfolding parents
 parent_row concept date rows parent h = row_from (λ row. destination_of row.body) (is_parent_of concept) (snapshot rows date) parent h
 
-pub each_has_descendants : EachHasDescendants
+pub each_has_descendants : (concept date : ℕ) (rows : List RowValue) → (ids : List ℕ) × AreDescendants concept date rows ids
 each_has_descendants concept date rows = all_reached (λ c. children c date rows) (map (λ (row : RowValue). source_of row.body) (snapshot rows date)) (λ a x h.
     let w = child_row a date rows x h in subst (λ n. Has (map (λ (row : RowValue). source_of row.body) (snapshot rows date)) n) w.3 (Has-map_from (λ (row : RowValue). source_of row.body) (snapshot rows date) w.0 w.1)) concept
 
-pub each_has_ancestors : EachHasAncestors
+pub each_has_ancestors : (concept date : ℕ) (rows : List RowValue) → (ids : List ℕ) × AreAncestors concept date rows ids
 each_has_ancestors concept date rows = all_reached (λ c. parents c date rows) (map (λ (row : RowValue). destination_of row.body) (snapshot rows date)) (λ a x h.
     let w = parent_row a date rows x h in subst (λ n. Has (map (λ (row : RowValue). destination_of row.body) (snapshot rows date)) n) w.3 (Has-map_from (λ (row : RowValue). destination_of row.body) (snapshot rows date) w.0 w.1)) concept

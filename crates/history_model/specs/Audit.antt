@@ -10,7 +10,7 @@ use Rattle.history_model.specs.InOrder.{Has, IsAscending}
 use Rattle.history_model.specs.History.{History, IsHistory, row_cmp, after_release, rows_at}
 use Rattle.history_model.specs.Queries.{snapshot, get, versions, page, about, replacements}
 use Rattle.history_model.specs.Queries.{changed_above, delta, timeline, dates, target_of}
-use Rattle.history_model.specs.Queries.{is_replaced_by, referenced_of, replaced_cmp, replaces}
+use Rattle.history_model.specs.Queries.{is_replaced_by, referenced_of, replaces}
 use Rattle.history_model.specs.Laws.{by_id, by_time}
 
 -- ---- what changed
@@ -51,10 +51,6 @@ TwoDeltasCoverBoth = (kind : Kind) (from between date id : ℕ) (rows : List Row
     → from ≤ between → between ≤ date → Has (changed_ids kind from date rows) id
     ↔ (Has (changed_ids kind from between rows) id ⊎ Has (changed_ids kind between date rows) id)
 
-abbrev pub DeltaAscends : Type 0
-DeltaAscends = (kind : Kind) (from date : ℕ) (after : Option ℕ) (limit : ℕ) (rows : List RowValue)
-    → IsAscending row_cmp rows → IsAscending by_id (delta kind from date after limit rows)
-
 -- ---- what was ever about a component
 
 -- a timeline has all versions of the components that were about the component at some date, and
@@ -74,10 +70,6 @@ TimelineHasWhatIsAbout = (kind : Kind) (id date : ℕ) (rows : List RowValue) (r
 abbrev pub by_version : RowValue → RowValue → Ordering
 by_version a b = ordering_then (by_id a b) (by_time a b)
 
-abbrev pub TimelineAscends : Type 0
-TimelineAscends = (kind : Kind) (id : ℕ) (rows : List RowValue)
-    → IsAscending row_cmp rows → IsAscending by_version (timeline kind id rows)
-
 -- ---- what a component replaces
 
 -- they are all associations of the Snapshot with this target
@@ -94,10 +86,6 @@ BothEndsAreOne = (id target date : ℕ) (rows : List RowValue) (row : RowValue)
     → (Has (replacements id date rows) row × (target_of row.body ≡ target))
     ↔ (Has (replaces target date rows) row × (referenced_of row.body ≡ id))
 
-abbrev pub ReplacesAscend : Type 0
-ReplacesAscend = (id date : ℕ) (rows : List RowValue)
-    → IsAscending replaced_cmp (replaces id date rows)
-
 -- ---- which days have rows
 
 -- they are the effective times of all versions of all components
@@ -110,26 +98,6 @@ abbrev pub DatesAscend : Type 0
 DatesAscend = (rows : List RowValue) → IsAscending nat_cmp (dates rows)
 
 -- ---- later imports
-
--- the answers at a pin aren't changed by later imports
-abbrev pub DeltaStays : Type 0
-DeltaStays = (h : History) (release : List RowValue) (pin : ℕ)
-    (kind : Kind) (from date : ℕ) (after : Option ℕ) (limit : ℕ)
-    → IsHistory h → pin ≤ h.imports
-    → delta kind from date after limit (rows_at pin (after_release h release).rows)
-    ≡ delta kind from date after limit (rows_at pin h.rows)
-
-abbrev pub TimelineStays : Type 0
-TimelineStays = (h : History) (release : List RowValue) (pin : ℕ) (kind : Kind) (id : ℕ)
-    → IsHistory h → pin ≤ h.imports
-    → timeline kind id (rows_at pin (after_release h release).rows)
-    ≡ timeline kind id (rows_at pin h.rows)
-
-abbrev pub ReplacesStay : Type 0
-ReplacesStay = (h : History) (release : List RowValue) (pin id date : ℕ)
-    → IsHistory h → pin ≤ h.imports
-    → replaces id date (rows_at pin (after_release h release).rows)
-    ≡ replaces id date (rows_at pin h.rows)
 
 abbrev pub DatesStay : Type 0
 DatesStay = (h : History) (release : List RowValue) (pin : ℕ)

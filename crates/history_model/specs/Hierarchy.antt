@@ -1,9 +1,8 @@
 -- The concepts above and below a concept at a date. `rows` are the rows that a pin shows.
-use Rattle.std.specs.Prelude.{◌≡◌, ◌↔◌, ℕ, ◌≤◌, List, [], ◌∷◌}
+use Rattle.std.specs.Prelude.{◌↔◌, ℕ, List, [], ◌∷◌}
 use Rattle.std.specs.Ordering.{nat_cmp}
 use Rattle.rf2_values.specs.Row.{RowValue}
 use Rattle.history_model.specs.InOrder.{Has, IsAscending}
-use Rattle.history_model.specs.History.{History, IsHistory, after_release, rows_at}
 use Rattle.history_model.specs.Queries.{children, parents}
 
 -- a path from one concept to another, by way of those between, where each is a next one of the one
@@ -55,35 +54,3 @@ DescendantsOfDescendants = (concept other date : ℕ) (rows : List RowValue)
     (descendants lower : List ℕ)
     → AreDescendants concept date rows descendants → AreDescendants other date rows lower
     → Has descendants other → (id : ℕ) → Has lower id → Has descendants id
-
--- a concept has only one list of descendants, and only one of ancestors
-abbrev pub OneListOfDescendants : Type 0
-OneListOfDescendants = (concept date : ℕ) (rows : List RowValue) (ids others : List ℕ)
-    → AreDescendants concept date rows ids → AreDescendants concept date rows others
-    → ids ≡ others
-
-abbrev pub OneListOfAncestors : Type 0
-OneListOfAncestors = (concept date : ℕ) (rows : List RowValue) (ids others : List ℕ)
-    → AreAncestors concept date rows ids → AreAncestors concept date rows others → ids ≡ others
-
--- each concept has such lists
-abbrev pub EachHasDescendants : Type 0
-EachHasDescendants = (concept date : ℕ) (rows : List RowValue)
-    → (ids : List ℕ) × AreDescendants concept date rows ids
-
-abbrev pub EachHasAncestors : Type 0
-EachHasAncestors = (concept date : ℕ) (rows : List RowValue)
-    → (ids : List ℕ) × AreAncestors concept date rows ids
-
--- the descendants at a pin aren't changed by later imports, and neither are the ancestors
-abbrev pub DescendantsStay : Type 0
-DescendantsStay = (h : History) (release : List RowValue) (pin concept date : ℕ) (ids : List ℕ)
-    → IsHistory h → pin ≤ h.imports
-    → AreDescendants concept date (rows_at pin (after_release h release).rows) ids
-    ↔ AreDescendants concept date (rows_at pin h.rows) ids
-
-abbrev pub AncestorsStay : Type 0
-AncestorsStay = (h : History) (release : List RowValue) (pin concept date : ℕ) (ids : List ℕ)
-    → IsHistory h → pin ≤ h.imports
-    → AreAncestors concept date (rows_at pin (after_release h release).rows) ids
-    ↔ AreAncestors concept date (rows_at pin h.rows) ids

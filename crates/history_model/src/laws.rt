@@ -7,43 +7,29 @@ ghost use Rattle.history_model.specs.Laws.{ReleaseLeavesAHistory};
 ghost use Rattle.history_model.specs.Laws.{EachReleaseHasAReceipt, NewRowsAreUnknown};
 ghost use Rattle.history_model.specs.Laws.{OneReceiptForARelease, ReceiptCountsTheUnknown};
 ghost use Rattle.history_model.specs.Laws.{MergeLeavesListed, ReleaseIsOneList};
-ghost use Rattle.history_model.specs.Laws.{AnswersAscend, ChildrenAreAll, OneRowOfAComponent};
+ghost use Rattle.history_model.specs.Laws.{ChildrenAreAll, OneRowOfAComponent};
 ghost use Rattle.history_model.specs.Laws.{ReplacementsAreAll, WhatIsShownAscends};
-ghost use Rattle.history_model.specs.Laws.{PageAndTheRest, PagesAreAll, PagesEnd, ShortPageIsLast};
-ghost use Rattle.history_model.specs.Laws.{AboutAscends, AboutIsAll, AboutStays, EachIsAboutOne};
-ghost use Rattle.history_model.specs.Laws.{SearchAndTheRest, SearchAscends, SearchFromTheFirst};
-ghost use Rattle.history_model.specs.Laws.{SearchStays};
-ghost use Rattle.history_model.specs.Laws.{SearchesAreAll, SearchesAreTerms, SearchesEnd};
-ghost use Rattle.history_model.specs.Laws.{ShortSearchIsLast};
+ghost use Rattle.history_model.specs.Laws.{AboutIsAll, EachIsAboutOne};
+ghost use Rattle.history_model.specs.Laws.{SearchFromTheFirst};
 ghost use Rattle.history_model.specs.Laws.{BothReceiptsCountTheSame, EachImportHasAReceipt};
 ghost use Rattle.history_model.specs.Laws.{ImportReceiptStays};
 ghost use Rattle.history_model.specs.Laws.{OneReceiptForAnImport, ReceiptsCountTheRows};
 ghost use Rattle.history_model.specs.Laws.{ReceiptsCountWhatIsShown};
 ghost use Rattle.history_model.specs.Hierarchy.{ParentsHaveChildren, AncestorsHaveDescendants};
 ghost use Rattle.history_model.specs.Hierarchy.{ChildrenAreDescendants, DescendantsOfDescendants};
-ghost use Rattle.history_model.specs.Hierarchy.{OneListOfDescendants, OneListOfAncestors};
-ghost use Rattle.history_model.specs.Hierarchy.{EachHasDescendants, EachHasAncestors};
-ghost use Rattle.history_model.specs.Hierarchy.{DescendantsStay, AncestorsStay};
 ghost use Rattle.history_model.specs.Audit.{DeltaIsWhatDiffers, DeltaHasTheLaterRow};
 ghost use Rattle.history_model.specs.Audit.{DeltaFromTheFirst, DeltaBackwardsIsEmpty};
-ghost use Rattle.history_model.specs.Audit.{TwoDeltasCoverBoth, DeltaAscends, DeltaStays};
+ghost use Rattle.history_model.specs.Audit.{TwoDeltasCoverBoth};
 ghost use Rattle.history_model.specs.Audit.{TimelineIsAll, TimelineHasWhatIsAbout};
-ghost use Rattle.history_model.specs.Audit.{TimelineAscends, TimelineStays};
-ghost use Rattle.history_model.specs.Audit.{ReplacesAreAll, BothEndsAreOne, ReplacesAscend};
-ghost use Rattle.history_model.specs.Audit.{ReplacesStay};
+ghost use Rattle.history_model.specs.Audit.{ReplacesAreAll, BothEndsAreOne};
 ghost use Rattle.history_model.specs.Audit.{DatesAreThoseOfVersions, DatesAscend, DatesStay};
 ghost use Rattle.history_model.specs.Membership.{MembersAreOfTheKind, EachIsOfOneSet};
-ghost use Rattle.history_model.specs.Membership.{MembersAscend, MembersAndTheRest};
-ghost use Rattle.history_model.specs.Membership.{FewMembersAreLast, PagesOfMembersAreAll};
-ghost use Rattle.history_model.specs.Membership.{PagesOfMembersEnd, ValuesAreAll};
-ghost use Rattle.history_model.specs.Membership.{ValuesAreTheActiveMembers, ValuesAscend};
+ghost use Rattle.history_model.specs.Membership.{ValuesAreAll};
+ghost use Rattle.history_model.specs.Membership.{ValuesAreTheActiveMembers};
 ghost use Rattle.history_model.specs.Membership.{ValuesAreTheFirstWithTies};
-ghost use Rattle.history_model.specs.Membership.{ValuesOfOneComponentStayTogether};
-ghost use Rattle.history_model.specs.Membership.{ValuesFillTheLimit, FewValuesAreAll};
-ghost use Rattle.history_model.specs.Membership.{ValuesAndTheRest, PagesOfValuesAreAll};
-ghost use Rattle.history_model.specs.Membership.{PagesOfValuesEnd, CalledAreNames, CalledAscend};
-ghost use Rattle.history_model.specs.Membership.{CalledAreAmongValues, MembersStay, ValuesStay};
-ghost use Rattle.history_model.specs.Membership.{CalledStays};
+ghost use Rattle.history_model.specs.Membership.{ValuesFillTheLimit};
+ghost use Rattle.history_model.specs.Membership.{CalledAreNames};
+ghost use Rattle.history_model.specs.Membership.{CalledAreAmongValues};
 
 /// A history is a chain of row sets, each contained in the next.
 pub fn each_history_is_a_chain()
@@ -136,12 +122,6 @@ pub fn one_row_of_a_component()
     ensures { OneRowOfAComponent }
 {}
 
-/// Each answer that is a list is in ascending order, without duplicates.
-pub fn answers_ascend()
-    // promise: nothing_is_left_out_of_an_answer
-    ensures { AnswersAscend }
-{}
-
 /// No child is missing.
 pub fn children_are_all()
     // promise: nothing_is_left_out_of_an_answer
@@ -152,30 +132,6 @@ pub fn children_are_all()
 pub fn replacements_are_all()
     // promise: nothing_is_left_out_of_an_answer
     ensures { ReplacementsAreAll }
-{}
-
-/// The rows of a kind are a page of any limit, followed by all rows after the last one of the page.
-pub fn page_and_the_rest()
-    // promise: pages_are_the_whole
-    ensures { PageAndTheRest }
-{}
-
-/// There are no rows after a page that has fewer rows than its limit.
-pub fn short_page_is_last()
-    // promise: pages_are_the_whole
-    ensures { ShortPageIsLast }
-{}
-
-/// Pages of any limit, each from after the last row of the one before, give all rows of a kind.
-pub fn pages_are_all()
-    // promise: pages_are_the_whole
-    ensures { PagesAreAll }
-{}
-
-/// The sequence of such pages ends.
-pub fn pages_end()
-    // promise: pages_are_the_whole
-    ensures { PagesEnd }
 {}
 
 /// What is about a component are the active rows whose subject it is.
@@ -190,66 +146,10 @@ pub fn each_is_about_one()
     ensures { EachIsAboutOne }
 {}
 
-/// The rows about a component are ascending by id.
-pub fn about_ascends()
-    // promise: nothing_is_left_out_of_an_answer
-    ensures { AboutAscends }
-{}
-
-/// The rows that a search finds are ascending by id.
-pub fn search_ascends()
-    // promise: nothing_is_left_out_of_an_answer
-    ensures { SearchAscends }
-{}
-
 /// A search from the first id on finds the same rows as `terms`.
 pub fn search_from_the_first()
     // promise: pages_are_the_whole
     ensures { SearchFromTheFirst }
-{}
-
-/// The rows that can be found are those of a search of any limit, followed by all rows after its
-/// last one.
-pub fn search_and_the_rest()
-    // promise: pages_are_the_whole
-    ensures { SearchAndTheRest }
-{}
-
-/// There is nothing to find after a search that found fewer rows than its limit.
-pub fn short_search_is_last()
-    // promise: pages_are_the_whole
-    ensures { ShortSearchIsLast }
-{}
-
-/// Searches of any limit, each from after the last row of the one before, find everything.
-pub fn searches_are_all()
-    // promise: pages_are_the_whole
-    ensures { SearchesAreAll }
-{}
-
-/// Searches from the first id on, one after the other, find the same rows as `terms` without a
-/// limit.
-pub fn searches_are_terms()
-    // promise: pages_are_the_whole
-    ensures { SearchesAreTerms }
-{}
-
-/// The sequence of such searches ends.
-pub fn searches_end()
-    // promise: pages_are_the_whole
-    ensures { SearchesEnd }
-{}
-
-/// What is about a component at a pin isn't changed by later imports.
-pub fn about_stays()
-    // promise: a_pin_shows_the_same_for_ever
-    ensures { AboutStays }
-{}
-
-/// What a search finds at a pin isn't changed by later imports.
-pub fn search_stays()
-    // promise: a_pin_shows_the_same_for_ever
-    ensures { SearchStays }
 {}
 
 /// The receipt of an import isn't changed by later imports.
@@ -312,42 +212,6 @@ pub fn descendants_of_descendants()
     ensures { DescendantsOfDescendants }
 {}
 
-/// A concept has only one list of descendants.
-pub fn one_list_of_descendants()
-    // promise: nothing_is_left_out_of_an_answer
-    ensures { OneListOfDescendants }
-{}
-
-/// A concept has only one list of ancestors.
-pub fn one_list_of_ancestors()
-    // promise: nothing_is_left_out_of_an_answer
-    ensures { OneListOfAncestors }
-{}
-
-/// Each concept has a list of descendants.
-pub fn each_has_descendants()
-    // promise: nothing_is_left_out_of_an_answer
-    ensures { EachHasDescendants }
-{}
-
-/// Each concept has a list of ancestors.
-pub fn each_has_ancestors()
-    // promise: nothing_is_left_out_of_an_answer
-    ensures { EachHasAncestors }
-{}
-
-/// The descendants at a pin aren't changed by later imports.
-pub fn descendants_stay()
-    // promise: a_pin_shows_the_same_for_ever
-    ensures { DescendantsStay }
-{}
-
-/// The ancestors at a pin aren't changed by later imports.
-pub fn ancestors_stay()
-    // promise: a_pin_shows_the_same_for_ever
-    ensures { AncestorsStay }
-{}
-
 /// A Delta has the components whose rows at the two dates differ.
 pub fn delta_is_what_differs()
     // promise: nothing_is_left_out_of_an_answer
@@ -378,18 +242,6 @@ pub fn two_deltas_cover_both()
     ensures { TwoDeltasCoverBoth }
 {}
 
-/// A Delta ascends by id.
-pub fn delta_ascends()
-    // promise: nothing_is_left_out_of_an_answer
-    ensures { DeltaAscends }
-{}
-
-/// A Delta at a pin isn't changed by later imports.
-pub fn delta_stays()
-    // promise: a_pin_shows_the_same_for_ever
-    ensures { DeltaStays }
-{}
-
 /// A timeline has all versions of the components that were about the component at some date, and
 /// nothing else.
 pub fn timeline_is_all()
@@ -403,18 +255,6 @@ pub fn timeline_has_what_is_about()
     ensures { TimelineHasWhatIsAbout }
 {}
 
-/// A timeline ascends by id, then by time.
-pub fn timeline_ascends()
-    // promise: nothing_is_left_out_of_an_answer
-    ensures { TimelineAscends }
-{}
-
-/// A timeline at a pin isn't changed by later imports.
-pub fn timeline_stays()
-    // promise: a_pin_shows_the_same_for_ever
-    ensures { TimelineStays }
-{}
-
 /// No association whose target is the component is missing.
 pub fn replaces_are_all()
     // promise: nothing_is_left_out_of_an_answer
@@ -425,18 +265,6 @@ pub fn replaces_are_all()
 pub fn both_ends_are_one()
     // promise: nothing_is_left_out_of_an_answer
     ensures { BothEndsAreOne }
-{}
-
-/// What a component replaces is in the order of reference set, referenced component and member.
-pub fn replaces_ascend()
-    // promise: nothing_is_left_out_of_an_answer
-    ensures { ReplacesAscend }
-{}
-
-/// What a component replaces at a pin isn't changed by later imports.
-pub fn replaces_stay()
-    // promise: a_pin_shows_the_same_for_ever
-    ensures { ReplacesStay }
 {}
 
 /// The dates are the effective times of all versions.
@@ -469,37 +297,6 @@ pub fn each_is_of_one_set()
     ensures { EachIsOfOneSet }
 {}
 
-/// Members are ascending by id.
-pub fn members_ascend()
-    // promise: nothing_is_left_out_of_an_answer
-    ensures { MembersAscend }
-{}
-
-/// The members are an answer of any limit, followed by all members after its last one.
-pub fn members_and_the_rest()
-    // promise: pages_are_the_whole
-    ensures { MembersAndTheRest }
-{}
-
-/// There are no members after an answer that has fewer members than its limit.
-pub fn few_members_are_last()
-    // promise: pages_are_the_whole
-    ensures { FewMembersAreLast }
-{}
-
-/// Answers of any limit, each from after the last member of the one before, give all members of a
-/// reference set.
-pub fn pages_of_members_are_all()
-    // promise: pages_are_the_whole
-    ensures { PagesOfMembersAreAll }
-{}
-
-/// The sequence of such answers ends.
-pub fn pages_of_members_end()
-    // promise: pages_are_the_whole
-    ensures { PagesOfMembersEnd }
-{}
-
 /// No active member of a reference set is missing.
 pub fn values_are_all()
     // promise: nothing_is_left_out_of_an_answer
@@ -512,54 +309,16 @@ pub fn values_are_the_active_members()
     ensures { ValuesAreTheActiveMembers }
 {}
 
-/// Values are in the order of component, then of member.
-pub fn values_ascend()
-    // promise: nothing_is_left_out_of_an_answer
-    ensures { ValuesAscend }
-{}
-
 /// Values are the first up to the limit, and all others that refer to the same components as these.
 pub fn values_are_the_first_with_ties()
     // promise: pages_are_the_whole
     ensures { ValuesAreTheFirstWithTies }
 {}
 
-/// No answer separates the members of one component.
-pub fn values_of_one_component_stay_together()
-    // promise: pages_are_the_whole
-    ensures { ValuesOfOneComponentStayTogether }
-{}
-
 /// An answer has as many values as its limit, if there are as many.
 pub fn values_fill_the_limit()
     // promise: pages_are_the_whole
     ensures { ValuesFillTheLimit }
-{}
-
-/// An answer that has fewer values than its limit is all of them.
-pub fn few_values_are_all()
-    // promise: pages_are_the_whole
-    ensures { FewValuesAreAll }
-{}
-
-/// The values are an answer of any limit, followed by all with components greater than its last
-/// one.
-pub fn values_and_the_rest()
-    // promise: pages_are_the_whole
-    ensures { ValuesAndTheRest }
-{}
-
-/// Answers of any limit, each from after the last component of the one before, give all values of a
-/// reference set.
-pub fn pages_of_values_are_all()
-    // promise: pages_are_the_whole
-    ensures { PagesOfValuesAreAll }
-{}
-
-/// The sequence of such answers ends.
-pub fn pages_of_values_end()
-    // promise: pages_are_the_whole
-    ensures { PagesOfValuesEnd }
 {}
 
 /// What a concept is called are the descriptions about it that have members of the reference
@@ -569,32 +328,8 @@ pub fn called_are_names()
     ensures { CalledAreNames }
 {}
 
-/// The descriptions by which a concept is called are ascending by id.
-pub fn called_ascend()
-    // promise: nothing_is_left_out_of_an_answer
-    ensures { CalledAscend }
-{}
-
 /// The members that say what a concept is called are values of the reference set.
 pub fn called_are_among_values()
     // promise: nothing_is_left_out_of_an_answer
     ensures { CalledAreAmongValues }
-{}
-
-/// Members at a pin aren't changed by later imports.
-pub fn members_stay()
-    // promise: a_pin_shows_the_same_for_ever
-    ensures { MembersStay }
-{}
-
-/// Values at a pin aren't changed by later imports.
-pub fn values_stay()
-    // promise: a_pin_shows_the_same_for_ever
-    ensures { ValuesStay }
-{}
-
-/// What a concept is called at a pin isn't changed by later imports.
-pub fn called_stays()
-    // promise: a_pin_shows_the_same_for_ever
-    ensures { CalledStays }
 {}

@@ -3,11 +3,10 @@ use Rattle.std.proofs.Common.{◌≡◌, ◌⊎◌, ℕ, Bool, true, false, List
 use Rattle.std.proofs.lemmas.Bool.{false≢true}
 use Rattle.rf2_values.specs.Row.{RowValue}
 use Rattle.history_model.specs.History.{rows_at}
-use Rattle.history_model.proofs.Hierarchy.{one_list_of_ancestors, one_list_of_descendants}
 use Rattle.history_store.specs.declared.refusal.Refusal.{Refusal}
 use Rattle.history_store.specs.declared.refusal.Refusal.TheVariants as store
-use Rattle.questions.specs.Questions.{Question, Children, Ancestors, Descendants, Dates, Digest, Receipt, ForRows, ForIds, IdQuestion}
-use Rattle.questions.specs.Wanted.{AreIdsFor}
+use Rattle.questions.specs.Questions.{Question, Dates, Digest, Receipt, ForRows, ForIds}
+use Rattle.questions.proofs.Orders.{same_ids}
 use Rattle.line_server.specs.declared.refusal.LineRefusal.{LineRefusal}
 use Rattle.line_server.specs.declared.refusal.LineRefusal.TheVariants as refusals
 use Rattle.line_server.specs.ReplyValue.{Answer, Ids}
@@ -32,16 +31,10 @@ AsksFound _ = Unit {0}
 
 -- ---- one answer
 
--- a question asks for one list of identifiers
-one_list_of_ids : (question : IdQuestion) (rows : List RowValue) (ids others : List ℕ) → AreIdsFor question rows ids → AreIdsFor question rows others → ids ≡ others
-one_list_of_ids (Children concept date) rows ids others are also = are ∙ sym also
-one_list_of_ids (Ancestors concept date) rows ids others are also = one_list_of_ancestors concept date rows ids others are also
-one_list_of_ids (Descendants concept date) rows ids others are also = one_list_of_descendants concept date rows ids others are also
-
 -- a question finds one answer
 pub one_found : (question : Question) (rows : List RowValue) (x y : Answer) → IsFound question rows x → IsFound question rows y → x ≡ y
 one_found (ForRows question) rows x y h k = h ∙ sym k
-one_found (ForIds question) rows x y (ids, are, is) (others, also, so) = is ∙ ap Ids (one_list_of_ids question rows ids others are also) ∙ sym so
+one_found (ForIds question) rows x y (ids, are, is) (others, also, so) = is ∙ ap Ids (same_ids question rows ids others are also) ∙ sym so
 one_found Dates rows x y h k = h ∙ sym k
 one_found Digest rows x y h k = h ∙ sym k
 one_found (Receipt number) rows x y h k = absurd h

@@ -1,5 +1,0 @@
-use Rattle.history_model.proofs.Hierarchy as hierarchy
-use Rattle.history_model.proofs.laws.descendants_stay.Goals as goal
-
-pub returns : goal.returns
-returns c = hierarchy.descendants_stay

@@ -1,5 +1,0 @@
-use Rattle.history_model.proofs.Paging as paging
-use Rattle.history_model.proofs.laws.searches_are_terms.Goals as goal
-
-pub returns : goal.returns
-returns c = paging.searches_are_terms

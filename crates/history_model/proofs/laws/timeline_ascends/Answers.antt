@@ -1,5 +1,0 @@
-use Rattle.history_model.proofs.Audits as audits
-use Rattle.history_model.proofs.laws.timeline_ascends.Goals as goal
-
-pub returns : goal.returns
-returns c = audits.timeline_ascends

@@ -1,5 +1,0 @@
-use Rattle.history_model.proofs.Membership as membership
-use Rattle.history_model.proofs.laws.values_ascend.Goals as goal
-
-pub returns : goal.returns
-returns c = membership.values_ascend

@@ -1,0 +1,65 @@
+-- The order of each answer, and what later imports leave.
+use Rattle.std.proofs.Common.{◌≡◌, ◌↔◌, ℕ, List, refl, sym, ap, subst, ◌∙◌}
+use Rattle.std.specs.Prelude.{Option, Some, None, option_to_list}
+use Rattle.rf2_values.specs.Row.{RowValue}
+use Rattle.std.specs.Ordering.{nat_cmp}
+use Rattle.history_model.specs.InOrder.{IsAscending}
+use Rattle.history_model.specs.Laws.{by_id}
+use Rattle.history_model.proofs.Chains.{pinned_stays}
+use Rattle.history_model.proofs.Ascents.{versions_ascend, page_ascends, terms_ascend, children_ascend, replacements_ascend, about_ascends, search_ascends}
+use Rattle.history_model.proofs.Audits.{delta_ascends, timeline_ascends, replaces_ascend}
+use Rattle.history_model.proofs.Membership.{members_ascend, values_ascend, called_ascend}
+use Rattle.history_model.proofs.Hierarchy.{one_list_of_descendants, one_list_of_ancestors}
+use Rattle.history_model.proofs.Ways.{each_has_descendants, each_has_ancestors}
+use Rattle.history_model.specs.Queries.{get}
+use Rattle.questions.specs.Questions.{Get, History, Terms, Search, Replaced, Replaces, About, Timeline, Page, Delta, Members, Values, Called}
+use Rattle.questions.specs.Questions.{IdQuestion, Children, Ancestors, Descendants}
+use Rattle.questions.specs.Wanted.{rows_for, AreIdsFor}
+use Rattle.questions.specs.Laws.{RowsStay, IdsStay, RowsAscend, IdsAscend, OneListOfIds}
+
+pub rows_stay : RowsStay
+rows_stay h release pin question is le = ap (rows_for question) (pinned_stays h release pin is le)
+
+pub ids_stay : IdsStay
+ids_stay h release pin question ids is le =
+    let same = pinned_stays h release pin is le in
+    (subst (λ rows. AreIdsFor question rows ids) same, subst (λ rows. AreIdsFor question rows ids) (sym same))
+
+one_ascends : (row : Option RowValue) → IsAscending by_id (option_to_list row)
+one_ascends None = tt
+one_ascends (Some row) = (tt, tt)
+
+pub rows_ascend : RowsAscend
+rows_ascend (Get kind id date) rows up = one_ascends (get kind id date rows)
+rows_ascend (History kind id) rows up = versions_ascend rows up kind id
+rows_ascend (Terms prefix date limit) rows up = terms_ascend rows up prefix date limit
+rows_ascend (Search prefix date after limit) rows up = search_ascends prefix date after limit rows up
+rows_ascend (Replaced id date) rows up = replacements_ascend rows id date
+rows_ascend (Replaces id date) rows up = replaces_ascend id date rows
+rows_ascend (About kind id date) rows up = about_ascends kind id date rows up
+rows_ascend (Timeline kind id) rows up = timeline_ascends kind id rows up
+rows_ascend (Page kind date after limit) rows up = page_ascends rows up kind date after limit
+rows_ascend (Delta kind from date after limit) rows up = delta_ascends kind from date after limit rows up
+rows_ascend (Members refset date after limit) rows up = members_ascend refset date after limit rows up
+rows_ascend (Values refset date after limit) rows up = values_ascend refset date after limit rows
+rows_ascend (Called concept date refset) rows up = called_ascend concept date refset rows up
+
+pub ids_ascend : IdsAscend
+ids_ascend (Children concept date) rows ids are = subst (IsAscending nat_cmp) (sym are) (children_ascend rows concept date)
+ids_ascend (Ancestors concept date) rows ids are = are.ascending
+ids_ascend (Descendants concept date) rows ids are = are.ascending
+
+pub same_ids : (question : IdQuestion) (rows : List RowValue) (ids others : List ℕ) → AreIdsFor question rows ids → AreIdsFor question rows others → ids ≡ others
+same_ids (Children concept date) rows ids others are also = are ∙ sym also
+same_ids (Ancestors concept date) rows ids others are also = one_list_of_ancestors concept date rows ids others are also
+same_ids (Descendants concept date) rows ids others are also = one_list_of_descendants concept date rows ids others are also
+
+some_ids : (question : IdQuestion) (rows : List RowValue) → (ids : List ℕ) × AreIdsFor question rows ids
+some_ids (Children concept date) rows = (_, refl)
+some_ids (Ancestors concept date) rows = each_has_ancestors concept date rows
+some_ids (Descendants concept date) rows = each_has_descendants concept date rows
+
+pub one_list_of_ids : OneListOfIds
+one_list_of_ids question rows =
+    let some = some_ids question rows in
+    (some.0, some.1, λ others are. same_ids question rows others some.0 are some.1)
