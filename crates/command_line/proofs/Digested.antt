@@ -4,7 +4,7 @@ use Rattle.std.proofs.lemmas.Fmt.{length-decimal-le}
 use Rattle.std.specs.Prelude.{decimal}
 use Rattle.std.specs.Fmt.{digits}
 use Rattle.line_commands.specs.Commands.{Ask, At}
-use Rattle.questions.specs.Questions.{Digest}
+use Rattle.question_model.specs.Questions.{Digest}
 use Rattle.line_commands.specs.Requests.{Asks}
 use Rattle.command_line.specs.Tasks.{digest_line}
 

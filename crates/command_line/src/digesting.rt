@@ -13,7 +13,7 @@ use history_store::{Refusal, Store};
 use import_check::{Release, Scope};
 use line_commands::{Command, Request};
 use line_server::{ServeFault, Source, SourceFault};
-use questions::Question;
+use question_model::Question;
 use std::alloc::Global;
 use std::io::Write;
 

@@ -30,7 +30,7 @@ mod taken_blocks;
 
 pub use directory::Layout;
 pub use history_model::{ImportReceipt, Receipt};
-pub use questions::{IdQuestion, RowQuestion};
+pub use question_model::{IdQuestion, RowQuestion};
 pub use refusal::Refusal;
 pub use store::Store;
 pub use store_image::Damage;

@@ -10,14 +10,14 @@ use as_of_index::ReadFault;
 use disk_model::Disk;
 use history_model::ImportReceipt;
 use index_answers::{ids, select};
-use questions::{IdQuestion, RowQuestion};
+use question_model::{IdQuestion, RowQuestion};
 use rf2_rows::{EffectiveTime, Row};
 
 impl<D: Disk> Store<D> {
     ghost use Rattle.history_model.specs.Brought.{ImportReceiptOf};
     ghost use Rattle.history_model.specs.Queries.{dates};
-    ghost use Rattle.questions.specs.Questions.{row_question_of, id_question_of};
-    ghost use Rattle.questions.specs.Wanted.{rows_for, AreIdsFor};
+    ghost use Rattle.question_model.specs.Questions.{row_question_of, id_question_of};
+    ghost use Rattle.question_model.specs.Wanted.{rows_for, AreIdsFor};
     ghost use Rattle.index_answers.specs.Keys.{SameKeysFor};
     ghost use Rattle.history_store.specs.Answers.{IsReadingOf};
     ghost use Rattle.history_store.specs.Queries.{IsRowsQueryBy, IsIndexQuery};

@@ -3,12 +3,12 @@
 ghost use Rattle.std.specs.Prelude.{IfOk};
 ghost use Rattle.history_model.specs.History.{rows_at};
 ghost use Rattle.history_model.specs.Lists.{listed};
-ghost use Rattle.questions.specs.Questions.{id_question_of};
-ghost use Rattle.questions.specs.Wanted.{AreIdsFor};
+ghost use Rattle.question_model.specs.Questions.{id_question_of};
+ghost use Rattle.question_model.specs.Wanted.{AreIdsFor};
 
 use as_of_index::AsOf;
 use links::{ancestors, children, descendants};
-use questions::IdQuestion;
+use question_model::IdQuestion;
 use segment_index::StoreIndex;
 use std::alloc::{AllocError, Global};
 

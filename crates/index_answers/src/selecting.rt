@@ -7,13 +7,13 @@ ghost use Rattle.history_model.specs.Queries.{get};
 ghost use Rattle.as_of_index.specs.Current.{rows_seen};
 ghost use Rattle.as_of_index.specs.Places.{Lists};
 ghost use Rattle.as_of_index.specs.Reader.{IsRowsRead, IsRowsReadBy};
-ghost use Rattle.questions.specs.Questions.{row_question_of};
-ghost use Rattle.questions.specs.Wanted.{rows_for};
+ghost use Rattle.question_model.specs.Questions.{row_question_of};
+ghost use Rattle.question_model.specs.Wanted.{rows_for};
 ghost use Rattle.index_answers.specs.Keys.{SameKeysFor};
 
 use as_of_index::{AsOf, Index, ReadFault, RowReader};
 use links::{about, called, members, replacements, replaces, timeline, values};
-use questions::RowQuestion;
+use question_model::RowQuestion;
 use rf2_values::{Kind, Row};
 use segment_index::StoreIndex;
 use std::alloc::{AllocError, Global};

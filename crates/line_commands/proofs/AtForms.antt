@@ -7,7 +7,7 @@ use Rattle.std.proofs.lemmas.Option.{none-some}
 use Rattle.line_commands.specs.declared.command.Command.{Command as RustCommand}
 use Rattle.line_commands.specs.declared.words.QuestionWord.{QuestionWord}
 use Rattle.line_commands.specs.Spelling.{word_of_question, SpellsQuestion}
-use Rattle.questions.specs.Questions.{Question}
+use Rattle.question_model.specs.Questions.{Question}
 use Rattle.line_commands.specs.Commands.{Command, Ask, At}
 use Rattle.line_commands.specs.Requests.{with_rest}
 use Rattle.line_commands.specs.Private.{IsWord, text_of_question, behind, IsSpelledQuestion, IsSpelled, IsReadAs}

@@ -5,8 +5,8 @@ use Rattle.std.specs.Str.{bytes_eq}
 use Rattle.std.proofs.lemmas.Bool.{false≢true}
 use Rattle.rf2_values.specs.Time.{IsTime}
 use Rattle.rf2_values.specs.Row.{IsConcept, IsComponent}
-use Rattle.questions.specs.Questions.{Question, Children, Ancestors, Descendants, Replaced, Get}
-use Rattle.questions.specs.Questions.{Replaces, ForRows, ForIds}
+use Rattle.question_model.specs.Questions.{Question, Children, Ancestors, Descendants, Replaced, Get}
+use Rattle.question_model.specs.Questions.{Replaces, ForRows, ForIds}
 use Rattle.line_commands.specs.Private.{IsWord, IsSpelledQuestion}
 use Rattle.line_commands.proofs.FirstWords.{decimal_word, no_space, peel}
 use Rattle.line_commands.proofs.Forms.{told}

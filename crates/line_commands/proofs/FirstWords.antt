@@ -15,10 +15,10 @@ use Rattle.rf2_values.proofs.Decimals.{own}
 use Rattle.line_commands.specs.declared.words.QuestionWord.{QuestionWord}
 use Rattle.line_commands.specs.declared.words.QuestionWord.TheVariants as asking
 use Rattle.line_commands.specs.Spelling.{word_of_question, letter}
-use Rattle.questions.specs.Questions.{Question, Get, History, Children, Ancestors, Descendants}
-use Rattle.questions.specs.Questions.{Terms, Search, Replaced, Replaces, About, Timeline, Page}
-use Rattle.questions.specs.Questions.{Delta, Members, Values, Called, Dates, Digest, Receipt}
-use Rattle.questions.specs.Questions.{ForRows, ForIds}
+use Rattle.question_model.specs.Questions.{Question, Get, History, Children, Ancestors, Descendants}
+use Rattle.question_model.specs.Questions.{Terms, Search, Replaced, Replaces, About, Timeline, Page}
+use Rattle.question_model.specs.Questions.{Delta, Members, Values, Called, Dates, Digest, Receipt}
+use Rattle.question_model.specs.Questions.{ForRows, ForIds}
 use Rattle.line_commands.specs.Commands.{Command, Ask, At, Import, Check, Pin, Unpin, Merge, Step, Publish, Abandon, Trim, Status, word_of}
 use Rattle.line_commands.specs.Requests.{with_rest, spaced}
 use Rattle.line_commands.specs.Private.{IsWord, IsOther, text_of_question, behind}

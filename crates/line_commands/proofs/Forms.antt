@@ -10,10 +10,10 @@ use Rattle.rf2_values.specs.Member.{SpellsMember}
 use Rattle.rf2_values.specs.Time.{IsTime}
 use Rattle.rf2_values.specs.Row.{IsIdOf, SpellsId}
 use Rattle.rf2_values.proofs.Decimals.{time_below}
-use Rattle.questions.specs.declared.question.Question.{Question as RustQuestion}
+use Rattle.question_model.specs.declared.question.Question.{Question as RustQuestion}
 use Rattle.line_commands.specs.Spelling.{most_rows, letter, IsSubjectOf, SpellsAfter}
-use Rattle.questions.specs.Questions.{Question, Get, History, Terms, Search, About, Timeline}
-use Rattle.questions.specs.Questions.{Page, Delta, ForRows, ForIds, Children}
+use Rattle.question_model.specs.Questions.{Question, Get, History, Terms, Search, About, Timeline}
+use Rattle.question_model.specs.Questions.{Page, Delta, ForRows, ForIds, Children}
 use Rattle.line_commands.specs.Private.{IsWord, behind, IsSpelledQuestion, IsQuestionReadAs}
 use Rattle.line_commands.proofs.FirstWords.{decimal_word, letter_word, id_word, no_space, peel, one_letter}
 use Rattle.line_commands.proofs.Readings.{after_word, subject_below}

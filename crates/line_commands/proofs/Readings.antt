@@ -13,11 +13,11 @@ use Rattle.rf2_values.proofs.Ids.{same_ids}
 use Rattle.rf2_values.proofs.Decimals.{time_below}
 use Rattle.line_commands.specs.declared.unread.Unread.TheVariants as unread
 use Rattle.line_commands.specs.Spelling.{word_of_question, letter, IsSubjectOf, SpellsQuestion, SpellsAfter, SpellsComponentAfter, most_rows}
-use Rattle.questions.specs.Questions.{Question, Get, History, Children, Ancestors, Descendants}
-use Rattle.questions.specs.Questions.{Terms, Search, Replaced, Replaces, About, Timeline, Page}
-use Rattle.questions.specs.Questions.{Delta, Members, Values, Called, Dates, Digest, Receipt}
-use Rattle.questions.specs.Questions.{ForRows, ForIds}
-use Rattle.questions.specs.Questions.{RowQuestion, IdQuestion}
+use Rattle.question_model.specs.Questions.{Question, Get, History, Children, Ancestors, Descendants}
+use Rattle.question_model.specs.Questions.{Terms, Search, Replaced, Replaces, About, Timeline, Page}
+use Rattle.question_model.specs.Questions.{Delta, Members, Values, Called, Dates, Digest, Receipt}
+use Rattle.question_model.specs.Questions.{ForRows, ForIds}
+use Rattle.question_model.specs.Questions.{RowQuestion, IdQuestion}
 use Rattle.line_commands.specs.Commands.{Command, Ask, At, Import, Check, Pin, Unpin, Merge, Step, Publish, Abandon, Trim, Status, word_of, SpellsArguments}
 use Rattle.line_commands.specs.Requests.{with_rest, sessions, Asks, HasSession, HasCommand}
 use Rattle.line_commands.specs.Private.{IsWord, behind}

@@ -8,7 +8,7 @@ use Rattle.rf2_values.specs.Time.{IsTime}
 use Rattle.rf2_values.specs.Row.{IsConcept}
 use Rattle.rf2_values.proofs.Decimals.{time_below}
 use Rattle.line_commands.specs.Spelling.{most_rows, SpellsAfter, SpellsComponentAfter}
-use Rattle.questions.specs.Questions.{Question, Members, Values, Called, ForRows, ForIds, Children}
+use Rattle.question_model.specs.Questions.{Question, Members, Values, Called, ForRows, ForIds, Children}
 use Rattle.line_commands.specs.Private.{IsWord, IsSpelledQuestion}
 use Rattle.line_commands.proofs.FirstWords.{decimal_word, no_space, peel}
 use Rattle.line_commands.proofs.Forms.{told}

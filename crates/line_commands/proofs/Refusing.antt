@@ -5,7 +5,7 @@ use Rattle.std.proofs.lemmas.Option.{same_Some, none-some}
 use Rattle.line_commands.specs.declared.words.Word.{Word}
 use Rattle.line_commands.specs.declared.words.Word.TheVariants as words
 use Rattle.line_commands.specs.declared.unread.Unread.TheVariants as unread
-use Rattle.questions.specs.Questions.{Dates}
+use Rattle.question_model.specs.Questions.{Dates}
 use Rattle.line_commands.specs.Commands.{Command, Ask, At, Import, Check, Pin, Unpin, Merge, Step, Publish, Abandon, Trim, Status, word_of}
 use Rattle.line_commands.specs.Requests.{with_rest, sessions, request_limit, IsUnread, HasSession, HasCommand}
 use Rattle.line_commands.specs.Private.{IsWord, text_of_word, behind, IsSpelled}

@@ -3,7 +3,7 @@ use Rattle.std.specs.Prelude.{◌≡◌, ℕ, ◌≤◌, ◌<◌, ◌^◌, List,
 use Rattle.std.specs.Prelude.{None}
 use Rattle.line_commands.specs.Names.{IsName}
 use Rattle.line_commands.specs.Spelling.{word_of_question, SpellsQuestion}
-use Rattle.questions.specs.Questions.{Question}
+use Rattle.question_model.specs.Questions.{Question}
 
 pub data Command : Type 0 where
   Ask : (question : Question) → Command

@@ -1,6 +1,6 @@
 pub use Rattle.rf2_values.specs.Row
 pub use Rattle.rf2_values.specs.Time
-pub use Rattle.questions.specs.Questions
+pub use Rattle.question_model.specs.Questions
 pub mod Names
 pub mod Spelling
 pub mod Commands

@@ -1,13 +1,13 @@
 -- Definitions for this crate's private functions. No public clause cites them.
 use Rattle.std.specs.Prelude.{◌≡◌, ◌≢◌, ℕ, List, [], ◌∷◌, ◌++◌, codes, Option, Some, None, All}
 use Rattle.line_commands.specs.declared.command.Command.{Command as RustCommand}
-use Rattle.questions.specs.declared.question.Question.{Question as RustQuestion}
+use Rattle.question_model.specs.declared.question.Question.{Question as RustQuestion}
 use Rattle.line_commands.specs.declared.words.Word.{Word}
 use Rattle.line_commands.specs.declared.words.Word.TheVariants as words
 use Rattle.line_commands.specs.declared.words.QuestionWord.{QuestionWord}
 use Rattle.line_commands.specs.declared.words.QuestionWord.TheVariants as asking
 use Rattle.line_commands.specs.Spelling.{word_of_question, SpellsQuestion}
-use Rattle.questions.specs.Questions.{Question, question_of}
+use Rattle.question_model.specs.Questions.{Question, question_of}
 use Rattle.line_commands.specs.Commands.{Command, Ask, word_of, SpellsArguments}
 use Rattle.line_commands.specs.Requests.{command_of, spaced}
 

@@ -6,10 +6,10 @@ use Rattle.rf2_values.specs.declared.row.Kind.{Kind}
 use Rattle.rf2_values.specs.declared.row.Kind.TheVariants as kinds
 use Rattle.rf2_values.specs.Row.{IsIdOf, SpellsId, IsConcept, IsComponent}
 use Rattle.rf2_values.specs.Time.{IsTime}
-use Rattle.questions.specs.Questions.{Question, ForRows, ForIds, Dates, Digest, Receipt}
-use Rattle.questions.specs.Questions.{Get, History, Terms, Search, Replaced, Replaces, About, Timeline}
-use Rattle.questions.specs.Questions.{Page, Delta, Members, Values, Called}
-use Rattle.questions.specs.Questions.{Children, Ancestors, Descendants}
+use Rattle.question_model.specs.Questions.{Question, ForRows, ForIds, Dates, Digest, Receipt}
+use Rattle.question_model.specs.Questions.{Get, History, Terms, Search, Replaced, Replaces, About, Timeline}
+use Rattle.question_model.specs.Questions.{Page, Delta, Members, Values, Called}
+use Rattle.question_model.specs.Questions.{Children, Ancestors, Descendants}
 
 -- the word of a question
 abbrev pub word_of_question : Question → List ℕ

@@ -11,7 +11,7 @@ use crate::columns::{
     after, component, component_after, identifier, kind, limit, prefix, sctid_of, subject,
 };
 use crate::words::{QuestionWord, cut, cut_thrice, cut_twice};
-use questions::{IdQuestion, Question, RowQuestion};
+use question_model::{IdQuestion, Question, RowQuestion};
 use rf2_values::{Class, EffectiveTime, Kind, Sctid};
 
 /// The greatest number of rows that can be asked for.

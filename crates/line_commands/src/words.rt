@@ -2,7 +2,7 @@
 
 ghost use Rattle.std.specs.Prelude.{◌≡◌, ◌≢◌, ◌++◌, ◌∷◌, List, ℕ, MatchOption, option_map};
 ghost use Rattle.line_commands.specs.Spelling.{word_of_question};
-ghost use Rattle.questions.specs.Questions.{Question as Asked};
+ghost use Rattle.question_model.specs.Questions.{Question as Asked};
 ghost use Rattle.line_commands.specs.Commands.{Command as Commanded, word_of};
 ghost use Rattle.line_commands.specs.Requests.{with_rest};
 ghost use Rattle.line_commands.specs.Private.{IsWord, IsOther, text_of_question, text_of_word};

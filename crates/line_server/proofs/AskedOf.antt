@@ -1,7 +1,7 @@
 -- Questions that are asked of the first so many imports.
 use Rattle.std.proofs.Common.{◌≡◌, ℕ, ◌≤◌, Bool, Result, Ok, Err, sym, subst, inl, inr, arith}
 use Rattle.disk_model.specs.View.{DiskView}
-use Rattle.questions.specs.Questions.{Question}
+use Rattle.question_model.specs.Questions.{Question}
 use Rattle.line_commands.specs.Commands.{Command, Ask, At}
 use Rattle.line_server.specs.declared.refusal.LineRefusal.{LineRefusal}
 use Rattle.line_server.specs.declared.refusal.LineRefusal.TheVariants as refusals

@@ -5,8 +5,8 @@ use Rattle.rf2_values.specs.Row.{RowValue}
 use Rattle.history_model.specs.History.{rows_at}
 use Rattle.history_store.specs.declared.refusal.Refusal.{Refusal}
 use Rattle.history_store.specs.declared.refusal.Refusal.TheVariants as store
-use Rattle.questions.specs.Questions.{Question, Dates, Digest, Receipt, ForRows, ForIds}
-use Rattle.questions.proofs.Orders.{same_ids}
+use Rattle.question_model.specs.Questions.{Question, Dates, Digest, Receipt, ForRows, ForIds}
+use Rattle.question_model.proofs.Orders.{same_ids}
 use Rattle.line_server.specs.declared.refusal.LineRefusal.{LineRefusal}
 use Rattle.line_server.specs.declared.refusal.LineRefusal.TheVariants as refusals
 use Rattle.line_server.specs.ReplyValue.{Answer, Ids}

@@ -15,7 +15,7 @@ use Rattle.history_store.specs.Answers.{IsImportOf}
 use Rattle.history_store.specs.Checking.{IsCheckingOf}
 use Rattle.history_store.specs.MergeAnswers.{IsBeginningOf}
 use Rattle.line_commands.specs.declared.unread.Unread.{Unread}
-use Rattle.questions.specs.Questions.{Question, Receipt as AskReceipt}
+use Rattle.question_model.specs.Questions.{Question, Receipt as AskReceipt}
 use Rattle.line_commands.specs.Commands.{Command, Ask, At, Import, Check, Pin, Unpin, Merge, Step, Publish, Abandon, Trim, Status}
 use Rattle.line_commands.proofs.Readings.{one_reading, asked_is_read, one_refusal}
 use Rattle.line_server.specs.declared.refusal.LineRefusal.{LineRefusal}

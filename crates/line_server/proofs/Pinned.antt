@@ -4,7 +4,7 @@ use Rattle.std.proofs.lemmas.Bool.{false≢true}
 use Rattle.disk_model.specs.View.{DiskView}
 use Rattle.rf2_values.specs.Row.{RowValue}
 use Rattle.history_model.specs.History.{rows_at}
-use Rattle.questions.specs.Questions.{Question, Receipt}
+use Rattle.question_model.specs.Questions.{Question, Receipt}
 use Rattle.line_commands.specs.Commands.{Command}
 use Rattle.line_commands.specs.Requests.{Asks}
 use Rattle.line_commands.proofs.Readings.{one_reading, asked_is_read}

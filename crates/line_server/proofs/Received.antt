@@ -8,7 +8,7 @@ use Rattle.history_model.specs.Brought.{IsLatestDay, ImportReceiptOf}
 use Rattle.history_model.proofs.Brought.{one_receipt_for_an_import}
 use Rattle.history_store.specs.declared.refusal.Refusal.{Refusal}
 use Rattle.history_store.specs.declared.refusal.Refusal.TheVariants as store
-use Rattle.questions.specs.Questions.{Receipt}
+use Rattle.question_model.specs.Questions.{Receipt}
 use Rattle.line_commands.specs.Commands.{Command}
 use Rattle.line_server.specs.declared.refusal.LineRefusal.{LineRefusal}
 use Rattle.line_server.specs.declared.refusal.LineRefusal.TheVariants as refusals

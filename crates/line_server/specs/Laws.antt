@@ -14,7 +14,7 @@ use Rattle.history_store.specs.declared.refusal.Refusal.TheVariants as store
 use Rattle.history_store.specs.Catalog.{Catalog}
 use Rattle.history_store.specs.Prepared.{HasMembers}
 use Rattle.history_store.specs.StoreValue.{IsAcknowledged}
-use Rattle.questions.specs.Questions.{Question, Receipt as AskReceipt}
+use Rattle.question_model.specs.Questions.{Question, Receipt as AskReceipt}
 use Rattle.line_commands.specs.Commands.{Command, Ask, Import, Check}
 use Rattle.line_commands.specs.Requests.{Asks}
 use Rattle.line_server.specs.declared.refusal.LineRefusal.{LineRefusal}

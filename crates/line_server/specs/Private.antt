@@ -3,7 +3,7 @@
 use Rattle.std.specs.Prelude.{◌≡◌, ℕ, List, Result, ◌≤◌}
 use Rattle.disk_model.specs.View.{DiskView}
 use Rattle.history_store.specs.StoreValue.{StoreValue}
-use Rattle.questions.specs.Questions.{Question, ForIds, Dates}
+use Rattle.question_model.specs.Questions.{Question, ForIds, Dates}
 use Rattle.line_commands.specs.Spelling.{SpellsQuestion}
 use Rattle.line_commands.specs.Commands.{Command, SpellsArguments}
 use Rattle.line_commands.specs.Requests.{Asks}

@@ -23,11 +23,11 @@ use Rattle.history_store.specs.Checking.{IsCheckingOf, IsCheckingOnAnyDisk}
 use Rattle.history_store.specs.MergeAnswers.{IsBeginningOf, IsSteppingOf, IsPublishingOf}
 use Rattle.history_store.specs.MergeAnswers.{IsAbandoningOf, IsTrimmingOf}
 use Rattle.line_commands.specs.declared.unread.Unread.{Unread}
-use Rattle.questions.specs.Questions.{RowQuestion, Get, History, About, Timeline, Page, Delta}
-use Rattle.questions.specs.Questions.{Members, Values, Called}
-use Rattle.questions.specs.Questions.{Question, ForRows, ForIds, Dates as AskDates, Digest}
-use Rattle.questions.specs.Questions.{Receipt as AskReceipt}
-use Rattle.questions.specs.Wanted.{rows_for, AreIdsFor}
+use Rattle.question_model.specs.Questions.{RowQuestion, Get, History, About, Timeline, Page, Delta}
+use Rattle.question_model.specs.Questions.{Members, Values, Called}
+use Rattle.question_model.specs.Questions.{Question, ForRows, ForIds, Dates as AskDates, Digest}
+use Rattle.question_model.specs.Questions.{Receipt as AskReceipt}
+use Rattle.question_model.specs.Wanted.{rows_for, AreIdsFor}
 use Rattle.index_answers.specs.Keys.{SameKeysFor}
 use Rattle.line_commands.specs.Commands.{Command, Ask, At, Import, Check, Pin, Unpin, Merge, Step}
 use Rattle.line_commands.specs.Commands.{Publish, Abandon, Trim, Status}

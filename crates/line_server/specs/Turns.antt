@@ -14,8 +14,8 @@ use Rattle.history_store.specs.Merging.{trimmed_len, step_cost}
 use Rattle.history_store.specs.Queries.{ReadsThroughCache, StepsThroughCache}
 use Rattle.history_store.specs.Reading.{row_cost}
 use Rattle.history_model.specs.History.{rows_at}
-use Rattle.questions.specs.Questions.{Question, ForRows, ForIds, Dates, Digest, Receipt}
-use Rattle.questions.specs.Wanted.{rows_for}
+use Rattle.question_model.specs.Questions.{Question, ForRows, ForIds, Dates, Digest, Receipt}
+use Rattle.question_model.specs.Wanted.{rows_for}
 use Rattle.line_commands.specs.Commands.{Command, Ask, At, Import, Check, Step, Publish, Trim}
 use Rattle.line_commands.specs.Requests.{Asks}
 use Rattle.line_server.specs.declared.refusal.LineRefusal.{LineRefusal}

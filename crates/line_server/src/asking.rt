@@ -4,7 +4,7 @@ ghost use Rattle.std.specs.Prelude.{◌≤◌, ℕ, List, Option};
 ghost use Rattle.std.specs.Prelude.{◌↔◌, IsTrue};
 ghost use Rattle.line_commands.specs.Commands.{At};
 ghost use Rattle.line_commands.specs.Requests.{command_of};
-ghost use Rattle.questions.specs.Questions.{question_of};
+ghost use Rattle.question_model.specs.Questions.{question_of};
 ghost use Rattle.line_server.specs.Replies.{NeedsLater, NeedsMembers};
 ghost use Rattle.line_server.specs.Private.{IsCarriedOut, IsQueried, QuestionCanBeAsked};
 
@@ -16,7 +16,7 @@ use disk_model::Disk;
 use history_store::Store;
 use import_check::Scope;
 use line_commands::Command;
-use questions::{Question, RowQuestion};
+use question_model::{Question, RowQuestion};
 use rf2_rows::Kind;
 use std::alloc::Global;
 

@@ -1,8 +1,8 @@
 //! The questions: replies with what the store returns, by kind of answer.
 
 ghost use Rattle.std.specs.Prelude.{◌≤◌};
-ghost use Rattle.questions.specs.Questions.{ForRows, ForIds, Dates, Digest, Receipt};
-ghost use Rattle.questions.specs.Questions.{row_question_of, id_question_of};
+ghost use Rattle.question_model.specs.Questions.{ForRows, ForIds, Dates, Digest, Receipt};
+ghost use Rattle.question_model.specs.Questions.{row_question_of, id_question_of};
 ghost use Rattle.line_server.specs.Private.{IsQueried};
 
 use crate::refusal::LineRefusal;
@@ -10,7 +10,7 @@ use crate::reply::Reply;
 use crate::wording::{reply_dates, reply_digest, reply_ids, reply_receipt, reply_rows};
 use disk_model::Disk;
 use history_store::Store;
-use questions::{IdQuestion, RowQuestion};
+use question_model::{IdQuestion, RowQuestion};
 use std::alloc::Global;
 use store_digest::digest;
 

@@ -1,7 +1,7 @@
 use Rattle.std.proofs.Common.{Option, List, ℕ}
 use Rattle.std.specs.Prelude.{option_map}
 use Rattle.std.specs.Borrow.{Bor}
-use Rattle.questions.specs.Questions.{question_of}
+use Rattle.question_model.specs.Questions.{question_of}
 use Rattle.line_commands.proofs.AtForms.{none_commanded, at_uncut, at_no_number, at_no_word, at_no_question, at_found}
 use Rattle.line_commands.proofs.arguments.at.Goals as goal
 

@@ -1,7 +1,7 @@
 use Rattle.line_commands.specs.declared.words.Word.{Word}
 use Rattle.std.proofs.Common.{◌≡◌, ◌≢◌, ℕ, List, Option, Some, None, MatchOption}
 use Rattle.line_commands.specs.Spelling.{word_of_question}
-use Rattle.questions.specs.Questions.{Question}
+use Rattle.question_model.specs.Questions.{Question}
 use Rattle.line_commands.specs.Commands.{Command, word_of}
 use Rattle.line_commands.specs.Private.{IsOther, text_of_word}
 use Rattle.line_commands.proofs.FirstWords.{no_command}

@@ -1,6 +1,6 @@
 use Rattle.std.proofs.Common.{ℕ, refl, sym, ap, ◌∙◌, inl}
 use Rattle.line_server.specs.Sources.{source_view}
-use Rattle.questions.specs.Questions.{question_of}
+use Rattle.question_model.specs.Questions.{question_of}
 use Rattle.line_commands.specs.Commands.{Ask, At, Pin, Merge, Step, Publish, Abandon, Trim, Status}
 use Rattle.line_server.specs.Pins.{pin_of}
 use Rattle.line_server.specs.Replies.{server}

@@ -1,5 +1,5 @@
 use Rattle.std.proofs.Common.{subst}
-use Rattle.questions.specs.Questions.{question_of}
+use Rattle.question_model.specs.Questions.{question_of}
 use Rattle.line_server.specs.Private.{QuestionCanBeAsked}
 use Rattle.line_server.proofs.asking.ask.Goals as goal
 

@@ -1,5 +1,5 @@
 use Rattle.std.proofs.Common.{ℕ, ◌≤◌, ◌<◌, subst}
-use Rattle.questions.specs.Questions.{question_of}
+use Rattle.question_model.specs.Questions.{question_of}
 use Rattle.line_server.proofs.Responding.{asked_behind, above_all}
 use Rattle.line_server.proofs.asking.ask_at.Goals as goal
 

@@ -1,6 +1,6 @@
 use Rattle.std.proofs.Common.{ap, ◌∙◌, List, ℕ, Ok}
 use Rattle.std.proofs.lemmas.Result.{err_from_is_err_and}
-use Rattle.questions.specs.Questions.{Dates}
+use Rattle.question_model.specs.Questions.{Dates}
 use Rattle.line_server.specs.ReplyValue.{Dates as TheDates, reply_value}
 use Rattle.line_server.proofs.Responding.{index_found, index_unfound, index_untold}
 use Rattle.line_server.proofs.queries.answer_dates.Goals as goal

@@ -1,6 +1,6 @@
 use Rattle.std.proofs.Common.{ap, refl, ◌∙◌, List, ℕ, Ok}
 use Rattle.std.proofs.lemmas.Result.{err_from_is_err_and}
-use Rattle.questions.specs.Questions.{ForIds, id_question_of}
+use Rattle.question_model.specs.Questions.{ForIds, id_question_of}
 use Rattle.line_server.specs.ReplyValue.{Ids, reply_value}
 use Rattle.line_server.proofs.Responding.{index_found, index_unfound, index_untold}
 use Rattle.line_server.proofs.queries.answer_ids.Goals as goal

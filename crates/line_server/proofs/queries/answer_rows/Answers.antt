@@ -1,7 +1,7 @@
 use Rattle.std.proofs.Common.{ap, ◌∙◌, List, Ok}
 use Rattle.std.proofs.lemmas.Result.{err_from_is_err_and}
 use Rattle.rf2_values.specs.Row.{RowValue}
-use Rattle.questions.specs.Questions.{row_question_of}
+use Rattle.question_model.specs.Questions.{row_question_of}
 use Rattle.line_server.specs.ReplyValue.{Rows, reply_value}
 use Rattle.line_server.proofs.Queried.{rows_found, rows_unfound, rows_untold}
 use Rattle.line_server.proofs.queries.answer_rows.Goals as goal

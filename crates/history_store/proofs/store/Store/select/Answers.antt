@@ -1,6 +1,6 @@
 use Rattle.std.proofs.Common.{◌≡◌, refl}
-use Rattle.questions.specs.Questions.{row_question_of}
-use Rattle.questions.specs.Wanted.{rows_for}
+use Rattle.question_model.specs.Questions.{row_question_of}
+use Rattle.question_model.specs.Wanted.{rows_for}
 use Rattle.index_answers.specs.Keys.{SameKeysFor}
 use Rattle.history_store.proofs.Lent.{reader_honest, held_after}
 use Rattle.history_store.proofs.Querying.{row_items, rows_answered, closed_rows}

@@ -5,9 +5,9 @@ use Rattle.history_model.specs.Queries.{get, versions, page, delta, terms, searc
 use Rattle.history_model.specs.Queries.{timeline, replacements, replaces, members, values, called}
 use Rattle.history_model.specs.Queries.{children}
 use Rattle.history_model.specs.Hierarchy.{AreAncestors, AreDescendants}
-use Rattle.questions.specs.Questions.{RowQuestion, Get, History, Terms, Search, Replaced, Replaces}
-use Rattle.questions.specs.Questions.{About, Timeline, Page, Delta, Members, Values, Called}
-use Rattle.questions.specs.Questions.{IdQuestion, Children, Ancestors, Descendants}
+use Rattle.question_model.specs.Questions.{RowQuestion, Get, History, Terms, Search, Replaced, Replaces}
+use Rattle.question_model.specs.Questions.{About, Timeline, Page, Delta, Members, Values, Called}
+use Rattle.question_model.specs.Questions.{IdQuestion, Children, Ancestors, Descendants}
 
 -- the rows that a question asks for
 abbrev pub rows_for : RowQuestion → List RowValue → List RowValue

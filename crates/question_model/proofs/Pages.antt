@@ -8,8 +8,8 @@ use Rattle.history_model.proofs.Snapshots.{page_cons}
 use Rattle.history_model.proofs.Paging.{take_short, goes_on, are_all, ends, search_cons}
 use Rattle.history_model.proofs.Audits.{changed_cons}
 use Rattle.history_model.proofs.Membership.{members_cons, few_values_are_all, values_and_the_rest, none_above, joined_are_all, some_end}
-use Rattle.questions.specs.Questions.{Search, Page, Delta, Members, Values}
-use Rattle.questions.specs.Laws.{ArePages, PageAndTheRest, ShortPageIsLast, PagesAreAll, PagesEnd}
+use Rattle.question_model.specs.Questions.{Search, Page, Delta, Members, Values}
+use Rattle.question_model.specs.Laws.{ArePages, PageAndTheRest, ShortPageIsLast, PagesAreAll, PagesEnd}
 
 own_least : (limit most : ℕ) → Some limit ≡ Some most → 1 ≤ most → 1 ≤ limit
 own_least limit most is some = subst (λ n. 1 ≤ n) (sym (same_Some limit most is)) some

@@ -12,10 +12,10 @@ use Rattle.history_model.proofs.Membership.{members_ascend, values_ascend, calle
 use Rattle.history_model.proofs.Hierarchy.{one_list_of_descendants, one_list_of_ancestors}
 use Rattle.history_model.proofs.Ways.{each_has_descendants, each_has_ancestors}
 use Rattle.history_model.specs.Queries.{get}
-use Rattle.questions.specs.Questions.{Get, History, Terms, Search, Replaced, Replaces, About, Timeline, Page, Delta, Members, Values, Called}
-use Rattle.questions.specs.Questions.{IdQuestion, Children, Ancestors, Descendants}
-use Rattle.questions.specs.Wanted.{rows_for, AreIdsFor}
-use Rattle.questions.specs.Laws.{RowsStay, IdsStay, RowsAscend, IdsAscend, OneListOfIds}
+use Rattle.question_model.specs.Questions.{Get, History, Terms, Search, Replaced, Replaces, About, Timeline, Page, Delta, Members, Values, Called}
+use Rattle.question_model.specs.Questions.{IdQuestion, Children, Ancestors, Descendants}
+use Rattle.question_model.specs.Wanted.{rows_for, AreIdsFor}
+use Rattle.question_model.specs.Laws.{RowsStay, IdsStay, RowsAscend, IdsAscend, OneListOfIds}
 
 pub rows_stay : RowsStay
 rows_stay h release pin question is le = ap (rows_for question) (pinned_stays h release pin is le)

@@ -12,10 +12,10 @@ use Rattle.history_model.specs.Queries.{values_above, replacement_cmp, replaced_
 use Rattle.history_model.specs.Laws.{by_id, by_time, last_id}
 use Rattle.history_model.specs.Audit.{by_version}
 use Rattle.history_model.specs.Membership.{last_component}
-use Rattle.questions.specs.Questions.{RowQuestion, Get, History as AskHistory, Terms, Search, Replaced}
-use Rattle.questions.specs.Questions.{Replaces, About, Timeline, Page, Delta, Members, Values, Called}
-use Rattle.questions.specs.Questions.{IdQuestion}
-use Rattle.questions.specs.Wanted.{rows_for, AreIdsFor}
+use Rattle.question_model.specs.Questions.{RowQuestion, Get, History as AskHistory, Terms, Search, Replaced}
+use Rattle.question_model.specs.Questions.{Replaces, About, Timeline, Page, Delta, Members, Values, Called}
+use Rattle.question_model.specs.Questions.{IdQuestion}
+use Rattle.question_model.specs.Wanted.{rows_for, AreIdsFor}
 
 -- ---- later imports
 

@@ -1,12 +1,12 @@
 -- Questions, with texts as their bytes.
 use Rattle.std.specs.Prelude.{ℕ, List, Option}
 use Rattle.rf2_values.specs.declared.row.Kind.{Kind}
-use Rattle.questions.specs.declared.question.RowQuestion.{RowQuestion as RustRowQuestion}
-use Rattle.questions.specs.declared.question.RowQuestion.TheVariants as rows
-use Rattle.questions.specs.declared.question.IdQuestion.{IdQuestion as RustIdQuestion}
-use Rattle.questions.specs.declared.question.IdQuestion.TheVariants as ids
-use Rattle.questions.specs.declared.question.Question.{Question as RustQuestion}
-use Rattle.questions.specs.declared.question.Question.TheVariants as asked
+use Rattle.question_model.specs.declared.question.RowQuestion.{RowQuestion as RustRowQuestion}
+use Rattle.question_model.specs.declared.question.RowQuestion.TheVariants as rows
+use Rattle.question_model.specs.declared.question.IdQuestion.{IdQuestion as RustIdQuestion}
+use Rattle.question_model.specs.declared.question.IdQuestion.TheVariants as ids
+use Rattle.question_model.specs.declared.question.Question.{Question as RustQuestion}
+use Rattle.question_model.specs.declared.question.Question.TheVariants as asked
 
 -- a question for rows, among those that a pin shows
 pub data RowQuestion : Type 0 where

@@ -1,8 +1,8 @@
 //! Laws of the questions, each the contract of a function that does nothing.
 
-ghost use Rattle.questions.specs.Laws.{RowsStay, IdsStay, RowsAscend, IdsAscend};
-ghost use Rattle.questions.specs.Laws.{OneListOfIds};
-ghost use Rattle.questions.specs.Laws.{PageAndTheRest, ShortPageIsLast, PagesAreAll, PagesEnd};
+ghost use Rattle.question_model.specs.Laws.{RowsStay, IdsStay, RowsAscend, IdsAscend};
+ghost use Rattle.question_model.specs.Laws.{OneListOfIds};
+ghost use Rattle.question_model.specs.Laws.{PageAndTheRest, ShortPageIsLast, PagesAreAll, PagesEnd};
 
 /// The rows that a question asks for at a pin aren't changed by later imports.
 pub fn rows_stay()

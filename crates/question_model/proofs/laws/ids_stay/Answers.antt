@@ -1,0 +1,5 @@
+use Rattle.question_model.proofs.Orders as orders
+use Rattle.question_model.proofs.laws.ids_stay.Goals as goal
+
+pub returns : goal.returns
+returns c = orders.ids_stay

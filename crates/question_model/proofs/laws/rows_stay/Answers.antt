@@ -1,0 +1,5 @@
+use Rattle.question_model.proofs.Orders as orders
+use Rattle.question_model.proofs.laws.rows_stay.Goals as goal
+
+pub returns : goal.returns
+returns c = orders.rows_stay

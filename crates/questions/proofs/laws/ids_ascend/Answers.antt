@@ -1,5 +1,0 @@
-use Rattle.questions.proofs.Orders as orders
-use Rattle.questions.proofs.laws.ids_ascend.Goals as goal
-
-pub returns : goal.returns
-returns c = orders.ids_ascend
