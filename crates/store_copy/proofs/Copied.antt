@@ -20,8 +20,9 @@ use Rattle.store_copy.specs.declared.fault.CopyFault.{CopyFault}
 use Rattle.store_copy.specs.declared.fault.CopyFault.TheVariants as faults
 use Rattle.store_copy.specs.Copying.{chosen, copied_listing, end_from, lists_up_to}
 use Rattle.store_copy.specs.Answers.{Shown, HasImports, IsCopyOf, IsNotLower, HasCopy, IsFailure, IsNotCopied, of_loading}
-use Rattle.store_copy.specs.Private.Writing.{IsBlank, IsPlanned, IsShut, MayBeListed}
-use Rattle.store_copy.proofs.Gates.{NoStore, Whole, shut_is_none}
+use Rattle.blocks.specs.Slots.{HasNoCurrent, IsShut}
+use Rattle.store_copy.specs.Private.Writing.{IsBlank, IsPlanned, MayBeListed}
+use Rattle.store_copy.proofs.Gates.{NoStore, Whole, none_current_is_none, shut_is_none}
 use Rattle.store_copy.proofs.Listing.{copied_is_kept}
 
 -- what a crash may leave of the target up to the end
@@ -87,8 +88,9 @@ module _ (asked : Option ℕ) (version : Option Layout) (d : DirectoryValue) (li
 -- ---- the calls that write it, one after the other
 
 module _ (copy : DirectoryValue) (lists : List (List StampedRow)) where
-  pub closing_run : (m0 m1 : Moments) → LeavesOnly m0 m1 (λ c. IsImage m0.state c ⊎ NoStore c) → LeavesOnly m0 m1 (Leaves m0.state copy lists)
-  closing_run m0 m1 run = weaker m0 m1 (λ c. IsImage m0.state c ⊎ NoStore c) (Leaves m0.state copy lists) (λ c either. elim either [ inl image ↦ inl image | inr none ↦ inr (inl none) ]) run
+  pub closing_run : (m0 m1 : Moments) → LeavesOnly m0 m1 (λ c. IsImage m0.state c ⊎ HasNoCurrent c) → LeavesOnly m0 m1 (Leaves m0.state copy lists)
+  closing_run m0 m1 run =
+      weaker m0 m1 (λ c. IsImage m0.state c ⊎ HasNoCurrent c) (Leaves m0.state copy lists) (λ c either. elim either [ inl image ↦ inl image | inr none ↦ inr (inl (none_current_is_none c none)) ]) run
 
   pub writing_run : (m0 m1 m2 : Moments) → LeavesOnly m0 m1 (Leaves m0.state copy lists) → LeavesOnly m1 m2 IsShut → LeavesOnly m0 m2 (Leaves m0.state copy lists)
   writing_run m0 m1 m2 so_far run =

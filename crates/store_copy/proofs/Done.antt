@@ -1,5 +1,5 @@
 -- The segments of a copy that are written, one after the other.
-use Rattle.std.proofs.Common.{◌≡◌, inl, inr, ℕ, zero, suc, ◌+◌, ◌*◌, ◌<◌, ◌≤◌, List, [], ◌∷◌, ◌++◌, length, get_or, take, refl, sym, ap, subst, ◌∙◌, arith}
+use Rattle.std.proofs.Common.{◌≡◌, inl, ℕ, zero, suc, ◌+◌, ◌*◌, ◌<◌, ◌≤◌, List, [], ◌∷◌, ◌++◌, length, get_or, take, refl, sym, ap, subst, ◌∙◌, arith}
 use Rattle.std.specs.Int.{div_ceil}
 use Rattle.std.proofs.lemmas.List.{append-nil, take_all, take_more, get_or_default}
 use Rattle.std.proofs.lemmas.List.Elements.{All-nil, All-cons, All-head, All-tail}
@@ -28,8 +28,9 @@ use Rattle.fault_counts.specs.declared.fault.ReadFault.TheVariants as reading
 use Rattle.store_copy.specs.Answers.{IsFailure}
 use Rattle.store_copy.specs.declared.fault.SegmentCopyFault.{SegmentCopyFault}
 use Rattle.store_copy.specs.declared.fault.SegmentCopyFault.TheVariants.{Read, Write}
-use Rattle.store_copy.specs.Private.Writing.{IsNoDamage, IsShut, in_segment}
-use Rattle.store_copy.proofs.Gates.{shut_but}
+use Rattle.blocks.specs.Slots.{IsShut}
+use Rattle.store_copy.specs.Private.Writing.{IsNoDamage, in_segment}
+use Rattle.blocks.proofs.Shut.{shut_beyond}
 use Rattle.store_copy.proofs.Listing.{end_least, new_segment}
 use Rattle.store_copy.proofs.UpTo.{lists-append}
 use Rattle.directory.specs.Listings.{form_in, form_of}
@@ -91,10 +92,10 @@ module _ (n : ℕ) (lists : List (List StampedRow)) (i : ℕ) (rows : List Stamp
   held_none layout file none held = subst (λ (l : List (List StampedRow)). HoldsAll (pieces_of (entries_from layout 4 l) l) file) (sym (done_none none)) held
 
 -- the gates, while segments are written
-pub stems_shut : (old : DiskState) (range : ℕ × ℕ) → EachImage old IsShut → 8193 ≤ range.0 → (c : List ℕ) → StemsWithin old range c → IsShut c
-stems_shut old range each from c (d, image, same) = shut_but range.0 range.1 d c same (each d image) (omega (arith, from)) (inr from)
+pub stems_shut : (old : DiskState) (range : ℕ × ℕ) → EachImage old IsShut → 16384 ≤ range.0 → (c : List ℕ) → StemsWithin old range c → IsShut c
+stems_shut old range each from c (d, image, same) = shut_beyond range.0 range.1 d c same (each d image) from
 
-pub run_shut : (old mid new : Moments) (range : ℕ × ℕ) → 8193 ≤ range.0 → LeavesOnly old mid IsShut → LeavesOnly mid new (StemsWithin mid.state range) → LeavesOnly old new IsShut
+pub run_shut : (old mid new : Moments) (range : ℕ × ℕ) → 16384 ≤ range.0 → LeavesOnly old mid IsShut → LeavesOnly mid new (StemsWithin mid.state range) → LeavesOnly old new IsShut
 run_shut old mid new range from so_far run =
     joined old mid new IsShut so_far (weaker mid new (StemsWithin mid.state range) IsShut (stems_shut mid.state range (at_end old mid IsShut so_far) from) run)
 

@@ -8,7 +8,6 @@ mod fault;
 pub mod laws;
 mod planning;
 mod reading;
-mod slots;
 mod writing;
 
 pub use copying::copy;

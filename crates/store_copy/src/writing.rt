@@ -9,6 +9,7 @@ ghost use Rattle.disk_model.specs.View.{AtMost, Calls, OnlyReads, Stays, Unsaid}
 ghost use Rattle.blocks.specs.declared.slots.Slot.TheVariants.{A};
 ghost use Rattle.blocks.specs.Extents.{block_limit, byte_range};
 ghost use Rattle.blocks.specs.Outside.{SameOutside, StemsWithin};
+ghost use Rattle.blocks.specs.Slots.{IsShut, slots_range};
 ghost use Rattle.checksum.specs.Crc32c.{crc32c};
 ghost use Rattle.checksum.specs.declared.form.Form.{Form as FormValue};
 ghost use Rattle.history_model.specs.declared.stamped.StampedRow.{StampedRow};
@@ -18,20 +19,19 @@ ghost use Rattle.segment.specs.Records.{IsStamped, record_of, segment_in, segmen
 ghost use Rattle.store_image.specs.Ahead.{BeginsWith};
 ghost use Rattle.store_image.specs.Pieces.{HoldsAll};
 ghost use Rattle.store_image.specs.Images.{IsStore};
-ghost use Rattle.store_image.specs.Kept.{AreSegments, IsKept, bytes_listed, pieces_of};
+ghost use Rattle.store_image.specs.Kept.{AreSegments, AreSummed, IsKept, bytes_listed, pieces_of};
 ghost use Rattle.store_image.specs.OnDisk.{HasStore, IsOnDisk};
 ghost use Rattle.store_copy.specs.Copying.{copied_listing, lists_up_to, up_to};
 ghost use Rattle.store_copy.specs.Answers.{CountsSource, CountsTarget, IsFailure};
 ghost use Rattle.store_copy.specs.declared.fault.SegmentCopyFault.TheVariants.{Read};
 ghost use Rattle.store_copy.specs.Private.Writing.{ArePending, CountsRead, CountsWrite};
-ghost use Rattle.store_copy.specs.Private.Writing.{IsBlank, IsNoDamage, IsSegmentAt, IsShut};
+ghost use Rattle.store_copy.specs.Private.Writing.{IsBlank, IsNoDamage, IsSegmentAt};
 ghost use Rattle.store_copy.specs.Private.Writing.{MayBeListed};
 
 use crate::fault::{CopyFault, SegmentCopyFault};
 use crate::planning::{DATA_START, list_segment, size_up_to};
 use crate::reading::read_row;
-use crate::slots::{close_slots, open_slot};
-use blocks::{Extent, write_part};
+use blocks::{Extent, close_both, open_first, write_part};
 use checksum::append;
 use directory::{Directory, Entry};
 use disk_model::{Disk, DiskFault};
@@ -266,6 +266,34 @@ fn copy_segments<S: Disk, T: Disk>(
     Ok(())
 }
 
+/// Writes the directory of a copy into the first slot, and opens its gate: from then on the disk has
+/// a store.
+fn open_copy<T: Disk>(target: &mut T, directory: &Directory) -> Result<(), DiskFault>
+    // A crash at any moment leaves no store, or the whole copy.
+    ensures any_moment { (T.view target.old).is_honest
+        → (lists : List (List StampedRow)) → IsKept directory.now lists
+        → AreSummed directory.now.entries lists
+        → EachImage (T.view target.old).moments.state IsShut
+        → slots_range.1 ≤ length (T.view target.old).moments.state.now
+        → HoldsAll (pieces_of directory.now.entries lists) (T.view target.old).moments.state.now
+        → LeavesOnly (T.view target.old).moments (T.view target.new).moments
+        (λ c. (IsStore c → ⊥) ⊎ HasStore A directory.now lists c) }
+    // After `Ok` every crash leaves the copy.
+    ensures on_disk { (T.view target.old).is_honest
+        → (lists : List (List StampedRow)) → IsKept directory.now lists
+        → AreSummed directory.now.entries lists
+        → EachImage (T.view target.old).moments.state IsShut
+        → slots_range.1 ≤ length (T.view target.old).moments.state.now
+        → HoldsAll (pieces_of directory.now.entries lists) (T.view target.old).moments.state.now
+        → OnOk result (IsOnDisk (T.view target.new).moments.state A directory.now lists) }
+    ensures meters { Calls (CountsEach result) Stays (AtMost 5)
+        (T.view target.old) (T.view target.new) }
+{
+    let mut content = [0; 4096];
+    directory.encode(&mut content);
+    open_first(target, &content)
+}
+
 /// Writes a copy on an empty disk: closes both gates, and opens the first one when all segments are
 /// written and listed in the directory.
 pub(crate) fn write_copy<S: Disk, T: Disk>(
@@ -310,8 +338,8 @@ pub(crate) fn write_copy<S: Disk, T: Disk>(
     ensures target_meters { Calls (Counts CountsTarget result) Stays Unsaid
         (T.view target.old) (T.view target.new) }
 {
-    close_slots(target)?;
+    close_both(target)?;
     copy_segments(alloc, source, from, segments, target, copy)?;
-    open_slot(target, copy)?;
+    open_copy(target, copy)?;
     Ok(())
 }

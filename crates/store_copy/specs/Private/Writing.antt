@@ -4,8 +4,6 @@ use Rattle.std.specs.Prelude.{List, [], ◌∷◌, ◌++◌, length}
 use Rattle.std.specs.Int.{div_ceil}
 use Rattle.std.specs.List.{AllByRecursion}
 use Rattle.blocks.specs.declared.extent.Extent.{Extent}
-use Rattle.blocks.specs.declared.slots.Slot.TheVariants.{A, B}
-use Rattle.blocks.specs.Slots.{IsClosed}
 use Rattle.checksum.specs.Crc32c.{crc32c}
 use Rattle.checksum.specs.declared.form.Form.{Form}
 use Rattle.directory.specs.declared.entry.Entry.{Entry}
@@ -91,12 +89,6 @@ pub record IsPlanned (asked : Option ℕ) (version : Option Layout) (d : Directo
   pub not_lower : number_of d.layout ≤ number_of (chosen version d.layout)
   pub blank : IsBlank copy (chosen version d.layout) (chosen asked d.imports)
   pub listed : MayBeListed (chosen version d.layout) (chosen asked d.imports) lists
-
--- the file is long enough to have both gates, and both are closed
-pub record IsShut (file : List ℕ) : Type 0 where
-  pub long : 8193 ≤ length file
-  pub first : IsClosed A file
-  pub second : IsClosed B file
 
 -- the entry's extent in the file has the segment of these rows
 abbrev pub IsSegmentAt : List ℕ → Entry → List StampedRow → Type 0

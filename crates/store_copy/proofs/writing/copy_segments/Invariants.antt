@@ -3,7 +3,7 @@ use Rattle.disk_model.specs.Disk.{EachImage, LeavesOnly}
 use Rattle.store_image.specs.Pieces.{HoldsAll}
 use Rattle.store_image.specs.Kept.{AreSegments, bytes_listed, pieces_of}
 use Rattle.store_copy.specs.Copying.{entries_from, lists_up_to}
-use Rattle.store_copy.specs.Private.Writing.{IsShut}
+use Rattle.blocks.specs.Slots.{IsShut}
 use Rattle.store_copy.proofs.Planned.{IsExact, SoFar}
 use Rattle.store_copy.proofs.writing.copy_segments.Given as goal
 
