@@ -22,7 +22,7 @@
 //! - `row LIST NUMBER DATE PIN` prints the id of a row of a list, and its day if it is current at
 //!   the date, for a pin.
 
-use crate::examples::Examples;
+use crate::case_state::CaseState;
 use crate::expanded::expanded;
 use crate::failing::fail_each_read;
 use crate::index_questions::{Request, ask_index, rows_found};
@@ -107,7 +107,7 @@ fn change_index(
     Ok(made.links.lists())
 }
 
-impl Examples {
+impl CaseState {
     /// What a pin shows, by the plain programs, or by the index if only that is asked; and the
     /// index's answer if it differs.
     fn ask(&self, text: &str) -> Result<(String, Option<String>), NoAnswer> {

@@ -3,7 +3,7 @@
 #![tactic(auto)]
 
 mod asking;
-mod examples;
+mod case_state;
 mod expanded;
 mod failing;
 mod index_questions;
@@ -14,10 +14,10 @@ mod turns;
 mod watched;
 
 use case_files::Asked;
-use examples::Examples;
+use case_state::CaseState;
 use std::process::ExitCode;
 
 fn main(rt: HostRuntime) -> ExitCode {
-    let mut asked = Asked::new(rt.alloc(), Examples::new(rt.alloc()));
+    let mut asked = Asked::new(rt.alloc(), CaseState::new(rt.alloc()));
     case_files::run(&rt, "cases", &mut asked)
 }

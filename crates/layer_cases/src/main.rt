@@ -4,10 +4,10 @@
 #![tactic(auto)]
 
 mod caches;
+mod case_state;
 mod checksums;
 mod directories;
 mod disks;
-mod examples;
 mod file_disks;
 mod folders;
 mod listing;
@@ -23,10 +23,10 @@ mod stores;
 mod values;
 
 use case_files::Asked;
-use examples::Examples;
+use case_state::CaseState;
 use std::process::ExitCode;
 
 fn main(rt: HostRuntime) -> ExitCode {
-    let mut asked = Asked::new(rt.alloc(), Examples::new(&rt));
+    let mut asked = Asked::new(rt.alloc(), CaseState::new(&rt));
     case_files::run(&rt, "cases", &mut asked)
 }

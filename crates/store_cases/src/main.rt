@@ -3,11 +3,11 @@
 #![tactic(auto)]
 
 mod calls;
+mod case_state;
 mod contents;
 mod contradicting;
 mod copies;
 mod disks;
-mod examples;
 mod failures;
 mod kept;
 mod lost;

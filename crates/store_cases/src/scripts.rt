@@ -5,7 +5,7 @@
 //!   to the store's, where `PIN` stands for the pin;
 //! - `in-1 CALL`, a call that is made, and whose answer is printed, only by a store of version 1.
 
-use crate::examples::Examples;
+use crate::case_state::CaseState;
 use case_files::{Answer, NoAnswer, two_words};
 use case_values::first_word;
 use std::alloc::Global;
@@ -29,8 +29,8 @@ pub struct Scripts {
 }
 
 /// Whether a call is refused because the store has to be opened again.
-fn is_shut(examples: &mut Examples, call: &str) -> Result<bool, NoAnswer> {
-    Ok(examples.ask_line(call)?.as_str() == SHUT)
+fn is_shut(state: &mut CaseState, call: &str) -> Result<bool, NoAnswer> {
+    Ok(state.ask_line(call)?.as_str() == SHUT)
 }
 
 impl Scripts {
@@ -72,12 +72,12 @@ impl Scripts {
 
     /// The answers of a store to the calls of a part, one on each line, where `PIN` stands for a
     /// pin.
-    fn answers(&self, examples: &mut Examples, pin: &str, part: &str) -> Answer {
+    fn answers(&self, state: &mut CaseState, pin: &str, part: &str) -> Answer {
         let mut text = String::new(self.alloc);
         for line in &self.lines {
             if line.part.as_str() == part {
                 let call = line.text.replace(self.alloc, "PIN", pin)?;
-                let answer = examples.ask_line(call.as_str())?;
+                let answer = state.ask_line(call.as_str())?;
                 text.push_str(answer.as_str())?;
                 text.push('\n')?;
             }
@@ -87,18 +87,18 @@ impl Scripts {
 
     /// Remembers the answers of a store to the calls of a part, and prints how many parts' answers
     /// are remembered.
-    pub fn remember(&mut self, examples: &mut Examples, words: &str) -> Answer {
+    pub fn remember(&mut self, state: &mut CaseState, words: &str) -> Answer {
         let (pin, part) = first_word(words)?;
-        let answers = self.answers(examples, pin, part)?;
+        let answers = self.answers(state, pin, part)?;
         self.remembered.push(answers)?;
         let count = self.remembered.len();
         Ok(format!(in self.alloc; "{count}")?)
     }
 
     /// The number of the first remembered answers that are equal to the store's.
-    pub fn known(&self, examples: &mut Examples, words: &str) -> Answer {
+    pub fn known(&self, state: &mut CaseState, words: &str) -> Answer {
         let (pin, part) = first_word(words)?;
-        let answers = self.answers(examples, pin, part)?;
+        let answers = self.answers(state, pin, part)?;
         for (place, remembered) in self.remembered.iter().enumerate() {
             if *remembered == answers {
                 let number = place.saturating_add(1);
@@ -109,24 +109,24 @@ impl Scripts {
     }
 
     /// The answer to a line of a look, if it asks anything.
-    fn look_line(&self, examples: &mut Examples, line: &str) -> Result<Option<String>, NoAnswer> {
+    fn look_line(&self, state: &mut CaseState, line: &str) -> Result<Option<String>, NoAnswer> {
         let (word, rest) = two_words(line);
         match word {
-            "known" => Ok(Some(self.known(examples, rest)?)),
-            "in-1" if examples.version() != 1 => Ok(None),
-            "in-1" => Ok(Some(examples.ask_line(rest)?)),
-            _ => Ok(Some(examples.ask(word, rest)?)),
+            "known" => Ok(Some(self.known(state, rest)?)),
+            "in-1" if state.version() != 1 => Ok(None),
+            "in-1" => Ok(Some(state.ask_line(rest)?)),
+            _ => Ok(Some(state.ask(word, rest)?)),
         }
     }
 
     /// The answers of a store to the calls of a look.
-    pub fn look(&self, examples: &mut Examples, part: &str) -> Answer {
+    pub fn look(&self, state: &mut CaseState, part: &str) -> Answer {
         let mut text = String::new(self.alloc);
         for line in &self.lines {
             if line.part.as_str() != part {
                 continue;
             }
-            if let Some(answer) = self.look_line(examples, line.text.as_str())? {
+            if let Some(answer) = self.look_line(state, line.text.as_str())? {
                 if !text.is_empty() {
                     text.push_str(", ")?;
                 }
@@ -137,9 +137,9 @@ impl Scripts {
     }
 
     /// Whether each call of a part is refused because the store has to be opened again.
-    pub fn are_shut(&self, examples: &mut Examples, part: &str) -> Result<bool, NoAnswer> {
+    pub fn are_shut(&self, state: &mut CaseState, part: &str) -> Result<bool, NoAnswer> {
         for line in &self.lines {
-            if line.part.as_str() == part && !is_shut(examples, line.text.as_str())? {
+            if line.part.as_str() == part && !is_shut(state, line.text.as_str())? {
                 return Ok(false);
             }
         }

@@ -22,8 +22,8 @@
 //!   `copies.rt`.
 
 use crate::calls::{spell_refusal, store_of};
+use crate::case_state::CaseState;
 use crate::copies::{copy_kept, try_copies};
-use crate::examples::Examples;
 use crate::failures::Failure;
 use crate::kept::{cut, put_at, try_byte, with};
 use crate::refusals::all_refusals;
@@ -69,7 +69,7 @@ pub struct Trials {
     alloc: Global,
     kept: Vec<u8>,
     scripts: Scripts,
-    examples: Examples,
+    state: CaseState,
 }
 
 impl Trials {
@@ -79,7 +79,7 @@ impl Trials {
             alloc,
             kept: Vec::new(alloc),
             scripts: Scripts::new(alloc),
-            examples: Examples::new(alloc),
+            state: CaseState::new(alloc),
         }
     }
 
@@ -96,7 +96,7 @@ impl Trials {
 
     /// Keeps the disk of the store.
     fn keep(&mut self) -> Answer {
-        let disk = self.examples.close()?;
+        let disk = self.state.close()?;
         self.kept = disk.bytes().to_vec(self.alloc)?;
         self.length()
     }
@@ -126,7 +126,7 @@ impl Trials {
     fn open(&mut self, disk: MemDisk) -> Result<Option<Refusal>, NoAnswer> {
         match Example::opened(self.alloc, disk) {
             Ok(store) => {
-                self.examples.put(store);
+                self.state.put(store);
                 Ok(None)
             }
             Err(Refusal::OutOfMemory) => Err(NoAnswer::OutOfMemory),
@@ -145,7 +145,7 @@ impl Trials {
 
     /// Whether the disk of the store is equal to the kept one.
     fn is_same(&mut self) -> Answer {
-        let disk = self.examples.close()?;
+        let disk = self.state.close()?;
         let is_same = disk.bytes() == self.kept.as_slice();
         self.open(disk)?;
         Ok(String::from_str(self.alloc, if is_same { "yes" } else { "no" })?)
@@ -157,7 +157,7 @@ impl Trials {
         let before = disk.changes();
         match Example::create(self.alloc, disk) {
             Ok(store) => {
-                self.examples.put(store);
+                self.state.put(store);
                 self.done()
             }
             Err((refusal, disk)) => {
@@ -177,14 +177,14 @@ impl Trials {
         } else {
             store_of(Example::opened(self.alloc, self.disk()?))?
         };
-        self.examples.put(store);
+        self.state.put(store);
         Ok(())
     }
 
     /// What a look shows of the store that a disk of these bytes represents.
     fn look_at(&mut self, bytes: Vec<u8>, look: &str) -> Answer {
         match self.open(MemDisk::from_bytes(self.alloc, bytes))? {
-            None => self.scripts.look(&mut self.examples, look),
+            None => self.scripts.look(&mut self.state, look),
             Some(refusal) => spell_refusal(self.alloc, refusal),
         }
     }
@@ -193,11 +193,11 @@ impl Trials {
     fn disk_behind(&mut self, script: &[String]) -> Result<MemDisk, NoAnswer> {
         self.begin_trial()?;
         for call in script {
-            if self.examples.ask_line(call)?.starts_with("refused") {
+            if self.state.ask_line(call)?.starts_with("refused") {
                 return Err(NoAnswer::NoQuestion);
             }
         }
-        self.examples.close()
+        self.state.close()
     }
 
     /// What a look shows of the disk after none of a script's calls, after the first one, and so
@@ -258,11 +258,11 @@ impl Trials {
 
     /// The result of a store, one of whose calls was refused.
     fn fall(&mut self, wanted: Wanted<'_>, looks: Option<&[String]>) -> Result<Outcome, NoAnswer> {
-        let is_shut = self.scripts.are_shut(&mut self.examples, wanted.shut)?;
-        if !is_shut || self.examples.ask("closed", "")?.as_str() != "1" {
+        let is_shut = self.scripts.are_shut(&mut self.state, wanted.shut)?;
+        if !is_shut || self.state.ask("closed", "")?.as_str() != "1" {
             return Ok(Outcome::Wrong("a call isn't refused"));
         }
-        let disk = self.examples.close()?;
+        let disk = self.state.close()?;
         if !self.shows(&disk, wanted.look, looks)? {
             return Ok(Outcome::Wrong("another store is left"));
         }
@@ -277,10 +277,10 @@ impl Trials {
         looks: &[String],
     ) -> Result<Outcome, NoAnswer> {
         for (number, call) in script.iter().enumerate() {
-            let before = self.examples.counts();
-            let answer = self.examples.ask_line(call)?;
+            let before = self.state.counts();
+            let answer = self.state.ask_line(call)?;
             if answer.as_str() == "refused 2 DiskFault" {
-                if self.examples.counts() != before {
+                if self.state.counts() != before {
                     return Ok(Outcome::Wrong("the counts changed"));
                 }
                 return self.fall(wanted, looks.get(number..number.saturating_add(2)));
@@ -322,7 +322,7 @@ impl Trials {
         failure.strike(&mut disk, calls);
         match self.opened_on(disk) {
             Ok(store) => {
-                self.examples.put(store);
+                self.state.put(store);
                 self.go_on(script, wanted, looks)
             }
             Err((refusal, disk)) => self.refused(refusal, &disk),
@@ -380,13 +380,13 @@ impl Answers for Trials {
     fn begin(&mut self) {
         self.kept.clear();
         self.scripts.begin();
-        self.examples.begin();
+        self.state.begin();
     }
 
     fn give(&mut self, part: &str, word: &str, rest: &str) -> Result<(), NoAnswer> {
         match word {
             "call" | "at" => self.scripts.give(part, rest),
-            _ => self.examples.give(part, word, rest),
+            _ => self.state.give(part, word, rest),
         }
     }
 
@@ -395,13 +395,13 @@ impl Answers for Trials {
             "crashes" => self.crashes(rest),
             "fails" => self.fails(rest),
             "refusals" => all_refusals(self.alloc),
-            "remember" => self.scripts.remember(&mut self.examples, rest),
-            "known" => self.scripts.known(&mut self.examples, rest),
+            "remember" => self.scripts.remember(&mut self.state, rest),
+            "known" => self.scripts.known(&mut self.state, rest),
             "keep" | "disk" | "put" | "store" | "same" | "create" | "cut" | "with" | "byte" => {
                 self.ask_kept(word, rest)
             }
             _ if word.starts_with("copy") => self.ask_kept(word, rest),
-            _ => self.examples.ask(word, rest),
+            _ => self.state.ask(word, rest),
         }
     }
 }

@@ -14,7 +14,7 @@ use std::rt::HostRuntime;
 /// disks and stores are asked of the disk of the case, those about segments of the rows in parts,
 /// and those about files of the folder in which this runs.
 #[derive(Drop)]
-pub struct Examples<'a> {
+pub struct CaseState<'a> {
     rt: &'a HostRuntime,
     alloc: Global,
     file: Option<FileDisk>,
@@ -22,11 +22,11 @@ pub struct Examples<'a> {
     segments: Segments,
 }
 
-impl<'a> Examples<'a> {
+impl<'a> CaseState<'a> {
     /// With an empty disk, no rows and no open file.
-    pub fn new(rt: &'a HostRuntime) -> Examples<'a> {
+    pub fn new(rt: &'a HostRuntime) -> CaseState<'a> {
         let alloc = rt.alloc();
-        Examples {
+        CaseState {
             rt,
             alloc,
             file: None,
@@ -36,7 +36,7 @@ impl<'a> Examples<'a> {
     }
 }
 
-impl Answers for Examples<'_> {
+impl Answers for CaseState<'_> {
     fn begin(&mut self) {
         self.disk.begin();
         self.file = None;

@@ -31,7 +31,7 @@ struct Given {
 
 /// The rows of the given releases, those that a case imported, and its index.
 #[derive(Drop)]
-pub struct Examples {
+pub struct CaseState {
     pub(crate) alloc: Global,
     given: Vec<Given>,
     imports: u16,
@@ -42,10 +42,10 @@ pub struct Examples {
     pub(crate) hints: Option<Hints>,
 }
 
-impl Examples {
+impl CaseState {
     /// No releases.
-    pub fn new(alloc: Global) -> Examples {
-        Examples {
+    pub fn new(alloc: Global) -> CaseState {
+        CaseState {
             alloc,
             given: Vec::new(alloc),
             imports: 0,
@@ -137,7 +137,7 @@ impl Examples {
     }
 }
 
-impl Answers for Examples {
+impl Answers for CaseState {
     fn begin(&mut self) {
         self.imports = 0;
         self.rows.clear();

@@ -21,17 +21,17 @@ pub type Counts = (u32, u32, u64, u32);
 
 /// The releases of a file of cases, and the store of one of them.
 #[derive(Drop)]
-pub struct Examples {
+pub struct CaseState {
     alloc: Global,
     releases: Releases,
     plain: Plain,
     store: Option<Example>,
 }
 
-impl Examples {
+impl CaseState {
     /// No releases.
-    pub fn new(alloc: Global) -> Examples {
-        Examples {
+    pub fn new(alloc: Global) -> CaseState {
+        CaseState {
             alloc,
             releases: Releases::new(alloc),
             plain: Plain::new(alloc),
