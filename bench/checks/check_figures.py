@@ -72,7 +72,7 @@ def reckoned(command: str, sum_of: str) -> str:
     return "n=$(%s) && echo $(( %s ))" % (command, sum_of.replace("n", "${n:?}"))
 
 
-# Where the cases of crashes, of damage and of version 1 stand.
+# Where the cases of crashes, of damage and of layout 1 stand.
 CRASHES = "store_cases/data/cases/crashes.txt"
 DAMAGE = "store_cases/data/cases/damage.txt"
 OLD = "store_cases/data/cases/old.txt"

@@ -276,7 +276,7 @@ CALLS = [
     Call("history_store", "Store::create", "store.rt", "pub fn create(", BACK,
          "store_cases", "nothing is found in an empty store"),
     Call("history_store", "Store::create_in", "store.rt", "pub fn create_in(", BACK,
-         "store_cases", "a new store of version 3 byte for byte"),
+         "store_cases", "a new store of layout 3 byte for byte"),
     Call("history_store", "Store::open", "store.rt", "pub fn open(", BACK,
          "store_cases", "a merge ends with the store"),
     Call("history_store", "Store::import", "store.rt", "pub fn import(", STORE,

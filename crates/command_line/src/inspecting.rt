@@ -35,7 +35,7 @@ pub(crate) fn tell_status<D: Disk, O: Write>(
 /// More figures about an open store, to be shown to people.
 pub(crate) fn figures_of<D: Disk>(store: &Store<D>) -> Figures {
     Figures {
-        layout: store.version(),
+        layout: store.layout_number(),
         blocks: store.blocks_in_use(),
         latest: store.latest_time(),
     }

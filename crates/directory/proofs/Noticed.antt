@@ -68,7 +68,7 @@ marked block d lists =
     let whole = block_is block d lists ∙ header_fields d.layout d.epoch d.imports _ _ in
     ap (λ (l : List ℕ). take 8 (drop 8 l)) whole ∙ mark_is d.layout d.epoch _
 
--- a block of version 3 in which one byte was changed is none of an older version
+-- a block of layout 3 in which one byte was changed is none of an older layout
 not_older : (before after : List ℕ) (b c three four : ℕ) → three ≢ 83 → four ≢ 84 → get_or (before ++ b ∷ after) 11 0 ≡ 83 → get_or (before ++ b ∷ after) 12 0 ≡ 84 → get_or (before ++ c ∷ after) 11 0 ≡ three → get_or (before ++ c ∷ after) 12 0 ≡ four → ⊥
 not_older before after b c three four other_3 other_4 at_11 at_12 is_11 is_12 = elim (cases_eq 11 (length before)) [
   | inl here ↦ other_4 (sym is_12 ∙ sym (same_at before after b c 12 (λ e. omega (arith, here, e))) ∙ at_12)
@@ -98,7 +98,7 @@ by_sum before after byte changed all small is others = elim (cases_lt (length be
       (same_first_and_rest byte changed after after (append_cancel_left (drop 4092 before) (byte ∷ after) (changed ∷ after) (sym (drop-append-le 4092 before (byte ∷ after) long) ∙ ends ∙ drop-append-le 4092 before (changed ∷ after) long))).0
 ]
 
--- ---- a changed block of version 3
+-- ---- a changed block of layout 3
 
 module _ (before after : List ℕ) (byte changed : ℕ) (all : AllByRecursion (λ b. b < 256) (before ++ byte ∷ after)) (small : changed < 256) (marks : HasMark layouts.Three (before ++ byte ∷ after)) (sum : HasSum layouts.Three (before ++ byte ∷ after)) where
   not_older_marked : HasOlderMark (before ++ changed ∷ after) → ⊥

@@ -14,7 +14,7 @@ pub record IsTable (bytes : List ℕ) (count : ℕ) (entries : List Entry) : Typ
   pub each : AllByRecursion IsEntry entries
   pub apart : AreApart (extents_of entries)
 
--- the directory at the next epoch, in the layout version of the next publication
+-- the directory at the next epoch, in the layout of the next publication
 abbrev pub next_in : DirectoryValue → DirectoryValue
 next_in d = record d { layout = next_layout d.layout; epoch = d.epoch + 1 }
 

@@ -9,12 +9,12 @@ use std::alloc::{AllocError, Global};
 use std::marker::Model;
 use thiserror::Error;
 
-/// The capacity of a directory, in entries, whatever its version.
+/// The capacity of a directory, in entries, whatever its layout.
 pub const MOST_PLACES: usize = 250;
 
-/// The layout version, the epoch, the number of imports and the positions of the segments. It can
-/// always be encoded as a content block, and has capacity for the most entries, so that changing it
-/// allocates nothing.
+/// The layout, the epoch, the number of imports and the positions of the segments. It can always be
+/// encoded as a content block, and has capacity for the most entries, so that changing it allocates
+/// nothing.
 #[derive(Drop)]
 pub struct Directory {
     layout: Layout,
@@ -53,9 +53,9 @@ pub enum DirectoryFault {
     #[error("out of memory")]
     OutOfMemory,
     /// Epoch 0; an unknown mark; a non-zero byte in the last eight of the header; more entries than
-    /// the version allows; an entry without bytes or rows, in the slots, past the last block, or
-    /// whose records aren't in the form of the version; two entries that share a block; or, in
-    /// version 3, a wrong checksum.
+    /// the layout allows; an entry without bytes or rows, in the slots, past the last block, or
+    /// whose records aren't in the form of the layout; two entries that share a block; or, in
+    /// layout 3, a wrong checksum.
     #[error("the block lists no directory")]
     BadDirectory,
 }
@@ -78,7 +78,7 @@ impl Directory {
     ghost use Rattle.directory.specs.Content.{Lists, listing_bytes, summed};
     ghost use Rattle.directory.specs.declared.listing.DirectoryFault.TheVariants as faults;
 
-    /// The directory of a new store with this layout version: epoch 1, no imports, no entries.
+    /// The directory of a new store with this layout: epoch 1, no imports, no entries.
     pub fn new(alloc: Global, layout: Layout) -> Result<Directory, AllocError>
         // promise: older_layouts_stay_readable
         ensures { IfOk result (λ d. d ≡ empty_listing layout) }
@@ -106,9 +106,9 @@ impl Directory {
         })
     }
 
-    /// Decodes the directory that a content block lists. In versions 1 and 2 the bytes after the
-    /// last entry are ignored. In version 3 the last four bytes of the block have to be the
-    /// checksum of all others.
+    /// Decodes the directory that a content block lists. In layouts 1 and 2 the bytes after the
+    /// last entry are ignored. In layout 3 the last four bytes of the block have to be the checksum
+    /// of all others.
     pub fn decode(alloc: Global, block: &[u8; 4096]) -> Result<Directory, DirectoryFault>
         // promise: bytes_are_those_of_the_layout, damage_is_noticed_and_named
         // promise: older_layouts_stay_readable
@@ -171,7 +171,7 @@ impl Directory {
         write_entries(self.entries.as_slice(), &mut block[32..]);
     }
 
-    /// Its layout version.
+    /// Its layout.
     pub fn layout(&self) -> Layout
         // promise: older_layouts_stay_readable
         ensures { result ≡ self.now.layout }
@@ -179,15 +179,15 @@ impl Directory {
         self.layout
     }
 
-    /// The number of its layout version.
-    pub fn version(&self) -> u32
+    /// The number of its layout.
+    pub fn layout_number(&self) -> u32
         // promise: older_layouts_stay_readable
         ensures { result ≡ number_of self.now.layout }
     {
         self.layout.number()
     }
 
-    /// Sets the layout version to that of the next publication. The epoch is unchanged.
+    /// Sets the layout to that of the next publication. The epoch is unchanged.
     pub fn upgrade(&mut self)
         // promise: older_layouts_stay_readable
         ensures { self.new ≡ record self.old { layout = next_layout self.old.layout } }
@@ -247,7 +247,7 @@ impl Directory {
         let _ = self.entries.remove(j);
     }
 
-    /// Undoes a replacement, for instance after a publication that failed: restores the version and
+    /// Undoes a replacement, for instance after a publication that failed: restores the layout and
     /// the epoch from before, and the two entries, `first` at position `i` and `second` at position
     /// `j`.
     pub fn put_back(

@@ -5,10 +5,10 @@ use checksum::Form;
 /// Where a segment has checksums, as the last four bytes of its entry say.
 #[derive(Clone, Copy, Debug, PartialEq, Eq)]
 pub enum Sums {
-    /// Nowhere: in versions 1 and 2.
+    /// Nowhere: in layouts 1 and 2.
     Nowhere,
     /// In each of its records. A program from before a whole segment had a checksum wrote such
-    /// entries in version 3.
+    /// entries in layout 3.
     Records,
     /// In each of its records, and in its entry this one of all its bytes.
     Whole(u32),

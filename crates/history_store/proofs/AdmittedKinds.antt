@@ -64,25 +64,25 @@ none_at_all (f ∷ files) zero past none has = absurd (omega (arith, past))
 none_at_all (f ∷ files) (suc i) past none (inl same) = none 0 f (omega arith) same
 none_at_all (f ∷ files) (suc i) past none (inr there) = none_at_all files i (omega (arith, past)) (λ k d lt. none (suc k) d (omega (arith, lt))) there
 
--- ---- and the next version has it, where the release isn't for a later one
+-- ---- and the next layout has it, where the release isn't for a later one
 
 fits : (layout : Layout) (release : Release) (kind : Kind) → (IsForLater layout release → ⊥) → Has (map (λ (file : ReleaseFile). file.kind) release.files.items) kind → HasKind (next_layout layout) kind
-fits layouts.One release kinds.Concept version has = tt
-fits layouts.One release kinds.Description version has = tt
-fits layouts.One release kinds.Relationship version has = tt
-fits layouts.One release kinds.Association version has = tt
-fits layouts.One release kinds.Concrete version has = tt
-fits layouts.One release kinds.Member version has = absurd (version has)
-fits layouts.Two release kinds.Concept version has = tt
-fits layouts.Two release kinds.Description version has = tt
-fits layouts.Two release kinds.Relationship version has = tt
-fits layouts.Two release kinds.Association version has = tt
-fits layouts.Two release kinds.Concrete version has = tt
-fits layouts.Two release kinds.Member version has = absurd (version has)
-fits layouts.Three release kind version has = tt
+fits layouts.One release kinds.Concept not_later has = tt
+fits layouts.One release kinds.Description not_later has = tt
+fits layouts.One release kinds.Relationship not_later has = tt
+fits layouts.One release kinds.Association not_later has = tt
+fits layouts.One release kinds.Concrete not_later has = tt
+fits layouts.One release kinds.Member not_later has = absurd (not_later has)
+fits layouts.Two release kinds.Concept not_later has = tt
+fits layouts.Two release kinds.Description not_later has = tt
+fits layouts.Two release kinds.Relationship not_later has = tt
+fits layouts.Two release kinds.Association not_later has = tt
+fits layouts.Two release kinds.Concrete not_later has = tt
+fits layouts.Two release kinds.Member not_later has = absurd (not_later has)
+fits layouts.Three release kind not_later has = tt
 
 pub admitted_kinds : (layout : Layout) (release : Release) (known : List RowValue) (fresh : NewRows) (k : ℕ) → (IsForLater layout release → ⊥) → BringsByKey known release fresh → AreOfLayout (next_layout layout) (stamped k fresh.rows.items)
-admitted_kinds layout release known fresh k version brings = All-from_recursion Fits (stamped k fresh.rows.items) (all_from_has Fits (stamped k fresh.rows.items) each) where
+admitted_kinds layout release known fresh k not_later brings = All-from_recursion Fits (stamped k fresh.rows.items) (all_from_has Fits (stamped k fresh.rows.items) each) where
   Fits : StampedRow → Type 0
   Fits s = HasKind (next_layout layout) (kind_of s.row)
 
@@ -91,4 +91,4 @@ admitted_kinds layout release known fresh k version brings = All-from_recursion 
       let is = brings.rows_are in
       let there : Has brings.rows s.row = brings.new_by_key.from_release s.row (of_stamped k fresh.rows.items s has).0 in
       let among : Has (joined is.lists) s.row = subst (λ (l : List RowValue). Has l s.row) is.rows_are there in
-      fits layout release (kind_of s.row) version (kind_in release.files.items is.lists s.row is.spelled among)
+      fits layout release (kind_of s.row) not_later (kind_in release.files.items is.lists s.row is.spelled among)

@@ -75,12 +75,12 @@ module _ {D : Type 0} (honest : Type 0) (s : StoreValue D) (release : Release) (
 
 -- ---- what is ready
 
--- a release is read once it is known that the counts have room and that it isn't for a later version
+-- a release is read once it is known that the counts have room and that it isn't for a later layout
 pub admitted : (h : History) (catalog : Catalog) (release : Release) (later : Bool) → IsNotSpent h.imports catalog.epoch → (IsTrue later ↔ IsForLater catalog.layout release) → later ≡ false → IsAdmitted h catalog release
-admitted h catalog release later room tests isn_t = record { room = room; version = λ is. absurd (false≢true (sym isn_t ∙ tests.1 is)) }
+admitted h catalog release later room tests isn_t = record { room = room; not_later = λ is. absurd (false≢true (sym isn_t ∙ tests.1 is)) }
 
 pub not_later : {D : Type 0} (u old : StoreValue D) (release : Release) → u ≡ old → IsAdmitted u.history u.catalog release → IsForLater old.catalog.layout release → ⊥
-not_later {D} u old release first admits = (subst (λ (x : StoreValue D). IsAdmitted x.history x.catalog release) first admits).version
+not_later {D} u old release first admits = (subst (λ (x : StoreValue D). IsAdmitted x.history x.catalog release) first admits).not_later
 
 pub ready_at : {D : Type 0} (honest : Type 0) (u old w mid : StoreValue D) (release : Release) (fresh : NewRows) (next : Next) (number new : ℕ) → u ≡ old → IsAdmitted u.history u.catalog release → w ≡ mid → IsHistory w.history → IsStill old mid
     → BringsByKey (full old.history) release fresh → (honest → IsAcceptedAs (full old.history) release fresh) → number ≡ w.history.imports + 1 → new ≡ length fresh.rows.items → IsNext w fresh next
@@ -167,7 +167,7 @@ module _ {D : Type 0} (view : D → DiskView) (old mid : StoreValue D) (release 
   -- what the reading of known rows leaves
   pub record HasRead : Type 0 where
     pub still : IsStill old mid
-    pub version : IsForLater old.catalog.layout release → ⊥
+    pub not_later : IsForLater old.catalog.layout release → ⊥
     pub acknowledged : (view mid.disk).is_honest → mid.needs_reopen ≡ false → IsAcknowledged view mid
     pub fresh : NewRows
     pub meters : IsMeteredReading (Ok fresh) release view old mid
@@ -178,7 +178,7 @@ module _ {D : Type 0} (view : D → DiskView) (old mid : StoreValue D) (release 
     answer = answer;
     kept = kept;
     closed = λ closed. absurd (false≢true (sym read.still.open_before ∙ closed));
-    later = λ later. absurd (read.version later);
+    later = λ later. absurd (read.not_later later);
     acknowledged = λ up. read.acknowledged (read.meters.counts.honesty.0 up);
     meters = as_read (Ok read.fresh) result old mid failures read.meters;
   }
@@ -194,7 +194,7 @@ module _ {D : Type 0} (view : D → DiskView) (old mid : StoreValue D) (release 
         answer = λ up. (not_fresh (view old.disk).is_honest old release still here e why up, refused);
         kept = (not_fresh_at_all (view old.disk).is_honest old release still here ⊥ e why, refused);
         closed = λ closed. absurd (false≢true (sym still ∙ closed));
-        later = λ later. absurd (here.version later);
+        later = λ later. absurd (here.not_later later);
         acknowledged = λ up open_still. record {
           open_still = open_still;
           each =

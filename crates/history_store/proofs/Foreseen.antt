@@ -55,7 +55,7 @@ module _ (h : History) (catalog : Catalog) (release : Release) (taken : WouldBeT
   taken_anyway : (e : Refusal) → IsNotTaken h catalog release e → HasFailed (Err e)
   taken_anyway refusals.OutOfMemory why = tt
   taken_anyway refusals.DiskFault why = tt
-  taken_anyway refusals.LaterVersion why = taken.room.version why.1
+  taken_anyway refusals.LaterVersion why = taken.room.not_later why.1
   taken_anyway refusals.CountSpent why = not_both h.imports catalog.epoch taken.room.room why
   taken_anyway (refusals.Line file line fault) why = read_has_no_fault release file line fault (was_read release taken.accepted.rows taken.accepted.is_release) why.1
   taken_anyway (refusals.Contradiction file line) why = consistent_has_none (full h) release taken.accepted file line why.1.0 why.1.1
@@ -87,16 +87,16 @@ module _ (h : History) (catalog : Catalog) (release : Release) where
   later_alone refusals.DiskFault why also = inr (inr tt)
   later_alone refusals.CountSpent why also = absurd (not_both h.imports catalog.epoch why.0 also)
   later_alone refusals.LaterVersion why also = inl refl
-  later_alone (refusals.Line file line fault) why also = absurd (also.0.version why.1)
-  later_alone (refusals.Contradiction file line) why also = absurd (also.0.version why.1)
-  later_alone refusals.TooManySegments why also = absurd (also.room.version why.1)
-  later_alone refusals.Full why also = absurd (also.room.version why.1)
+  later_alone (refusals.Line file line fault) why also = absurd (also.0.not_later why.1)
+  later_alone (refusals.Contradiction file line) why also = absurd (also.0.not_later why.1)
+  later_alone refusals.TooManySegments why also = absurd (also.room.not_later why.1)
+  later_alone refusals.Full why also = absurd (also.room.not_later why.1)
   later_alone _ why also = absurd also
 
   fault_alone : (file line : ℕ) (fault : LineFault) (f : Refusal) → IsNotTaken h catalog release (refusals.Line file line fault) → IsNotTaken h catalog release f → OneRefusal (refusals.Line file line fault) f
   fault_alone file line fault refusals.OutOfMemory why also = inr (inr tt)
   fault_alone file line fault refusals.DiskFault why also = inr (inr tt)
-  fault_alone file line fault refusals.LaterVersion why also = absurd (why.0.version also.1)
+  fault_alone file line fault refusals.LaterVersion why also = absurd (why.0.not_later also.1)
   fault_alone file line fault refusals.CountSpent why also = absurd (not_both h.imports catalog.epoch why.0.room also)
   fault_alone file line fault (refusals.Line n l other) why also =
       let one = one_fault release n l other file line fault also.1 why.1 in
@@ -109,7 +109,7 @@ module _ (h : History) (catalog : Catalog) (release : Release) where
   contradiction_alone : (file line : ℕ) (f : Refusal) → IsNotTaken h catalog release (refusals.Contradiction file line) → IsNotTaken h catalog release f → OneRefusal (refusals.Contradiction file line) f
   contradiction_alone file line refusals.OutOfMemory why also = inr (inr tt)
   contradiction_alone file line refusals.DiskFault why also = inr (inr tt)
-  contradiction_alone file line refusals.LaterVersion why also = absurd (why.0.version also.1)
+  contradiction_alone file line refusals.LaterVersion why also = absurd (why.0.not_later also.1)
   contradiction_alone file line refusals.CountSpent why also = absurd (not_both h.imports catalog.epoch why.0.room also)
   contradiction_alone file line (refusals.Line n l other) why also = absurd (read_has_no_fault release n l other (contradicts file line why) also.1)
   contradiction_alone file line (refusals.Contradiction n l) why also =
@@ -122,7 +122,7 @@ module _ (h : History) (catalog : Catalog) (release : Release) where
   entry_alone : (f : Refusal) → IsNotTaken h catalog release refusals.TooManySegments → IsNotTaken h catalog release f → OneRefusal refusals.TooManySegments f
   entry_alone refusals.OutOfMemory why also = inr (inr tt)
   entry_alone refusals.DiskFault why also = inr (inr tt)
-  entry_alone refusals.LaterVersion why also = absurd (why.room.version also.1)
+  entry_alone refusals.LaterVersion why also = absurd (why.room.not_later also.1)
   entry_alone refusals.CountSpent why also = absurd (not_both h.imports catalog.epoch why.room.room also)
   entry_alone (refusals.Line n l other) why also = absurd (read_has_no_fault release n l other (was_read release why.accepted.rows why.accepted.is_release) also.1)
   entry_alone (refusals.Contradiction n l) why also = absurd (consistent_has_none (full h) release why.accepted n l also.1.0 also.1.1)
@@ -133,7 +133,7 @@ module _ (h : History) (catalog : Catalog) (release : Release) where
   place_alone : (f : Refusal) → IsNotTaken h catalog release refusals.Full → IsNotTaken h catalog release f → OneRefusal refusals.Full f
   place_alone refusals.OutOfMemory why also = inr (inr tt)
   place_alone refusals.DiskFault why also = inr (inr tt)
-  place_alone refusals.LaterVersion why also = absurd (why.room.version also.1)
+  place_alone refusals.LaterVersion why also = absurd (why.room.not_later also.1)
   place_alone refusals.CountSpent why also = absurd (not_both h.imports catalog.epoch why.room.room also)
   place_alone (refusals.Line n l other) why also = absurd (read_has_no_fault release n l other (was_read release why.accepted.rows why.accepted.is_release) also.1)
   place_alone (refusals.Contradiction n l) why also = absurd (consistent_has_none (full h) release why.accepted n l also.1.0 also.1.1)

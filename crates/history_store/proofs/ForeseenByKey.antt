@@ -57,25 +57,25 @@ module _ (h : History) (catalog : Catalog) (release : Release) where
   one_reason refusals.CountSpent _ why also = absurd also
   one_reason refusals.LaterVersion refusals.LaterVersion why also = refl
   one_reason refusals.LaterVersion refusals.CountSpent why also = absurd (not_both h.imports catalog.epoch why.0 also)
-  one_reason refusals.LaterVersion (refusals.Line file line fault) why also = absurd (also.0.version why.1)
-  one_reason refusals.LaterVersion refusals.TooManySegments why also = absurd (also.room.version why.1)
-  one_reason refusals.LaterVersion refusals.Full why also = absurd (also.room.version why.1)
+  one_reason refusals.LaterVersion (refusals.Line file line fault) why also = absurd (also.0.not_later why.1)
+  one_reason refusals.LaterVersion refusals.TooManySegments why also = absurd (also.room.not_later why.1)
+  one_reason refusals.LaterVersion refusals.Full why also = absurd (also.room.not_later why.1)
   one_reason refusals.LaterVersion _ why also = absurd also
   one_reason (refusals.Line file line fault) refusals.CountSpent why also = absurd (not_both h.imports catalog.epoch why.0.room also)
-  one_reason (refusals.Line file line fault) refusals.LaterVersion why also = absurd (why.0.version also.1)
+  one_reason (refusals.Line file line fault) refusals.LaterVersion why also = absurd (why.0.not_later also.1)
   one_reason (refusals.Line file line fault) (refusals.Line n l other) why also =
       let one = one_fault release n l other file line fault also.1 why.1 in
       λ i. refusals.Line (one.0 i) (one.1 i) (one.2 i)
   one_reason (refusals.Line file line fault) refusals.TooManySegments why also = absurd (no_fault file line fault also.fresh also.brings why.1)
   one_reason (refusals.Line file line fault) refusals.Full why also = absurd (no_fault file line fault also.fresh also.brings why.1)
   one_reason (refusals.Line file line fault) _ why also = absurd also
-  one_reason refusals.TooManySegments refusals.LaterVersion why also = absurd (why.room.version also.1)
+  one_reason refusals.TooManySegments refusals.LaterVersion why also = absurd (why.room.not_later also.1)
   one_reason refusals.TooManySegments refusals.CountSpent why also = absurd (not_both h.imports catalog.epoch why.room.room also)
   one_reason refusals.TooManySegments (refusals.Line n l other) why also = absurd (no_fault n l other why.fresh why.brings also.1)
   one_reason refusals.TooManySegments refusals.TooManySegments why also = refl
   one_reason refusals.TooManySegments refusals.Full why also = absurd (omega (arith, why.lacks.all_taken, also.lacks.few))
   one_reason refusals.TooManySegments _ why also = absurd also
-  one_reason refusals.Full refusals.LaterVersion why also = absurd (why.room.version also.1)
+  one_reason refusals.Full refusals.LaterVersion why also = absurd (why.room.not_later also.1)
   one_reason refusals.Full refusals.CountSpent why also = absurd (not_both h.imports catalog.epoch why.room.room also)
   one_reason refusals.Full (refusals.Line n l other) why also = absurd (no_fault n l other why.fresh why.brings also.1)
   one_reason refusals.Full refusals.TooManySegments why also = absurd (omega (arith, why.lacks.few, also.lacks.all_taken))
@@ -91,7 +91,7 @@ module _ (h : History) (catalog : Catalog) (release : Release) where
 
     none_out : (e : Refusal) → IsOutByKey e h catalog release → ⊥
     none_out refusals.CountSpent why = not_both h.imports catalog.epoch taken.room.room why
-    none_out refusals.LaterVersion why = taken.room.version why.1
+    none_out refusals.LaterVersion why = taken.room.not_later why.1
     none_out (refusals.Line file line fault) why = no_fault file line fault taken.fresh taken.brings why.1
     none_out refusals.TooManySegments why = has_entry (stamped (h.imports + 1) taken.fresh.rows.items) catalog next taken.catalog_is (lacking HasNoEntry why)
     none_out refusals.Full why = has_place (stamped (h.imports + 1) taken.fresh.rows.items) catalog next taken.catalog_is (lacking HasNoPlace why)

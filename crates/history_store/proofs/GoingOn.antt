@@ -78,18 +78,18 @@ form_stays layouts.Two = refl
 form_stays layouts.Three = refl
 
 form_risen : (d e : DirectoryValue) (entry : Entry) → e.layout ≡ next_layout d.layout → HasForm d.layout entry → HasForm e.layout entry
-form_risen d e entry version has = has ∙ form_stays d.layout ∙ ap form_of (sym version)
+form_risen d e entry layout_is has = has ∙ form_stays d.layout ∙ ap form_of (sym layout_is)
 
 pub merging_on : (d e : DirectoryValue) (lists : List (List StampedRow)) (merge : Option MergeInProgress) → e.entries ≡ d.entries → e.layout ≡ next_layout d.layout → IsMergingOf d lists merge → IsMergingOf e lists merge
-merging_on d e lists None same version is = tt
-merging_on d e lists (Some m) same version is = record {
+merging_on d e lists None same layout_is is = tt
+merging_on d e lists (Some m) same layout_is is = record {
   below = is.below;
   within = subst (λ (l : List Entry). m.j < length l) (sym same) is.within;
   a_is = is.a_is;
   b_is = is.b_is;
   segment = is.segment;
   is_entry = is.is_entry;
-  has_form = form_risen d e m.entry version is.has_form;
+  has_form = form_risen d e m.entry layout_is is.has_form;
   beside = subst (λ (l : List Entry). AllByRecursion (AreBeside (extent_of m.entry)) (extents_of l)) (sym same) is.beside;
 }
 
@@ -112,15 +112,15 @@ all_pushed P (e ∷ es) other all is = (all.0, all_pushed P es other all.1 is)
 
 merging_added : (d e : DirectoryValue) (lists : List (List StampedRow)) (more : List StampedRow) (merge : Option MergeInProgress) (other : Entry) → e.entries ≡ d.entries ++ other ∷ [] → e.layout ≡ next_layout d.layout → ((m : MergeInProgress) → merge ≡ Some m → AreBeside (extent_of m.entry) (extent_of other))
     → IsMergingOf d lists merge → IsMergingOf e (lists ++ more ∷ []) merge
-merging_added d e lists more None other same version beside is = tt
-merging_added d e lists more (Some m) other same version beside is = record {
+merging_added d e lists more None other same layout_is beside is = tt
+merging_added d e lists more (Some m) other same layout_is beside is = record {
   below = is.below;
   within = subst (λ (l : List Entry). m.j < length l) (sym same) (let long = length-append d.entries (other ∷ []) in omega (arith, long, is.within));
   a_is = number_stays lists (more ∷ []) m.i m.output.a is.a_is;
   b_is = number_stays lists (more ∷ []) m.j m.output.b is.b_is;
   segment = is.segment;
   is_entry = is.is_entry;
-  has_form = form_risen d e m.entry version is.has_form;
+  has_form = form_risen d e m.entry layout_is is.has_form;
   beside = subst (λ (l : List Entry). AllByRecursion (AreBeside (extent_of m.entry)) (extents_of l)) (sym same) (all_pushed (AreBeside (extent_of m.entry)) d.entries other is.beside (beside m refl));
 }
 
@@ -137,8 +137,8 @@ merge_read was is old new d lists merge needs held stays = record {
 -- after the publication of the same entries
 pub merge_repeated : (before after : Type 0) (old new : List ℕ) (slot : Slot) (d e : DirectoryValue) (lists : List (List StampedRow)) (merge : Option MergeInProgress) (needs : Bool) → HasMerge before old d lists merge needs → (after → before)
     → e.entries ≡ d.entries → e.layout ≡ next_layout d.layout → (before → SameOutside (slot_range slot ∷ []) old new) → HasMerge after new e lists merge needs
-merge_repeated before after old new slot d e lists merge needs held back same version elsewhere = record {
-  merging = merging_on d e lists merge same version held.merging;
+merge_repeated before after old new slot d e lists merge needs held back same layout_is elsewhere = record {
+  merging = merging_on d e lists merge same layout_is held.merging;
   summed = λ up still. held.summed (back up) still;
   written = λ up still. written_published d lists merge slot old new held.merging (elsewhere (back up)) (held.written (back up) still);
 }
@@ -146,10 +146,10 @@ merge_repeated before after old new slot d e lists merge needs held back same ve
 -- after a segment was added beside it
 pub merge_added : (before after : Type 0) (old new : List ℕ) (slot : Slot) (d e : DirectoryValue) (entry : Entry) (lists nlists : List (List StampedRow)) (more : List StampedRow) (merge : Option MergeInProgress) (needs : Bool) → HasMerge before old d lists merge needs → (after → before)
     → e.entries ≡ d.entries ++ entry ∷ [] → e.layout ≡ next_layout d.layout → IsEntry entry → IsPlacedAt d (merge_of merge) more (extent_of entry) → (before → SameOutside (byte_range (extent_of entry) ∷ slot_range slot ∷ []) old new) → nlists ≡ lists ++ more ∷ [] → HasMerge after new e nlists merge needs
-merge_added before after old new slot d e entry lists nlists more merge needs held back entries version is_entry placed elsewhere lists_are =
+merge_added before after old new slot d e entry lists nlists more merge needs held back entries layout_is is_entry placed elsewhere lists_are =
     let beside = beside_reserved d merge more entry placed in
     record {
-      merging = subst (λ l. IsMergingOf e l merge) (sym lists_are) (merging_added d e lists more merge entry entries version beside held.merging);
+      merging = subst (λ l. IsMergingOf e l merge) (sym lists_are) (merging_added d e lists more merge entry entries layout_is beside held.merging);
       summed = λ up still. held.summed (back up) still;
       written = λ up still. written_added d lists merge entry slot old new held.merging is_entry beside (elsewhere (back up)) (held.written (back up) still);
     }

@@ -1,4 +1,4 @@
--- Where a release is refused as one for a later version.
+-- Where a release is refused as one for a later layout.
 use Rattle.std.proofs.Common.{◌≡◌, ◌↔◌, inl, inr, Result, Ok, Err, false, true, refl, sym, ap, ◌∙◌}
 use Rattle.std.specs.Prelude.{Bool}
 use Rattle.std.proofs.lemmas.Bool.{false≢true}
@@ -48,29 +48,29 @@ module _ {D : Type 0} (s : StoreValue D) (release : Release) where
 
   that : (Writes : Type 0) (e : Refusal) → IsTooEarly s release → IsRefusedFor (IsNotTakenByKey Writes s.history s.catalog release) e s → e ≡ refusals.LaterVersion
   that Writes refusals.LaterVersion early refused = refl
-  that Writes refusals.OutOfMemory early refused = absurd (refused.1.version early.2)
-  that Writes refusals.DiskFault early refused = absurd (refused.1.0.version early.2)
+  that Writes refusals.OutOfMemory early refused = absurd (refused.1.not_later early.2)
+  that Writes refusals.DiskFault early refused = absurd (refused.1.0.not_later early.2)
   that Writes refusals.ReopenNeeded early refused = absurd (false≢true (sym early.0 ∙ refused))
   that Writes refusals.NotEmpty early refused = absurd refused.1
-  that Writes refusals.Full early refused = absurd (refused.1.room.version early.2)
-  that Writes refusals.TooManySegments early refused = absurd (refused.1.room.version early.2)
+  that Writes refusals.Full early refused = absurd (refused.1.room.not_later early.2)
+  that Writes refusals.TooManySegments early refused = absurd (refused.1.room.not_later early.2)
   that Writes refusals.NotAStore early refused = absurd refused.1
-  that Writes refusals.Damaged early refused = absurd (refused.1.0.version early.2)
+  that Writes refusals.Damaged early refused = absurd (refused.1.0.not_later early.2)
   that Writes (refusals.Unreadable damage) early refused = absurd refused.1
   that Writes refusals.NothingToMerge early refused = absurd refused.1
   that Writes refusals.MergeBusy early refused = absurd refused.1
   that Writes refusals.NoMerge early refused = absurd refused.1
   that Writes refusals.MergeUnfinished early refused = absurd refused.1
   that Writes refusals.CountSpent early refused = absurd (not_both s.history.imports s.catalog.epoch early.1 refused.1)
-  that Writes (refusals.Line file line fault) early refused = absurd (refused.1.0.version early.2)
-  that Writes (refusals.Contradiction file line) early refused = absurd (refused.1.0.version early.2)
+  that Writes (refusals.Line file line fault) early refused = absurd (refused.1.0.not_later early.2)
+  that Writes (refusals.Contradiction file line) early refused = absurd (refused.1.0.not_later early.2)
 
 imported : {D : Type 0} (old new : StoreValue D) (release : Release) (result : Result Receipt Refusal) → IsImportOnAnyDisk result old new release → IsLater result ↔ IsTooEarly old release
-imported old new release (Ok receipt) is = (λ later. absurd (false≢true (ap is_refusal later)), λ early. absurd (is.0.room.version early.2))
+imported old new release (Ok receipt) is = (λ later. absurd (false≢true (ap is_refusal later)), λ early. absurd (is.0.room.not_later early.2))
 imported old new release (Err e) is = (λ later. why old release (WouldBeTakenByKey old.history old.catalog release) e (ap is_later_answer later) is.0, λ early. ap Err (that old release (WouldBeTakenByKey old.history old.catalog release) e early is.0))
 
 checked : {D : Type 0} (old new : StoreValue D) (release : Release) (result : Result Receipt Refusal) → IsCheckingOnAnyDisk result old new release → IsLater result ↔ IsTooEarly old release
-checked old new release (Ok receipt) is = (λ later. absurd (false≢true (ap is_refusal later)), λ early. absurd (is.0.2.room.version early.2))
+checked old new release (Ok receipt) is = (λ later. absurd (false≢true (ap is_refusal later)), λ early. absurd (is.0.2.room.not_later early.2))
 checked old new release (Err e) is = (λ later. why old release ⊥ e (ap is_later_answer later) is.0, λ early. ap Err (that old release ⊥ e early is.0))
 
 pub later_is_refused : {D : Type 0} → LaterIsRefused D

@@ -73,7 +73,7 @@ module _ {D : Type 0} (honest : Type 0) (old mid : StoreValue D) (release : Rele
     segment_ready = subst (λ next. IsNext mid is.fresh next) e is.next_is
 
     pub for_ready : IsPreparedFor mid p
-    for_ready = prepared_for mid mid mid.history release is.fresh p refl is.history refl is.room.version is.brings segment_ready.1
+    for_ready = prepared_for mid mid mid.history release is.fresh p refl is.history refl is.room.not_later is.brings segment_ready.1
 
     pub imported_with : (new : StoreValue D) → (new.history ≡ with_rows mid.history p.index) × (new.catalog ≡ catalog_of p.directory mid.catalog.merge) × (new.needs_reopen ≡ false) → honest → IsImportOf (Ok ready.receipt) old new release
     imported_with new step up =

@@ -60,7 +60,7 @@ IsNotMade refusals.DiskFault bytes = Unit {0}
 IsNotMade refusals.NotEmpty bytes = 1 ≤ length bytes
 IsNotMade _ bytes = ⊥
 
--- a new store with this layout version: it has no imports and no segments
+-- a new store with this layout: it has no imports and no segments
 pub record IsNew {D : Type 0} (layout : Layout) (s : StoreValue D) : Type 0 where
   pub history : s.history ≡ no_history
   pub catalog : s.catalog ≡ catalog_of (empty_listing layout) None
@@ -241,13 +241,13 @@ IsImportOf (Ok receipt) old new release =
 IsImportOf (Err e) old new release =
     IsRefusedFor (IsNotTaken old.history old.catalog release) e old × IsRefused e old new
 
--- in this layout version, the bytes represent the history with an accepted release added
+-- in this layout, the bytes represent the history with an accepted release added
 abbrev pub RepresentsWith : Layout → History → Release → List ℕ → Type 0
 RepresentsWith layout h release c = (accepted : IsAccepted (full h) release)
     × RepresentsAs layout (after_release h accepted.rows) c
 
--- what a crash during an import may leave: the history from before in its layout version, or the
--- one after it in the next
+-- what a crash during an import may leave: the history from before in its layout, or the one after
+-- it in the next
 abbrev pub IsBeforeOrAfter : Layout → History → Release → List ℕ → Type 0
 IsBeforeOrAfter layout h release c =
     RepresentsAs layout h c ⊎ RepresentsWith (next_layout layout) h release c

@@ -48,14 +48,14 @@ place_for rows catalog =
     fit (block_count (record { first = 0; bytes = length (segment_of rows) })) catalog.entries
     (reserved_by catalog.merge)
 
--- the catalog at the next epoch, in the layout version of the next publication
+-- the catalog at the next epoch, in the layout of the next publication
 abbrev pub next_catalog : Catalog → Catalog
 next_catalog catalog =
     record catalog { layout = next_layout catalog.layout; epoch = catalog.epoch + 1 }
 
--- A segment of these rows is added at the first extent with room for it. The old layout version
--- decides how many entries there may be and which checksums the segment has; the next catalog has
--- the layout version of the next publication.
+-- A segment of these rows is added at the first extent with room for it. The old layout decides how
+-- many entries there may be and which checksums the segment has; the next catalog has the layout of
+-- the next publication.
 pub record IsPlaced (rows : List StampedRow) (catalog next : Catalog) : Type 0 where
   pub few : length catalog.entries < most_entries catalog.layout
   pub short : length (segment_of rows) < 2 ^ 32

@@ -36,7 +36,7 @@ IsCheckingOnAnyDisk (Err e) old new release =
 
 -- A release was checked. Whatever the result, history and catalog are unchanged, and only a disk
 -- failure closes the store. The store is left unchanged if it has to be opened again, or if the
--- release is for a later version. As long as no call has failed, what a crash may leave represents
+-- release is for a later layout. As long as no call has failed, what a crash may leave represents
 -- what the store holds. Only reads are made.
 pub record IsChecking {D : Type 0} (result : Result Receipt Refusal) (release : Release)
     (view : D → DiskView) (old new : StoreValue D) : Type 0 where
@@ -77,9 +77,9 @@ CheckedIsImportedOnAnyDisk D = (old checked new : StoreValue D) (release : Relea
     → IsCheckingOnAnyDisk answer old checked release → IsImportOnAnyDisk result checked new release
     → (result ≡ answer) ⊎ (DependsOnReading answer ⊎ DependsOnReading result)
 
--- ---- when a release is refused as one for a later version
+-- ---- when a release is refused as one for a later layout
 
--- the store is open, its counts aren't spent, and the release is for a later version
+-- the store is open, its counts aren't spent, and the release is for a later layout
 abbrev pub IsTooEarly : {D : Type 0} → StoreValue D → Release → Type 0
 IsTooEarly s release = (s.needs_reopen ≡ false)
     × IsNotSpent s.history.imports s.catalog.epoch × IsForLater s.catalog.layout release

@@ -16,8 +16,7 @@ use Rattle.history_store.specs.StoreValue.{IsAcknowledged, no_blocks}
 use Rattle.history_store.specs.Answers.{StoreOr, IsNew, IsReady, IsMakingOf, IsOpeningOf}
 use Rattle.history_store.specs.Answers.{HandsBack, SyncsOnce, CountsOpening, disk_of}
 
--- A store with this layout version was made on a disk; or it was refused, and the disk is
--- returned.
+-- A store with this layout was made on a disk; or it was refused, and the disk is returned.
 pub record IsMaking {D : Type 0} (layout : Layout) (result : StoreOr D)
     (view : D → DiskView) (disk : D) : Type 0 where
   -- on an honest disk it is made exactly if the disk is empty, unless memory runs out or the

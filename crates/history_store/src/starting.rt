@@ -52,7 +52,7 @@ pub(crate) fn index_segments(
     Ok((index, cache))
 }
 
-/// Makes a store with this layout version on an empty disk.
+/// Makes a store with this layout on an empty disk.
 pub(crate) fn start<D: Disk>(
     alloc: Global,
     disk: &mut D,

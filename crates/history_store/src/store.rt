@@ -93,7 +93,7 @@ impl<D: Disk> Store<D> {
     ghost use Rattle.history_store.specs.Answers.{IsBeforeOrAfter, KeepsMoments, StemsWithinNew};
     ghost use Rattle.history_store.specs.Queries.{ForgetsWritten};
 
-    /// Makes a store of version 2 on an empty disk, as `create_in` does.
+    /// Makes a store of layout 2 on an empty disk, as `create_in` does.
     pub fn create(alloc: Global, disk: D) -> Result<Store<D>, (Refusal, D)>
         // promise: a_refusal_names_its_cause, what_is_cached_is_not_read_again
         // promise: a_crash_leaves_the_old_or_the_new, few_calls_reach_the_disk
@@ -105,8 +105,8 @@ impl<D: Disk> Store<D> {
         Store::create_in(alloc, disk, Layout::Two)
     }
 
-    /// Makes a store with this layout version on an empty disk. First asks for the disk's length,
-    /// then allocates all memory, then writes.
+    /// Makes a store with this layout on an empty disk. First asks for the disk's length, then
+    /// allocates all memory, then writes.
     pub fn create_in(alloc: Global, disk: D, layout: Layout) -> Result<Store<D>, (Refusal, D)>
         // promise: a_new_store_is_empty
         ensures made { IsMaking layout result D.view disk }
@@ -298,12 +298,12 @@ impl<D: Disk> Store<D> {
         // promise: a_refusal_names_its_cause, a_release_is_taken_whole_or_not_at_all
         // promise: members_need_layout_3, older_layouts_stay_readable
         ensures kept { IsImportOnAnyDisk result self.old self.new release }
-        // A store below version 3 is left unchanged, if the release has members of reference sets.
+        // A store below layout 3 is left unchanged, if the release has members of reference sets.
         ensures later { IsForLater self.old.catalog.layout release → self.new ≡ self.old }
-        // A crash at any moment leaves the history from before in the layout version from before,
-        // or the history with the release in the next version; after `Ok` it leaves the latter.
-        // promise: a_crash_leaves_the_old_or_the_new, a_failed_disk_is_told
-        // promise: older_layouts_stay_readable
+        // A crash at any moment leaves the history from before in the layout from before, or the
+        // history with the release in the next layout; after `Ok` it leaves the latter. promise:
+        // a_crash_leaves_the_old_or_the_new, a_failed_disk_is_told promise:
+        // older_layouts_stay_readable
         ensures crash { IsCrashSafe D.view
             (IsBeforeOrAfter self.old.catalog.layout self.old.history release) self.old self.new }
         // If it is refused for a reason other than a disk failure, the images that a crash may
@@ -345,13 +345,13 @@ impl<D: Disk> Store<D> {
         self.directory.imports()
     }
 
-    /// The layout version on the disk: 1 for a store that was made with version 1 and has published
-    /// nothing since, 3 for one that was made in version 3, and otherwise 2.
-    pub fn version(&self) -> u32
+    /// The number of the layout on the disk: 1 for a store that was made in layout 1 and has
+    /// published nothing since, 3 for one that was made in layout 3, and otherwise 2.
+    pub fn layout_number(&self) -> u32
         // promise: older_layouts_stay_readable
         ensures { result ≡ number_of self.now.catalog.layout }
     {
-        self.directory.version()
+        self.directory.layout_number()
     }
 
     /// How many segments the directory lists.

@@ -10,7 +10,7 @@ use Rattle.directory.specs.Fit.{fit}
 use Rattle.directory.specs.Listings.{DirectoryValue, IsEntry, IsListing, HasForm, most_entries, with_entry, with_two_back}
 use Rattle.directory.proofs.Adding.{fit_may_be_added}
 
--- an entry of the form of its version may be added where it is the fit
+-- an entry of the form of its layout may be added where it is the fit
 pub added_listing : (d : DirectoryValue) (entry : Entry) (reserved : Option Extent) → IsListing d → length d.entries < most_entries d.layout → IsEntry entry → HasForm d.layout entry
     → fit (block_count (extent_of entry)) d.entries reserved ≡ Some entry.first → IsListing (with_entry d entry)
 added_listing d entry reserved is few e form place =

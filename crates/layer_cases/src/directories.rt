@@ -4,10 +4,10 @@
 //! - `block filled BYTE` fills it with a byte, and `block put AT BYTES` replaces bytes of it;
 //! - `block lists` prints the directory that it lists, which is then that of the case
 //!   (`listing.rt`), or `BadDirectory`; `block lists-with AT BYTES` prints that for the block with
-//!   other bytes at an offset, and `block lists-summed AT BYTES` with the right checksum of version
+//!   other bytes at an offset, and `block lists-summed AT BYTES` with the right checksum of layout
 //!   3 as well;
-//! - `block precedes EPOCH` prints whether it may be older than a directory of version 1, of version
-//!   2 and of version 3 at this epoch, and `block precedes-with EPOCH AT BYTES` does so with other
+//! - `block precedes EPOCH` prints whether it may be older than a directory of layout 1, of layout
+//!   2 and of layout 3 at this epoch, and `block precedes-with EPOCH AT BYTES` does so with other
 //!   bytes at an offset;
 //! - `fit BLOCKS RESERVED ENTRIES` prints the first block of the first fit for this many blocks, or
 //!   `Full`. An entry is its first block and its number of bytes, as in `4:46`, and so is the
@@ -55,13 +55,13 @@ fn spell_listed(alloc: Global, directory: Option<&Directory>) -> Answer {
     }
 }
 
-/// Writes the checksum of version 3 at the end of a block.
+/// Writes the checksum of layout 3 at the end of a block.
 fn put_sum(block: &mut [u8; 4096]) {
     let sum = crc32c(&block[..4092]).to_be_bytes();
     block[4092..].copy_from_slice(&sum);
 }
 
-/// Whether the block may be older than a directory of each version at this epoch.
+/// Whether the block may be older than a directory of each layout at this epoch.
 fn spell_older(alloc: Global, epoch: &str, block: &[u8; 4096]) -> Answer {
     let epoch = number(epoch)?;
     let one = may_precede(Layout::One, epoch, block);
@@ -92,7 +92,7 @@ pub fn spell_block(alloc: Global, block: &[u8; 4096]) -> Answer {
     Ok(text.trim_end().to_string(alloc)?)
 }
 
-/// Whether a block with other bytes may be older than a directory of each version.
+/// Whether a block with other bytes may be older than a directory of each layout.
 fn ask_older(alloc: Global, block: &[u8; 4096], words: &str) -> Answer {
     let (epoch, words) = first_word(words)?;
     let mut changed = *block;

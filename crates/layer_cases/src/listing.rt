@@ -1,12 +1,12 @@
 //! The directory of a case, and calls that change it.
 //!
 //! - `directory new VERSION` begins with the directory of a new store; `directory advance IMPORTS`
-//!   goes to its next epoch, and `directory upgrade` changes its version to that of the next
+//!   goes to its next epoch, and `directory upgrade` changes its layout to that of the next
 //!   publication;
 //! - `directory add FIRST BYTES ROWS` adds the entry of a segment without a checksum of its own, and `directory add FIRST
 //!   BYTES ROWS CRC` the entry of a new segment with this CRC-32C, in hexadecimal; `directory merge
 //!   FIRST BYTES ROWS` puts one in place of the only two; `directory put-back` puts these two back,
-//!   with the version and the epoch that the directory had then. All of these print the directory;
+//!   with the layout and the epoch that the directory had then. All of these print the directory;
 //! - `directory encode` writes the directory into the block, and prints the block: 16 bytes in each
 //!   line, after the offset of the first. A line that isn't printed has only zeros.
 
@@ -32,7 +32,7 @@ pub struct Listing {
     before: Option<Directory>,
 }
 
-/// The version with this number.
+/// The layout with this number.
 pub fn layout_of(word: &str) -> Result<Layout, NoAnswer> {
     match word {
         "1" => Ok(Layout::One),
@@ -42,7 +42,7 @@ pub fn layout_of(word: &str) -> Result<Layout, NoAnswer> {
     }
 }
 
-/// Whether an entry of a directory of this version may have these checksums.
+/// Whether an entry of a directory of this layout may have these checksums.
 fn may_have(layout: Layout, sums: Sums) -> bool
     ensures allowed { IsTrue result → AreSums sums }
     ensures form { IsTrue result → form_in sums ≡ form_of layout }
@@ -56,7 +56,7 @@ fn may_have(layout: Layout, sums: Sums) -> bool
     }
 }
 
-/// Whether a directory of this version may list the entry.
+/// Whether a directory of this layout may list the entry.
 pub fn is_entry(layout: Layout, entry: Entry) -> bool
     ensures is { IsTrue result → IsEntry entry }
     ensures form { IsTrue result → HasForm layout entry }
@@ -68,7 +68,7 @@ pub fn is_entry(layout: Layout, entry: Entry) -> bool
         && entry.extent().end() <= u64::from(BLOCK_LIMIT)
 }
 
-/// The checksums of a segment in a directory of this version: those of a new one with this CRC-32C,
+/// The checksums of a segment in a directory of this layout: those of a new one with this CRC-32C,
 /// in hexadecimal, or those of one from before segments had a checksum of their own.
 fn sums_of(layout: Layout, digits: &str) -> Result<Sums, NoAnswer> {
     if digits.is_empty() {
@@ -83,7 +83,7 @@ fn sums_of(layout: Layout, digits: &str) -> Result<Sums, NoAnswer> {
     }
 }
 
-/// Reads an entry of a directory of this version.
+/// Reads an entry of a directory of this layout.
 fn entry_of(layout: Layout, words: &str) -> Result<Entry, NoAnswer> {
     let (first, words) = first_word(words)?;
     let (bytes, words) = first_word(words)?;
@@ -143,7 +143,7 @@ fn merge(directory: &mut Directory, words: &str) -> Result<(), NoAnswer> {
     Ok(())
 }
 
-/// Puts the two entries from before a merge in place of the only one, with their version and epoch.
+/// Puts the two entries from before a merge in place of the only one, with their layout and epoch.
 fn put_back(directory: &mut Directory, before: &Directory) -> Result<(), NoAnswer> {
     let [first, second] = before.entries() else {
         return Err(NoAnswer::NoQuestion);
@@ -181,8 +181,12 @@ fn spell_entry(alloc: Global, entry: &Entry) -> Result<String, AllocError> {
 
 /// A directory.
 pub fn spell_directory(alloc: Global, directory: &Directory) -> Answer {
-    let (version, epoch, imports) = (directory.version(), directory.epoch(), directory.imports());
-    let mut text = format!(in alloc; "version {version}, epoch {epoch}, imports {imports}")?;
+    let (layout, epoch, imports) = (
+        directory.layout_number(),
+        directory.epoch(),
+        directory.imports(),
+    );
+    let mut text = format!(in alloc; "layout {layout}, epoch {epoch}, imports {imports}")?;
     for entry in directory.entries() {
         text.push_str(spell_entry(alloc, entry)?.as_str())?;
     }

@@ -134,9 +134,9 @@ fn make_store(
     alloc: Global,
     disk: &mut MemDisk,
     listing: &mut Listing,
-    version: &str,
+    layout: &str,
 ) -> Result<Result<Slot, MakeFault>, NoAnswer> {
-    match make(alloc, disk, layout_of(version)?) {
+    match make(alloc, disk, layout_of(layout)?) {
         Ok(made) => {
             listing.directory = Some(made.directory);
             Ok(Ok(made.slot))

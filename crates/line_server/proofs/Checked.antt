@@ -55,7 +55,7 @@ module _ {D : Type 0} (source : SourceView) (view : D → DiskView) (name : List
   unhad s scope is faults.NoFolder given = missing s (λ h. ap (λ (k : Scope). source.releases k name) (sym is) ∙ given h)
 
   module _ (old new : StoreValue D) (release : Release) (scope : Scope) (scope_is : scope ≡ scope_of old.catalog.layout) (had : source.is_honest → source.releases scope name ≡ Some (files_of release)) where
-    -- what was given, in the scope of the store's version
+    -- what was given, in the scope of the store's layout
     given : source.is_honest → source.releases (scope_of old.catalog.layout) name ≡ Some (files_of release)
     given h = ap (λ (k : Scope). source.releases k name) (sym scope_is) ∙ had h
 

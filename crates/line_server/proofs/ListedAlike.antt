@@ -104,7 +104,7 @@ module _ (c d : Catalog) (alike : without_sums d ≡ without_sums c) where
   admitted : (h : History) (release : Release) → IsAdmitted h d release → IsAdmitted h c release
   admitted h release a = record {
     room = subst (λ (k : Catalog). IsNotSpent h.imports k.epoch) alike a.room;
-    version = subst (λ (k : Catalog). IsForLater k.layout release → ⊥) alike a.version;
+    not_later = subst (λ (k : Catalog). IsForLater k.layout release → ⊥) alike a.not_later;
   }
 
   no_entry : (rows : List StampedRow) → HasNoEntry rows d → HasNoEntry rows c

@@ -98,7 +98,7 @@ IsFinding honest (AskReceipt number) rows answer = ⊥
 abbrev pub IsPinned : {D : Type 0} → Server D → Server D → ℕ → Option ℕ → Type 0
 IsPinned old new session pin = new ≡ record old { pins = slice_set old.pins session pin }
 
--- An import of the release of this name, in the scope of the store's version, had this result: on
+-- An import of the release of this name, in the scope of the store's layout, had this result: on
 -- every disk as far as files and counts go, and on an honest disk in every respect.
 pub record IsImported {D : Type 0} (honest : Type 0) (releases : Releases) (name : List ℕ)
     (result : Result Receipt Refusal) (old new : Server D) : Type 0 where
@@ -108,7 +108,7 @@ pub record IsImported {D : Type 0} (honest : Type 0) (releases : Releases) (name
   pub imported : honest → IsImportOf result old.store new.store release
   pub pins : new.pins ≡ old.pins
 
--- A check of the release of this name, in the scope of the store's version, had this result: the
+-- A check of the release of this name, in the scope of the store's layout, had this result: the
 -- same as for an import, but nothing is imported.
 pub record IsChecked {D : Type 0} (honest : Type 0) (releases : Releases) (name : List ℕ)
     (result : Result Receipt Refusal) (old new : Server D) : Type 0 where

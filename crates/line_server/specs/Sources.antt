@@ -17,8 +17,7 @@ use Rattle.line_server.specs.declared.source.SourceFault.TheVariants as faults
 abbrev pub Releases : Type 0
 Releases = Scope → List ℕ → Option (List (Kind × List ℕ))
 
--- the scope of a layout version: members of reference sets and text definitions are stored from
--- version 3 on
+-- the scope of a layout: members of reference sets and text definitions are stored from layout 3 on
 abbrev pub scope_of : Layout → Scope
 scope_of layouts.One = scopes.Basic
 scope_of layouts.Two = scopes.Basic

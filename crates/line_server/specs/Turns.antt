@@ -91,7 +91,7 @@ LeavesAsked view seen Digest outcome old new = LeavesQueried view old new
 LeavesAsked view seen (Receipt number) outcome old new = new.disk ≡ old.disk
 
 -- the stored rows whose keys are in the release of the name are read, in the scope of the store's
--- version, and so many bytes besides
+-- layout, and so many bytes besides
 abbrev pub ReadsKnownOf : {D : Type 0} → (D → DiskView) → Releases → List ℕ → (besides : ℕ)
     → StoreValue D → StoreValue D → Type 0
 ReadsKnownOf view releases name besides old new =
@@ -139,7 +139,7 @@ LeavesDisk view releases seen Trim outcome old new =
 LeavesDisk view releases seen command outcome old new = new.disk ≡ old.disk
 
 -- The turn's outcome is that of a server whose source has these releases, and which asks it for the
--- files that the store's version keeps; and the disk is left so.
+-- files that the store's layout keeps; and the disk is left so.
 pub record GoesBy {D : Type 0} (view : D → DiskView) (releases : Releases) (old : Server D)
     (turn : Turn) (new : Server D) : Type 0 where
   pub replies : Replies (view old.store.disk).is_honest releases turn.line turn.outcome old new

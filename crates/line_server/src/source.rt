@@ -40,12 +40,12 @@ pub trait Source {
         ensures stays { is_honest self.old → releases self.new ≡ releases self.old };
 }
 
-/// The scope of the releases for a store: the files that its version keeps.
+/// The scope of the releases for a store: the files that its layout keeps.
 pub fn scope_for<D: Disk>(store: &Store<D>) -> Scope
     // promise: files_are_taken_by_their_names
     ensures { result ≡ scope_of store.now.catalog.layout }
 {
-    if store.version() < 3 {
+    if store.layout_number() < 3 {
         Scope::Basic
     } else {
         Scope::Whole

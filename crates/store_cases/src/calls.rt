@@ -2,10 +2,10 @@
 //!
 //! - `begin`, `step ROWS`, `publish`, `abandon` and `trim` print the result of the call: a number or
 //!   `done`;
-//! - `imports`, `rows`, `segments`, `version`, `blocks`, `left`, `closed` and `latest` print what the
-//!   store reports: `version` is the version of its layout, `blocks` how many blocks of the disk it
-//!   needs, `left` how many rows of a merge are left, `closed` whether it has to be opened again, and
-//!   `latest` its latest day;
+//! - `imports`, `rows`, `segments`, `layout`, `blocks`, `left`, `closed` and `latest` print what
+//!   the store reports: `layout` is the number of its layout, `blocks` how many blocks of the disk
+//!   it needs, `left` how many rows of a merge are left, `closed` whether it has to be opened
+//!   again, and `latest` its latest day;
 //! - `holds` prints whether the store has exactly the rows of the first samples, as many as it has
 //!   imports, each with its import number, and `complete` imports those that it lacks;
 //! - `receipt NUMBER` prints the receipt of an import, and `digest PIN` the digest of the rows that
@@ -93,7 +93,7 @@ fn show(alloc: Global, store: &Example, word: &str) -> Answer {
         "imports" => Some(u64::from(store.imports())),
         "rows" => Some(store.row_count()),
         "segments" => Some(u64::from(store.segments())),
-        "version" => Some(u64::from(store.version())),
+        "layout" => Some(u64::from(store.layout_number())),
         "blocks" => Some(store.blocks_in_use()),
         "left" => store.merge_left(),
         "closed" => Some(u64::from(store.needs_reopen())),

@@ -16,7 +16,7 @@ use disk_model::MemDisk;
 use std::alloc::Global;
 use test_support::Example;
 
-/// How many imports, segments and rows a store has, and the version of its layout.
+/// How many imports, segments and rows a store has, and its layout.
 pub type Counts = (u32, u32, u64, u32);
 
 /// The releases of a file of cases, and the store of one of them.
@@ -77,13 +77,13 @@ impl CaseState {
     pub fn counts(&self) -> Option<Counts> {
         let store = self.store.as_ref()?;
         let counts = (store.imports(), store.segments());
-        Some((counts.0, counts.1, store.row_count(), store.version()))
+        Some((counts.0, counts.1, store.row_count(), store.layout_number()))
     }
 
-    /// The version of the store's layout; 0 without a store.
-    pub fn version(&self) -> u32 {
+    /// The number of the store's layout; 0 without a store.
+    pub fn layout_number(&self) -> u32 {
         match &self.store {
-            Some(store) => store.version(),
+            Some(store) => store.layout_number(),
             None => 0,
         }
     }

@@ -1,6 +1,6 @@
 //! Copies of the kept disk (`trials.rt`), which has to stay unchanged. WHAT is how many of its
-//! first imports are copied, or `all`, and after that the number of the copy's layout version, if
-//! it is asked for one.
+//! first imports are copied, or `all`, and after that the number of the copy's layout, if it is
+//! asked for one.
 //!
 //! - `copy LENGTH WHAT` makes a copy on a disk of LENGTH zeros, which then is the store;
 //! - `copy-from FAILURE CALLS WHAT` lets a call of the kept disk fail after CALLS others, and
@@ -12,7 +12,7 @@
 //!   the copy's disk fails in turn. Each of these stores has to be whole.
 //!
 //! A copy is whole if it has as many imports as asked for, or the kept disk's, and so with the
-//! version of its layout.
+//! number of its layout.
 //!
 //! A refusal is followed by the number of changing calls of the copy's disk.
 
@@ -35,11 +35,11 @@ struct Asked {
     layout: Option<Layout>,
 }
 
-/// How many imports a store has, and the version of its layout.
+/// How many imports a store has, and its layout.
 #[derive(Clone, Copy, PartialEq, Eq)]
 struct Whole {
     imports: u32,
-    version: u32,
+    layout_number: u32,
 }
 
 /// The number of imports that a word asks for.
@@ -50,7 +50,7 @@ fn imports_of(word: &str) -> Result<Option<u32>, NoAnswer> {
     }
 }
 
-/// The layout version that a word asks for.
+/// The layout that a word asks for.
 fn layout_of(word: &str) -> Result<Option<Layout>, NoAnswer> {
     match word {
         "" => Ok(None),
@@ -76,13 +76,13 @@ impl Asked {
         let Some(own) = whole_in(alloc, kept) else {
             return Err(NoAnswer::NoQuestion);
         };
-        let version = match self.layout {
-            None => own.version,
+        let layout_number = match self.layout {
+            None => own.layout_number,
             Some(layout) => layout.number(),
         };
         Ok(Whole {
             imports: self.imports.unwrap_or(own.imports),
-            version,
+            layout_number,
         })
     }
 }
@@ -154,7 +154,7 @@ fn whole_in(alloc: Global, bytes: &[u8]) -> Option<Whole> {
     match Example::of_bytes(alloc, bytes) {
         Ok(store) => Some(Whole {
             imports: store.imports(),
-            version: store.version(),
+            layout_number: store.layout_number(),
         }),
         Err(_) => None,
     }

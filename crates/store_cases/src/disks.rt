@@ -13,7 +13,7 @@
 //!   because it is damaged.
 //!
 //! `changes` closes the store and prints how many changing calls were made on the disk; a new store
-//! follows. `new` begins with a new store too, and `new-in-three` with one of version 3.
+//! follows. `new` begins with a new store too, and `new-in-three` with one of layout 3.
 
 use crate::contents::lists;
 use case_files::{Answer, NoAnswer};

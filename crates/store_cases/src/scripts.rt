@@ -3,7 +3,7 @@
 //! *look*, whose answers are printed one after the other, a call may also be
 //! - `known PIN PART`, which prints the number of the remembered answers to the part that are equal
 //!   to the store's, where `PIN` stands for the pin;
-//! - `in-1 CALL`, a call that is made, and whose answer is printed, only by a store of version 1.
+//! - `in-1 CALL`, a call that is made, and whose answer is printed, only by a store of layout 1.
 
 use crate::case_state::CaseState;
 use case_files::{Answer, NoAnswer, two_words};
@@ -113,7 +113,7 @@ impl Scripts {
         let (word, rest) = two_words(line);
         match word {
             "known" => Ok(Some(self.known(state, rest)?)),
-            "in-1" if state.version() != 1 => Ok(None),
+            "in-1" if state.layout_number() != 1 => Ok(None),
             "in-1" => Ok(Some(state.ask_line(rest)?)),
             _ => Ok(Some(state.ask(word, rest)?)),
         }

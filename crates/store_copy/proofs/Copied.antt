@@ -30,23 +30,23 @@ abbrev pub Leaves : DiskState → DirectoryValue → List (List StampedRow) → 
 Leaves old copy lists c = IsImage old c ⊎ (NoStore c ⊎ HasStore A copy lists c)
 
 -- a copy that was planned
-module _ (asked : Option ℕ) (version : Option Layout) (d : DirectoryValue) (lists : List (List StampedRow)) (blank : DirectoryValue) (p : IsPlanned asked version d lists blank) where
+module _ (asked : Option ℕ) (in_layout : Option Layout) (d : DirectoryValue) (lists : List (List StampedRow)) (blank : DirectoryValue) (p : IsPlanned asked in_layout d lists blank) where
   abbrev pub OfCopy : DirectoryValue
   OfCopy = copied_listing blank.layout blank.imports lists
 
-  copy_is : OfCopy ≡ copied_listing (chosen version d.layout) (chosen asked d.imports) lists
+  copy_is : OfCopy ≡ copied_listing (chosen in_layout d.layout) (chosen asked d.imports) lists
   copy_is = let layout_is = p.blank.layout_is in let imports_are = p.blank.imports_are in λ k. copied_listing (layout_is k) (imports_are k) lists
 
   pub is_blank : IsBlank blank blank.layout blank.imports
   is_blank = record { layout_is = refl; epoch_is = p.blank.epoch_is; imports_are = refl; none = p.blank.none }
 
   pub is_listed : MayBeListed blank.layout blank.imports lists
-  is_listed = subst (λ (l : Layout). MayBeListed l blank.imports lists) (sym p.blank.layout_is) (subst (λ n. MayBeListed (chosen version d.layout) n lists) (sym p.blank.imports_are) p.listed)
+  is_listed = subst (λ (l : Layout). MayBeListed l blank.imports lists) (sym p.blank.layout_is) (subst (λ n. MayBeListed (chosen in_layout d.layout) n lists) (sym p.blank.imports_are) p.listed)
 
   pub copy_kept : IsListing OfCopy → IsKept OfCopy (lists_up_to blank.imports lists)
   copy_kept listing =
       let n = chosen asked d.imports in
-      let kept = copied_is_kept d (chosen version d.layout) n lists p.not_lower p.kept (subst IsListing copy_is listing) in
+      let kept = copied_is_kept d (chosen in_layout d.layout) n lists p.not_lower p.kept (subst IsListing copy_is listing) in
       subst (λ (k : DirectoryValue). IsKept k (lists_up_to k.imports lists)) (sym copy_is) kept
 
   pub within_own : blank.imports ≤ d.imports
@@ -56,7 +56,7 @@ module _ (asked : Option ℕ) (version : Option Layout) (d : DirectoryValue) (li
     abbrev pub OfIt : Shown file
     OfIt = record { slot = slot; directory = d; lists = lists; is = has }
 
-    is_copy : (c : List ℕ) → HasStore A OfCopy (lists_up_to blank.imports lists) c → IsCopyOf asked version file c
+    is_copy : (c : List ℕ) → HasStore A OfCopy (lists_up_to blank.imports lists) c → IsCopyOf asked in_layout file c
     is_copy c there = record {
       of = OfIt;
       within = p.within;
@@ -70,13 +70,13 @@ module _ (asked : Option ℕ) (version : Option Layout) (d : DirectoryValue) (li
     pub held_still : (from : List Entry) (shown : List (List StampedRow)) (now : List ℕ) → from ≡ d.entries → shown ≡ lists → now ≡ file → HoldsAll (pieces_of from shown) now
     held_still from shown now from_is shown_is now_is = subst (λ (l : List ℕ). HoldsAll (pieces_of from shown) l) (sym now_is) (subst (λ (l : List (List StampedRow)). HoldsAll (pieces_of from l) file) (sym shown_is) (subst (λ (es : List Entry). HoldsAll (pieces_of es lists) file) (sym from_is) has_held))
 
-    pub copy_run : (m0 m1 m2 : Moments) (shown : List (List StampedRow)) → m1 ≡ m0 → shown ≡ lists → LeavesOnly m1 m2 (Leaves m1.state (copied_listing blank.layout blank.imports shown) (lists_up_to blank.imports shown)) → LeavesOnly m0 m2 (λ c. IsImage m0.state c ⊎ (NoStore c ⊎ IsCopyOf asked version file c))
+    pub copy_run : (m0 m1 m2 : Moments) (shown : List (List StampedRow)) → m1 ≡ m0 → shown ≡ lists → LeavesOnly m1 m2 (Leaves m1.state (copied_listing blank.layout blank.imports shown) (lists_up_to blank.imports shown)) → LeavesOnly m0 m2 (λ c. IsImage m0.state c ⊎ (NoStore c ⊎ IsCopyOf asked in_layout file c))
     copy_run m0 m1 m2 shown same shown_is run =
         let so_far = subst (λ (m : Moments). LeavesOnly m m2 (Leaves m.state (copied_listing blank.layout blank.imports shown) (lists_up_to blank.imports shown))) same run in
         let of_lists = subst (λ (l : List (List StampedRow)). LeavesOnly m0 m2 (Leaves m0.state (copied_listing blank.layout blank.imports l) (lists_up_to blank.imports l))) shown_is so_far in
-        weaker m0 m2 (Leaves m0.state OfCopy (lists_up_to blank.imports lists)) (λ c. IsImage m0.state c ⊎ (NoStore c ⊎ IsCopyOf asked version file c)) (λ c leaves. elim leaves [ inl image ↦ inl image | inr other ↦ elim other [ inl none ↦ inr (inl none) | inr there ↦ inr (inr (is_copy c there)) ] ]) of_lists
+        weaker m0 m2 (Leaves m0.state OfCopy (lists_up_to blank.imports lists)) (λ c. IsImage m0.state c ⊎ (NoStore c ⊎ IsCopyOf asked in_layout file c)) (λ c leaves. elim leaves [ inl image ↦ inl image | inr other ↦ elim other [ inl none ↦ inr (inl none) | inr there ↦ inr (inr (is_copy c there)) ] ]) of_lists
 
-    pub has_copied : (state : DiskState) (copy : DirectoryValue) (shown : List (List StampedRow)) → shown ≡ lists → copy ≡ copied_listing blank.layout blank.imports shown → IsOnDisk state A copy (lists_up_to blank.imports shown) → HasCopy asked version file copy state
+    pub has_copied : (state : DiskState) (copy : DirectoryValue) (shown : List (List StampedRow)) → shown ≡ lists → copy ≡ copied_listing blank.layout blank.imports shown → IsOnDisk state A copy (lists_up_to blank.imports shown) → HasCopy asked in_layout file copy state
     has_copied state copy shown shown_is copied on = record {
       of = OfIt;
       within = p.within;
@@ -116,40 +116,40 @@ blank_is layout own imports n new blank layout_is imports_are new_is is =
 pub chosen_within : (asked : Option ℕ) (all own n : ℕ) → all ≡ own → (n ≡ chosen asked all) × (n ≤ all) → chosen asked own ≤ own
 chosen_within asked all own n same is = subst (λ k. chosen asked k ≤ k) same (subst (λ k. k ≤ all) is.0 is.1)
 
-pub chosen_not_lower : (version : Option Layout) (all own layout : Layout) → all ≡ own → (layout ≡ chosen version all) × (number_of all ≤ number_of layout) → number_of own ≤ number_of (chosen version own)
-chosen_not_lower version all own layout same is = subst (λ (l : Layout). number_of l ≤ number_of (chosen version l)) same (subst (λ (l : Layout). number_of all ≤ number_of l) is.0 is.1)
+pub chosen_not_lower : (in_layout : Option Layout) (all own layout : Layout) → all ≡ own → (layout ≡ chosen in_layout all) × (number_of all ≤ number_of layout) → number_of own ≤ number_of (chosen in_layout own)
+chosen_not_lower in_layout all own layout same is = subst (λ (l : Layout). number_of l ≤ number_of (chosen in_layout l)) same (subst (λ (l : Layout). number_of all ≤ number_of l) is.0 is.1)
 
-pub not_loaded : (e : LoadFault) (asked : Option ℕ) (version : Option Layout) (file target : List ℕ) → length target ≡ 0 → IsNotOpened e file → IsNotCopied (of_loading e) asked version file target
-not_loaded loading.OutOfMemory asked version file target none why = tt
-not_loaded loading.DiskFault asked version file target none why = tt
-not_loaded loading.NotAStore asked version file target none why = (none, why)
-not_loaded (loading.Damaged damage) asked version file target none why = (none, why)
+pub not_loaded : (e : LoadFault) (asked : Option ℕ) (in_layout : Option Layout) (file target : List ℕ) → length target ≡ 0 → IsNotOpened e file → IsNotCopied (of_loading e) asked in_layout file target
+not_loaded loading.OutOfMemory asked in_layout file target none why = tt
+not_loaded loading.DiskFault asked in_layout file target none why = tt
+not_loaded loading.NotAStore asked in_layout file target none why = (none, why)
+not_loaded (loading.Damaged damage) asked in_layout file target none why = (none, why)
 
-module _ (asked : Option ℕ) (version : Option Layout) (file target : List ℕ) (none : length target ≡ 0) (of : Shown file) (e : CopyFault) where
-  pub not_chosen : (all : ℕ) → all ≡ of.directory.imports → (e ≡ faults.NoSuchImport) × (all < chosen asked all) → IsNotCopied e asked version file target
+module _ (asked : Option ℕ) (in_layout : Option Layout) (file target : List ℕ) (none : length target ≡ 0) (of : Shown file) (e : CopyFault) where
+  pub not_chosen : (all : ℕ) → all ≡ of.directory.imports → (e ≡ faults.NoSuchImport) × (all < chosen asked all) → IsNotCopied e asked in_layout file target
   not_chosen all same why =
       let few : of.directory.imports < chosen asked of.directory.imports = subst (λ k. k < chosen asked k) same why.1 in
-      subst (λ (f : CopyFault). IsNotCopied f asked version file target) (sym why.0) (none, (of, few))
+      subst (λ (f : CopyFault). IsNotCopied f asked in_layout file target) (sym why.0) (none, (of, few))
 
   module _ (within : HasImports asked of) where
-    pub not_lowered : (own : Layout) → own ≡ of.directory.layout → (e ≡ faults.LowerLayout) × (number_of (chosen version own) < number_of own) → IsNotCopied e asked version file target
+    pub not_lowered : (own : Layout) → own ≡ of.directory.layout → (e ≡ faults.LowerLayout) × (number_of (chosen in_layout own) < number_of own) → IsNotCopied e asked in_layout file target
     not_lowered own same why =
-        let lower : number_of (chosen version of.directory.layout) < number_of of.directory.layout = subst (λ (l : Layout). number_of (chosen version l) < number_of l) same why.1 in
-        subst (λ (f : CopyFault). IsNotCopied f asked version file target) (sym why.0) (none, (of, within, lower))
+        let lower : number_of (chosen in_layout of.directory.layout) < number_of of.directory.layout = subst (λ (l : Layout). number_of (chosen in_layout l) < number_of l) same why.1 in
+        subst (λ (f : CopyFault). IsNotCopied f asked in_layout file target) (sym why.0) (none, (of, within, lower))
 
-    pub no_room : IsNotLower version of → (n : ℕ) (lists : List (List StampedRow)) → n ≡ chosen asked of.directory.imports → lists ≡ of.lists → (e ≡ faults.NoRoom) × (block_limit < end_from 4 (lists_up_to n lists)) → IsNotCopied e asked version file target
+    pub no_room : IsNotLower in_layout of → (n : ℕ) (lists : List (List StampedRow)) → n ≡ chosen asked of.directory.imports → lists ≡ of.lists → (e ≡ faults.NoRoom) × (block_limit < end_from 4 (lists_up_to n lists)) → IsNotCopied e asked in_layout file target
     no_room not_lower n lists same lists_are why =
         let large : block_limit < end_from 4 (lists_up_to (chosen asked of.directory.imports) lists) = subst (λ k. block_limit < end_from 4 (lists_up_to k lists)) same why.1 in
-        subst (λ (f : CopyFault). IsNotCopied f asked version file target) (sym why.0)
+        subst (λ (f : CopyFault). IsNotCopied f asked in_layout file target) (sym why.0)
         (none, (of, within, not_lower, subst (λ (l : List (List StampedRow)). block_limit < end_from 4 (lists_up_to (chosen asked of.directory.imports) l)) lists_are large))
 
-pub not_copied : (e : CopyFault) (asked : Option ℕ) (version : Option Layout) (file target : List ℕ) → IsFailure e → IsNotCopied e asked version file target
-not_copied faults.OutOfMemory asked version file target failed = tt
-not_copied faults.SourceFailed asked version file target failed = tt
-not_copied faults.TargetFailed asked version file target failed = tt
-not_copied faults.NotAStore asked version file target failed = absurd failed
-not_copied (faults.Damaged damage) asked version file target failed = absurd failed
-not_copied faults.NoSuchImport asked version file target failed = absurd failed
-not_copied faults.LowerLayout asked version file target failed = absurd failed
-not_copied faults.NotEmpty asked version file target failed = absurd failed
-not_copied faults.NoRoom asked version file target failed = absurd failed
+pub not_copied : (e : CopyFault) (asked : Option ℕ) (in_layout : Option Layout) (file target : List ℕ) → IsFailure e → IsNotCopied e asked in_layout file target
+not_copied faults.OutOfMemory asked in_layout file target failed = tt
+not_copied faults.SourceFailed asked in_layout file target failed = tt
+not_copied faults.TargetFailed asked in_layout file target failed = tt
+not_copied faults.NotAStore asked in_layout file target failed = absurd failed
+not_copied (faults.Damaged damage) asked in_layout file target failed = absurd failed
+not_copied faults.NoSuchImport asked in_layout file target failed = absurd failed
+not_copied faults.LowerLayout asked in_layout file target failed = absurd failed
+not_copied faults.NotEmpty asked in_layout file target failed = absurd failed
+not_copied faults.NoRoom asked in_layout file target failed = absurd failed

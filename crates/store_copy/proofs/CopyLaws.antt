@@ -38,20 +38,20 @@ represented : (slot : Slot) (d : DirectoryValue) (lists : List (List StampedRow)
 represented slot d lists file shows = record { slot = slot; content = shows.0; lists = lists; stands = shows.2.has_pieces; says = shows.1; other_is_whole = shows.2.other_is_whole; rows = refl }
 
 pub copy_represents : CopyRepresents
-copy_represents asked version file c h layout is rep =
+copy_represents asked in_layout file c h layout is rep =
     let of = is.of in
     let d = of.directory in
     let n = imports_of asked of in
     let one = represents_one one_segment file h (history_of d of.lists) layout d.layout rep.0 d.epoch rep.1 d.entries rep.2 (represented of.slot d of.lists file of.is) in
-    let rows : history_of (copy_of asked version of) (lists_of asked of) ≡ first_imports n (history_of d of.lists) = ap (λ (rows : List StampedRow). record { imports = n; rows = rows }) (listed_up_to n of.lists of.is.1.kept.apart) in
-    let there : RepresentsAs (layout_of version of) (first_imports n (history_of d of.lists)) c = subst (λ (g : History). RepresentsAs (layout_of version of) g c) rows (2, (copy_of asked version of).entries, represented A (copy_of asked version of) (lists_of asked of) c is.is) in
-    let P : History → Type 0 = λ g. (chosen asked g.imports ≤ g.imports) × (number_of layout ≤ number_of (chosen version layout)) × RepresentsAs (chosen version layout) (first_imports (chosen asked g.imports) g) c in
-    let Q : Layout → Type 0 = λ l. (number_of l ≤ number_of (chosen version l)) × RepresentsAs (chosen version l) (first_imports n (history_of d of.lists)) c in
+    let rows : history_of (copy_of asked in_layout of) (lists_of asked of) ≡ first_imports n (history_of d of.lists) = ap (λ (rows : List StampedRow). record { imports = n; rows = rows }) (listed_up_to n of.lists of.is.1.kept.apart) in
+    let there : RepresentsAs (layout_of in_layout of) (first_imports n (history_of d of.lists)) c = subst (λ (g : History). RepresentsAs (layout_of in_layout of) g c) rows (2, (copy_of asked in_layout of).entries, represented A (copy_of asked in_layout of) (lists_of asked of) c is.is) in
+    let P : History → Type 0 = λ g. (chosen asked g.imports ≤ g.imports) × (number_of layout ≤ number_of (chosen in_layout layout)) × RepresentsAs (chosen in_layout layout) (first_imports (chosen asked g.imports) g) c in
+    let Q : Layout → Type 0 = λ l. (number_of l ≤ number_of (chosen in_layout l)) × RepresentsAs (chosen in_layout l) (first_imports n (history_of d of.lists)) c in
     let either = subst Q (sym one.1) (is.not_lower, there) in
     let all : P (history_of d of.lists) = (is.within, either.0, either.1) in
     subst P (sym one.0) all
 
--- in version 3 each entry has a checksum of the whole segment
+-- in layout 3 each entry has a checksum of the whole segment
 abbrev IsWhole : Entry → Type 0
 IsWhole entry = (sum : ℕ) × (entry.sums ≡ sums.Whole sum)
 
@@ -60,7 +60,7 @@ whole_sums first [] = tt
 whole_sums first (rows ∷ lists) = ((_, refl), whole_sums (end_block (extent_of (entry_at layouts.Three first rows))) lists)
 
 pub each_segment_is_summed : EachSegmentIsSummed
-each_segment_is_summed asked version file copy state has three =
+each_segment_is_summed asked in_layout file copy state has three =
     let lists = lists_of asked has.of in
     let layout = sym (ap (λ (d : DirectoryValue). d.layout) has.copy_is) ∙ three in
     let entries = ap (λ (d : DirectoryValue). d.entries) has.copy_is ∙ ap (λ (l : Layout). entries_from l 4 lists) layout in
@@ -68,7 +68,7 @@ each_segment_is_summed asked version file copy state has three =
     subst (λ (es : List Entry). All IsWhole es) (sym entries) each
 
 pub each_crash_leaves_a_copy : EachCrashLeavesACopy
-each_crash_leaves_a_copy asked version file copy state has c image =
+each_crash_leaves_a_copy asked in_layout file copy state has c image =
     let on = has.on_disk in
     let same = has.copy_is in
     record {

@@ -207,7 +207,7 @@ listed_so_far layout n lists d layout_is epoch_is imports_are are may =
       forms = subst (λ (l : Layout). AllByRecursion (HasForm l) d.entries) (sym layout_is) (from_forms layout 4 (lists_up_to n lists) d.entries are);
     }
 
--- ---- a version of the layout has the kinds of the lower ones
+-- ---- a layout has the kinds of the lower ones
 
 kinds_rise : (own layout : Layout) (kind : Kind) → number_of own ≤ number_of layout → HasKind own kind → HasKind layout kind
 kinds_rise layouts.One layouts.One kind le has = has

@@ -44,42 +44,42 @@ pub record Shown (file : List ℕ) : Type 0 where
 abbrev pub imports_of : {file : List ℕ} → Option ℕ → Shown file → ℕ
 imports_of asked of = chosen asked of.directory.imports
 
--- the layout version of its copy
+-- the layout of its copy
 abbrev pub layout_of : {file : List ℕ} → Option Layout → Shown file → Layout
-layout_of version of = chosen version of.directory.layout
+layout_of in_layout of = chosen in_layout of.directory.layout
 
 -- it has the imports that are asked for
 abbrev pub HasImports : {file : List ℕ} → Option ℕ → Shown file → Type 0
 HasImports asked of = imports_of asked of ≤ of.directory.imports
 
--- the layout version that is asked for isn't below its own
+-- the layout that is asked for isn't below its own
 abbrev pub IsNotLower : {file : List ℕ} → Option Layout → Shown file → Type 0
-IsNotLower version of = number_of of.directory.layout ≤ number_of (layout_of version of)
+IsNotLower in_layout of = number_of of.directory.layout ≤ number_of (layout_of in_layout of)
 
 -- the directory of a copy of it
 abbrev pub copy_of : {file : List ℕ} → Option ℕ → Option Layout → Shown file → DirectoryValue
-copy_of asked version of = copied_listing (layout_of version of) (imports_of asked of) of.lists
+copy_of asked in_layout of = copied_listing (layout_of in_layout of) (imports_of asked of) of.lists
 
 -- the rows of the copy's segments
 abbrev pub lists_of : {file : List ℕ} → Option ℕ → Shown file → List (List StampedRow)
 lists_of asked of = lists_up_to (imports_of asked of) of.lists
 
 -- the bytes are a copy of the store in the file, with as many imports as asked for, or all, in the
--- layout version asked for, or its own
-pub record IsCopyOf (asked : Option ℕ) (version : Option Layout) (file c : List ℕ)
+-- layout asked for, or its own
+pub record IsCopyOf (asked : Option ℕ) (in_layout : Option Layout) (file c : List ℕ)
     : Type 0 where
   pub of : Shown file
   pub within : HasImports asked of
-  pub not_lower : IsNotLower version of
-  pub is : HasStore A (copy_of asked version of) (lists_of asked of) c
+  pub not_lower : IsNotLower in_layout of
+  pub is : HasStore A (copy_of asked in_layout of) (lists_of asked of) c
 
 -- every image that a crash may leave is such a copy, with this directory
-pub record HasCopy (asked : Option ℕ) (version : Option Layout) (file : List ℕ)
+pub record HasCopy (asked : Option ℕ) (in_layout : Option Layout) (file : List ℕ)
     (copy : DirectoryValue) (state : DiskState) : Type 0 where
   pub of : Shown file
   pub within : HasImports asked of
-  pub not_lower : IsNotLower version of
-  pub copy_is : copy ≡ copy_of asked version of
+  pub not_lower : IsNotLower in_layout of
+  pub copy_is : copy ≡ copy_of asked in_layout of
   pub on_disk : IsOnDisk state A copy (lists_of asked of)
 
 -- What was read of a source for a copy: a directory, and the rows of its segments, which on an honest
@@ -96,24 +96,23 @@ pub record IsReadTwice (honest : Type 0) (file : List ℕ) (copy : DirectoryValu
 
 -- Why a store couldn't be copied: the first reason, in the order in which they stand here, in which
 -- all disks that don't fail are looked at: the target isn't empty; the source isn't a store, or is
--- damaged; it has fewer imports; its layout version is above the one asked for; the copy is too
--- large.
+-- damaged; it has fewer imports; its layout is above the one asked for; the copy is too large.
 abbrev pub IsNotCopied : CopyFault → Option ℕ → Option Layout → List ℕ → List ℕ → Type 0
-IsNotCopied faults.OutOfMemory asked version file target = Unit {0}
-IsNotCopied faults.SourceFailed asked version file target = Unit {0}
-IsNotCopied faults.TargetFailed asked version file target = Unit {0}
-IsNotCopied faults.NotEmpty asked version file target = 1 ≤ length target
-IsNotCopied faults.NotAStore asked version file target =
+IsNotCopied faults.OutOfMemory asked in_layout file target = Unit {0}
+IsNotCopied faults.SourceFailed asked in_layout file target = Unit {0}
+IsNotCopied faults.TargetFailed asked in_layout file target = Unit {0}
+IsNotCopied faults.NotEmpty asked in_layout file target = 1 ≤ length target
+IsNotCopied faults.NotAStore asked in_layout file target =
     (length target ≡ 0) × IsNotOpened loading.NotAStore file
-IsNotCopied (faults.Damaged damage) asked version file target =
+IsNotCopied (faults.Damaged damage) asked in_layout file target =
     (length target ≡ 0) × IsNotOpened (loading.Damaged damage) file
-IsNotCopied faults.NoSuchImport asked version file target =
+IsNotCopied faults.NoSuchImport asked in_layout file target =
     (length target ≡ 0) × ((of : Shown file) × (of.directory.imports < imports_of asked of))
-IsNotCopied faults.LowerLayout asked version file target =
+IsNotCopied faults.LowerLayout asked in_layout file target =
     (length target ≡ 0) × ((of : Shown file) × HasImports asked of
-    × (number_of (layout_of version of) < number_of of.directory.layout))
-IsNotCopied faults.NoRoom asked version file target =
-    (length target ≡ 0) × ((of : Shown file) × HasImports asked of × IsNotLower version of
+    × (number_of (layout_of in_layout of) < number_of of.directory.layout))
+IsNotCopied faults.NoRoom asked in_layout file target =
+    (length target ≡ 0) × ((of : Shown file) × HasImports asked of × IsNotLower in_layout of
     × (block_limit < end_from 4 (lists_of asked of)))
 
 -- a disk failed, or memory ran out

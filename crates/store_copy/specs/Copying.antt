@@ -34,8 +34,8 @@ abbrev pub lists_up_to : ℕ → List (List StampedRow) → List (List StampedRo
 lists_up_to n [] = []
 lists_up_to n (rows ∷ lists) = before (up_to n rows) (lists_up_to n lists)
 
--- the entries of new segments of these rows in a layout version, from block `first` on, without a
--- block between them
+-- the entries of new segments of these rows in a layout, from block `first` on, without a block
+-- between them
 abbrev pub entries_from : Layout → ℕ → List (List StampedRow) → List Entry
 entries_from layout first [] = []
 entries_from layout first (rows ∷ lists) = entry_at layout first rows
@@ -46,8 +46,8 @@ abbrev pub end_from : ℕ → List (List StampedRow) → ℕ
 end_from first [] = first
 end_from first (rows ∷ lists) = end_from (first + div_ceil (length (segment_of rows)) 4096) lists
 
--- the directory of a copy in this layout version, with the first `n` imports of a store whose
--- segments have these rows: in version 3 each segment has a checksum of all its bytes
+-- the directory of a copy in this layout, with the first `n` imports of a store whose segments have
+-- these rows: in layout 3 each segment has a checksum of all its bytes
 abbrev pub copied_listing : Layout → ℕ → List (List StampedRow) → DirectoryValue
 copied_listing layout n lists =
     record {

@@ -12,25 +12,25 @@ use Rattle.store_image.specs.Images.{RepresentsAs}
 use Rattle.store_copy.specs.Copying.{chosen, first_imports}
 use Rattle.store_copy.specs.Answers.{HasCopy, IsCopyOf}
 
--- a copy represents the history of the first imports, in the layout version asked for, which isn't
--- below the store's, or in the store's
+-- a copy represents the history of the first imports, in the layout asked for, which isn't below
+-- the store's, or in the store's
 abbrev pub CopyRepresents : Type 0
-CopyRepresents = (asked : Option ℕ) (version : Option Layout) (file c : List ℕ) (h : History)
-    (layout : Layout) → IsCopyOf asked version file c → RepresentsAs layout h file
+CopyRepresents = (asked : Option ℕ) (in_layout : Option Layout) (file c : List ℕ) (h : History)
+    (layout : Layout) → IsCopyOf asked in_layout file c → RepresentsAs layout h file
     → (chosen asked h.imports ≤ h.imports)
-    × (number_of layout ≤ number_of (chosen version layout))
-    × RepresentsAs (chosen version layout) (first_imports (chosen asked h.imports) h) c
+    × (number_of layout ≤ number_of (chosen in_layout layout))
+    × RepresentsAs (chosen in_layout layout) (first_imports (chosen asked h.imports) h) c
 
 -- every image that a crash may leave of a disk with a copy is a copy
 abbrev pub EachCrashLeavesACopy : Type 0
-EachCrashLeavesACopy = (asked : Option ℕ) (version : Option Layout) (file : List ℕ)
-    (copy : DirectoryValue) (state : DiskState) → HasCopy asked version file copy state
-    → EachImage state (IsCopyOf asked version file)
+EachCrashLeavesACopy = (asked : Option ℕ) (in_layout : Option Layout) (file : List ℕ)
+    (copy : DirectoryValue) (state : DiskState) → HasCopy asked in_layout file copy state
+    → EachImage state (IsCopyOf asked in_layout file)
 
--- in version 3 each segment of a copy has a checksum of all its bytes
+-- in layout 3 each segment of a copy has a checksum of all its bytes
 abbrev pub EachSegmentIsSummed : Type 0
-EachSegmentIsSummed = (asked : Option ℕ) (version : Option Layout) (file : List ℕ)
-    (copy : DirectoryValue) (state : DiskState) → HasCopy asked version file copy state
+EachSegmentIsSummed = (asked : Option ℕ) (in_layout : Option Layout) (file : List ℕ)
+    (copy : DirectoryValue) (state : DiskState) → HasCopy asked in_layout file copy state
     → copy.layout ≡ layouts.Three
     → All (λ entry. (sum : ℕ) × (entry.sums ≡ sums.Whole sum)) copy.entries
 

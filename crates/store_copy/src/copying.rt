@@ -38,11 +38,11 @@ fn chosen(asked: Option<u32>, all: u32) -> Result<u32, CopyFault>
     }
 }
 
-/// The layout version of a copy: the one asked for, or the store's, which a copy never lowers.
-fn chosen_layout(version: Option<Layout>, own: Layout) -> Result<Layout, CopyFault>
-    ensures { IsChosenLayout result version own }
+/// The layout of a copy: the one asked for, or the store's, which a copy never lowers.
+fn chosen_layout(in_layout: Option<Layout>, own: Layout) -> Result<Layout, CopyFault>
+    ensures { IsChosenLayout result in_layout own }
 {
-    match version {
+    match in_layout {
         None => Ok(own),
         Some(layout) => {
             if layout.number() < own.number() {
@@ -110,10 +110,10 @@ fn read_and_plan<S: Disk>(
 }
 
 /// Copies the first imports of a store, or all if no number is given, to an empty disk, and returns
-/// the directory of the copy. The copy has the layout version that is asked for, or the store's if
-/// none is given, and the rows that these imports brought, with their import numbers. It has one
-/// segment for each of the store's segments in which there are such rows, one directly after the
-/// other, each as an import of its rows would write and list it. The store is read twice, each time
+/// the directory of the copy. The copy has the layout that is asked for, or the store's if none is
+/// given, and the rows that these imports brought, with their import numbers. It has one segment
+/// for each of the store's segments in which there are such rows, one directly after the other,
+/// each as an import of its rows would write and list it. The store is read twice, each time
 /// through a buffer of fixed size: first as an opening reads it, and then once more, where each row
 /// has to have the key, the import number and the length of its place. The calls on its disk are
 /// reads, one sync and requests for its length.

@@ -20,7 +20,7 @@ pub enum CopyFault {
     Damaged(Damage),
     #[error("the store has fewer imports")]
     NoSuchImport,
-    /// The layout version that was asked for is below the store's.
+    /// The layout that was asked for is below the store's.
     #[error("the store has a later layout")]
     LowerLayout,
     /// The target disk isn't empty.

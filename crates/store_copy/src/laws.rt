@@ -5,8 +5,8 @@ ghost use Rattle.store_copy.specs.Laws.{EachSegmentIsSummed};
 ghost use Rattle.store_copy.specs.Laws.{AllImportsAreAll, FirstImportsAreReleases};
 ghost use Rattle.store_copy.specs.Laws.{PinsStay, ReceiptsStay};
 
-/// A copy represents the history of the first imports, in the layout version of the store or in the
-/// higher one that was asked for.
+/// A copy represents the history of the first imports, in the layout of the store or in the higher
+/// one that was asked for.
 pub fn copy_represents()
     // promise: a_copy_is_whole_and_the_same
     ensures { CopyRepresents }
@@ -18,7 +18,7 @@ pub fn each_crash_leaves_a_copy()
     ensures { EachCrashLeavesACopy }
 {}
 
-/// In version 3 each segment of a copy has a checksum of all its bytes.
+/// In layout 3 each segment of a copy has a checksum of all its bytes.
 pub fn each_segment_is_summed()
     // promise: a_copy_is_whole_and_the_same
     ensures { EachSegmentIsSummed }

@@ -266,8 +266,8 @@ fn copy_segments<S: Disk, T: Disk>(
     Ok(())
 }
 
-/// Writes the directory of a copy into the first slot, and opens its gate: from then on the disk has
-/// a store.
+/// Writes the directory of a copy into the first slot, and opens its gate: from then on the disk
+/// has a store.
 fn open_copy<T: Disk>(target: &mut T, directory: &Directory) -> Result<(), DiskFault>
     // A crash at any moment leaves no store, or the whole copy.
     ensures any_moment { (T.view target.old).is_honest

@@ -1,4 +1,4 @@
--- A byte of a directory of version 3 that was changed, in the current slot or in the other one.
+-- A byte of a directory of layout 3 that was changed, in the current slot or in the other one.
 use Rattle.std.proofs.Common.{◌≡◌, ◌≢◌, ◌⊎◌, inl, inr, ℕ, ◌+◌, ◌-◌, ◌<◌, ◌≤◌, List, ◌∷◌, ◌++◌, length, take, drop, get_or, refl, sym, ap, subst, ◌∙◌, arith, length-append, length-drop}
 use Rattle.std.specs.List.{AllByRecursion}
 use Rattle.std.specs.Int.{w64, from_be_bytes}
@@ -57,7 +57,7 @@ none_greatest file slot one k opened also same greatest = elim (one_or_other slo
       omega (arith, same, below, at)
 ]
 
--- ---- a byte of the block of one slot, which is open and of version 3
+-- ---- a byte of the block of one slot, which is open and of layout 3
 
 module _ (before after : List ℕ) (byte changed : ℕ) (is : IsChanged before byte changed after) (one : Slot) (le : content_at one ≤ length before) (lt : length before < content_at one + 4096) (whole : 16384 ≤ length (before ++ byte ∷ after)) where
   abbrev old : List ℕ
@@ -198,7 +198,7 @@ changed_directory_is_damaged before after byte changed h epoch entries stands is
     let at = current.epoch_is in
     record { apart = λ e. omega (arith, mine, others, above, at, e); three = λ greater d lists. absurd (omega (arith, mine, others, above, at, greater)) })
 
--- a block that may precede one of version 3 has its checksum, if it has the mark
+-- a block that may precede one of layout 3 has its checksum, if it has the mark
 summed_three : (epoch : ℕ) (block : List ℕ) → HasMark layouts.Three block → MayPrecede layouts.Three epoch block → HasSum layouts.Three block
 summed_three epoch block marks (at, inl (inl one)) = absurd (not_three layouts.One block (λ e. cc) one marks)
 summed_three epoch block marks (at, inl (inr two)) = absurd (not_three layouts.Two block (λ e. cc) two marks)

@@ -282,7 +282,7 @@ not_read (loading.Damaged damages.SharedKey) file into current d is lists whole 
     (some_gate file current.slot current.epoch is.0, damaged, λ store. represented_is_undamaged file damages.SharedKey store damaged)
 not_read (loading.Damaged damages.Kind) file into current d is lists whole why = absurd why
 
--- rows of a kind that the version doesn't have
+-- rows of a kind that the layout doesn't have
 pub not_of_layout : (file into : List ℕ) (current : Current) (d : DirectoryValue) (lists : List (List StampedRow)) → IsCurrentWith current into file → Lists into d → OtherIsWhole d.layout d.epoch current.slot file → AreRead d.imports d.entries lists → HoldsAll (pieces_of d.entries lists) file
     → (All (AreOfLayout d.layout) lists → ⊥) → IsNotOpened (loading.Damaged damages.Kind) file
 not_of_layout file into current d lists is listed whole read hold strange =

@@ -1,4 +1,4 @@
--- What stood for a history before there was a second version of the layout, or a third one.
+-- What stood for a history before there was a second layout, or a third one.
 use Rattle.std.specs.Prelude.{take}
 use Rattle.std.proofs.Common.{◌≡◌, ℕ, List, [], ◌∷◌, length, refl, sym, ap, subst}
 use Rattle.rf2_values.specs.declared.row.Kind.{Kind}

@@ -1,4 +1,4 @@
--- The kinds of the rows that a directory lists, in the version that comes next.
+-- The kinds of the rows that a directory lists, in the layout that comes next.
 use Rattle.std.specs.Prelude.{All, Some, slice_get, slice_set}
 use Rattle.std.proofs.Common.{◌≡◌, inl, inr, ℕ, List, sym, subst}
 use Rattle.std.specs.List.{AllByRecursion}
@@ -18,7 +18,7 @@ use Rattle.directory.specs.Listings.{DirectoryValue, next_layout}
 use Rattle.store_image.specs.Kept.{HasKind, AreOfLayout}
 use Rattle.store_image.specs.Next.{merged}
 
--- ---- a version has the kinds of those before it
+-- ---- a layout has the kinds of those before it
 
 has_next : (layout : Layout) (kind : Kind) → HasKind layout kind → HasKind (next_layout layout) kind
 has_next layouts.One kinds.Concept has = tt

@@ -1,4 +1,4 @@
--- The effect of one changed byte in a store of version 3.
+-- The effect of one changed byte in a store of layout 3.
 use Rattle.std.specs.Prelude.{◌≡◌, ◌≢◌, ◌⊎◌, ℕ, ◌+◌, ◌<◌, ◌≤◌, List, ◌∷◌, ◌++◌, length, Some, slice_get}
 use Rattle.std.specs.List.{AllByRecursion}
 use Rattle.blocks.specs.Slots.{IsOpen, content_at, content_of, other}
@@ -27,7 +27,7 @@ abbrev pub IsNoticed : ℕ → ℕ → List ℕ → Type 0
 IsNoticed from place file = IsDamaged damages.Directory file
     ⊎ ((place < from + 8) × IsDamaged damages.Slots file)
 
--- a store of version 3 is damaged if one byte of its current directory was changed
+-- a store of layout 3 is damaged if one byte of its current directory was changed
 abbrev pub ChangedDirectoryIsDamaged : Type 0
 ChangedDirectoryIsDamaged = (before after : List ℕ) (byte changed : ℕ) (h : History) (epoch : ℕ)
     (entries : List Entry)
@@ -37,7 +37,7 @@ ChangedDirectoryIsDamaged = (before after : List ℕ) (byte changed : ℕ) (h : 
     → IsNoticed (content_at stands.slot) (length before) (before ++ changed ∷ after)
 
 -- So is one if a byte of its other slot was changed, and that slot is open and has a directory of
--- version 3 as well.
+-- layout 3 as well.
 abbrev pub ChangedOtherIsDamaged : Type 0
 ChangedOtherIsDamaged = (before after : List ℕ) (byte changed : ℕ) (h : History) (epoch : ℕ)
     (entries : List Entry)
@@ -62,7 +62,7 @@ pub record IsInRecord (entries : List Entry) (lists : List (List StampedRow)) (s
   pub at_is : at ≡ start_of (extent_of entry) + length (segment_of front) + place
   pub within : place < length (record_of s)
 
--- Bytes that represented a history in version 3 represent none after one byte of a record with a
+-- Bytes that represented a history in layout 3 represent none after one byte of a record with a
 -- checksum was changed, unless the record's length depends on that byte.
 abbrev pub ChangedRecordIsNoStore : Type 0
 ChangedRecordIsNoStore = (before after : List ℕ) (byte changed : ℕ) (h : History) (epoch : ℕ)

@@ -55,7 +55,7 @@ pub record ShareKey (imports : ℕ) (entries : List Entry) (file : List ℕ) : T
   pub there : AreThere imports entries lists file
   pub shared : ¬ (AreLists lists)
 
--- no two segments share a key, and a row is of a kind that the layout version doesn't have
+-- no two segments share a key, and a row is of a kind that the layout doesn't have
 pub record HasStrangeKind (d : DirectoryValue) (file : List ℕ) : Type 0 where
   pub lists : List (List StampedRow)
   pub there : AreThere d.imports d.entries lists file
@@ -64,7 +64,7 @@ pub record HasStrangeKind (d : DirectoryValue) (file : List ℕ) : Type 0 where
 
 -- This part is damaged: no slot is current; or the current slot's content is no directory that goes
 -- with the other slot; or a segment isn't as its entry says; or two segments share a key; or a row
--- is of a kind that the layout version doesn't have.
+-- is of a kind that the layout doesn't have.
 abbrev pub IsDamaged : Damage → List ℕ → Type 0
 IsDamaged damages.Slots file =
     (current : Current) (content : List ℕ) → IsCurrentWith current content file → ⊥

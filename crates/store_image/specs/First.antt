@@ -1,6 +1,6 @@
--- What bytes represented before version 2 of the layout existed, and before version 3 did: a copy
--- of the definitions of those times, which uses no later ones. Rows were of four kinds in version
--- 1, and of five in version 2.
+-- What bytes represented before layout 2 existed, and before layout 3 did: a copy of the
+-- definitions of those times, which uses no later ones. Rows were of four kinds in layout 1, and of
+-- five in layout 2.
 use Rattle.std.specs.Prelude.{◌≡◌, ◌↔◌, ℕ, ◌^◌, ◌<◌, ◌≤◌, List, ◌++◌, length, take, drop, replicate}
 use Rattle.std.specs.Prelude.{codes, All}
 use Rattle.std.specs.List.{AllByRecursion, flat_map}
@@ -29,7 +29,7 @@ bytes_then mark epoch imports entries =
     to_be_bytes w64 epoch ++ (mark ++ (to_be_bytes w32 imports
     ++ (to_be_bytes w32 (length entries) ++ (replicate 8 0 ++ flat_map entry_bytes entries))))
 
--- the four kinds of version 1
+-- the four kinds of layout 1
 abbrev pub IsFirstKind : Kind → Type 0
 IsFirstKind kinds.Concept = Unit {0}
 IsFirstKind kinds.Description = Unit {0}
@@ -37,14 +37,14 @@ IsFirstKind kinds.Relationship = Unit {0}
 IsFirstKind kinds.Association = Unit {0}
 IsFirstKind kind = ⊥
 
--- the five kinds of version 2
+-- the five kinds of layout 2
 abbrev pub IsSecondKind : Kind → Type 0
 IsSecondKind kinds.Concrete = Unit {0}
 IsSecondKind kind = IsFirstKind kind
 
 -- What bytes represented, when content blocks had this mark and at most `most` entries, and rows
 -- were of these kinds. No segment had checksums, and no published content block had the mark of
--- version 3.
+-- layout 3.
 pub record DidRepresentBy (mark : List ℕ) (most : ℕ) (WasKind : Kind → Type 0) (file : List ℕ)
     (h : History) (epoch : ℕ) (entries : List Entry) : Type 0 where
   pub slot : Slot
@@ -69,19 +69,19 @@ pub record DidRepresentBy (mark : List ℕ) (most : ℕ) (WasKind : Kind → Typ
   pub history : IsHistory (record { imports = h.imports; rows = listed lists })
   pub rows : h.rows ≡ listed lists
 
--- as above, with the marks, limits and kinds of version 1 and of version 2
+-- as above, with the marks, limits and kinds of layout 1 and of layout 2
 abbrev pub DidRepresent : List ℕ → History → ℕ → List Entry → Type 0
 DidRepresent = DidRepresentBy (codes "SCTHIST1") 128 IsFirstKind
 
 abbrev pub DidRepresentSecond : List ℕ → History → ℕ → List Entry → Type 0
 DidRepresentSecond = DidRepresentBy (codes "SCTHIST2") 250 IsSecondKind
 
--- bytes that represented a history then, and no others, do so in version 1 now
+-- bytes that represented a history then, and no others, do so in layout 1 now
 abbrev pub FirstStillRepresents : Type 0
 FirstStillRepresents = (file : List ℕ) (h : History) (epoch : ℕ) (entries : List Entry)
     → DidRepresent file h epoch entries ↔ Represents file h layouts.One epoch entries
 
--- bytes that represented one before version 3 existed, and no others, do so in version 2 now
+-- bytes that represented one before layout 3 existed, and no others, do so in layout 2 now
 abbrev pub SecondStillRepresents : Type 0
 SecondStillRepresents = (file : List ℕ) (h : History) (epoch : ℕ) (entries : List Entry)
     → DidRepresentSecond file h epoch entries ↔ Represents file h layouts.Two epoch entries

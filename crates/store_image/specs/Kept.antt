@@ -27,7 +27,7 @@ pub record IsSegmentOf (entry : Entry) (rows : List StampedRow) : Type 0 where
 abbrev pub segment_with : Entry → List StampedRow → List ℕ
 segment_with entry rows = segment_in (form_in entry.sums) rows
 
--- the entry of a new segment of these rows in a layout version, from block `first` on
+-- the entry of a new segment of these rows in a layout, from block `first` on
 abbrev pub entry_at : Layout → ℕ → List StampedRow → Entry
 entry_at layout first rows = record {
   first = first;
@@ -49,8 +49,7 @@ abbrev pub AreSummed : List Entry → List (List StampedRow) → Type 0
 AreSummed entries lists =
     AllZip (λ entry rows. HasSumOf entry.sums (segment_with entry rows)) entries lists
 
--- the layout version has rows of this kind: concrete values from version 2 on, members from version
--- 3 on
+-- the layout has rows of this kind: concrete values from layout 2 on, members from layout 3 on
 abbrev pub HasKind : Layout → Kind → Type 0
 HasKind layouts.One kinds.Concrete = ⊥
 HasKind layouts.One kinds.Member = ⊥
@@ -59,7 +58,7 @@ HasKind layouts.Two kinds.Member = ⊥
 HasKind layouts.Two kind = Unit {0}
 HasKind layouts.Three kind = Unit {0}
 
--- the layout version has the kinds of all the rows
+-- the layout has the kinds of all the rows
 abbrev pub AreOfLayout : Layout → List StampedRow → Type 0
 AreOfLayout layout rows = All (λ s. HasKind layout (kind_of s.row)) rows
 
@@ -75,7 +74,7 @@ abbrev pub history_of : DirectoryValue → List (List StampedRow) → History
 history_of d lists = record { imports = d.imports; rows = listed lists }
 
 -- a directory, and the rows of the segments that it lists: no key is in two segments, the rows are
--- a history, and the layout version has their kinds
+-- a history, and the layout has their kinds
 pub record IsKept (d : DirectoryValue) (lists : List (List StampedRow)) : Type 0 where
   pub listing : IsListing d
   pub segments : AreSegments d.entries lists

@@ -1,4 +1,4 @@
-//! Which kinds of rows a layout version has.
+//! Which kinds of rows a layout has.
 
 ghost use Rattle.std.specs.Prelude.{◌↔◌, map, IsTrue, All};
 ghost use Rattle.segment.specs.Standing.{places_of};
@@ -10,7 +10,7 @@ use directory::Layout;
 use rf2_values::Kind;
 use segment::RowPlace;
 
-/// Whether the layout version has rows of this kind.
+/// Whether the layout has rows of this kind.
 fn has_kind(layout: Layout, kind: Kind) -> bool
     ensures { IsTrue result ↔ HasKind layout kind }
 {
@@ -21,7 +21,7 @@ fn has_kind(layout: Layout, kind: Kind) -> bool
     }
 }
 
-/// Whether the layout version has rows of all these places' kinds.
+/// Whether the layout has rows of all these places' kinds.
 fn have_kinds(layout: Layout, places: &[RowPlace]) -> bool
     ensures { IsTrue result ↔ AreOfKinds layout places.now }
 {
@@ -33,7 +33,7 @@ fn have_kinds(layout: Layout, places: &[RowPlace]) -> bool
     true
 }
 
-/// Whether the layout version has the kinds of all rows in all segments.
+/// Whether the layout has the kinds of all rows in all segments.
 pub(crate) fn all_have_kinds<B: SegmentBuilder>(layout: Layout, segments: &[B::Segment]) -> bool
     ensures { IsTrue result
         ↔ All (AreOfKinds layout) (map places_of (map B.sealed segments.now)) }

@@ -47,9 +47,9 @@ pub fn check_empty<D: Disk>(disk: &mut D) -> Result<(), MakeFault>
     Ok(())
 }
 
-/// Makes an empty store of this layout version on an empty disk: asks for the disk's length, then
-/// allocates all memory, then writes. So `OutOfMemory` leaves the disk empty. A crash before it
-/// returns may leave anything.
+/// Makes an empty store of this layout on an empty disk: asks for the disk's length, then allocates
+/// all memory, then writes. So `OutOfMemory` leaves the disk empty. A crash before it returns may
+/// leave anything.
 pub fn make<D: Disk>(alloc: Global, disk: &mut D, layout: Layout) -> Result<Made, MakeFault>
     ensures made { IfOk result (λ made. (made.slot ≡ Slot.A)
         × (made.directory ≡ empty_listing layout)) }

@@ -138,7 +138,7 @@ module _ (release other : Release) (same : files_of release ≡ files_of other) 
   earlier_alike layouts.Three is = is
 
   admitted_alike : {h : History} {catalog : Catalog} → IsAdmitted h catalog release → IsAdmitted h catalog other
-  admitted_alike {h} {catalog} a = record { room = a.room; version = λ is. a.version (earlier_alike catalog.layout is) }
+  admitted_alike {h} {catalog} a = record { room = a.room; not_later = λ is. a.not_later (earlier_alike catalog.layout is) }
 
   abbrev accepted_alike : {known : List RowValue} → IsAccepted known release → IsAccepted known other
   accepted_alike a = record { rows = a.rows; is_release = release_alike a.is_release; consistent = a.consistent }

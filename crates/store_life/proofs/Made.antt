@@ -54,7 +54,7 @@ module _ {D : Type 0} (view : D → DiskView) (old new : StoreValue D) where
   idle history disk closed ack =
       still history closed (λ h. subst (λ d. (view d).is_honest) (sym disk) h, λ h. subst (λ d. (view d).is_honest) disk h) (λ h. ap (λ d. (view d).moments) disk) ack
 
-  -- it is, and a crash leaves the history in the version from before
+  -- it is, and a crash leaves the history in the layout from before
   busy : new.history ≡ old.history → IsCrashSafe view (RepresentsAs old.catalog.layout old.history) old new → ((view old.disk).is_honest ↔ (view new.disk).is_honest) → IsCall view old Other new
   busy history crash honesty =
       kept history crash.closed honesty

@@ -45,8 +45,8 @@ EachOpeningIsOfALife D view =
     → OpeningLeaves view (view disk).moments.state.now disk (disk_of result) left)
 
 -- Closing a store, and opening it again from its disk without a crash in between, is an event of a
--- life. If no call had failed, history, layout version, epoch and entries are the same, and no
--- merge is in progress: by `Store::close · disk, stands` the store was acknowledged then.
+-- life. If no call had failed, history, layout, epoch and entries are the same, and no merge is in
+-- progress: by `Store::close · disk, stands` the store was acknowledged then.
 abbrev pub ClosedStoreIsOpened : (D : Type 0) → (D → DiskView) → Type 0
 ClosedStoreIsOpened D view = (old new : StoreValue D) → (view old.disk).is_honest
     → IsOpening (Ok new) view old.disk

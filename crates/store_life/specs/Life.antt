@@ -47,7 +47,7 @@ NeedsReopenAfter (Imported release) needs_reopen = needs_reopen ≡ false
 NeedsReopenAfter (Failed release) needs_reopen = needs_reopen ≡ true
 NeedsReopenAfter Other needs_reopen = Unit {0}
 
--- the bytes represent the history with an accepted release, in some layout version
+-- the bytes represent the history with an accepted release, in some layout
 abbrev pub RepresentsNext : History → Release → List ℕ → Type 0
 RepresentsNext h release c = (layout : Layout) × RepresentsWith layout h release c
 

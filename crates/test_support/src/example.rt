@@ -44,7 +44,7 @@ impl Example {
         put_in_box(alloc, store)
     }
 
-    /// A new store of version 3.
+    /// A new store of layout 3.
     pub fn new_in_three(alloc: Global) -> Result<Example, Refusal> {
         match Store::create_in(alloc, MemDisk::new(alloc), Layout::Three) {
             Ok(store) => match put_in_box(alloc, store) {
@@ -140,9 +140,9 @@ impl Example {
         }
     }
 
-    /// The version of the layout on the disk.
-    pub fn version(&self) -> u32 {
-        self.store.version()
+    /// The number of the layout on the disk.
+    pub fn layout_number(&self) -> u32 {
+        self.store.layout_number()
     }
 
     /// Whether the store has to be opened again.

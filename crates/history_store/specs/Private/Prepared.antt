@@ -47,7 +47,7 @@ IsUnprepared refusals.TooManySegments rows catalog = HasNoEntry rows catalog
 IsUnprepared refusals.Full rows catalog = HasNoPlace rows catalog
 IsUnprepared _ rows catalog = ⊥
 
--- what is prepared fits the store, and its rows are of kinds that the next layout version has
+-- what is prepared fits the store, and its rows are of kinds that the next layout has
 pub record IsPreparedFor {D : Type 0} (s : StoreValue D) (p : Prepared) : Type 0 where
   pub apart : AreLists (s.history.rows ∷ p.index ∷ [])
   pub history : IsHistory (with_rows s.history p.index)

@@ -31,12 +31,12 @@ abbrev pub IsChosen : Result ℕ CopyFault → Option ℕ → ℕ → Type 0
 IsChosen (Ok n) asked all = (n ≡ chosen asked all) × (n ≤ all)
 IsChosen (Err e) asked all = (e ≡ faults.NoSuchImport) × (all < chosen asked all)
 
--- the layout version asked for, or the store's, if that isn't above it
+-- the layout asked for, or the store's, if that isn't above it
 abbrev pub IsChosenLayout : Result Layout CopyFault → Option Layout → Layout → Type 0
-IsChosenLayout (Ok layout) version own =
-    (layout ≡ chosen version own) × (number_of own ≤ number_of layout)
-IsChosenLayout (Err e) version own =
-    (e ≡ faults.LowerLayout) × (number_of (chosen version own) < number_of own)
+IsChosenLayout (Ok layout) in_layout own =
+    (layout ≡ chosen in_layout own) × (number_of own ≤ number_of layout)
+IsChosenLayout (Err e) in_layout own =
+    (e ≡ faults.LowerLayout) × (number_of (chosen in_layout own) < number_of own)
 
 -- the rows are few and short enough for a segment
 abbrev pub MayBeSegment : List StampedRow → Type 0
@@ -80,15 +80,15 @@ pub record MayBeListed (layout : Layout) (n : ℕ) (lists : List (List StampedRo
   pub small : AllByRecursion MayBeSegment lists
   pub fits : end_from 4 (lists_up_to n lists) ≤ block_limit
 
--- the directory and the rows of a store, and what is planned of its copy: its layout version and
--- its imports, and a directory in which nothing is listed yet
-pub record IsPlanned (asked : Option ℕ) (version : Option Layout) (d : DirectoryValue)
+-- the directory and the rows of a store, and what is planned of its copy: its layout and its
+-- imports, and a directory in which nothing is listed yet
+pub record IsPlanned (asked : Option ℕ) (in_layout : Option Layout) (d : DirectoryValue)
     (lists : List (List StampedRow)) (copy : DirectoryValue) : Type 0 where
   pub kept : IsKept d lists
   pub within : chosen asked d.imports ≤ d.imports
-  pub not_lower : number_of d.layout ≤ number_of (chosen version d.layout)
-  pub blank : IsBlank copy (chosen version d.layout) (chosen asked d.imports)
-  pub listed : MayBeListed (chosen version d.layout) (chosen asked d.imports) lists
+  pub not_lower : number_of d.layout ≤ number_of (chosen in_layout d.layout)
+  pub blank : IsBlank copy (chosen in_layout d.layout) (chosen asked d.imports)
+  pub listed : MayBeListed (chosen in_layout d.layout) (chosen asked d.imports) lists
 
 -- the entry's extent in the file has the segment of these rows
 abbrev pub IsSegmentAt : List ℕ → Entry → List StampedRow → Type 0

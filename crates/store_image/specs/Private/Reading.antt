@@ -115,7 +115,7 @@ pub record IsOfPlace (s : StampedRow) (p : RowPlace) : Type 0 where
 
 -- ---- the kinds of rows
 
--- the layout version has the kinds of the rows at these places
+-- the layout has the kinds of the rows at these places
 abbrev pub AreOfKinds : Layout → List RowPlace → Type 0
 AreOfKinds layout places = All (λ (p : RowPlace). HasKind layout p.key.kind) places
 

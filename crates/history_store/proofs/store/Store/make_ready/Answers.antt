@@ -43,7 +43,7 @@ returns-then-is_empty-clause-checking g c =
     rw (← c.self-2.view_is) (λ honest still. record { open_still = still; each = held_stands _ _ _ _ _ _ _ c.self-2.invariant.0 honest still }) in
     let ready = ready_at (g.D.Disk.view c.args.self.now.disk).is_honest _ c.args.self.now _ c.find_new_rows.new.self c.args.release c.in_ok-fresh.fresh (nexts.WithoutSegment c.in_ok-directory.directory) _ _ c.self.view_is (admitted _ _ _ _ (c.if-is_spent.ensures.left refl) c.if-is_for_later.ensures refl) c.self-2.view_is c.self-2.invariant.0.kept.history e.still e.brings e.accepted (ap (λ n. n + 1) c.imports.ensures) (c.len.ensures ∙ len) (none, c.in_ok-directory.ensures) in
     checked_after g.D.Disk.view c.args.self.now c.find_new_rows.new.self c.args.release _
-    (record { still = e.still; version = not_later _ c.args.self.now c.args.release c.self.view_is (admitted _ _ _ _ (c.if-is_spent.ensures.left refl) c.if-is_for_later.ensures refl); acknowledged = standing; fresh = c.in_ok-fresh.fresh; meters = e.meters })
+    (record { still = e.still; not_later = not_later _ c.args.self.now c.args.release c.self.view_is (admitted _ _ _ _ (c.if-is_spent.ensures.left refl) c.if-is_for_later.ensures refl); acknowledged = standing; fresh = c.in_ok-fresh.fresh; meters = e.meters })
     (foreseen _ c.find_new_rows.new.self c.args.release _ ready c.args.self.now e.still) (foreseen_at_all _ c.find_new_rows.new.self c.args.release _ ready c.args.self.now e.still) e.meters.counts.failures
 
 pub returns-clause-checking : goal.returns-clause-checking
@@ -55,7 +55,7 @@ returns-clause-checking g c =
     rw (← c.self-2.view_is) (λ honest still. record { open_still = still; each = held_stands _ _ _ _ _ _ _ c.self-2.invariant.0 honest still }) in
     let ready = ready_at (g.D.Disk.view c.args.self.now.disk).is_honest _ c.args.self.now _ c.find_new_rows.new.self c.args.release c.in_ok-fresh.fresh (nexts.WithSegment c.in_ok-prepared.prepared) _ _ c.self.view_is (admitted _ _ _ _ (c.if-is_spent.ensures.left refl) c.if-is_for_later.ensures refl) c.self-2.view_is c.self-2.invariant.0.kept.history e.still e.brings e.accepted (ap (λ n. n + 1) c.imports.ensures) (c.len.ensures ∙ len) (some, c.in_ok-prepared.ensures.prepared) in
     checked_after g.D.Disk.view c.args.self.now c.find_new_rows.new.self c.args.release _
-    (record { still = e.still; version = not_later _ c.args.self.now c.args.release c.self.view_is (admitted _ _ _ _ (c.if-is_spent.ensures.left refl) c.if-is_for_later.ensures refl); acknowledged = standing; fresh = c.in_ok-fresh.fresh; meters = e.meters })
+    (record { still = e.still; not_later = not_later _ c.args.self.now c.args.release c.self.view_is (admitted _ _ _ _ (c.if-is_spent.ensures.left refl) c.if-is_for_later.ensures refl); acknowledged = standing; fresh = c.in_ok-fresh.fresh; meters = e.meters })
     (foreseen _ c.find_new_rows.new.self c.args.release _ ready c.args.self.now e.still) (foreseen_at_all _ c.find_new_rows.new.self c.args.release _ ready c.args.self.now e.still) e.meters.counts.failures
 
 pub returns-in_err-prepared-clause-checking : goal.returns-in_err-prepared-clause-checking
@@ -68,7 +68,7 @@ returns-in_err-prepared-clause-checking g c =
     let standing : (g.D.Disk.view c.find_new_rows.new.self.disk).is_honest → c.find_new_rows.new.self.needs_reopen ≡ false → IsAcknowledged g.D.Disk.view c.find_new_rows.new.self =
     rw (← c.self-2.view_is) (λ honest still. record { open_still = still; each = held_stands _ _ _ _ _ _ _ c.self-2.invariant.0 honest still }) in
     rw (p.1, p.2) (checked_after g.D.Disk.view c.args.self.now c.find_new_rows.new.self c.args.release _
-    (record { still = e.still; version = not_later _ c.args.self.now c.args.release c.self.view_is (admitted _ _ _ _ (c.if-is_spent.ensures.left refl) c.if-is_for_later.ensures refl); acknowledged = standing; fresh = c.in_ok-fresh.fresh; meters = e.meters })
+    (record { still = e.still; not_later = not_later _ c.args.self.now c.args.release c.self.view_is (admitted _ _ _ _ (c.if-is_spent.ensures.left refl) c.if-is_for_later.ensures refl); acknowledged = standing; fresh = c.in_ok-fresh.fresh; meters = e.meters })
     (λ honest.
     let at = at_mid _ c.args.self.now _ c.find_new_rows.new.self c.args.release c.in_ok-fresh.fresh c.self.view_is (admitted _ _ _ _ (c.if-is_spent.ensures.left refl) c.if-is_for_later.ensures refl) c.self-2.view_is c.self-2.invariant.0.kept.history e.still (e.accepted honest) in
     (not_prepared c.args.self.now _ c.find_new_rows.new.self c.args.release c.in_ok-fresh.fresh _ c.self-2.view_is e.still at why, refused))
@@ -127,5 +127,5 @@ returns-in_err-directory-clause-checking g c =
     let standing : (g.D.Disk.view c.find_new_rows.new.self.disk).is_honest → c.find_new_rows.new.self.needs_reopen ≡ false → IsAcknowledged g.D.Disk.view c.find_new_rows.new.self =
     rw (← c.self-2.view_is) (λ honest still. record { open_still = still; each = held_stands _ _ _ _ _ _ _ c.self-2.invariant.0 honest still }) in
     rw (p.1, p.2) (checked_after g.D.Disk.view c.args.self.now c.find_new_rows.new.self c.args.release (Err refusals.OutOfMemory)
-    (record { still = e.still; version = not_later _ c.args.self.now c.args.release c.self.view_is admits; acknowledged = standing; fresh = c.in_ok-fresh.fresh; meters = e.meters })
+    (record { still = e.still; not_later = not_later _ c.args.self.now c.args.release c.self.view_is admits; acknowledged = standing; fresh = c.in_ok-fresh.fresh; meters = e.meters })
     (λ honest. ((e.still.open_before, here), refused)) ((e.still.open_before, here), refused) e.meters.counts.failures)
