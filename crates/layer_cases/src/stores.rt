@@ -1,6 +1,6 @@
 //! A store on the disk of a case. Its directory is that of the case (`listing.rt`).
 //!
-//! - `store check-empty` prints whether the disk is empty; `store make VERSION` makes a store on
+//! - `store check-empty` prints whether the disk is empty; `store make LAYOUT` makes a store on
 //!   it, and prints its current slot, or the fault. Its directory is then that of the case;
 //! - `store add BYTES` writes the last segment that the directory lists, and publishes the
 //!   directory; `store publish` publishes it, `store write-ahead FROM BYTES` writes a part of its
@@ -10,8 +10,9 @@
 //!   segments, or the fault; `store load-with AT BYTES` does so with other bytes at an offset,
 //!   `store turned FIRST END BITS` with these bits of each byte from FIRST up to END inverted, one
 //!   byte at a time, in lines that count from 0, which is FIRST, and `store load-after CALLS CHOICE`
-//!   after a crash, as `crash CALLS CHOICE` makes it, and `store crashes CHOICE CALLS` after CALLS changing calls and after each later one: its lines count
-//!   from 0, which is after CALLS. All of these but `store load` leave the disk as it is;
+//!   after a crash, as `crash CALLS CHOICE` makes it, and `store crashes CHOICE CALLS` after CALLS
+//!   changing calls and after each later one: its lines count from 0, which is after CALLS. All of
+//!   these but `store load` leave the disk as it is;
 //! - `store rows` prints where each row is that is loaded;
 //! - `store trim LENGTH` prints how many bytes were cut off.
 
