@@ -301,9 +301,9 @@ impl<D: Disk> Store<D> {
         // A store below layout 3 is left unchanged, if the release has members of reference sets.
         ensures later { IsForLater self.old.catalog.layout release → self.new ≡ self.old }
         // A crash at any moment leaves the history from before in the layout from before, or the
-        // history with the release in the next layout; after `Ok` it leaves the latter. promise:
-        // a_crash_leaves_the_old_or_the_new, a_failed_disk_is_told promise:
-        // older_layouts_stay_readable
+        // history with the release in the next layout; after `Ok` it leaves the latter.
+        // promise: a_crash_leaves_the_old_or_the_new, a_failed_disk_is_told
+        // promise: older_layouts_stay_readable
         ensures crash { IsCrashSafe D.view
             (IsBeforeOrAfter self.old.catalog.layout self.old.history release) self.old self.new }
         // If it is refused for a reason other than a disk failure, the images that a crash may
