@@ -214,16 +214,20 @@ abbrev pub IsLacking : {D : Type 0} → Refusal → Server D → Server D → Ty
 IsLacking refusal old new =
     (refusal ≡ store.OutOfMemory) × (old.store.needs_reopen ≡ false) × Same old new
 
+-- no row has to be read for what the question asks
+abbrev pub AsksNoRow : Question → List RowValue → Type 0
+AsksNoRow (ForRows question) rows = rows_for question rows ≡ []
+AsksNoRow question rows = rows ≡ []
+
 -- A question about the first `seen` imports is refused as a call of the store that only reads. On
 -- an honest disk nothing is reported as damaged. On every disk the disk fails, or a row is damaged,
--- only if the question finds something else than no rows.
+-- only if the question asks for a row.
 pub record IsUnfound {D : Type 0} (honest : Type 0) (seen : ℕ) (question : Question)
     (refusal : Refusal) (old new : Server D) : Type 0 where
   pub cause : IsReadRefusal refusal old.store
   pub refused : IsRefused refusal old.store new.store
   pub undamaged : honest → refusal ≢ store.Damaged
-  pub causes : IsFound question (rows_at seen old.store.history.rows) (Rows [])
-      → IsWithoutRead refusal
+  pub causes : AsksNoRow question (rows_at seen old.store.history.rows) → IsWithoutRead refusal
   pub pins : new.pins ≡ old.pins
 
 -- the store's refusal of a question about the first `seen` imports

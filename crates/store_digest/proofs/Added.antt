@@ -49,6 +49,7 @@ module _ {D : Type 0} (view : D → DiskView) (pin : ℕ) (after : Option Key) (
           holds = λ m holding. subst (λ t. Holds256 more (m ++ t)) text (holds m holding);
         };
         key = ap (λ k. k ∷ []) key_is ∙ ap (map key_of) (sym one) ∙ q.keys;
+        causes = λ none. tt;
         query = answered_otherwise view old new x (Some key) q.query;
         other_calls = q.other_calls;
         looked_up = q.looked_up;
@@ -64,6 +65,7 @@ module _ {D : Type 0} (view : D → DiskView) (pin : ℕ) (after : Option Key) (
       holds = λ m holding. subst (Holds256 hasher) (sym (append-nil m)) holding;
     };
     key = ap (map key_of) (sym none) ∙ q.keys;
+    causes = λ none. tt;
     query = answered_otherwise view old new x None q.query;
     other_calls = q.other_calls;
     looked_up = q.looked_up;

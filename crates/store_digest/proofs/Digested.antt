@@ -68,6 +68,11 @@ fed_all honest hasher more last rows fed hashed none no_next =
       λ h. all_done ∙ fed.left h,
     )
 
+-- where there is no row, there is none after a key
+none_after : (last : Option Key) (rows : List RowValue) → rows ≡ [] → rows_after last 1 rows ≡ []
+unfolding rows_after
+none_after last rows none = subst (λ ys. rows_after last 1 ys ≡ []) (sym none) refl
+
 -- the rows that a pin shows
 abbrev pub shown_of : {D : Type 0} → ℕ → StoreValue D → List RowValue
 shown_of pin store = rows_at pin store.history.rows
@@ -143,6 +148,7 @@ module _ {D : Type 0} (view : D → DiskView) (pin : ℕ) where
         record {
           found = λ h. hash ∙ ap digest_of (all.2 h);
           keys = (d.fed.done, hash, all.1 (subst (λ (h : History). IsAscending row_cmp (rows_at pin h.rows)) d.asked.history (IsAscending-rows_at pin now.history.rows history.ascending)));
+          causes = λ no_row. tt;
           query = query_then view old now new d.asked (Ok digest) (answered_otherwise view now new None digest q.query);
           other_calls = q.other_calls ∙ d.asked.other_calls;
           looked_up = looked_up_then view old now new d.asked q.looked_up;
@@ -159,6 +165,7 @@ module _ {D : Type 0} (view : D → DiskView) (pin : ℕ) where
     stopped e q = record {
       found = λ h. tt;
       keys = tt;
+      causes = λ no_row. q.causes (none_after last (shown_of pin now) (ap (λ (h : History). rows_at pin h.rows) d.asked.history ∙ no_row));
       query = query_then view old now new d.asked (Err e) (refused_otherwise view now new e q.query);
       other_calls = q.other_calls ∙ d.asked.other_calls;
       looked_up = looked_up_then view old now new d.asked q.looked_up;

@@ -1,5 +1,5 @@
 -- The digest of rows, and the result of asking a store for the digest of all its rows.
-use Rattle.std.specs.Prelude.{◌≡◌, ℕ, ◌+◌, ◌≤◌, List, [], ◌∷◌, ◌++◌, map, codes, Result, IfOk}
+use Rattle.std.specs.Prelude.{◌≡◌, ℕ, ◌+◌, ◌≤◌, List, [], ◌∷◌, ◌++◌, map, codes, Result, IfOk, IfErr}
 use Rattle.std.specs.List.{flat_map, sum_by}
 use Rattle.sha2.specs.Sha256.{sha256}
 use Rattle.rf2_values.specs.Row.{RowValue, kind_of, canonical}
@@ -10,7 +10,7 @@ use Rattle.line_commands.specs.Spelling.{letter}
 use Rattle.history_store.specs.declared.refusal.Refusal.{Refusal}
 use Rattle.history_store.specs.Reading.{row_cost}
 use Rattle.history_store.specs.StoreValue.{StoreValue}
-use Rattle.history_store.specs.Queries.{IsQuery, ReadsThroughCache}
+use Rattle.history_store.specs.Queries.{IsQuery, IsWithoutRead, ReadsThroughCache}
 
 -- a row's line: the letter of its kind, a space, its canonical spelling and LF
 abbrev pub text_line : RowValue → List ℕ
@@ -32,12 +32,13 @@ IsDigestByKey digest shown = (rows : List RowValue) × (digest ≡ digest_of row
 -- On an honest disk the digest is that of all rows that the pin shows, in key order. On every disk
 -- it is that of rows with the same keys: no row is left out. On every disk no calls but reads are
 -- made, cached blocks aren't read again, and no more is read than these rows take, each counted
--- once.
+-- once. If there is no row, the disk doesn't fail, and none is damaged.
 pub record IsDigestQuery {D : Type 0} (result : Result (List ℕ) Refusal) (pin : ℕ)
     (view : D → DiskView) (old new : StoreValue D) : Type 0 where
   pub found : (view old.disk).is_honest
       → IfOk result (λ digest. digest ≡ digest_of (rows_at pin old.history.rows))
   pub keys : IfOk result (λ digest. IsDigestByKey digest (rows_at pin old.history.rows))
+  pub causes : rows_at pin old.history.rows ≡ [] → IfErr result IsWithoutRead
   pub query : IsQuery result view old new
   pub other_calls : (view new.disk).other_calls ≡ (view old.disk).other_calls
   pub looked_up : ReadsThroughCache view old new

@@ -1,5 +1,5 @@
 -- What hashing one row does. No public clause cites these definitions.
-use Rattle.std.specs.Prelude.{◌≡◌, ℕ, ◌+◌, ◌≤◌, List, ◌++◌, map, Option, Result, IfOk, OnOk}
+use Rattle.std.specs.Prelude.{◌≡◌, ℕ, ◌+◌, ◌≤◌, List, [], ◌++◌, map, Option, Result, IfOk, IfErr, OnOk}
 use Rattle.std.specs.Option.{option_to_list}
 use Rattle.std.specs.List.{sum_by}
 use Rattle.sha2.specs.declared.Sha256.{Sha256}
@@ -13,7 +13,7 @@ use Rattle.disk_model.specs.View.{DiskView}
 use Rattle.history_store.specs.declared.refusal.Refusal.{Refusal}
 use Rattle.history_store.specs.Reading.{row_cost}
 use Rattle.history_store.specs.StoreValue.{StoreValue}
-use Rattle.history_store.specs.Queries.{IsQuery, ReadsThroughCache}
+use Rattle.history_store.specs.Queries.{IsQuery, IsWithoutRead, ReadsThroughCache}
 use Rattle.store_digest.specs.Digest.{text_of}
 
 -- the next row after a key that the pin shows, or none
@@ -36,6 +36,7 @@ pub record IsNextAdded {D : Type 0} (result : Result (Option Key) Refusal) (afte
   pub hashed : OnOk result
       (AreHashed (view old.disk).is_honest (next_row after pin old) before after_it)
   pub key : IfOk result (λ key. option_to_list key ≡ map key_of (next_row after pin old))
+  pub causes : next_row after pin old ≡ [] → IfErr result IsWithoutRead
   pub query : IsQuery result view old new
   pub other_calls : (view new.disk).other_calls ≡ (view old.disk).other_calls
   pub looked_up : ReadsThroughCache view old new
