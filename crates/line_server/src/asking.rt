@@ -4,8 +4,8 @@ ghost use Rattle.std.specs.Prelude.{◌≤◌, ℕ, List, Option};
 ghost use Rattle.std.specs.Prelude.{◌↔◌, IsTrue};
 ghost use Rattle.line_commands.specs.Commands.{At};
 ghost use Rattle.line_commands.specs.Requests.{command_of};
-ghost use Rattle.question_model.specs.Questions.{question_of};
-ghost use Rattle.line_server.specs.Replies.{NeedsLater, NeedsMembers};
+ghost use Rattle.question_model.specs.Questions.{question_of, row_question_of};
+ghost use Rattle.line_server.specs.Replies.{AsksMembers, NeedsLater, NeedsMembers};
 ghost use Rattle.line_server.specs.Private.{IsCarriedOut, IsQueried, QuestionCanBeAsked};
 
 use crate::queries::{answer_dates, answer_digest, answer_ids, answer_receipt, answer_rows};
@@ -21,13 +21,10 @@ use rf2_rows::Kind;
 use std::alloc::Global;
 
 /// Whether the question asks for members of reference sets, or is answered by what they say.
-fn needs_members(question: &Question<'_>) -> bool
-    ensures { IsTrue result ↔ NeedsMembers (question_of question.now) }
+fn asks_members(question: &RowQuestion<'_>) -> bool
+    ensures { IsTrue result ↔ AsksMembers (row_question_of question.now) }
 {
-    let Question::ForRows(question) = *question else {
-        return false;
-    };
-    match question {
+    match *question {
         RowQuestion::Get { kind, .. }
         | RowQuestion::History { kind, .. }
         | RowQuestion::About { kind, .. }
@@ -37,6 +34,15 @@ fn needs_members(question: &Question<'_>) -> bool
         RowQuestion::Members { .. } | RowQuestion::Values { .. } | RowQuestion::Called { .. } => {
             true
         }
+        _ => false,
+    }
+}
+
+fn needs_members(question: &Question<'_>) -> bool
+    ensures { IsTrue result ↔ NeedsMembers (question_of question.now) }
+{
+    match question {
+        Question::ForRows(rows) => asks_members(rows),
         _ => false,
     }
 }
