@@ -3,10 +3,12 @@ use Rattle.std.proofs.Common.{◌≡◌, ◌⊎◌, ℕ, Bool, true, false, List
 use Rattle.std.proofs.lemmas.Bool.{false≢true}
 use Rattle.rf2_values.specs.Row.{RowValue}
 use Rattle.history_model.specs.History.{rows_at}
+use Rattle.history_model.proofs.Hierarchy.{one_list_of_ancestors, one_list_of_descendants}
 use Rattle.history_store.specs.declared.refusal.Refusal.{Refusal}
 use Rattle.history_store.specs.declared.refusal.Refusal.TheVariants as store
 use Rattle.question_model.specs.Questions.{Question, Dates, Digest, Receipt, ForRows, ForIds}
-use Rattle.question_model.proofs.Orders.{same_ids}
+use Rattle.question_model.specs.Questions.{IdQuestion, Children, Ancestors, Descendants}
+use Rattle.question_model.specs.Wanted.{AreIdsFor}
 use Rattle.line_server.specs.declared.refusal.LineRefusal.{LineRefusal}
 use Rattle.line_server.specs.declared.refusal.LineRefusal.TheVariants as refusals
 use Rattle.line_server.specs.ReplyValue.{Answer, Ids}
@@ -30,6 +32,12 @@ AsksFound (Receipt number) = ⊥
 AsksFound _ = Unit {0}
 
 -- ---- one answer
+
+-- a question asks for one list of identifiers
+same_ids : (question : IdQuestion) (rows : List RowValue) (ids others : List ℕ) → AreIdsFor question rows ids → AreIdsFor question rows others → ids ≡ others
+same_ids (Children concept date) rows ids others are also = are ∙ sym also
+same_ids (Ancestors concept date) rows ids others are also = one_list_of_ancestors concept date rows ids others are also
+same_ids (Descendants concept date) rows ids others are also = one_list_of_descendants concept date rows ids others are also
 
 -- a question finds one answer
 pub one_found : (question : Question) (rows : List RowValue) (x y : Answer) → IsFound question rows x → IsFound question rows y → x ≡ y
