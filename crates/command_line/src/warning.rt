@@ -5,6 +5,7 @@ ghost use Rattle.command_line.specs.Tasks.{IsOnlyRead};
 use disk_model::Disk;
 use history_store::{Refusal, Store};
 use import_check::ReleaseFile;
+use question_model::RowQuestion;
 use rf2_values::{EffectiveTime, Key, Kind, Sctid};
 use std::alloc::{AllocFailed, Global};
 use std::collections::BTreeSet;
@@ -148,7 +149,11 @@ fn has_own_row<D: Disk>(module: u64, store: &mut Store<D>) -> Result<bool, Refus
     ensures { IsOnlyRead D.view store.old.disk store.new.disk }
 {
     let pin = store.imports();
-    let rows = store.versions(Kind::Concept, u128::from(module), pin)?;
+    let versions = RowQuestion::History {
+        kind: Kind::Concept,
+        id: u128::from(module),
+    };
+    let rows = store.select(&versions, pin)?;
     Ok(rows.iter().any(|row| row.module_id.value() == module))
 }
 
