@@ -28,7 +28,7 @@ use Rattle.line_server.proofs.Importing.{same_server, refused_imports}
 use Rattle.line_server.proofs.KnownRead.{none_known, known_of}
 use Rattle.line_server.proofs.Queried.{carried_out, refused_as, refused_by, lack_is_no_fault}
 
-module _ {D : Type 0} (source : SourceView) (view : D → DiskView) (name : List ℕ) (session : ℕ) (state : StateValue) (free : HoldsBack state.met_damage (Check name) → ⊥) where
+module _ {D : Type 0} (source : SourceView) (view : D → DiskView) (name : List ℕ) (session : ℕ) (state : StateValue) (free : HoldsBack state.held (Check name) → ⊥) where
   -- the disk wasn't used
   unread : (s : StoreValue D) → LeavesQueried view s s
   unread s = (λ h. refl, none_looks_up (is_listed s.catalog.entries) s.cache (view s.disk).bytes_read)

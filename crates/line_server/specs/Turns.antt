@@ -22,6 +22,7 @@ use Rattle.line_server.specs.declared.refusal.LineRefusal.{LineRefusal}
 use Rattle.line_server.specs.declared.refusal.LineRefusal.TheVariants as refusals
 use Rattle.line_server.specs.Sources.{Releases, SourceView, scope_of}
 use Rattle.line_server.specs.ReplyValue.{Answer, Rows, ReplyValue, reply_value, bytes_of}
+use Rattle.line_server.specs.declared.held.Held.{Held}
 use Rattle.line_server.specs.StateValue.{met_after}
 use Rattle.line_server.specs.Replies.{Server, Replies, AsksNoRelease, imports_seen}
 use Rattle.store_life.specs.Life.{Call, Imported, Failed, Other, IsCall}
@@ -74,18 +75,23 @@ LeavesQueried view old new =
     ((view old.disk).is_honest → (view new.disk).moments ≡ (view old.disk).moments)
     × ReadsThroughCache view old new
 
+-- the same, and no call but reads is made, on every disk
+abbrev pub LeavesRead : {D : Type 0} → (D → DiskView) → StoreValue D → StoreValue D → Type 0
+LeavesRead view old new = LeavesQueried view old new
+    × ((view new.disk).other_calls ≡ (view old.disk).other_calls)
+
 -- what a question about the first `seen` imports leaves of the disk, which is unchanged if the
 -- index alone answers it
 abbrev pub LeavesAsked : {D : Type 0} → (D → DiskView) → ℕ → Question → Result Answer LineRefusal
     → StoreValue D → StoreValue D → Type 0
 LeavesAsked view seen (ForRows question) outcome old new =
-    LeavesQueried view old new
+    LeavesRead view old new
     × ReadsFor outcome (view old.disk).bytes_read (view new.disk).bytes_read
     × ((view new.disk).bytes_read ≤ (view old.disk).bytes_read
     + sum_by row_cost (rows_for question (rows_at seen old.history.rows)))
 LeavesAsked view seen (ForIds question) outcome old new = new.disk ≡ old.disk
 LeavesAsked view seen Dates outcome old new = new.disk ≡ old.disk
-LeavesAsked view seen Digest outcome old new = LeavesQueried view old new
+LeavesAsked view seen Digest outcome old new = LeavesRead view old new
     × ((view new.disk).bytes_read
     ≤ (view old.disk).bytes_read + sum_by row_cost (rows_at seen old.history.rows))
 LeavesAsked view seen (Receipt number) outcome old new = new.disk ≡ old.disk
@@ -184,11 +190,11 @@ Run {D} source view old (turn ∷ turns) new =
     (mid : Server D) × IsTurn source view old turn mid × Run source view mid turns new
 
 -- None of the lines asks the source for a release: none names one, unless it is held back. The
--- first argument says whether damage was found before them.
-abbrev pub AskNoRelease : (met_damage : Bool) → List Turn → Type 0
-AskNoRelease met_damage [] = Unit {0}
-AskNoRelease met_damage (turn ∷ turns) = AsksNoRelease turn.line met_damage
-    × AskNoRelease (met_after turn.outcome met_damage) turns
+-- first argument says what is held back before them.
+abbrev pub AskNoRelease : Held → List Turn → Type 0
+AskNoRelease held [] = Unit {0}
+AskNoRelease held (turn ∷ turns) = AsksNoRelease turn.line held
+    × AskNoRelease (met_after turn.outcome held) turns
 
 abbrev pub lines_asked : List Turn → List (List ℕ)
 lines_asked turns = map (λ turn. turn.line) turns
