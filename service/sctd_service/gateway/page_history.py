@@ -7,23 +7,14 @@ from markupsafe import Markup
 
 from . import limits
 from .markup import joined, tag, term, time
-from ..snomed import (DEFINED, FULLY_SPECIFIED_NAME, IS_A, REFSET_DESCRIPTOR, TEXT_DEFINITION,
+from .refsets import METADATA_TAG, Columns, columns_of
+from ..snomed import (DEFINED, FULLY_SPECIFIED_NAME, IS_A, TEXT_DEFINITION,
                       Association, Concept, Description, RefsetMember, Relationship, is_concept_id)
 from .store import AnyRow, Versions, View
 
 ARROW = " \u2192 "
 BESIDE = " \u00b7 "
-METADATA_TAG = " (foundation metadata concept)"
 NOTHING = "none"
-# What a map's columns are called where the store doesn't say it: those of an extended map.
-EXTENDED_MAP = (
-    "Map group", "Map priority", "Map rule", "Map advice", "Map target", "Correlation",
-    "Map category")
-# Of a reference set's description: the columns of a member that says what a column is, and the
-# places of those that not all reference sets have.
-DESCRIBING_COLUMNS, PLACES = 3, {str(place) for place in range(1, 100)}
-# The names of the columns that are a reference set's own, by reference sets.
-Columns = Mapping[str, Sequence[str]]
 WHAT = {FULLY_SPECIFIED_NAME: "Name", TEXT_DEFINITION: "Text definition"}
 
 
@@ -65,7 +56,7 @@ class Names:
 async def history(view: View, timeline: Iterable[Versions], marks: Mapping[str, str],
                   refsets: Mapping[str, str]) -> Markup:
     """The changes by day, oldest first, with the days that are marked among them."""
-    columns = await columns_of(view, members_in(timeline), view.latest)
+    columns = await columns_of(view, counts_of(members_in(timeline)), view.latest)
     names = Names(await view.names(other_codes(timeline), view.latest), refsets, columns)
     events: dict[str, list[Markup]] = {day: [tag("em", said)] for day, said in marks.items()}
     for versions in timeline:
@@ -96,28 +87,10 @@ def members_in(timeline: Iterable[Versions]) -> Iterator[RefsetMember]:
         yield from (row for row in versions if isinstance(row, RefsetMember))
 
 
-async def columns_of(view: View, members: Iterable[RefsetMember], day: str) -> Columns:
-    """What the columns of these members are called, as the store describes them on a day."""
+def counts_of(members: Iterable[RefsetMember]) -> dict[str, int]:
+    """How many columns of their own the first of these reference sets have."""
     counts = {row.refset: len(row.further) for row in members if row.further}
-    refsets = [*counts][: limits.TOLD_REFSETS]
-    described = [described_by(told) for told in await view.members_about(refsets, day)]
-    names = await view.names((code for codes in described for code in codes), day)
-    found = {
-        refset: [names[code].removesuffix(METADATA_TAG) for code in codes]
-        for refset, codes in zip(refsets, described) if len(codes) == counts[refset]}
-    unknown = {refset: EXTENDED_MAP for refset in refsets if counts[refset] == len(EXTENDED_MAP)}
-    return {**unknown, **found}
-
-
-def described_by(members: Iterable[RefsetMember]) -> list[str]:
-    """The concepts that say what each column of a reference set is, in the columns' order."""
-    found = {}
-    for row in members:
-        if row.refset == REFSET_DESCRIPTOR and len(row.further) == DESCRIBING_COLUMNS:
-            description, _, order = row.further
-            if order in PLACES and is_concept_id(description):
-                found[int(order)] = description
-    return [found[order] for order in sorted(found)]
+    return dict([*counts.items()][: limits.TOLD_REFSETS])
 
 
 def codes_of_member(row: RefsetMember) -> list[str]:

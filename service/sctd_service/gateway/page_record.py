@@ -11,8 +11,9 @@ from .fhir.translation import MAPS
 from .fhir.versions import Edition
 from .frame import Shown, for_good
 from .markup import address, aside, joined, spoken, tag, term, time, verdict, visible
-from .page_history import NOTHING, Columns, Names, codes_of_member, columns_of, history
+from .page_history import NOTHING, Names, codes_of_member, counts_of, history
 from .page_members import Membership, memberships, refset_entries
+from .refsets import Columns, columns_of
 from ..snomed import (
     DEFINED, FULLY_SPECIFIED_NAME, IS_A, MOVED_FROM, MOVED_TO, REFERS_TO, TEXT_DEFINITION,
     Association, Concept, Facts, Language, Relationship, display_of, distinct, is_concept_id,
@@ -204,7 +205,7 @@ async def side_of(view: View, code: str, day: str, language: Language,
     for member in members:
         codes += codes_of_member(member.row)
     codes += told_first(own.children, other.children) + told_first(own.taken, other.taken)
-    columns = await columns_of(view, (member.row for member in members), release)
+    columns = await columns_of(view, counts_of(member.row for member in members), release)
     return Side(day, True, facts, await view.names(codes, release), members, own, columns)
 
 

@@ -1,17 +1,28 @@
-"""Reference sets as sets of concepts: the codes of one, page by page of `VALUES`, and which
-reference sets there are."""
+"""Reference sets as sets of concepts: the codes of one, page by page of `VALUES`, which reference
+sets there are, and what their columns are called."""
 
-from collections.abc import Sequence
+from collections.abc import Iterable, Mapping, Sequence
 
 from . import limits
 from .pool import Codes
 from .problems import too_costly
 from ..snomed import (
-    ASSOCIATIONS, REFERENCE_SET, Association, RefsetMember, distinct, is_id_of_concept)
+    ASSOCIATIONS, REFERENCE_SET, REFSET_DESCRIPTOR, Association, RefsetMember, distinct,
+    is_concept_id, is_id_of_concept)
 from .store import FIRST, View
 
 # The reference set of only its active concepts, among those that are remembered.
 ACTIVE = "%s active"
+METADATA_TAG = " (foundation metadata concept)"
+# What a map's columns are called where the store doesn't say it: those of an extended map.
+EXTENDED_MAP = (
+    "Map group", "Map priority", "Map rule", "Map advice", "Map target", "Correlation",
+    "Map category")
+# Of a reference set's description: the columns of a member that says what a column is, and the
+# places of those that not all reference sets have.
+DESCRIBING_COLUMNS, PLACES = 3, {str(place) for place in range(1, 100)}
+# The names of the columns that are a reference set's own, by reference sets.
+Columns = Mapping[str, Sequence[str]]
 
 
 async def codes_of(view: View, refset: str, day: str) -> Codes:
@@ -120,3 +131,26 @@ async def which_of(view: View, codes: Sequence[str], day: str) -> set[str]:
     """Those of the concepts that are such reference sets."""
     found = await view.those_within(codes, REFERENCE_SET, day) - {REFERENCE_SET}
     return set(await which_have_members(view, sorted(found, key=int), day))
+
+
+async def columns_of(view: View, counts: Mapping[str, int], day: str) -> Columns:
+    """What the columns of reference sets are called, as the store describes them on a day: of each
+    that has so many."""
+    described = [described_by(told) for told in await view.members_about([*counts], day)]
+    names = await view.names((code for codes in described for code in codes), day)
+    found = {
+        refset: [names[code].removesuffix(METADATA_TAG) for code in codes]
+        for refset, codes in zip(counts, described) if len(codes) == counts[refset]}
+    unknown = {refset: EXTENDED_MAP for refset in counts if counts[refset] == len(EXTENDED_MAP)}
+    return {**unknown, **found}
+
+
+def described_by(members: Iterable[RefsetMember]) -> list[str]:
+    """The concepts that say what each column of a reference set is, in the columns' order."""
+    found = {}
+    for row in members:
+        if row.refset == REFSET_DESCRIPTOR and len(row.further) == DESCRIBING_COLUMNS:
+            description, _, order = row.further
+            if order in PLACES and is_concept_id(description):
+                found[int(order)] = description
+    return [found[order] for order in sorted(found)]
