@@ -3,6 +3,7 @@
 import http.client
 import json
 import os
+import re
 import signal
 import socket
 import subprocess
@@ -28,6 +29,8 @@ POST = (
     b"POST /fhir/CodeSystem/$lookup HTTP/1.1\r\nHost: x\r\n"
     b"Content-Type: application/json\r\n"
 )
+# What is empty in JSON, and no quotation mark at the end of a text.
+EMPTY = re.compile(rb'\[\]|null|\{\}|(?<!\\)""')
 # How long an answer may take here: more than the gateway's own limit.
 SECONDS = 60
 PROGRAM_AND_HUB = ("SCTD_PROGRAM", "SCTD_HUB")
@@ -112,9 +115,7 @@ class Gateway:
         answer = self.send("GET", base + path + ("?" + urlencode(pairs) if pairs else ""))
         assert answer.headers["content-type"] == FHIR_JSON + "; charset=utf-8", answer.headers
         # FHIR's JSON has nothing that is empty.
-        assert not any(
-            empty in answer.body for empty in (b"[]", b"null", b"{}", b'""')
-        ), answer.body
+        assert not EMPTY.search(answer.body), answer.body
         return answer.status, answer.json()
 
     def posted(self, path: str, *parts: Json) -> tuple[int, Json]:

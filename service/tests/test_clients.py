@@ -153,7 +153,7 @@ class TestComposed(Whole):
 
     def test_what_is_refused(self) -> None:
         limb = self.codes["limb"]
-        constraint = {"property": "constraint", "op": "=", "value": "<" + limb}
+        constraint = {"property": "constraint", "op": "=", "value": "<" + limb + " OR"}
         cases: tuple[tuple[Json, int], ...] = (
             (self.define([]), 400),
             (self.define([{}]), 400),
@@ -162,7 +162,8 @@ class TestComposed(Whole):
             (self.define([self.part("is-a", "1105008")]), 400),
             (self.define([self.part("is-a", "138875005\n0 PIN 1")]), 400),
             (self.define([self.part("regex", "limb")]), 422),
-            (self.define([{"system": SCT, "filter": [constraint]}]), 422),
+            (self.define([{"system": SCT, "filter": [constraint]}]), 400),
+            (self.define([{"system": SCT, "filter": [{**constraint, "op": "in"}]}]), 422),
             (self.define([{"system": SCT, "filter": 7}]), 400),
             (self.define([{"system": SCT, "concept": ["x"]}]), 400),
             (self.define([{"valueSet": "x"}]), 400),

@@ -104,7 +104,7 @@ class TestExpand(Asked):
 
     def test_what_is_refused(self) -> None:
         cases: tuple[tuple[str, dict[str, str], int], ...] = (
-            ("=ecl/<1", {}, 422),
+            ("=ecl/<1", {}, 400),
             ("=refset", {}, 422),
             ("=refset/1105007", {}, 422),
             ("=isa/12", {}, 400),

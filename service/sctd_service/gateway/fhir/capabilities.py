@@ -9,6 +9,7 @@ from .inputs import SCT
 from .parameters import ways_of
 from .request import Request
 from .translation import ICD_10, MAPS
+from .valuesets import CONSTRAINT, FILTERS, IS
 
 FHIR_VERSION = "4.0.1"
 DEFINITIONS = "http://hl7.org/fhir/OperationDefinition/"
@@ -22,9 +23,11 @@ OFFERED = {"CodeSystem": ("lookup", "validate-code", "subsumes"),
            "ValueSet": ("expand", "validate-code"), "ConceptMap": ("translate",)}
 # What an operation may be asked of, where its definition leaves that open.
 OF_VALUE_SETS = (
-    "url is %s?fhir_vs, ?fhir_vs=isa/CODE, ?fhir_vs=refset or ?fhir_vs=refset/CODE, or a version "
-    "of it" % SCT)
+    "url is %s?fhir_vs, ?fhir_vs=isa/CODE, ?fhir_vs=refset, ?fhir_vs=refset/CODE or "
+    "?fhir_vs=ecl/EXPRESSION with an expression of ECL 2.2, or a version of it" % SCT)
 OF_MAPS = "url is %s?fhir_cm= and a simple map, %s, or one of %s" % (SCT, ICD_10, ", ".join(MAPS))
+# The filters that a value set of a client may have.
+FILTERED = [{"code": "concept", "op": [*FILTERS]}, {"code": CONSTRAINT, "op": [IS]}]
 DOCUMENTATION = {"ValueSet": OF_VALUE_SETS, "ConceptMap": OF_MAPS}
 
 
@@ -70,7 +73,7 @@ def terminology_capabilities(request: Request) -> Json:
     versions = [
         {
             "code": request.edition.version(day), "isDefault": day == latest,
-            "compositional": False, **languages, "property": lookup.PROPERTIES}
+            "compositional": False, **languages, "filter": FILTERED, "property": lookup.PROPERTIES}
         for day in request.view.days]
     system = {"uri": SCT, "subsumption": True, **({"version": versions} if versions else {})}
     names = [{"name": name} for name in sorted(ways_of("ValueSet/$expand").taken)]

@@ -7,6 +7,7 @@ from collections.abc import Sequence
 from dataclasses import astuple, dataclass
 
 from .. import limits, refsets
+from ..ecl import syntax
 from ..pool import Member
 from ..problems import Json, invalid, not_supported, too_costly
 from ..store import SEARCHED
@@ -15,7 +16,7 @@ from .inputs import SCT
 from .outputs import ASKED, designations, parameter
 from .request import Request
 from .valuesets import (
-    Sort, ValueSet, codes_in, inside, refset_codes, versions_of, wanted_value_set)
+    Sort, ValueSet, codes_in, expression_codes, inside, refset_codes, versions_of, wanted_value_set)
 from .versions import Moment
 
 # How a designation is asked for by its language.
@@ -88,6 +89,8 @@ async def members(request: Request, value_set: ValueSet, moment: Moment,
         found = [*await view.subtree(value_set.code, moment.day)]
     elif value_set.sort is Sort.IN_REFSET:
         return await members_of_refset(request, value_set.code, moment, wanted)
+    elif value_set.expression:
+        return await members_of_expression(request, value_set.expression, moment, wanted)
     elif value_set.sort is not Sort.ANY:
         found = await view.members(await codes_in(request, value_set, moment), moment.day)
     else:
@@ -106,6 +109,20 @@ async def members_of_refset(request: Request, refset: str, moment: Moment,
     codes: Sequence[str] = await refset_codes(request, refset, moment)
     if wanted.active_only:
         codes = await refsets.active_codes_of(request.view, refset, moment.day)
+    return await page_of(request, codes, moment, wanted)
+
+
+async def members_of_expression(request: Request, expression: syntax.Expression, moment: Moment,
+                                wanted: Wanted) -> tuple[Sequence[Member], int]:
+    """A page of what an expression means."""
+    if wanted.active_only:
+        expression = syntax.Compound(syntax.AND, (expression, syntax.Wildcard()))
+    codes = await expression_codes(request, expression, moment)
+    return await page_of(request, codes, moment, wanted)
+
+
+async def page_of(request: Request, codes: Sequence[str], moment: Moment,
+                  wanted: Wanted) -> tuple[Sequence[Member], int]:
     page = codes[wanted.offset : wanted.offset + wanted.most]
     there = {one.code: one for one in await request.view.members(page, moment.day)}
     return [there.get(code, Member(code, True)) for code in page], len(codes)

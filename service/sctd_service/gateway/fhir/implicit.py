@@ -4,17 +4,19 @@ of a version: `sct.20190131`, `isa-404684003`, `map-447562003.20190131`."""
 
 from collections.abc import Awaitable, Callable, Sequence
 
+from ..ecl.spelling import spelled
 from ..problems import Json, Problem, invalid, not_found
 from ...snomed import is_concept_id, is_day
 from .inputs import SCT, Given
 from .parameters import Ways
 from .request import Request
 from .translation import MAPS, Asked, map_of, must_be_a_map, systems_of
-from .valuesets import FILTERS, Sort, must_be_kept, value_set_of
+from .valuesets import CONSTRAINT, FILTERS, IS, Sort, must_be_kept, value_set_of
 from .versions import Edition, Moment
 
 CODE_SYSTEM, VALUE_SET, CONCEPT_MAP = "CodeSystem", "ValueSet", "ConceptMap"
 CODE_SYSTEM_ID = "sct"
+EXPRESSION_NAME = "SNOMED_CT_ecl"
 # What stands behind the question mark of an address, by the id or by its beginning.
 FORMS = {
     VALUE_SET: {
@@ -86,6 +88,13 @@ async def value_set(request: Request, address: str, version: str | None = None) 
         await must_be_kept(request, found.code, moment)
     form = found.url.partition("?")[2].removesuffix(found.code)
     include: Json = {"system": SCT}
+    if found.expression:
+        one = {"property": CONSTRAINT, "op": IS, "value": spelled(found.expression)}
+        # (It has no id, since an expression can't be written as one.)
+        return {
+            "resourceType": VALUE_SET, "url": found.url, "version": moment.version,
+            "name": EXPRESSION_NAME, "status": "active",
+            "compose": {"include": [{**include, "filter": [one]}]}}
     if found.sort in OPS:
         include["filter"] = [{"property": "concept", "op": OPS[found.sort], "value": found.code}]
     # (That reference sets are asked for can't be said by a filter.)

@@ -12,7 +12,7 @@ from .versions import Moment
 # What a code isn't that is outside a value set.
 OUTSIDE = {Sort.WITHIN: "%s and isn't below it", Sort.IN_REFSET: "in the reference set %s",
            Sort.ARE_REFSETS: "a reference set with members%s",
-           Sort.COMPOSED: "in the value set%s"}
+           Sort.EXPRESSION: "what the expression means%s", Sort.COMPOSED: "in the value set%s"}
 
 
 async def validate_code(request: Request) -> Json:

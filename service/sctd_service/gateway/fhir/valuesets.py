@@ -1,13 +1,16 @@
 """The value sets: the implicit ones, which are all of SNOMED CT, a concept and all below it, a
-reference set, or the reference sets that there are; and those that a client defines, of such parts
-and of lists of codes."""
+reference set, the reference sets that there are, or what an expression means; and those that a
+client defines, of such parts and of lists of codes."""
 
 import enum
 import re
 from collections.abc import Collection, Sequence
 from typing import Any, NamedTuple
+from urllib.parse import unquote
 
-from .. import limits, refsets
+from .. import ecl, limits, refsets
+from ..ecl import syntax
+from ..ecl.parsing import parse
 from ..problems import Json, Problem, conflict, invalid, not_found, not_supported, too_costly
 from ...snomed import REFERENCE_SET, distinct, is_concept_id
 from .inputs import SCT, Query, not_here
@@ -18,6 +21,8 @@ ALL, IS_A, REFSETS, REFSET = "fhir_vs", "fhir_vs=isa/", "fhir_vs=refset", "fhir_
 ECL = "fhir_vs=ecl/"
 # An address with a version of SNOMED CT behind it.
 CANONICAL = re.compile(r"(.*)\|(http://snomed\.info/sct[^|]*)\Z", re.DOTALL)
+# What stands in no address: an expression that has such letters isn't encoded a second time.
+UNENCODED = re.compile(r'[\s<>"{}|^]')
 
 
 class Sort(enum.Enum):
@@ -29,6 +34,7 @@ class Sort(enum.Enum):
     ABOVE = enum.auto()
     IN_REFSET = enum.auto()
     ARE_REFSETS = enum.auto()
+    EXPRESSION = enum.auto()
     LISTED = enum.auto()
     COMPOSED = enum.auto()
 
@@ -37,6 +43,10 @@ class Sort(enum.Enum):
 FILTERS = {
     "is-a": Sort.WITHIN, "descendent-of": Sort.BELOW, "generalizes": Sort.ABOVE,
     "in": Sort.IN_REFSET}
+# The property of a filter that is an expression, and how it and an attribute are compared.
+CONSTRAINT, IS = "constraint", "="
+# The constraint operators of the same filters.
+OPERATORS = {Sort.WITHIN: "<<", Sort.BELOW: "<", Sort.ABOVE: ">>"}
 
 
 class ValueSet(NamedTuple):
@@ -52,6 +62,7 @@ class ValueSet(NamedTuple):
     included: tuple[tuple["ValueSet", ...], ...] = ()
     excluded: tuple[tuple["ValueSet", ...], ...] = ()
     active_only: bool = False
+    expression: syntax.Expression | None = None
 
 
 def wanted_value_set(query: Query) -> ValueSet:
@@ -101,9 +112,15 @@ def value_set_of(address: str) -> ValueSet:
         if code != what and is_concept_id(code):
             return ValueSet(url, versions, sort, code)
     if what.startswith(ECL):
-        raise not_supported("there is no ECL here")
-    raise invalid(
-        "the value set %.100r isn't of the form %s?fhir_vs=isa/CODE or refset/CODE" % (url, SCT))
+        text = what.removeprefix(ECL)
+        return meant_by(text if UNENCODED.search(text) else unquote(text), url, versions)
+    raise invalid("the value set %.100r isn't of the form %s?fhir_vs=isa/CODE, refset/CODE or "
+                  "ecl/EXPRESSION" % (url, SCT))
+
+
+def meant_by(text: str, url: str, versions: tuple[str, ...]) -> ValueSet:
+    """The value set of what an expression means."""
+    return ValueSet(url, versions, Sort.EXPRESSION, expression=parse(text))
 
 
 def is_of_snomed(base: str) -> bool:
@@ -123,11 +140,14 @@ def composed(resource: Any) -> ValueSet:
     parts = [part for some in (*included, *excluded) for part in some]
     if not included or len(parts) > limits.COMPOSED_PARTS:
         raise invalid("valueSet has to include 1 to %d parts" % limits.COMPOSED_PARTS)
-    url, is_all = resource.get("url"), [part.sort for part in parts] == [Sort.ANY]
-    return ValueSet(
-        url if isinstance(url, str) else "", tuple(one for part in parts for one in part.versions),
-        Sort.ANY if is_all else Sort.COMPOSED, included=included, excluded=excluded,
-        active_only=compose.get("inactive") is False)
+    url = resource.get("url") if isinstance(resource.get("url"), str) else ""
+    found = ValueSet(
+        url, tuple(one for part in parts for one in part.versions), Sort.COMPOSED,
+        included=included, excluded=excluded, active_only=compose.get("inactive") is False)
+    # All of SNOMED CT, and what an expression means, are paged without being put together.
+    if len(parts) == 1 and parts[0].sort in (Sort.ANY, Sort.EXPRESSION):
+        found = found._replace(sort=parts[0].sort, expression=parts[0].expression)
+    return found
 
 
 def entries(of: Json, name: str) -> list[Json]:
@@ -153,20 +173,59 @@ def parts_of(one: Json) -> tuple[ValueSet, ...]:
     # A code that isn't one is none of SNOMED CT.
     codes = [str(concept.get("code")) for concept in entries(one, "concept")]
     listed = tuple(filter(is_concept_id, distinct(codes)))
-    own = [filter_of(each, versions) for each in entries(one, "filter")]
+    own = joined([filter_of(each, versions) for each in entries(one, "filter")])
     if codes:
         own.append(ValueSet("", versions, Sort.LISTED, listed=listed))
     return (*parts, *(own or [ValueSet("", versions, Sort.ANY)]))
 
 
 def filter_of(each: Json, versions: tuple[str, ...]) -> ValueSet:
-    named, op, code = each.get("property"), each.get("op"), each.get("value")
-    if named != "concept" or op not in FILTERS:
-        raise not_supported(
-            "of filters concept with %s is answered, and no ECL" % ", ".join(FILTERS))
-    if not isinstance(code, str) or not is_concept_id(code):
+    named, op, value = each.get("property"), each.get("op"), each.get("value")
+    if not isinstance(named, str) or not isinstance(value, str):
+        raise invalid("a filter has a property and a value")
+    if (named, op) == (CONSTRAINT, IS):
+        return meant_by(value, "", versions)
+    if named == "concept" and op in FILTERS:
+        return ValueSet("", versions, FILTERS[op], code_of(value))
+    if is_concept_id(named) and op == IS:
+        return having(named, code_of(value), versions)
+    raise not_supported(
+        "of filters those of concept with %s are answered, and with = of %s and of attributes" % (
+            ", ".join(FILTERS), CONSTRAINT))
+
+
+def code_of(value: str) -> str:
+    if not is_concept_id(value):
         raise invalid("the value of a filter has to be a concept's code")
-    return ValueSet("", versions, FILTERS[op], code)
+    return value
+
+
+def having(attribute: str, value: str, versions: tuple[str, ...]) -> ValueSet:
+    """The concepts with an attribute that has this value."""
+    wanted = syntax.Attribute(
+        syntax.SOME, False, syntax.ConceptReference(attribute), syntax.EQUAL,
+        syntax.ConceptReference(value))
+    return ValueSet("", versions, Sort.EXPRESSION,
+                    expression=syntax.Refined(syntax.Wildcard(), wanted))
+
+
+def joined(filters: list[ValueSet]) -> list[ValueSet]:
+    """The filters, as one expression where an expression is among several."""
+    if len(filters) < 2 or not any(one.sort is Sort.EXPRESSION for one in filters):
+        return filters
+    parts = tuple(expression_of(one) for one in filters)
+    whole = syntax.Compound(syntax.AND, parts)
+    return [filters[0]._replace(sort=Sort.EXPRESSION, code="", expression=whole)]
+
+
+def expression_of(value_set: ValueSet) -> syntax.Expression:
+    """What a filter is as an expression."""
+    if value_set.expression:
+        return value_set.expression
+    concept = syntax.ConceptReference(value_set.code)
+    if value_set.sort is Sort.IN_REFSET:
+        return syntax.MemberOf(concept)
+    return syntax.Related(OPERATORS[value_set.sort], concept)
 
 
 async def inside(request: Request, value_set: ValueSet, codes: Collection[str],
@@ -194,6 +253,9 @@ async def inside(request: Request, value_set: ValueSet, codes: Collection[str],
         for parts in value_set.excluded:
             found -= await inside_all(request, parts, found, moment)
         return found
+    if value_set.expression:
+        await must_keep_all(request, value_set.expression, moment)
+        return await ecl.those_in(view, day, value_set.expression, asked)
     if sort is Sort.ANY:
         return set(asked)
     return set(asked).intersection(await codes_in(request, value_set, moment))
@@ -214,6 +276,8 @@ async def codes_in(request: Request, value_set: ValueSet, moment: Moment) -> Seq
         return value_set.listed
     if sort is Sort.IN_REFSET:
         return await refset_codes(request, code, moment)
+    if value_set.expression:
+        return await expression_codes(request, value_set.expression, moment)
     if sort is Sort.ARE_REFSETS:
         return await refsets_there(request, moment)
     if sort is Sort.COMPOSED:
@@ -236,7 +300,8 @@ async def codes_in(request: Request, value_set: ValueSet, moment: Moment) -> Seq
 
 
 SMALLEST_FIRST = (
-    Sort.LISTED, Sort.ABOVE, Sort.ARE_REFSETS, Sort.IN_REFSET, Sort.BELOW, Sort.WITHIN, Sort.ANY)
+    Sort.LISTED, Sort.ABOVE, Sort.ARE_REFSETS, Sort.IN_REFSET, Sort.EXPRESSION, Sort.BELOW,
+    Sort.WITHIN, Sort.ANY)
 
 
 async def refset_codes(request: Request, refset: str, moment: Moment) -> Sequence[str]:
@@ -252,6 +317,18 @@ async def must_be_kept(request: Request, refset: str, moment: Moment) -> None:
     if not await refsets.was_kept(request.view, refset):
         await request.must_have(refset, moment)
         raise not_supported("the store has no members of the reference set %s" % refset)
+
+
+async def expression_codes(request: Request, expression: syntax.Expression,
+                           moment: Moment) -> Sequence[str]:
+    await must_keep_all(request, expression, moment)
+    return await ecl.codes_of(request.view, moment.day, expression)
+
+
+async def must_keep_all(request: Request, expression: syntax.Expression, moment: Moment) -> None:
+    """Refuses an expression that names a reference set of which the store has no member."""
+    for refset in distinct(syntax.named_refsets(expression)):
+        await must_be_kept(request, refset, moment)
 
 
 async def refsets_there(request: Request, moment: Moment) -> list[str]:

@@ -1,0 +1,90 @@
+"""When a text, a number or a day fits what an expression compares it with."""
+
+from __future__ import annotations
+
+import operator
+import re
+import unicodedata
+from collections.abc import Callable
+from decimal import Decimal
+from typing import Any
+
+from . import syntax as s
+
+WORD = re.compile(r"[^\W_]+")
+NUMBER = re.compile(r"[+-]?[0-9]+(\.[0-9]+)?\Z", re.ASCII)
+ANY_LETTERS = "*"
+ORDERS: dict[str, Callable[[Any, Any], bool]] = {
+    "=": operator.eq, "!=": operator.ne, "<": operator.lt, "<=": operator.le, ">": operator.gt,
+    ">=": operator.ge}
+# A concrete value that is a truth, as a release writes it.
+TRUTHS = {True: "true", False: "false"}
+
+
+def folded(text: str) -> str:
+    """Without case, and without the marks that letters may bear."""
+    letters = unicodedata.normalize("NFD", text.casefold())
+    return "".join(one for one in letters if not unicodedata.combining(one))
+
+
+def words_of(text: str) -> list[str]:
+    """The longest runs of letters and digits."""
+    return WORD.findall(folded(text))
+
+
+def begins_all(wanted: str, text: str) -> bool:
+    """Whether for each wanted word the text has a word that begins with it."""
+    own = words_of(text)
+    return all(any(word.startswith(one) for word in own) for one in words_of(wanted))
+
+
+def fits_pattern(pattern: str, text: str) -> bool:
+    """Whether the whole text fits, where `*` stands for any letters."""
+    first, *middle = folded(pattern).split(ANY_LETTERS)
+    text = folded(text)
+    if not middle:
+        return text == first
+    last, place = middle.pop(), len(first)
+    if not text.startswith(first) or len(text) < len(first) + len(last):
+        return False
+    end = len(text) - len(last)
+    for part in middle:
+        found = text.find(part, place, end)
+        if found < 0:
+            return False
+        place = found + len(part)
+    return text.endswith(last)
+
+
+def fits_text(wanted: s.Text, text: str) -> bool:
+    if wanted.how == s.EXACT:
+        return text in wanted.texts
+    fits = fits_pattern if wanted.how == s.WILD else begins_all
+    return any(fits(one, text) for one in wanted.texts)
+
+
+def number_of(text: str) -> Decimal | None:
+    return Decimal(text) if NUMBER.match(text) else None
+
+
+def fits_number(said: str, comparison: str, wanted: s.Number) -> bool:
+    number = number_of(said)
+    return number is not None and ORDERS[comparison](number, wanted.value)
+
+
+def fits_day(said: str, comparison: str, wanted: s.Text) -> bool:
+    """Days are eight digits each, and are in the order of time."""
+    if comparison in (s.EQUAL, s.NOT_EQUAL):
+        return (said in wanted.texts) == (comparison == s.EQUAL)
+    return ORDERS[comparison](said, wanted.texts[0])
+
+
+def fits_concrete(said: str, comparison: str, wanted: s.Number | s.Text | s.Truth) -> bool:
+    """Whether a concrete value, as a release writes it, fits. One of another kind never does."""
+    is_equality = comparison == s.EQUAL
+    if isinstance(wanted, s.Number):
+        return said[:1] == "#" and fits_number(said[1:], comparison, wanted)
+    if isinstance(wanted, s.Text):
+        is_text = len(said) > 1 and said[0] == said[-1] == '"'
+        return is_text and fits_text(wanted, said[1:-1]) == is_equality
+    return said in TRUTHS.values() and (said == TRUTHS[wanted.value]) == is_equality
