@@ -97,7 +97,8 @@ class Terminology:
         wanted = frozenset(filter(is_id_of_concept, codes))
         if len(wanted) > limits.ASKED_ONE_BY_ONE:
             return [row async for row in self.every_concept() if row.id in wanted]
-        return [row async for _, reply in self.told("GET C", wanted) for row in rows(Concept, reply)]
+        return [
+            row async for _, reply in self.told("GET C", wanted) for row in rows(Concept, reply)]
 
     # ---- the hierarchy
 
