@@ -24,6 +24,7 @@ from collections.abc import Sequence
 
 ROOT = os.path.dirname(os.path.dirname(os.path.dirname(os.path.abspath(__file__))))
 sys.path[:0] = [os.path.join(ROOT, "bench", "trials"), os.path.join(ROOT, "packaging")]
+from expression_fault_table import FAULTS as OF_EXPRESSIONS  # noqa: E402
 from gateway_fault_table import FAULTS as OF_GATEWAY  # noqa: E402
 from gateway_fault_table import Fault  # noqa: E402
 from needs import python_with  # noqa: E402
@@ -31,7 +32,7 @@ from page_fault_table import FAULTS as OF_PAGES  # noqa: E402
 from page_fault_table import PAGE  # noqa: E402
 from try_gateway import OF_TESTS, words_of  # noqa: E402
 
-FAULTS = [*OF_GATEWAY, *OF_PAGES]
+FAULTS = [*OF_GATEWAY, *OF_PAGES, *OF_EXPRESSIONS]
 SECONDS = 300
 NOT_RUN = 3
 

@@ -175,7 +175,7 @@ class ByFiles:
 
     def is_of_profile(self, refset: str, by: str | s.Expression) -> bool:
         if not isinstance(by, str):
-            return self.is_in(refset, by)
+            return self.is_named(refset, by)
         return by == "MAX" or refset in PROFILES[by]
 
     def attributes(self, code: str) -> list[Row]:

@@ -1,19 +1,13 @@
-"""Expressions of ECL: rows worked by hand on the demo releases, and a comparison with an evaluator
-that reads the releases' files itself."""
+"""Expressions of ECL: rows worked by hand on the demo releases, what isn't read, and what is asked
+of the hub."""
 
 import asyncio
-import random
 import re
-import subprocess
-import tempfile
-from collections import Counter
-from pathlib import Path
 from typing import Any
 from urllib.parse import quote
 
 import pytest
 from sctd_service.gateway import limits
-from sctd_service.gateway.ecl import syntax as s
 from sctd_service.gateway.ecl.comparing import fits_pattern
 from sctd_service.gateway.ecl.evaluation import Evaluation
 from sctd_service.gateway.ecl.parsing import parse
@@ -24,21 +18,7 @@ from sctd_service.gateway.problems import Problem
 from sctd_service.gateway.store import View
 
 from .asked import Asked
-from .drawn_expressions import Draw
-from .drawn_releases import DAYS, RELEASES, Maker
-from .ecl_by_files import ByFiles, versions_of
-from .house import (
-    EDITION,
-    SCT,
-    SECONDS,
-    House,
-    Json,
-    begun_hub,
-    issue,
-    program_and_hub,
-    told,
-    version,
-)
+from .house import EDITION, SCT, House, Json, issue, told, version
 from .release_files import read
 
 EXPAND, MEMBER = "ValueSet/$expand", "ValueSet/$validate-code"
@@ -112,7 +92,10 @@ TABLE = (
     ("<< $limb {{ + HISTORY-MIN }}", LATEST, "limb radius carpal radius2"),
     ("$radius2 {{ + HISTORY-MIN }}", LATEST, "radius radius2"),
     ("<< $limb {{ + HISTORY-MOD }}", LATEST, "limb radius carpal radius2 wrist vague"),
-    ("$injury {{ + HISTORY (900000000000528000) }}", LATEST, "injury"),
+    ("$injury {{ + HISTORY-MOD }}", LATEST, "injury vague"),
+    ("$injury {{ + HISTORY-MIN }}", LATEST, "injury"),
+    ("$injury {{ + HISTORY (900000000000528000) }}", LATEST, "injury vague"),
+    ("$injury {{ + HISTORY (900000000000529008) }}", LATEST, "injury"),
     ("$limb {{ + HISTORY }}", LATEST, "limb vague"),
     ("<< $finding {{ C definitionStatus = defined }}", LATEST, "radius radius2"),
     ("<< $injury {{ C effectiveTime > \"20200101\" }}", LATEST, "radius carpal radius2"),
@@ -222,20 +205,6 @@ EXAMPLES = """
 ^ [targetComponentId] 900000000000527005 {{ M referencedComponentId = 67415000 }}
 /* all */ < 404684003 /* of them */ |Clinical (finding)|
 """.strip().splitlines()
-SEED, EXPRESSIONS, DEPTH = 1, 2_000, 3
-# The releases are drawn anew after so many of them.
-OF_ONE_STORE = 1_000
-ASKED = (*DAYS, "20200801", "20210101", "20991231")
-# So many are asked beside each other.
-AT_A_TIME = 25
-SIZES = {
-    "ASKED_UPWARDS": (0, 3, 40),
-    "ASKED_ONE_BY_ONE": (0, 10, 1000),
-    "QUESTION_ROWS": (20, 100, 1000, 1000),
-}
-NO_FIELD = "no reference set there has a field"
-# How many of each have to be among them.
-AT_LEAST = {"some": 1000, "none": 300}
 
 
 class Expressed(Asked):
@@ -460,88 +429,3 @@ def test_budget(most: int, is_refused: bool, whole_house: House,
             return session.asked - before
 
     assert asyncio.run(asked()) <= most
-
-
-class Drawn:
-    """A store of drawn releases with its hub."""
-
-    def __init__(self, seed: int) -> None:
-        self.program, hub = program_and_hub()
-        self.folder = tempfile.TemporaryDirectory()
-        root, self.maker = Path(self.folder.name), Maker(seed)
-        self.maker.write(root)
-        self.questions, store = str(root / "questions"), str(root / "store")
-        self.run("init", "--store", store)
-        for release in RELEASES:
-            self.run("import", "--quiet", "--store", store, str(root / release))
-        self.hub = begun_hub(
-            hub, self.program, store, str(root), "--questions", self.questions
-        )
-        self.versions = [versions_of(root / name for name in RELEASES[:pin]) for pin in (1, 2)]
-        self.by_files: dict[tuple[int, str], ByFiles] = {}
-
-    def run(self, *words: str) -> None:
-        subprocess.run([self.program, *words], check=True, capture_output=True, timeout=SECONDS)
-
-    def files(self, pin: int, day: str) -> ByFiles:
-        if (pin, day) not in self.by_files:
-            self.by_files[pin, day] = ByFiles(self.versions[pin - 1], day)
-        return self.by_files[pin, day]
-
-    def end(self) -> None:
-        self.hub.terminate()
-        self.hub.communicate(timeout=SECONDS)
-        self.folder.cleanup()
-
-
-def test_answers_are_those_of_the_files(monkeypatch: pytest.MonkeyPatch) -> None:
-    chance, counts = random.Random(SEED), Counter[str]()
-    for number in range(EXPRESSIONS // OF_ONE_STORE):
-        drawn = Drawn(SEED * 1000 + number)
-        try:
-            asyncio.run(compare(drawn, chance, monkeypatch, counts))
-        finally:
-            drawn.end()
-    assert all(counts[what] >= least for what, least in AT_LEAST.items()), counts
-
-
-async def compare(
-    drawn: Drawn, chance: random.Random, monkeypatch: pytest.MonkeyPatch, counts: Counter[str]
-) -> None:
-    """Draws expressions and asks them, some at a time, each time with other limits of when what is
-    asked in which way."""
-    pool, draw = Pool(drawn.questions), Draw(chance.getrandbits(32), drawn.maker)
-    for _ in range(OF_ONE_STORE // AT_A_TIME):
-        for name, sizes in SIZES.items():
-            monkeypatch.setattr(limits, name, chance.choice(sizes))
-        await asyncio.gather(
-            *(
-                one_compared(
-                    drawn, pool, draw.expression(DEPTH), chance.choice(ASKED),
-                    chance.choice([1, 2]), frozenset(chance.sample(drawn.maker.concepts, 2)), counts
-                )
-                for _ in range(AT_A_TIME)
-            )
-        )
-
-
-async def one_compared(
-    drawn: Drawn, pool: Pool, tree: s.Expression, day: str, pin: int, some: s.Ids,
-    counts: Counter[str],
-) -> None:
-    text = spelled(tree)
-    read = parse(text)
-    assert read == tree, text
-    wanted = drawn.files(pin, day).answer(tree)
-    async with pool.session(pin) as session:
-        view = View(session)
-        try:
-            found = await Evaluation(Terminology(view, day)).meant(read)
-        except Problem as problem:
-            assert NO_FIELD in problem.text, (text, problem.text)
-            counts["refused"] += 1
-            return
-        assert found == wanted, (text, day, pin, found - wanted, wanted - found)
-        among = await Evaluation(Terminology(view, day)).meant(read, some)
-        assert among == wanted & some, (text, day, pin, some)
-    counts["some" if wanted else "none"] += 1

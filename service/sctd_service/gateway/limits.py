@@ -88,7 +88,7 @@ EXPRESSION_DEPTH = 60
 EXPRESSION_LINES = 20_000
 # Above this many concepts all rows of a kind are read, where that is possible, and otherwise those
 # about each concept.
-ASKED_ONE_BY_ONE = 1_000
+ASKED_ONE_BY_ONE = 5_000
 # `sctd` answers at most so many rows of one SEARCH or PAGE.
 QUESTION_ROWS = 1_000
 

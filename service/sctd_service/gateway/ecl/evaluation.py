@@ -180,13 +180,15 @@ class Evaluation:
         if e.about == s.OF_DESCRIPTION:
             base = await self.meant(e.focus, among)
             return await filtering.described(self.store, self.meant, base, e.filters)
-        # What is asked for may be inactive where that is said of `*` itself.
-        is_any = isinstance(e.focus, s.Wildcard) and filtering.asks_active(e.filters)
-        base_or_all = among if is_any else await self.meant(e.focus, among)
-        if base_or_all is None:
-            rows = [row async for row in self.store.every_concept()]
+        if not isinstance(e.focus, s.Wildcard):
+            rows = await self.store.concepts(await self.meant(e.focus, among))
+        elif among is not None:
+            rows = await self.store.concepts(among)
         else:
-            rows = await self.store.concepts(base_or_all)
+            rows = [row async for row in self.store.every_concept()]
+        # What is asked for may be inactive where that is said of `*` itself.
+        if isinstance(e.focus, s.Wildcard) and not filtering.asks_active(e.filters):
+            rows = [row for row in rows if row.is_active]
         return await filtering.concepts(self.meant, rows, e.filters)
 
     # ---- history supplements
@@ -202,7 +204,10 @@ class Evaluation:
             base = await self.meant(focus)
             told = await self.store.replacing(base)
         named = frozenset(row.refset for row in told)
-        wanted = PROFILES[by] if isinstance(by, str) else await self.meant(by, named)
+        if isinstance(by, str):
+            wanted = PROFILES[by]
+        else:
+            wanted = await filtering.refsets_of(self.meant, by, named)
         was = frozenset(
             row.source for row in told
             if row.target in base and (wanted is None or row.refset in wanted))

@@ -7,14 +7,14 @@
 
 from __future__ import annotations
 
-from collections.abc import Awaitable, Callable, Iterable, Sequence
+from collections.abc import Callable, Iterable, Sequence
 from typing import TypeVar
 
 from . import syntax as s
 from .comparing import fits_day, fits_number, fits_text
 from .fields import Fields
 from .syntax import Ids, Meant
-from .terminology import Terminology
+from .terminology import Terminology, those_of
 from ...snomed import Concept, Description, RefsetMember, is_concept_id
 
 ACTIVE, DIALECT, EFFECTIVE_TIME = "active", "dialectId", "effectiveTime"
@@ -102,9 +102,8 @@ async def refsets_of(meant: Meant, e: s.Expression, among: Ids | None) -> Ids:
 async def filtered(meant: Meant, rows: Sequence[Row], f: s.Filter,
                    said: Said[Row]) -> list[Row]:
     """The rows of which one field fits."""
-    known = [(row, text) for row in rows if (text := said(row)) is not None]
-    fits = await test_of(meant, f, frozenset(text for _, text in known))
-    return [row for row, text in known if fits(text)]
+    fits = await test_of(meant, f, frozenset(filter(None, map(said, rows))))
+    return await those_of(rows, lambda row: (text := said(row)) is not None and fits(text))
 
 
 async def test_of(meant: Meant, f: s.Filter, values: Ids) -> Callable[[str], bool]:

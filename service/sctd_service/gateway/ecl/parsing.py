@@ -18,7 +18,7 @@ from ..languages import FOLDED
 from ..problems import Problem, invalid, not_supported
 from ...snomed import (
     ACCEPTABLE, COMPONENT_IDS, CONCEPT_ID, DEFINED, FULLY_SPECIFIED_NAME, PREFERRED, PRIMITIVE,
-    SYNONYM, TEXT_DEFINITION, is_concept_id, is_day, is_sctid)
+    SYNONYM, TEXT_DEFINITION, is_day, is_sctid)
 
 GRAMMAR = Path(__file__).parent / "grammar.lark"
 # What a filter compares with: an expression or a list of concepts, ids of descriptions, words (some

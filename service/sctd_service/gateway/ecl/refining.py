@@ -13,7 +13,7 @@ from . import syntax as s
 from .. import limits
 from .comparing import fits_concrete
 from .syntax import Ids, Meant
-from .terminology import CONCRETE, TO_CONCEPTS, Stated, Terminology
+from .terminology import CONCRETE, TO_CONCEPTS, Stated, Terminology, those_of
 
 NO_GROUP = "0"
 Attributes = frozenset[Stated]
@@ -34,7 +34,8 @@ async def refined(store: Terminology, meant: Meant, base: Ids, refinement: s.Ref
             tests[one] = await reverse_test(store, meant, base, one)
         else:
             tests[one] = await attribute_test(meant, own.values(), one)
-    return frozenset(code for code in base if fits(refinement, tests, code, own[code]))
+    return frozenset(
+        await those_of(base, lambda code: fits(refinement, tests, code, own[code])))
 
 
 async def narrowed(store: Terminology, meant: Meant, base: Ids,
@@ -46,8 +47,11 @@ async def narrowed(store: Terminology, meant: Meant, base: Ids,
         types = None if isinstance(one.name, s.Wildcard) else await meant(one.name, None)
         assert not isinstance(one.value, s.Concrete)
         values = await meant(one.value, None)
-        found = await store.sources(types, values, base)
-        base = frozenset(source for some in found.values() for source in some)
+        if one.is_reverse:
+            base = frozenset(await store.sources(types, base, values))
+        else:
+            found = await store.sources(types, values, base)
+            base = frozenset(source for some in found.values() for source in some)
     return base
 
 
@@ -55,7 +59,7 @@ def needed(r: s.Refinement) -> Iterator[s.Attribute]:
     """The attributes with a value of certain concepts of which each concept that fits has one."""
     if isinstance(r, s.Attribute):
         is_certain = not isinstance(r.value, s.Concrete) and s.cost(r.value) < 2
-        if is_certain and not r.is_reverse and r.comparison == s.EQUAL and r.cardinality.least:
+        if is_certain and r.comparison == s.EQUAL and r.cardinality.least:
             yield r
     elif isinstance(r, s.AttributeGroup):
         if r.cardinality.least:

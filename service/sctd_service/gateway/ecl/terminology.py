@@ -4,8 +4,9 @@
 from __future__ import annotations
 
 import asyncio
-from collections.abc import AsyncIterator, Collection, Iterable
-from typing import NamedTuple
+import itertools
+from collections.abc import AsyncIterator, Callable, Collection, Iterable
+from typing import NamedTuple, TypeVar
 
 from .. import limits, refsets
 from ..hub import Reply
@@ -16,6 +17,7 @@ from ...snomed import (
     is_id_of_concept)
 from .syntax import Ids
 
+Item = TypeVar("Item")
 # The kinds of relationships: with a concept as value, and with a concrete one.
 TO_CONCEPTS, CONCRETE = "R", "V"
 # Where a row has whether it is active, the concept of a description, and what a member refers to.
@@ -33,6 +35,15 @@ class Stated(NamedTuple):
     @property
     def is_attribute(self) -> bool:
         return self.is_concrete or self.type != IS_A
+
+
+async def those_of(items: Collection[Item], fits: Callable[[Item], bool]) -> list[Item]:
+    """Those that fit. Other requests have their turn in between."""
+    found, left = list[Item](), iter(items)
+    while some := [*itertools.islice(left, limits.QUESTION_ROWS)]:
+        found += filter(fits, some)
+        await asyncio.sleep(0)
+    return found
 
 
 def stated(row: Relationship, kind: str) -> Stated:

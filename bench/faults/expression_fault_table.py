@@ -1,0 +1,216 @@
+"""The faults in how expressions are read and evaluated, which gateway_faults.py puts into a copy of
+the gateway, one at a time."""
+
+from __future__ import annotations
+
+from gateway_fault_table import Fault
+
+TESTS, BY_FILES = "test_ecl", "test_ecl_by_files"
+EVALUATION, REFINING, FILTERING = "ecl/evaluation.py", "ecl/refining.py", "ecl/filtering.py"
+TERMINOLOGY, PARSING = "ecl/terminology.py", "ecl/parsing.py"
+
+FAULTS = [
+    Fault(
+        "doubled operators leave the set itself out",
+        EVALUATION,
+        "        own = of if operator[:2] in",
+        "        own = NOTHING if operator[:2] in",
+        TESTS,
+    ),
+    Fault(
+        "doubled operators leave the concept itself out where one is tested",
+        EVALUATION,
+        "return reached | own if operator",
+        "return reached if operator",
+        TESTS,
+    ),
+    Fault(
+        "tops are taken for bottoms",
+        EVALUATION,
+        "self.reached(of, operator == s.TOP)",
+        "self.reached(of, operator == s.BOTTOM)",
+        TESTS,
+    ),
+    Fault(
+        "below many concepts only one step is taken",
+        EVALUATION,
+        "            left = next_ones - seen\n",
+        "            left = NOTHING\n",
+        BY_FILES,
+    ),
+    Fault(
+        "a concept is tested by making the whole set",
+        EVALUATION,
+        "if among is not None and are_few(among) and operator",
+        "if False and among and operator",
+        TESTS,
+    ),
+    Fault(
+        "a history supplement adds active concepts",
+        EVALUATION,
+        "{row.id for row in rows if not row.is_active}",
+        "{row.id for row in rows}",
+        BY_FILES,
+    ),
+    Fault(
+        "a moderate history supplement has SAME AS alone",
+        EVALUATION,
+        "s.MOD: frozenset([SAME_AS, REPLACED_BY, WAS_A,",
+        "s.MOD: frozenset([SAME_AS, REPLACED_BY,",
+        TESTS,
+    ),
+    Fault(
+        "`*` has inactive concepts",
+        EVALUATION,
+        "self.store.every_concept() if row.is_active])",
+        "self.store.every_concept()])",
+        TESTS,
+    ),
+    Fault(
+        "group 0 is a group",
+        REFINING,
+        "{one.group for one in own} - {NO_GROUP}",
+        "{one.group for one in own}",
+        BY_FILES,
+    ),
+    Fault(
+        "another value is any value",
+        REFINING,
+        "wanted = among if a.comparison == s.EQUAL else values - among",
+        "wanted = among if a.comparison == s.EQUAL else values",
+        TESTS,
+    ),
+    Fault(
+        "groups of concrete values alone aren't looked at",
+        REFINING,
+        "    if may_be_without(r, False):\n",
+        "    if False:\n",
+        BY_FILES,
+    ),
+    Fault(
+        "an attribute that may be missing narrows",
+        REFINING,
+        "r.comparison == s.EQUAL and r.cardinality.least:",
+        "r.comparison == s.EQUAL:",
+        BY_FILES,
+    ),
+    Fault(
+        "each part of an OR narrows",
+        REFINING,
+        "    elif r.operator == s.AND:\n",
+        "    else:\n",
+        BY_FILES,
+    ),
+    Fault(
+        "\"is a\" counts as an attribute to a concept",
+        TERMINOLOGY,
+        "is_wanted = one.is_attribute and (",
+        "is_wanted = (",
+        BY_FILES,
+    ),
+    Fault(
+        "inactive relationships have sources",
+        TERMINOLOGY,
+        "                    if row.active == \"1\":\n                        take",
+        "                    if row.active:\n                        take",
+        TESTS,
+    ),
+    Fault(
+        "the first page is all",
+        TERMINOLOGY,
+        "after = page[-1][place] if len(page) >= limits.QUESTION_ROWS else \"\"",
+        "after = \"\"",
+        BY_FILES,
+    ),
+    Fault(
+        "an expression may ask whatever it wants",
+        TERMINOLOGY,
+        "count > limits.EXPRESSION_LINES:",
+        "count < 0:",
+        TESTS,
+    ),
+    Fault(
+        "a field is called as another one",
+        "ecl/fields.py",
+        "[forms(name) for name in described]",
+        "[forms(name) for name in described[::-1]]",
+        TESTS,
+    ),
+    Fault(
+        "members refer to what is no concept",
+        FILTERING,
+        "if value and is_concept_id(value))",
+        "if value)",
+        BY_FILES,
+    ),
+    Fault(
+        "inactive members are never looked at",
+        FILTERING,
+        "with_inactive = asks_active(e.filters)",
+        "with_inactive = False",
+        TESTS,
+    ),
+    Fault(
+        "a dialect's acceptability is passed over",
+        FILTERING,
+        "(not f.acceptabilities or ",
+        "(True or ",
+        TESTS,
+    ),
+    Fault(
+        "numbers are compared as texts",
+        "ecl/comparing.py",
+        "ORDERS[comparison](number, wanted.value)",
+        "ORDERS[comparison](said, str(wanted.value))",
+        TESTS,
+    ),
+    Fault(
+        "check digits aren't looked at",
+        PARSING,
+        "if not any(is_sctid(code, kind) for kind in COMPONENT_IDS):",
+        "if False:",
+        TESTS,
+    ),
+    Fault(
+        "filters of terms are passed over",
+        PARSING,
+        "        if form == TEXTS:\n            raise not_supported(TERMS_LATER)\n",
+        "        if form == TEXTS:\n            continue\n",
+        TESTS,
+    ),
+    Fault(
+        "the letter of a misspelling is counted from 0",
+        PARSING,
+        "(place + 1, why)",
+        "(place, why)",
+        TESTS,
+    ),
+    Fault(
+        "expressions that differ in a cardinality are kept as one",
+        "ecl/spelling.py",
+        "    times = spelled_cardinality(r.cardinality)\n",
+        "    times = \"\"\n",
+        TESTS,
+    ),
+    Fault(
+        "a reference set without members is empty in an expression",
+        "fhir/valuesets.py",
+        "in distinct(syntax.named_refsets(expression)):",
+        "in ():",
+        TESTS,
+    ),
+    Fault(
+        "an expression that is encoded once more isn't read",
+        "fhir/valuesets.py",
+        "text if UNENCODED.search(text) else unquote(text)",
+        "text",
+        TESTS,
+    ),
+    Fault(
+        "of several filters the first counts where one is an expression",
+        "fhir/valuesets.py",
+        "parts = tuple(expression_of(one) for one in filters)",
+        "parts = tuple(expression_of(one) for one in filters)[:1]",
+        TESTS,
+    ),
+]
