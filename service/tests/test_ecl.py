@@ -2,7 +2,9 @@
 of the hub."""
 
 import asyncio
+import random
 import re
+from collections import Counter
 from typing import Any
 from urllib.parse import quote
 
@@ -206,6 +208,20 @@ EXAMPLES = """
 /* all */ < 404684003 /* of them */ |Clinical (finding)|
 """.strip().splitlines()
 
+# What may stand in itself, around something, how often at most.
+DEEP = (
+    ("(< ", "*", ")", 60),
+    ("* : * = (", "*", ")", 60),
+    ("* : { * = (", "*", ")}", 30),
+    ("^ (* MINUS (", "*", "))", 30),
+    ("* : * = (* : { * = * } , * = (", "*", "))", 30),
+    ("^ (* : * = (* . (^ * {{ M moduleId = (", "*", ") }})))", 10),
+    ("(* {{ + HISTORY (", "*", ") }})", 15),
+)
+MANGLED = 1_500
+PIECES = ("", " ", "(", ")", "{", "}", "{{", "}}", "[", "|", '"', "\\", "#", "*", "<", "!", "^", ":",
+          ",", ".", "R ", "AND ", "or ", "/*", "0", "73211009", "a", "\u00df", "\u0663", "\n", "\0")
+
 
 class Expressed(Asked):
     """Expressions with the names of the demo, of a store of whole packages."""
@@ -282,6 +298,32 @@ class TestExpressions(Expressed):
     def test_the_specifications_examples_are_read(self, text: str) -> None:
         read = parse(text)
         assert parse(spelled(read)) == read
+
+    @pytest.mark.parametrize("before, middle, after, most", DEEP)
+    def test_as_deep_as_may_be(self, before: str, middle: str, after: str, most: int) -> None:
+        """They are answered, and one that is deeper is misspelt."""
+        for count, status in ((most, 200), (most + 1, 400)):
+            text = before * count + middle + after * count
+            found, said = self.gateway.fhir(EXPAND, url=self.url(text), count=0)
+            assert found == status, said
+
+    def test_mangled(self) -> None:
+        """Whatever is changed in an expression, it is read or refused."""
+        chance, counts = random.Random(1), Counter[bool]()
+        for _ in range(MANGLED):
+            letters = [*chance.choice(EXAMPLES)]
+            for _ in range(chance.randint(1, 3)):
+                place = chance.randrange(len(letters))
+                letters[place : place + chance.randint(0, 2)] = chance.choice(PIECES)
+            try:
+                read = parse("".join(letters))
+            except Problem as problem:
+                assert problem.status in (400, 422)
+                counts[False] += 1
+            else:
+                assert parse(spelled(read)) == read, letters
+                counts[True] += 1
+        assert min(counts.values()) > MANGLED // 20, counts
 
     def test_patterns(self) -> None:
         """Also those by which a search that goes back would take years."""
