@@ -39,7 +39,8 @@ APART = (
     ("test_hub", "test_large_answers", "test_metrics"),
     ("test_releases", "test_delivery"),
     ("test_members",),
-    ("test_ecl", "test_ecl_by_files"),
+    ("test_ecl",),
+    ("test_ecl_by_files",),
 )
 COUNT = re.compile(r"(\d+) (passed|failed|errors?)\b")
 

@@ -105,6 +105,9 @@ TABLE = (
     ("* {{ C moduleId != 900000000000207008 }}", LATEST, ""),
     ("<< $finding {{ D language = de }}", LATEST, "anaemia"),
     ("<< $finding {{ D dialect = en-gb (prefer) }}", LATEST, "anaemia"),
+    ("$anaemia {{ D dialect = en-us (accept) }}", LATEST, ""),
+    ("$wrist {{ D dialect = en-us (accept) }}", "2018-07-10", "wrist"),
+    ("$anaemia {{ D dialectId != 900000000000508004, language = en }}", LATEST, "anaemia"),
     ("* {{ D type = def }}", LATEST, ""),
     ("$wrist {{ D type = def, dialectId = 900000000000509007 (prefer) }}", LATEST, "wrist"),
     ("$wrist {{ D active = 0, language = en }}", LATEST, "wrist"),
@@ -266,7 +269,7 @@ class TestExpressions(Expressed):
         """By the set, and before that is known by each concept."""
         wanted = self.named(names)
         known = [code for code in wanted if code != self.codes["absent"]]
-        for code in [*known, *sorted(self.codes.values())[::4]]:
+        for code in [*known, *sorted(self.codes.values())[::6]]:
             words = {"system": SCT, "code": code, "date": date}
             said = self.gateway.fhir(MEMBER, url=self.url(expression), **words)[1]
             is_in = told(said, "result") == [True]

@@ -56,9 +56,11 @@ async def narrowed(store: Terminology, meant: Meant, base: Ids,
 
 
 def needed(r: s.Refinement) -> Iterator[s.Attribute]:
-    """The attributes with a value of certain concepts of which each concept that fits has one."""
+    """The attributes of which each concept that fits has one, and whose names and values are found
+    by a question or two."""
     if isinstance(r, s.Attribute):
-        is_certain = not isinstance(r.value, s.Concrete) and s.cost(r.value) < 2
+        is_plain = isinstance(r.name, s.Wildcard) or s.cost(r.name) < 2
+        is_certain = is_plain and not isinstance(r.value, s.Concrete) and s.cost(r.value) < 2
         if is_certain and r.comparison == s.EQUAL and r.cardinality.least:
             yield r
     elif isinstance(r, s.AttributeGroup):
