@@ -83,7 +83,7 @@ REFSET_CHOICE = 4_000
 # Above this many codes the gateway asks DESCENDANTS once, and otherwise ANCESTORS of each.
 ASKED_UPWARDS = 40
 # Of an expression of ECL: its letters, parentheses in one another, and lines that it asks the hub.
-EXPRESSION_LETTERS = 8_000
+EXPRESSION_LETTERS = 20_000
 EXPRESSION_DEPTH = 60
 EXPRESSION_LINES = 20_000
 # Above this many concepts all rows of a kind are read, where that is possible, and otherwise those
