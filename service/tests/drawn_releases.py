@@ -154,7 +154,7 @@ class Maker:
             self.versions("L", self.new_member(), [US, GB], [some(descriptions)], how)
         for number in range(CONCEPTS):
             referred = [self.a_concept(), self.a_concept(), some(descriptions)]
-            own = [some(ASSOCIATIONS)], referred, self.concepts
+            own = [some(ASSOCIATIONS)], referred, [*self.concepts, *descriptions[:20]]
             self.versions("A", self.new_member(), *own)
             referred = [self.a_concept(), self.a_concept(), some(descriptions)]
             self.versions("S", self.new_member(), [self.simple, self.other], referred)

@@ -49,7 +49,8 @@ class Evaluation:
         self.fields = Fields(terminology)
 
     async def meant(self, e: s.Expression, among: Ids | None = None) -> Ids:
-        """The concepts that an expression means, or those of `among` that it does."""
+        """The concepts that an expression means, or those of `among`, all of which are ids of
+        concepts, that it does."""
         if among is not None and not among:
             return NOTHING
         if e in self.kept:
@@ -166,11 +167,10 @@ class Evaluation:
         return union([await self.store.codes_of(one) for one in refsets])
 
     async def members_among(self, of: s.Expression, among: Ids) -> Ids:
-        codes = frozenset(filter(is_id_of_concept, among))
         refsets = {
             code: {row.refset for row in own}
-            for code, own in (await self.store.members_about(codes)).items()}
-        for row in await self.store.replaced(codes):
+            for code, own in (await self.store.members_about(among)).items()}
+        for row in await self.store.replaced(among):
             refsets[row.source].add(row.refset)
         named = union(map(frozenset, refsets.values()))
         wanted = await filtering.refsets_of(self.meant, of, named)
@@ -198,8 +198,9 @@ class Evaluation:
         """Adds the inactive concepts whose active associations have one of the set as target, one
         step back."""
         if among is not None and are_few(among):
-            told = await self.store.replaced(frozenset(filter(is_id_of_concept, among)))
-            base = await self.meant(focus, among | {row.target for row in told})
+            told = await self.store.replaced(among)
+            targets = (row.target for row in told if is_id_of_concept(row.target))
+            base = await self.meant(focus, among.union(targets))
         else:
             base = await self.meant(focus)
             told = await self.store.replacing(base)
