@@ -165,10 +165,10 @@ FAULTS = [
         TESTS,
     ),
     Fault(
-        "check digits aren't looked at",
+        "the id of a description is taken for that of a concept",
         PARSING,
-        "if not any(is_sctid(code, kind) for kind in COMPONENT_IDS):",
-        "if False:",
+        "        if not is_sctid(code, CONCEPT_ID):\n",
+        "        if False:\n",
         TESTS,
     ),
     Fault(

@@ -87,6 +87,7 @@ TABLE = (
     ("* . $ingredient", LATEST, "substance"),
     ("* : $strength >= #500.1", LATEST, "drug"),
     ("* : $strength >= #500.1", OLD, ""),
+    ("* : $strength < #1000", LATEST, "drug"),
     ("* : $strength = #500.10", LATEST, "drug"),
     ("* : $unit = \"mg\"", LATEST, "drug"),
     ("* : $unit = exact:\"m\"", LATEST, ""),
