@@ -105,6 +105,7 @@ COPIED = (
     Copied("packaging/tmpfiles.conf", "usr/lib/tmpfiles.d/sctd.conf"),
     Copied("packaging/sctd.service", UNITS + "/sctd.service"),
     Copied("packaging/sctd-gateway.service", UNITS + "/sctd-gateway.service"),
+    Copied("packaging/haproxy.cfg", SHARE + "/examples/haproxy.cfg"),
     Copied("packaging/nginx.conf", SHARE + "/examples/nginx.conf"),
     Copied("packaging/debian/README", DOC + "/README"),
     *(Copied(name, "%s/%s.gz" % (DOC, Path(name).name), is_compressed=True) for name in PAGES),

@@ -24,6 +24,7 @@ LEAST_PYTHON = (3, 11)
 TESTED_WITH = {"pytest": "python3-pytest"}
 TRIED_WITH = {
     "curl": "curl",
+    "haproxy": "haproxy",
     "ip": "iproute2",
     "lintian": "lintian",
     "nginx": "nginx-light",

@@ -1,19 +1,22 @@
-"""What try_proxy.py and try_machines.py share: certificates, clients that have one, and nginx with
-packaging/nginx.conf."""
+"""What try_proxy.py and try_machines.py share: certificates, clients that have one, and a proxy
+with its configuration in packaging/."""
 
 from __future__ import annotations
 
 import contextlib
 import http.client
+import os
+import re
 import shutil
+import signal
 import socket
 import ssl
 import subprocess
 import sys
 import time
-from collections.abc import Mapping, Sequence
+from collections.abc import Callable, Mapping, Sequence
 from pathlib import Path
-from typing import Optional
+from typing import NamedTuple, Optional
 
 from operators_harness import Wrong, same
 
@@ -25,9 +28,11 @@ from needs import python_with  # noqa: E402
 
 NOT_RUN = 3
 SECONDS = 60
+# How often it is looked whether something is as it is waited for.
+LOOK_SECONDS = 0.05
 HOST = "127.0.0.1"
 NAME = "terms.example.org"
-TOOLS = ("nginx", "openssl")
+TOOLS = ("openssl",)
 USER = "Smith, Alice"
 EDITION, LANGUAGE = first_look.EDITION, first_look.LANGUAGE
 MAIN = """daemon off;
@@ -41,9 +46,36 @@ include %(place)s/sctd.conf;
 }
 """
 PATHS = ("client_body", "proxy", "fastcgi", "uwsgi", "scgi")
-# How a gateway stands in packaging/nginx.conf.
-UPSTREAM = "127.0.0.1:808%d "
+# How a gateway and the folder of certificates stand in a configuration, and what only root may do.
+GATEWAY = re.compile(r"127\.0\.0\.1:808([1-9])\b")
+CERTIFICATES = "/etc/sctd/tls"
+PRIVILEGED = re.compile(r"^    (?:user|group|chroot) .*\n", re.MULTILINE)
 Process = subprocess.Popen[bytes]
+# What a client sees of a connection that has ended before an answer came.
+ENDED = (ConnectionError, ssl.SSLEOFError, http.client.RemoteDisconnected,
+         http.client.CannotSendRequest)
+
+
+class Kind(NamedTuple):
+    """A proxy: its configuration in packaging/, what stands there before the port that it listens
+    on and for the folder of its log, if any; what starts it with the folder of a trial, and has it
+    read its configuration anew; and what a user with a comma in the name is in its log."""
+
+    name: str
+    config: str
+    listening: str
+    logs: Optional[str]
+    words: str
+    anew: signal.Signals
+    user: str
+
+
+NGINX = Kind("nginx", "nginx.conf", "listen ", "/var/log/nginx/",
+             "nginx -e %(place)s/error.log -c %(place)s/nginx.conf", signal.SIGHUP,
+             USER.replace(",", "\\,"))
+HAPROXY = Kind("haproxy", "haproxy.cfg", "bind :", None, "haproxy -W -f %(place)s/sctd.conf",
+               signal.SIGUSR2, USER)
+KINDS = (NGINX, HAPROXY)
 
 
 def run(*words: str) -> None:
@@ -52,7 +84,7 @@ def run(*words: str) -> None:
         raise Wrong("%s: %s" % (" ".join(words[:2]), done.stderr.decode().strip()))
 
 
-def missing(tools: Sequence[str] = TOOLS) -> Optional[str]:
+def missing(tools: Sequence[str] = (NGINX.name, *TOOLS)) -> Optional[str]:
     """What of this machine a trial lacks; nothing where it can be run."""
     lacks = next((tool for tool in tools if shutil.which(tool) is None), None)
     return lacks or (None if python_with() else "Python with what the gateway imports")
@@ -78,55 +110,85 @@ class Authority:
 
 
 class Proxy:
-    """nginx with packaging/nginx.conf, in which names, addresses and paths are those of a trial."""
+    """A proxy with its configuration in packaging/, in which names, addresses and paths are those
+    of a trial."""
 
-    def __init__(self, place: Path, gateways: Sequence[str]) -> None:
-        self.place, self.gateways = place, gateways
+    def __init__(self, place: Path, gateways: Sequence[str], kind: Kind = NGINX) -> None:
+        self.place, self.gateways, self.kind = place, gateways, kind
         self.port = free_ports(1)[0]
         self.authority = Authority(place, "users")
         self.user = self.authority.sign("user", "/CN=%s/O=House\\,CN=nobody" % USER)
         self.server = Authority(place, "servers")
-        self.server.sign("server", "/CN=" + NAME)
+        own = self.server.sign("server", "/CN=" + NAME)
+        own.with_suffix(".pem.key").symlink_to(own.with_suffix(".key"))
         self.process: Optional[Process] = None
 
     def replaced(self) -> str:
-        """What stands in packaging/nginx.conf, with what is this trial's in its place."""
-        text = (ROOT / "packaging" / "nginx.conf").read_text("utf-8")
-        new = {"/etc/sctd/tls/": str(self.place) + "/", "/var/log/nginx/": str(self.place) + "/",
-               "listen 443 ": "listen %s:%d " % (HOST, self.port)}
-        for number, gateway in enumerate(self.gateways, 1):
-            new[UPSTREAM % number] = gateway + " "
+        """What stands in packaging/, with what is this trial's in its place."""
+        text = (ROOT / "packaging" / self.kind.config).read_text("utf-8")
+        numbers = [int(found[1]) for found in GATEWAY.finditer(text)]
+        same("the gateways", numbers, list(range(1, len(self.gateways) + 1)))
+        text = GATEWAY.sub(lambda found: self.gateways[int(found[1]) - 1], text)
+        listening, logs = self.kind.listening, self.kind.logs
+        new = {CERTIFICATES: str(self.place),
+               listening + "443 ": "%s%s:%d " % (listening.rstrip(":"), HOST, self.port)}
+        if logs:
+            new[logs] = "%s/" % self.place
         for old, text_instead in new.items():
-            same("whether %s is in nginx.conf" % old, old in text, True)
+            same("whether %s is in %s" % (old, self.kind.config), old in text, True)
             text = text.replace(old, text_instead)
-        return text
+        return text if os.geteuid() == 0 else PRIVILEGED.sub("", text)
 
     def start(self) -> None:
         (self.place / "sctd.conf").write_text(self.replaced(), encoding="utf-8")
         paths = "\n".join("%s_temp_path %s/%s;" % (name, self.place, name) for name in PATHS)
         main = self.place / "nginx.conf"
         main.write_text(MAIN % {"place": self.place, "paths": paths}, encoding="utf-8")
-        with open(self.place / "log", "ab") as log:
-            self.process = subprocess.Popen(
-                ["nginx", "-e", str(self.place / "error.log"), "-c", str(main)],
-                stdin=subprocess.DEVNULL, stdout=log, stderr=log, start_new_session=True)
-        end = time.monotonic() + SECONDS
-        while not self.is_listening():
-            if self.process.poll() is not None or time.monotonic() > end:
-                raise Wrong("nginx doesn't start: %s" % (self.place / "log").read_text("utf-8"))
-            time.sleep(0.05)
+        words = self.kind.words % {"place": self.place}
+        # (What has no folder of logs logs to its output.)
+        output = self.place / ("log" if self.kind.logs else "sctd.log")
+        with open(output, "ab") as to, open(self.place / "log", "ab") as faults:
+            self.process = subprocess.Popen(words.split(), stdin=subprocess.DEVNULL, stdout=to,
+                                            stderr=faults, start_new_session=True)
+        wait(self.is_ready, self.kind.name)
 
-    def is_listening(self) -> bool:
+    def is_ready(self) -> bool:
+        assert self.process
+        if self.process.poll() is not None:
+            said = (self.place / "log").read_text("utf-8")
+            raise Wrong("%s doesn't start: %s" % (self.kind.name, said))
         with socket.socket() as trial:
             return trial.connect_ex((HOST, self.port)) == 0
+
+    def read_anew(self) -> None:
+        """Has it read its configuration, for which other processes take over from those before.
+        (As long as these are there, haproxy may miss that it is told so again.)"""
+        assert self.process
+        pid, before = self.process.pid, children(self.process.pid)
+        self.process.send_signal(self.kind.anew)
+        wait(lambda: bool(children(pid)) and not children(pid) & before, "process in their place")
 
     def end(self) -> None:
         if self.process:
             stop(self.process)
 
 
+def children(pid: int) -> set[int]:
+    """The processes that a process has started."""
+    path = Path("/proc/%d/task/%d/children" % (pid, pid))
+    return {int(one) for one in path.read_text("ascii").split()}
+
+
+def wait(condition: Callable[[], bool], what: str) -> None:
+    end = time.monotonic() + SECONDS
+    while not condition():
+        if time.monotonic() > end:
+            raise Wrong("there is no %s after %d seconds" % (what, SECONDS))
+        time.sleep(LOOK_SECONDS)
+
+
 class Client:
-    """A client of nginx with a certificate, or without one."""
+    """A client of a proxy with a certificate, or without one."""
 
     def __init__(self, proxy: Proxy, certificate: Optional[Path]) -> None:
         around = ssl.create_default_context(cafile=str(proxy.server.path))
@@ -134,14 +196,31 @@ class Client:
             around.load_cert_chain(certificate, certificate.with_suffix(".key"))
         self.connection = http.client.HTTPSConnection(
             HOST, proxy.port, timeout=SECONDS, context=around)
+        # How often a connection was made again.
+        self.again = 0
 
     def get(self, path: str) -> tuple[int, bytes]:
         status, _, answer = self.told(path)
         return status, answer
 
     def told(self, path: str) -> tuple[int, Mapping[str, str], bytes]:
+        """An answer with its headers. A connection that has ended before it came is made again,
+        once, as each client of HTTP does."""
+        try:
+            return self.asked("GET", path)
+        except ENDED:
+            self.connection.close()
+            self.again += 1
+        try:
+            return self.asked("GET", path)
+        except BaseException:
+            self.connection.close()
+            raise
+
+    def asked(self, method: str, path: str, body: Optional[bytes] = None,
+              **words: str) -> tuple[int, Mapping[str, str], bytes]:
         """An answer with its headers, whose names are in small letters."""
-        self.connection.request("GET", path)
+        self.connection.request(method, path, body, words)
         answer = self.connection.getresponse()
         headers = {name.lower(): value for name, value in answer.getheaders()}
         return answer.status, headers, answer.read()

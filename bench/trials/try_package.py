@@ -60,7 +60,7 @@ FILES = """
 # Folders that are in it as they are in the clone.
 FOLDERS = ("service/sctd_service", "examples", "docs/releases", "docs/package")
 MORE = ("service/sctd-hub", "service/sctd-gateway", "service/sctd_service/commit",
-        "examples/nginx.conf")
+        "examples/nginx.conf", "examples/haproxy.cfg")
 # Options that are no settings.
 NO_SETTINGS = {"help", "config", "version"}
 MOST_LINES_OF_README = 10

@@ -1,16 +1,18 @@
 #!/usr/bin/env python3
-"""Puts three gateways behind nginx as packaging/nginx.conf does, and asks them with certificates.
+"""Puts three gateways behind nginx and haproxy as packaging/ does, and asks them with certificates.
 
-try_proxy.py PROGRAM
+try_proxy.py PROGRAM [--long]
 
 PROGRAM is the built `sctd`. Two hubs have stores with the same imports: two gateways ask the first
-one, and one asks the second. Only who has a certificate of the authority is let in, and nginx's log
-has the user's name, the pin and the gateway. While clients ask, each gateway is started again, and
-the second hub is ended: no request may be refused, and all answers have to be the same.
+one, and one asks the second. Only who has a certificate of the authority is let in, and the proxy's
+log has the user's name, the pin and the gateway. While clients ask, gateways are started again, the
+proxy reads its configuration anew, only the second hub has the pin that is asked for, and that hub
+is ended: no request may be refused, and all answers have to be the same.
 
-It needs nginx, openssl and what the gateway imports; where it lacks one of them it says "not run"
-and ends with status 3. The status is 1 where something isn't as it has to be. Standard library
-alone.
+With --long gateways are started again 100 times in place of three. It needs nginx, haproxy, openssl
+and what the gateway imports. Where only a proxy is missing it tries the other one, says which is
+skipped, and ends with status 3, as it does where it can try neither. The status is 1 where
+something isn't as it has to be. Standard library alone.
 """
 
 from __future__ import annotations
@@ -19,72 +21,90 @@ import contextlib
 import http.client
 import json
 import os
+import shutil
 import signal
 import sys
 import tempfile
 import threading
 import time
-from collections.abc import Iterator, Sequence
+from collections.abc import Callable, Iterator, Sequence
 from pathlib import Path
+from typing import Optional
 
 from operators_harness import Wrong, same
 from proxy_harness import (
-    HOST, LANGUAGE, NOT_RUN, ROOT, SECONDS, USER, Authority, Client, Process, Proxy, free_ports,
-    gateway_words, hub_words, missing, ready, stop)
+    HOST, KINDS, LANGUAGE, NOT_RUN, ROOT, SECONDS, TOOLS, USER, Authority, Client, Kind, Process,
+    Proxy, free_ports, gateway_words, hub_words, missing, ready, stop)
 from sctd_service.protocol import HubClient, HubFailed
 
 HUBS, GATEWAYS = 2, 3
 # Which hub each gateway asks.
 HUB_OF = (0, 0, 1)
+# How many clients ask beside each trial, and how often each of them does so at least.
 CLIENTS, ASKED = 4, 60
 BETWEEN_SECONDS = 0.05
+# How often gateways are started again, and the proxy reads its configuration.
+RESTARTS, LONG_RESTARTS, READINGS = 3, 100, 3
 LOOKUP = "/fhir/CodeSystem/$lookup?system=http://snomed.info/sct&code=2000001&date=2020-06-30"
+BATCH = "/fhir"
+# The entries of a batch, which is longer than a proxy takes by itself.
+ENTRIES, FILLING = 40, 4_000
+UNMONITORED = (
+    "/metrics", "//metrics", "/x/../metrics", "/%6detrics", "/pin/1/metrics", "/metrics?a=1")
 
 
 class House:
-    """The hubs, the gateways and nginx, in a folder."""
+    """The hubs, the gateways and a proxy, in a folder."""
 
-    def __init__(self, program: str, place: Path) -> None:
-        self.program, self.place = program, place
+    def __init__(self, program: str, place: Path, kind: Kind, restarts: int) -> None:
+        self.program, self.place, self.kind, self.restarts = program, place, kind, restarts
         self.addresses = ["%s:%d" % (HOST, port) for port in free_ports(GATEWAYS)]
         self.hubs: list[Process] = []
         self.gateways: list[Process] = []
-        self.proxy = Proxy(place, self.addresses)
+        self.imports = [0] * HUBS
+        self.proxy = Proxy(place, self.addresses, kind)
         self.stranger = Authority(place, "strangers").sign("stranger", "/CN=" + USER)
 
     def start(self) -> None:
         for number in range(HUBS):
             self.hubs.append(self.start_hub(number))
+            self.import_to(number)
         for number in range(GATEWAYS):
             self.gateways.append(self.start_gateway(number))
         self.proxy.start()
 
-    def questions(self, number: int) -> Path:
-        return self.place / ("questions%d" % number)
+    def path(self, name: str, number: int) -> Path:
+        return self.place / ("%s%d" % (name, number))
 
     def start_hub(self, number: int) -> Process:
-        """A hub, whose store gets the sample package."""
-        home = self.place / ("home%d" % number)
+        home = self.path("home", number)
         home.mkdir()
-        own = str(self.place / ("own%d" % number))
-        hub = ready(hub_words(self.program, home / "a.store", ROOT / "docs", "--socket", own,
-                              "--questions", str(self.questions(number))), self.place / "log")
-        client = HubClient(own)
+        return ready(
+            hub_words(self.program, home / "a.store", ROOT / "docs", "--socket",
+                      str(self.path("own", number)), "--questions",
+                      str(self.path("questions", number))), self.place / "log")
+
+    def import_to(self, number: int) -> None:
+        """Imports the sample package, also once more."""
+        client = HubClient(str(self.path("own", number)))
         client.send([b"IMPORT package/Full"])
-        same("an import", client.reply(), b"OK 1 34 0\n")
+        self.imports[number] += 1
+        same("an import", client.reply().split()[:2], [b"OK", b"%d" % self.imports[number]])
         client.close()
-        return hub
 
     def start_gateway(self, number: int) -> Process:
         return ready(
-            gateway_words(self.questions(HUB_OF[number]), self.addresses[number], "--languages",
-                          LANGUAGE), self.place / "log")
+            gateway_words(self.path("questions", HUB_OF[number]), self.addresses[number],
+                          "--languages", LANGUAGE), self.place / "log")
 
     def client(self) -> Client:
         return Client(self.proxy, self.proxy.user)
 
     def log(self) -> list[dict[str, object]]:
-        return [json.loads(line) for line in (self.place / "sctd.log").read_text().splitlines()]
+        """What the proxy has logged of requests. (haproxy tells there of gateways, too.)"""
+        lines = (self.place / "sctd.log").read_text().splitlines()
+        told = [json.loads(line) for line in lines if line.startswith("{")]
+        return [line for line in told if "request" in line]
 
     def end(self) -> None:
         self.proxy.end()
@@ -92,42 +112,76 @@ class House:
             stop(process)
 
 
+def is_let_in(house: House, certificate: Optional[Path]) -> bool:
+    """Whether a client is answered. (nginx says 400, and haproxy ends the handshake.)"""
+    try:
+        return Client(house.proxy, certificate).get(LOOKUP)[0] == 200
+    except (OSError, http.client.HTTPException):
+        return False
+
+
+def was_sent_again(line: dict[str, object]) -> bool:
+    """Whether a gateway was passed over: nginx logs each that it asked, and haproxy how many."""
+    return ", " in str(line["gateway"]) or line.get("sent_again", "0") != "0"
+
+
 def who_may_ask(house: House) -> None:
     """Who has a certificate of the authority is answered, and nobody else; the log has the name."""
     status, answer = house.client().get(LOOKUP)
     same("with a certificate", (status, b'"valueString":"Path"' in answer), (200, True))
-    same("without one", Client(house.proxy, None).get(LOOKUP)[0], 400)
-    same("with one of another authority", Client(house.proxy, house.stranger).get(LOOKUP)[0], 400)
-    for path in ("/metrics", "//metrics", "/x/../metrics", "/%6detrics"):
+    same("without one", is_let_in(house, None), False)
+    same("with one of another authority", is_let_in(house, house.stranger), False)
+    for path in UNMONITORED:
         status, answer = house.client().get(path)
-        same("%s, and whether it is nginx's" % path, (status, b"nginx" in answer), (404, True))
+        same("%s, and whether it is the metrics" % path, (status, b"sctd_" in answer), (404, False))
     line = next(one for one in house.log() if one["status"] == 200)
     same("the gateway that is logged", line["gateway"] in house.addresses, True)
-    wanted = {"user": USER.replace(",", "\\,"), "method": "GET", "request": LOOKUP, "pin": "1"}
+    wanted = {"user": house.kind.user, "method": "GET", "request": LOOKUP, "pin": "1"}
     same("what is logged", {name: line[name] for name in wanted}, wanted)
 
 
-class Asking:
-    """Clients that ask one after the other, and keep what isn't as the first answer was."""
+def long_requests(house: House) -> None:
+    """What a gateway takes isn't too long for the proxy."""
+    request = {"method": "GET", "url": LOOKUP.removeprefix("/fhir/")}
+    entry = {"request": request, "id": "x" * FILLING}
+    batch = {"resourceType": "Bundle", "type": "batch", "entry": [entry] * ENTRIES}
+    status, _, answer = house.client().asked(
+        "POST", BATCH, json.dumps(batch).encode(), **{"Content-Type": "application/fhir+json"})
+    same("a long batch", (status, answer.count(b'"status":"200')), (200, ENTRIES))
 
-    def __init__(self, house: House) -> None:
-        self.house, self.wanted = house, house.client().get(LOOKUP)
-        self.answered, self.others = 0, list[tuple[int, bytes]]()
+
+class Asking:
+    """Clients that ask one after the other for some path until they are told to end, and keep what
+    isn't as the first answer was."""
+
+    def __init__(self, house: House, path: str = LOOKUP, may_be_cut: bool = False) -> None:
+        self.house, self.path, self.wanted = house, path, house.client().get(path)
+        same("the status of %s" % path, self.wanted[0], 200)
+        self.may_be_cut, self.is_over = may_be_cut, False
+        self.answered, self.again, self.others = 0, 0, list[object]()
+        self.lock = threading.Lock()
         self.threads = [threading.Thread(target=self.ask) for _ in range(CLIENTS)]
 
     def ask(self) -> None:
-        client = self.house.client()
-        for _ in range(ASKED):
-            found = client.get(LOOKUP)
-            self.answered += 1
+        client, answered = self.house.client(), 0
+        while not self.is_over or answered < ASKED:
+            try:
+                found: object = client.get(self.path)
+            except (OSError, http.client.HTTPException) as why:
+                found = repr(why)
+            answered += 1
             if found != self.wanted:
                 self.others.append(found)
             time.sleep(BETWEEN_SECONDS)
+        with self.lock:
+            self.answered, self.again = self.answered + answered, self.again + client.again
 
     def look(self) -> None:
-        same("how many were answered", self.answered, CLIENTS * ASKED)
+        same("whether all have asked", self.answered >= CLIENTS * ASKED, True)
         same("how many were answered otherwise, and the first of these",
              (len(self.others), self.others[:1]), (0, []))
+        if not self.may_be_cut:
+            same("connections that were made again", self.again, 0)
 
     def __enter__(self) -> Asking:
         for thread in self.threads:
@@ -135,44 +189,79 @@ class Asking:
         return self
 
     def __exit__(self, *_: object) -> None:
+        self.is_over = True
         for thread in self.threads:
             thread.join(SECONDS * 2)
 
 
-def restarts(house: House) -> None:
-    """Each gateway is ended and started again while clients ask: none of them notices."""
+def restarts(house: House) -> str:
+    """Gateways are ended and started again while clients ask: none of them notices."""
     with Asking(house) as asking:
-        for number in range(GATEWAYS):
+        for count in range(house.restarts):
+            number = count % GATEWAYS
             house.gateways[number].send_signal(signal.SIGTERM)
             same("the end of a gateway", house.gateways[number].wait(SECONDS), 0)
             house.gateways[number] = house.start_gateway(number)
     asking.look()
+    used = {one for line in house.log() for one in str(line["gateway"]).split(", ")}
+    same("whether each gateway was asked", set(house.addresses) <= used, True)
+    return "%d restarts, %d requests, 0 lost" % (house.restarts, asking.answered)
 
 
-def without_a_hub(house: House) -> None:
+def readings(house: House) -> str:
+    """The proxy reads its configuration while clients ask, whose connections it may end."""
+    with Asking(house, may_be_cut=True) as asking:
+        for _ in range(READINGS):
+            house.proxy.read_anew()
+    asking.look()
+    return "%d readings, %d requests, 0 lost, %d connections made again" % (
+        READINGS, asking.answered, asking.again)
+
+
+def lacking_a_pin(house: House) -> str:
+    """Two of the gateways lack the imports of a pin, and are passed over."""
+    house.import_to(1)
+    before, pin = len(house.log()), house.imports[1]
+    with Asking(house, "/pin/%d%s" % (pin, LOOKUP)) as asking:
+        pass
+    asking.look()
+    asked = house.log()[before:]
+    last = {str(line["gateway"]).split(", ")[-1] for line in asked}
+    same("who answered", last, {house.addresses[HUB_OF.index(1)]})
+    passed_over = sum(map(was_sent_again, asked))
+    same("whether others were passed over", passed_over > 0, True)
+    status, headers, _ = house.client().told("/pin/%d%s" % (pin + 1, LOOKUP))
+    same("a pin that nobody has", (status, "retry-after" in headers), (503, True))
+    house.import_to(0)
+    return "%d requests, of which %d were sent again, 0 lost" % (asking.answered, passed_over)
+
+
+def without_a_hub(house: House) -> str:
     """A gateway whose hub has ended is passed over; without any hub the answer is 503."""
-    before = house.log()
-    used = {one for line in before for one in str(line["gateway"]).split(", ") if ":" in one}
-    same("gateways that were asked", len(used), GATEWAYS)
+    before = len(house.log())
     with Asking(house) as asking:
         house.hubs[1].send_signal(signal.SIGTERM)
         same("the end of a hub", house.hubs[1].wait(SECONDS), 0)
     asking.look()
-    last = house.addresses[HUB_OF.index(1)] + ", "
-    later = house.log()[len(before) :]
-    passed_over = [line for line in later if str(line["gateway"]).startswith(last)]
-    same("whether its gateway was passed over", passed_over != [], True)
+    same("whether its gateway was passed over", any(map(was_sent_again, house.log()[before:])),
+         True)
     house.hubs[0].send_signal(signal.SIGTERM)
     same("the end of the other hub", house.hubs[0].wait(SECONDS), 0)
-    same("without a hub", house.client().get("/health")[0], 503)
+    status, headers, _ = house.client().told("/health")
+    same("without a hub", (status, "retry-after" in headers), (503, True))
+    return "%d requests, 0 lost" % asking.answered
+
+
+TRIALS: Sequence[Callable[[House], Optional[str]]] = (
+    who_may_ask, long_requests, restarts, readings, lacking_a_pin, without_a_hub)
 
 
 @contextlib.contextmanager
-def a_house(program: str) -> Iterator[House]:
+def a_house(program: str, kind: Kind, restarts: int) -> Iterator[House]:
     with tempfile.TemporaryDirectory(prefix="sctd-proxy-") as place:
         # (nginx's workers are another user's where it is started by root.)
         os.chmod(place, 0o755)
-        house = House(program, Path(place))
+        house = House(program, Path(place), kind, restarts)
         try:
             house.start()
             yield house
@@ -180,21 +269,33 @@ def a_house(program: str) -> Iterator[House]:
             house.end()
 
 
+def tried(program: str, kind: Kind, restarts: int) -> None:
+    with a_house(program, kind, restarts) as house:
+        for trial in TRIALS:
+            said = trial(house) or "as it has to be"
+            print("%s: %s: %s" % (kind.name, trial.__name__, said), flush=True)
+
+
 def main(words: Sequence[str]) -> int:
-    if len(words) != 1:
+    programs = [os.path.abspath(word) for word in words if not word.startswith("--")]
+    options = {word for word in words if word.startswith("--")}
+    if len(programs) != 1 or not options <= {"--long"}:
         print((__doc__ or "").strip(), file=sys.stderr)
         return 2
-    if (lacks := missing()) is not None:
+    if (lacks := missing(TOOLS)) is not None:
         print("not run: there is no %s" % lacks)
         return NOT_RUN
+    absent = [kind.name for kind in KINDS if shutil.which(kind.name) is None]
     try:
-        with a_house(os.path.abspath(words[0])) as house:
-            for trial in (who_may_ask, restarts, without_a_hub):
-                trial(house)
-                print("%s: as it has to be" % trial.__name__, flush=True)
+        for kind in KINDS:
+            if kind.name not in absent:
+                tried(programs[0], kind, LONG_RESTARTS if "--long" in options else RESTARTS)
     except (Wrong, HubFailed, OSError, http.client.HTTPException) as why:
         print("WRONG: %s" % why)
         return 1
+    if absent:
+        print("skipped: there is no %s" % " and no ".join(absent))
+        return NOT_RUN
     return 0
 
 
