@@ -1,32 +1,36 @@
 #!/usr/bin/env python3
-"""Tries one machine that imports and two that are fed by its backups, behind nginx.
+"""Tries one machine that imports and two that are fed by its backups, behind a proxy.
 
-try_machines.py PROGRAM [--long]
+try_machines.py PROGRAM [--long] [--minutes N] [--haproxy] [--processes]
 
 PROGRAM is the built `sctd`. Each machine is a network of its own, with a hub, its store and a
-gateway; nginx stands before them as packaging/nginx.conf has it. While clients ask, releases are
-imported on the first machine, and every few imports its BACKUP is fetched over the network by the
-two others, one after the other, and put in place by examples/take_copy.py. Meanwhile the machine
-that imports is killed in an import, another one is killed, one is left behind, and nginx is started
-again. Each answer has to be what the releases themselves say of the pin that it names, as
-service/tests reads them. One that isn't is counted as mixed where it has rows of several imports,
-and as wrong otherwise. What was refused is counted. A request may be refused only where no machine
-that ran all the time has its pin, or nginx was started again.
+gateway; nginx stands before them as packaging/nginx.conf has it, or with --haproxy haproxy as
+haproxy.cfg has it. While clients ask, releases are imported on the first machine, and every few
+imports its BACKUP is fetched over the network by the two others, one after the other, and put in
+place by examples/take_copy.py. Meanwhile the machine that imports is killed in an import, another
+one is killed, one is left behind, and the proxy is started again. Each answer has to be what the
+releases themselves say of the pin that it names, as service/tests reads them. One that isn't is
+counted as mixed where it has rows of several imports, and as wrong otherwise. What was refused is
+counted. A request may be refused only where no machine that ran all the time has its pin, or the
+proxy was started again.
 
-With --long 200 imports and 100,000 requests are made in place of 20 and 3,000. It needs root,
-nginx, openssl, curl, commands of util-linux and iproute2, and what the gateway imports; where one
-of them is missing it says "not run" and ends with status 3. The status is 1 where something isn't
-as it has to be.
+With --long 200 imports and 100,000 requests are made in place of 20 and 3,000, or as many of these
+as N minutes allow. Where no networks can be made, as without root, or with --processes, the
+machines are processes with an address each on the loopback, and a line says so. It needs the proxy,
+openssl, curl and what the gateway imports; where one of them is missing it says "not run" and ends
+with status 3. The status is 1 where something isn't as it has to be.
 """
 
 from __future__ import annotations
 
+import argparse
 import contextlib
 import http.client
 import json
 import math
 import os
 import random
+import shutil
 import signal
 import subprocess
 import sys
@@ -43,7 +47,8 @@ from urllib.parse import urlencode
 from machines_releases import CODES, TOP, days_of, rows_of, wording_of, write
 from operators_harness import Wrong, same
 from proxy_harness import (
-    NOT_RUN, ROOT, SECONDS, Client, Process, Proxy, gateway_words, hub_words, missing, ready, stop)
+    HAPROXY, LOOK_SECONDS, NGINX, NOT_RUN, ROOT, SECONDS, Client, Process, Proxy, children,
+    gateway_words, hub_words, missing, ready, stop, wait)
 from sctd_service.protocol import HubClient, HubFailed
 from tests.compare_releases import Comparison, Differs
 from tests.house import SCT, Json, version
@@ -65,14 +70,16 @@ KILL_WRITER, START_BALANCER, KILL_READER, START_READER = 6, 10, 13, 15
 # The rounds' imports before which the last machine isn't fed.
 BEHIND = range(14, 20)
 MACHINES = ("writer", "near", "far")
-TOOLS = ("nginx", "openssl", "curl", "ip", "unshare", "nsenter")
-# The addresses of the bridge, of a machine by its number, and of what machines listen on.
+TOOLS = ("openssl", "curl")
+# The addresses of the bridge, of a machine by its number in its network and without one (others
+# may try machines at the same time), and of what machines listen on.
 BRIDGE, ADDRESS, PORT, COPIES_PORT = "10.77.0.1", "10.77.0.%d", 8080, 8090
+LOCAL_ADDRESS = "127.77.%d.%d"
 # How a copy is fetched, also from a machine that is just being started.
 FETCH = ("curl", "--fail", "--silent", "--show-error", "--retry-connrefused", "--retry", "30",
          "--retry-delay", "1", "--output")
-# How long a process that ended stays away, as under systemd, and how often that is looked at.
-AWAY_SECONDS, LOOK_SECONDS = 0.3, 0.05
+# How long a process that ended stays away, as under systemd.
+AWAY_SECONDS = 0.3
 # What says that nobody could answer.
 REFUSED = (502, 503, 504)
 # A part of the requests names no pin, a part is an expansion, and of those at a pin a part is at
@@ -82,6 +89,8 @@ LATEST = 0.4
 BETWEEN_SECONDS = 0.03
 # How many Snapshots are remembered, and how many faults are told.
 SNAPSHOTS, TOLD = 1_000, 5
+NETWORK_TOOLS = ("ip", "unshare", "nsenter")
+# What says that the networks are there.
 INSIDE = "--inside"
 UNSHARED = ("unshare", "--net", "--pid", "--mount-proc", "--fork", "--kill-child")
 
@@ -95,42 +104,56 @@ def run(*words: str) -> str:
     return said
 
 
+class Network:
+    """A network of its own, or an address on the loopback where machines are processes."""
+
+    def __init__(self, number: int, is_apart: bool) -> None:
+        self.holder: Optional[Process] = None
+        self.address = LOCAL_ADDRESS % (os.getpid() % 250, number + 2)
+        if is_apart:
+            self.address = ADDRESS % (number + 2)
+            self.holder = subprocess.Popen(["unshare", "--net", "sleep", "infinity"])
+            self.connect(self.holder.pid, number)
+
+    @property
+    def within(self) -> list[str]:
+        """What begins a command in it."""
+        return ["nsenter", "--net=/proc/%d/ns/net" % self.holder.pid] if self.holder else []
+
+    def connect(self, pid: int, number: int) -> None:
+        own = os.readlink("/proc/self/ns/net")
+        path = "/proc/%d/ns/net" % pid
+        wait(lambda: os.readlink(path) != own, "a network of its own")
+        outer, inner = "out%d" % number, "in%d" % number
+        run("ip", "link", "add", outer, "type", "veth", "peer", "name", inner, "netns", str(pid))
+        run("ip", "link", "set", outer, "master", "bridge", "up")
+        run(*self.within, "ip", "address", "add", self.address + "/24", "dev", inner)
+        for name in (inner, "lo"):
+            run(*self.within, "ip", "link", "set", name, "up")
+
+    def end(self) -> None:
+        if self.holder:
+            stop(self.holder)
+
+
 class Machine:
     """A network with a hub, which starts again what has ended, and a gateway. `levels` has from
     when on it had how many imports, or none where it didn't run for sure."""
 
-    def __init__(self, program: str, place: Path, number: int) -> None:
+    def __init__(self, program: str, place: Path, number: int, is_apart: bool) -> None:
         self.program, self.name = program, MACHINES[number]
         self.place, self.releases = place / self.name, place / "releases"
         self.place.mkdir()
         (self.place / "store").mkdir()
         (self.place / "copies").mkdir()
-        self.address = ADDRESS % (number + 2)
         self.store, self.own, self.questions = (
             self.place / name for name in ("store/terms", "own", "questions"))
         self.levels: list[tuple[float, int]] = [(0.0, -1)]
         self.lock, self.is_off, self.is_over = threading.RLock(), False, False
         self.processes: dict[str, Process] = {}
-        self.network = subprocess.Popen(["unshare", "--net", "sleep", "infinity"])
-        self.connect(number)
+        self.network = Network(number, is_apart)
+        self.address, self.within = self.network.address, self.network.within
         self.restarting = threading.Thread(target=self.start_again, daemon=True)
-
-    @property
-    def within(self) -> list[str]:
-        """What begins a command in its network."""
-        return ["nsenter", "--net=/proc/%d/ns/net" % self.network.pid]
-
-    def connect(self, number: int) -> None:
-        own = os.readlink("/proc/self/ns/net")
-        path = "/proc/%d/ns/net" % self.network.pid
-        wait(lambda: os.readlink(path) != own, "a network of its own")
-        outer, inner = "out%d" % number, "in%d" % number
-        run("ip", "link", "add", outer, "type", "veth", "peer", "name", inner, "netns",
-            str(self.network.pid))
-        run("ip", "link", "set", outer, "master", "bridge", "up")
-        run(*self.within, "ip", "address", "add", self.address + "/24", "dev", inner)
-        for name in (inner, "lo"):
-            run(*self.within, "ip", "link", "set", name, "up")
 
     def words(self) -> dict[str, list[str]]:
         sockets = ["--questions", str(self.questions)]
@@ -176,9 +199,8 @@ class Machine:
         with self.lock:
             self.is_off = True
             for one in self.processes.values():
-                children = Path("/proc/%d/task/%d/children" % (one.pid, one.pid))
-                programs = children.read_text("ascii").split() if one.poll() is None else []
-                for pid in (one.pid, *map(int, programs)):
+                programs = children(one.pid) if one.poll() is None else set()
+                for pid in (one.pid, *programs):
                     with contextlib.suppress(ProcessLookupError):
                         os.kill(pid, signal.SIGKILL)
                 one.wait()
@@ -205,16 +227,10 @@ class Machine:
 
     def end(self) -> None:
         self.is_over = True
-        for one in [*self.processes.values(), self.network]:
-            stop(one)
-
-
-def wait(condition: Any, what: str) -> None:
-    end = time.monotonic() + SECONDS
-    while not condition():
-        if time.monotonic() > end:
-            raise Wrong("there is no %s after %d seconds" % (what, SECONDS))
-        time.sleep(LOOK_SECONDS)
+        with self.lock:
+            for one in self.processes.values():
+                stop(one)
+        self.network.end()
 
 
 class Question(NamedTuple):
@@ -276,20 +292,29 @@ class Judge(Comparison):
         return ""
 
 
-class House:
-    """The machines, nginx, and what is known of them."""
+def make_bridge() -> None:
+    run("ip", "link", "add", "bridge", "type", "bridge")
+    run("ip", "address", "add", BRIDGE + "/24", "dev", "bridge")
+    for name in ("bridge", "lo"):
+        run("ip", "link", "set", name, "up")
 
-    def __init__(self, program: str, place: Path, size: Size) -> None:
-        self.program, self.place, self.size = program, place, size
-        run("ip", "link", "add", "bridge", "type", "bridge")
-        run("ip", "address", "add", BRIDGE + "/24", "dev", "bridge")
-        for name in ("bridge", "lo"):
-            run("ip", "link", "set", name, "up")
-        write(place / "releases", size.imports)
-        self.machines = [Machine(program, place, number) for number in range(len(MACHINES))]
+
+class House:
+    """The machines, the proxy, and what is known of them."""
+
+    def __init__(self, place: Path, options: argparse.Namespace) -> None:
+        self.program, self.place = os.path.abspath(options.program), place
+        self.size = LONG if options.long else SHORT
+        self.end_at: float = time.monotonic() + options.minutes * 60
+        if options.inside:
+            make_bridge()
+        write(place / "releases", self.size.imports)
+        self.machines = [Machine(self.program, place, number, options.inside)
+                         for number in range(len(MACHINES))]
         self.writer, self.near, self.far = self.machines
-        self.proxy = Proxy(place, ["%s:%d" % (one.address, PORT) for one in self.machines])
-        # Imports that were answered, and the times in which nginx wasn't there.
+        self.proxy = Proxy(place, ["%s:%d" % (one.address, PORT) for one in self.machines],
+                           HAPROXY if options.haproxy else NGINX)
+        # Imports that were answered, and the times in which the proxy wasn't there.
         self.imports, self.gaps = 0, list[tuple[float, float]]()
 
     def start(self) -> None:
@@ -366,6 +391,10 @@ class House:
             return True
         return not any(one.has_had(pin or 0, since, until) for one in self.machines)
 
+    def is_late(self) -> bool:
+        """Whether there is no more time."""
+        return time.monotonic() > self.end_at
+
     def end(self) -> None:
         self.proxy.end()
         for machine in self.machines:
@@ -406,11 +435,13 @@ class Asking:
         return Question(asked, day, code)
 
     def ask(self, client: Client, judge: Judge, question: Question) -> None:
-        began = time.monotonic()
+        began, again = time.monotonic(), client.again
         try:
-            status, headers, body = self.answer(client, question.path)
+            status, headers, body = client.told(question.path)
         except (OSError, http.client.HTTPException) as why:
             return self.refused(question, began, repr(why))
+        finally:
+            self.counts["connections made again"] += client.again - again
         if status in REFUSED:
             return self.refused(question, began, str(status))
         kind = "at a pin" if question.pin is not None else "without a pin"
@@ -427,20 +458,6 @@ class Asking:
         """How many imports there may be, with the one that is made."""
         return self.house.imports + 1
 
-    def answer(self, client: Client, path: str) -> tuple[int, Any, bytes]:
-        """An answer. A connection that has ended before it came is made again, once, as each
-        client of HTTP does."""
-        try:
-            return client.told(path)
-        except (ConnectionError, http.client.RemoteDisconnected, http.client.CannotSendRequest):
-            client.connection.close()
-            self.counts["connections made again"] += 1
-        try:
-            return client.told(path)
-        except BaseException:
-            client.connection.close()
-            raise
-
     def refused(self, question: Question, began: float, why: str) -> None:
         self.counts["refused"] += 1
         self.counts["refused: " + why] += 1
@@ -449,8 +466,8 @@ class Asking:
             self.faults.append("%s: refused without need: %s" % (question.path, why))
 
     def wait_for(self, count: int) -> None:
-        """Waits until so many are asked."""
-        while self.asked < count and not self.faults:
+        """Waits until so many are asked, or there is no more time."""
+        while self.asked < count and not self.faults and not self.house.is_late():
             time.sleep(LOOK_SECONDS)
         if self.faults:
             raise Wrong("; ".join(self.faults[:TOLD]))
@@ -511,13 +528,15 @@ def tried(house: House) -> None:
     house.feed([house.near, house.far])
     began = time.monotonic()
     with Asking(house) as asking:
-        while house.imports < size.imports:
+        while house.imports < size.imports and not house.is_late():
             asking.wait_for(size.requests * house.imports // size.imports)
             disturb(house)
         asking.wait_for(size.requests)
     counts = asking.counts
     if asking.faults:
         raise Wrong("; ".join(asking.faults[:TOLD]))
+    if house.near.is_off:
+        house.back(house.near)
     house.feed([house.near, house.far])
     digests = {one.asked("DIGEST") for one in house.machines}
     same("how many digests the machines have", len(digests), 1)
@@ -529,11 +548,11 @@ def tried(house: House) -> None:
 
 
 @contextlib.contextmanager
-def a_house(program: str, size: Size) -> Iterator[House]:
+def a_house(options: argparse.Namespace) -> Iterator[House]:
     with tempfile.TemporaryDirectory(prefix="sctd-machines-") as place:
         # (nginx's workers are another user's where it is started by root.)
         os.chmod(place, 0o755)
-        house = House(program, Path(place), size)
+        house = House(Path(place), options)
         try:
             house.start()
             yield house
@@ -541,10 +560,10 @@ def a_house(program: str, size: Size) -> Iterator[House]:
             house.end()
 
 
-def inside(program: str, size: Size) -> int:
-    """The trial, in networks that nobody else has."""
+def run_trial(options: argparse.Namespace) -> int:
+    """The trial, in networks that nobody else has or without."""
     try:
-        with a_house(program, size) as house:
+        with a_house(options) as house:
             tried(house)
             refused_copies(house)
             print("copies that aren't taken: as it has to be", flush=True)
@@ -554,29 +573,38 @@ def inside(program: str, size: Size) -> int:
     return 0
 
 
-def lacking() -> Optional[str]:
-    if os.geteuid() != 0:
-        return "root"
-    if (lacks := missing(TOOLS)) is not None:
-        return lacks
-    done = subprocess.run([*UNSHARED, "true"], capture_output=True, check=False)
-    return "network of its own" if done.returncode else None
+def has_networks() -> bool:
+    """Whether networks can be made here."""
+    if any(shutil.which(tool) is None for tool in NETWORK_TOOLS):
+        return False
+    return subprocess.run([*UNSHARED, "true"], capture_output=True, check=False).returncode == 0
+
+
+def options_of(words: Sequence[str]) -> argparse.Namespace:
+    parser = argparse.ArgumentParser(description="Tries three machines behind a proxy.")
+    parser.add_argument("program", help="the built sctd")
+    parser.add_argument("--long", action="store_true", help="more imports and requests")
+    parser.add_argument("--minutes", type=float, default=math.inf, help="the most that it takes")
+    parser.add_argument("--haproxy", action="store_true", help="haproxy in place of nginx")
+    parser.add_argument("--processes", action="store_true", help="no networks")
+    parser.add_argument(INSIDE, action="store_true", help=argparse.SUPPRESS)
+    return parser.parse_args(words)
 
 
 def main(words: Sequence[str]) -> int:
-    options = [word for word in words if word.startswith("--")]
-    programs = [os.path.abspath(word) for word in words if not word.startswith("--")]
-    if len(programs) != 1 or not set(options) <= {"--long", INSIDE}:
-        print((__doc__ or "").strip(), file=sys.stderr)
-        return 2
-    if INSIDE in options:
-        return inside(programs[0], LONG if "--long" in options else SHORT)
-    if (lacks := lacking()) is not None:
+    options = options_of(words)
+    if options.inside:
+        return run_trial(options)
+    kind = HAPROXY if options.haproxy else NGINX
+    if (lacks := missing((kind.name, *TOOLS))) is not None:
         print("not run: there is no %s" % lacks)
         return NOT_RUN
+    if options.processes or not has_networks():
+        print("the machines are processes, without networks of their own", flush=True)
+        return run_trial(options)
     # (With this process all that it starts is ended, too.)
-    words = [*UNSHARED, sys.executable, os.path.abspath(__file__), *programs, *options, INSIDE]
-    os.execvp(words[0], words)
+    again = [*UNSHARED, sys.executable, os.path.abspath(__file__), *words, INSIDE]
+    os.execvp(again[0], again)
 
 
 if __name__ == "__main__":
