@@ -78,10 +78,14 @@ HAPROXY = Kind("haproxy", "haproxy.cfg", "bind :", None, "haproxy -W -f %(place)
 KINDS = (NGINX, HAPROXY)
 
 
-def run(*words: str) -> None:
-    done = subprocess.run(words, stdin=subprocess.DEVNULL, capture_output=True, check=False)
+def run(*words: str) -> str:
+    """What a command says, which has to end well."""
+    done = subprocess.run(words, stdin=subprocess.DEVNULL, stdout=subprocess.PIPE,
+                          stderr=subprocess.STDOUT, timeout=SECONDS, check=False)
+    said = done.stdout.decode("utf-8", "replace").strip()
     if done.returncode:
-        raise Wrong("%s: %s" % (" ".join(words[:2]), done.stderr.decode().strip()))
+        raise Wrong("%s: status %d: %s" % (" ".join(words), done.returncode, said))
+    return said
 
 
 def missing(tools: Sequence[str] = (NGINX.name, *TOOLS)) -> Optional[str]:

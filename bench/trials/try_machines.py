@@ -48,7 +48,7 @@ from machines_releases import CODES, TOP, days_of, rows_of, wording_of, write
 from operators_harness import Wrong, same
 from proxy_harness import (
     HAPROXY, LOOK_SECONDS, NGINX, NOT_RUN, ROOT, SECONDS, Client, Process, Proxy, children,
-    gateway_words, hub_words, missing, ready, stop, wait)
+    gateway_words, hub_words, missing, ready, run, stop, wait)
 from sctd_service.protocol import HubClient, HubFailed
 from tests.compare_releases import Comparison, Differs
 from tests.house import SCT, Json, version
@@ -93,15 +93,6 @@ NETWORK_TOOLS = ("ip", "unshare", "nsenter")
 # What says that the networks are there.
 INSIDE = "--inside"
 UNSHARED = ("unshare", "--net", "--pid", "--mount-proc", "--fork", "--kill-child")
-
-
-def run(*words: str) -> str:
-    done = subprocess.run(words, stdin=subprocess.DEVNULL, stdout=subprocess.PIPE,
-                          stderr=subprocess.STDOUT, timeout=SECONDS, check=False)
-    said = done.stdout.decode("utf-8", "replace").strip()
-    if done.returncode:
-        raise Wrong("%s: status %d: %s" % (" ".join(words), done.returncode, said))
-    return said
 
 
 class Network:
