@@ -42,7 +42,7 @@ from unproved import FAST_BUILD, FAST_RUN, Builder, bytes_of, kit_folder, run_pr
 
 TOP = Path(__file__).resolve().parent.parent
 sys.path.append(str(TOP / "bench" / "trials"))
-from try_program import SCRIPTS  # noqa: E402
+from try_program import SCRIPTS, Outcome, outcome_of  # noqa: E402
 
 PROGRAM = "sctd"
 
@@ -54,8 +54,6 @@ MOST_AT_ONCE = 2
 TEST_SECONDS = 120
 PROGRAM_SECONDS = 120
 SCRIPT_SECONDS = 300
-# The status of a script that can't be run on this machine.
-NOT_RUN = 3
 # How much of what a part says is printed where it fails.
 LINES_TOLD = 40
 
@@ -69,19 +67,8 @@ SOAK = "trials/soak.py"
 LONG_SOAK = (SOAK, "20", "1")
 # Trials that .ci/run doesn't make, or makes by themselves.
 OTHER_TRIALS = (("trials/try_gateway.py",), ("trials/try_failed_sync.py",))
-# The last line of a script that counts what it tried.
-COUNTED = re.compile(r"(\d+) passed, (\d+) failed(?:, (\d+) skipped)?$")
 # What of a crate is built and run.
 TAKEN = ("src", "c", "data", "stdin", "stdout", "args", "status")
-
-
-class Outcome(NamedTuple):
-    """How many tests, scripts or programs passed, failed and were skipped, and what to tell."""
-
-    passed: int
-    failed: int
-    skipped: int = 0
-    told: str = ""
 
 
 class Part(NamedTuple):
@@ -278,15 +265,7 @@ def run_script(words: Sequence[str]) -> Outcome:
         )
     except subprocess.TimeoutExpired:
         return Outcome(0, 1, 0, "it hasn't ended after %d seconds" % SCRIPT_SECONDS)
-    printed = last_lines(text_of(done.stdout))
-    last = printed.split("\n")[-1]
-    if done.returncode == NOT_RUN:
-        return Outcome(0, 0, 1, printed if COUNTED.match(last) else last)
-    found = COUNTED.match(last)
-    passed, failed, skipped = (int(n or 0) for n in found.groups()) if found else (1, 0, 0)
-    if done.returncode == 0:
-        return Outcome(passed, failed, skipped)
-    return Outcome(passed if found else 0, max(failed, 1), skipped, printed)
+    return outcome_of(done.returncode, done.stdout, LINES_TOLD)
 
 
 def compared(program: Path, crate: Path) -> Outcome:
@@ -333,7 +312,7 @@ class Progress:
         except Exception as why:  # A part that can't be run has failed, and the others go on.
             outcome = Outcome(0, 1, 0, "%s: %s" % (type(why).__name__, why))
         took = time.monotonic() - begun
-        self.say("%s: %s (%.0f s)" % (counts(outcome), part.name, took) + indented(outcome.told))
+        self.say("%s: %s (%.0f s)" % (outcome, part.name, took) + indented(outcome.told))
         return outcome
 
 
@@ -342,11 +321,6 @@ def chosen(parts: list[Part], word: str) -> list[Part]:
     taken = [part for part in parts if word in part.name]
     needed = [part for part in parts if part.name == PROGRAM_OF + PROGRAM and part not in taken]
     return needed + taken if any(part.is_trial for part in taken) else taken
-
-
-def counts(outcome: Outcome) -> str:
-    words = "%d passed, %d failed" % (outcome.passed, outcome.failed)
-    return words + (", %d skipped" % outcome.skipped if outcome.skipped else "")
 
 
 def indented(text: str) -> str:
@@ -373,7 +347,7 @@ def main() -> int:
             outcomes = list(workers.map(progress.run, parts))
     sums = (sum(numbers) for numbers in list(zip(*outcomes))[:3])
     total = Outcome(*sums)
-    print(counts(total))
+    print(total)
     return 0 if total.passed and not total.failed else 1
 
 

@@ -30,11 +30,12 @@ from promises import written_list
 TRIALS = os.path.join(TOP, "bench", "trials")
 sys.path.append(TRIALS)
 from case_texts import names_of_cases  # noqa: E402
+from try_program import SCRIPTS  # noqa: E402
 
 # The trial that asks the cases of bench/cases/.
 TRANSCRIPTS = "try_cases"
-# The trial that has the list of those that CI makes.
-LIST_OF_TRIALS = "try_program.py"
+# What makes the trials of the files that it is given by their names.
+BY_PYTEST = "trials/by_pytest.py"
 TEST = re.compile(r"#\[test\]\n\s*fn (\w+)")
 CASE = re.compile(r"^case (.+)$", re.M)
 # A function of a crate, as README names it.
@@ -64,9 +65,10 @@ def shown_names() -> set[str]:
 @functools.lru_cache(maxsize=None)
 def trials() -> dict[str, str]:
     """The texts of the trials that CI makes."""
-    listed = read(os.path.join(TRIALS, LIST_OF_TRIALS))
-    return {script: read(os.path.join(TRIALS, f"{script}.py"))
-            for script in re.findall(r'\("trials/(\w+)\.py"', listed)}
+    paths = [path for script, *words in SCRIPTS for path in (
+        [f"trials/test_{word}.py" for word in words] if script == BY_PYTEST else [script])]
+    return {os.path.basename(path)[: -len(".py")]: read(os.path.join(TOP, "bench", path))
+            for path in paths}
 
 
 def is_shown(name: str) -> bool:

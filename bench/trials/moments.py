@@ -1,15 +1,13 @@
 """Lets chosen system calls of a program fail, or does something just before them, by a library of a
-few lines for LD_PRELOAD, which needs a C compiler (`cc`). A part of try_files.py."""
+few lines for LD_PRELOAD, which needs a C compiler (`cc`). A part of test_files.py."""
 
 from __future__ import annotations
 
 import os
-import shutil
 import subprocess
+from collections.abc import Sequence
 from pathlib import Path
-from typing import NamedTuple, Sequence
-
-from operators_harness import Skipped
+from typing import NamedTuple
 
 # More calls than a program makes.
 ALWAYS = 1_000_000_000
@@ -130,8 +128,6 @@ class Library:
     """The compiled library, and the file that it writes to when it meets a moment."""
 
     def __init__(self, folder: Path) -> None:
-        if shutil.which("cc") is None:
-            raise Skipped("there is no C compiler")
         source, self.path, self.log = folder / "moments.c", folder / "moments.so", folder / "met"
         source.write_text(SOURCE, encoding="ascii")
         words = ["cc", "-shared", "-fPIC", "-w", "-O1", "-o", str(self.path), str(source), "-ldl"]

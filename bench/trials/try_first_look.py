@@ -30,7 +30,7 @@ from pathlib import Path
 from typing import NamedTuple
 
 import chromium
-from operators_harness import Wrong, same
+from harness import Wrong, same
 
 ROOT = Path(__file__).resolve().parents[2]
 sys.path += [str(ROOT / "packaging"), str(ROOT / "bench")]

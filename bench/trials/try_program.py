@@ -3,17 +3,24 @@
 
 try_program.py PROGRAM [PASSED FAILED]
 
-Each script of the list below is run with PROGRAM, the built `sctd`. One that can't be run on this
-machine says why and ends with status 3: it is skipped, and not counted as passed. PASSED and FAILED
-are what `rt ci` counted; the last line is `N passed, M failed` of both together, and the status is
-1 where something failed. Standard library alone.
+Each script of the list below is run with PROGRAM, the built `sctd`. One that counts what it tried
+ends with a line `N passed, M failed`, and every other one counts as one. One that can't be run on
+this machine says why and ends with status 3: it is skipped, and not counted as passed. PASSED and
+FAILED are what `rt ci` counted; the last line is `N passed, M failed` of both together, and the
+status is 1 where something failed. Standard library alone.
 """
 
+from __future__ import annotations
+
+import argparse
 import os
+import re
 import subprocess
 import sys
 import time
 from collections.abc import Sequence
+from pathlib import Path
+from typing import NamedTuple
 
 BENCH = os.path.dirname(os.path.dirname(os.path.abspath(__file__)))
 # Each script of bench/ and its further words, none of which takes longer than this many seconds.
@@ -22,12 +29,13 @@ SCRIPTS: list[tuple[str, ...]] = [
     ("checks/check_guide.py",),
     ("trials/try_cases.py",),
     ("trials/try_cases.py", "--wrong"),
-    ("trials/try_mistakes.py",),
+    ("trials/by_pytest.py", "mistakes"),
     ("trials/check_syncs.py",),
-    ("trials/try_files.py",),
-    ("trials/try_cache.py",),
-    ("trials/try_hub.py",),
-    ("trials/try_operators.py",),
+    ("trials/by_pytest.py", "files", "cache"),
+    ("trials/by_pytest.py", "hub", "crowds", "openings"),
+    ("trials/by_pytest.py", "duties", "copies"),
+    ("trials/by_pytest.py", "readers"),
+    ("trials/by_pytest.py", "operators"),
     ("trials/refuse_growths.py", "script"),
     ("trials/refuse_growths.py", "tasks"),
     ("trials/soak.py", "12", "1"),
@@ -39,40 +47,67 @@ SCRIPTS: list[tuple[str, ...]] = [
     ("trials/try_machines.py",),
 ]
 NOT_RUN = 3
+# The last line of a script that counts what it tried.
+COUNTED = re.compile(r"(\d+) passed, (\d+) failed(?:, (\d+) skipped)?$")
+# How much of what a script printed is told where it failed.
+LINES_TOLD = 30
 
 
-def tried(program: str, script: str, words: Sequence[str]) -> tuple[int, float, list[str]]:
-    """The status of a script, the seconds that it took, and the lines that it printed."""
-    begun = time.monotonic()
+class Outcome(NamedTuple):
+    """How many tests, scripts or programs passed, failed and were skipped, and what to tell."""
+
+    passed: int
+    failed: int
+    skipped: int = 0
+    told: str = ""
+
+    def __str__(self) -> str:
+        skipped = f", {self.skipped} skipped" if self.skipped else ""
+        return f"{self.passed} passed, {self.failed} failed{skipped}"
+
+
+def outcome_of(status: int, printed: bytes, most_lines: int = LINES_TOLD) -> Outcome:
+    """What came of a script, by its status and what it printed."""
+    lines = printed.decode("utf-8", "backslashreplace").rstrip("\n").split("\n")
+    told, found = "\n".join(lines[-most_lines:]), COUNTED.match(lines[-1])
+    passed, failed, skipped = (int(n or 0) for n in found.groups()) if found else (1, 0, 0)
+    if status == NOT_RUN:
+        return Outcome(0, 0, max(skipped, 1), told if found else lines[-1])
+    if status == 0:
+        return Outcome(passed, failed, skipped, told if skipped else "")
+    return Outcome(passed if found else 0, max(failed, 1), skipped, told)
+
+
+def tried(program: Path, script: str, words: Sequence[str]) -> Outcome:
+    """What came of a script with the program."""
     try:
         done = subprocess.run(
             [sys.executable, os.path.join(BENCH, script), program, *words], timeout=LONGEST,
             stdin=subprocess.DEVNULL, stdout=subprocess.PIPE, stderr=subprocess.STDOUT, check=False)
-        status, printed = done.returncode, done.stdout
     except subprocess.TimeoutExpired as late:
-        status, printed = 1, (late.stdout or b"") + b"\nit takes too long"
-    took = time.monotonic() - begun
-    lines = printed.decode("utf-8", "backslashreplace").rstrip("\n").split("\n")
-    return status, took, lines
+        return outcome_of(1, (late.stdout or b"") + b"\nit takes too long")
+    return outcome_of(done.returncode, done.stdout)
 
 
-def main(words: list[str]) -> int:
+def main() -> int:
     assert __doc__
-    if len(words) not in (1, 3):
-        print(__doc__.strip(), file=sys.stderr)
-        return 2
-    program = os.path.abspath(words[0])
-    passed, failed = (int(words[1]), int(words[2])) if len(words) == 3 else (0, 0)
+    parser = argparse.ArgumentParser(description=__doc__.split("\n", maxsplit=1)[0])
+    parser.add_argument("program", type=Path, help="the built sctd")
+    parser.add_argument("passed", type=int, nargs="?", default=0, help="how many passed before")
+    parser.add_argument("failed", type=int, nargs="?", default=0, help="how many failed before")
+    asked = parser.parse_args()
+    passed, failed = asked.passed, asked.failed
     for script, *more in SCRIPTS:
-        status, took, lines = tried(program, script, more)
-        said = {0: "passed", NOT_RUN: "skipped: " + lines[-1]}.get(status, "FAILED")
-        print("bench/%s %s (%d s)" % (" ".join([script] + more), said, took), flush=True)
-        if status not in (0, NOT_RUN):
-            print("\n".join("    " + line for line in lines[-30:]), flush=True)
-        passed, failed = passed + (status == 0), failed + (status not in (0, NOT_RUN))
-    print("%d passed, %d failed" % (passed, failed))
+        begun = time.monotonic()
+        outcome = tried(asked.program.resolve(), script, more)
+        took = time.monotonic() - begun
+        print(f"bench/{' '.join([script, *more])}: {outcome} ({took:.0f} s)", flush=True)
+        if outcome.told:
+            print("\n".join("    " + line for line in outcome.told.split("\n")), flush=True)
+        passed, failed = passed + outcome.passed, failed + outcome.failed
+    print(f"{passed} passed, {failed} failed")
     return 1 if failed else 0
 
 
 if __name__ == "__main__":
-    sys.exit(main(sys.argv[1:]))
+    sys.exit(main())

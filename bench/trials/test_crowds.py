@@ -1,0 +1,175 @@
+"""Tries the hub with many clients: that each is told its own replies, who is told of imports, whom
+the hub hangs up on, what it logs of slow lines, and a file that is replaced."""
+
+from __future__ import annotations
+
+import os
+import random
+import shutil
+import time
+from pathlib import Path
+
+import pytest
+
+from harness import HANDING_ON, Hub, Place, Wrong, concept, concept_id, until, write_release
+from test_duties import NOT_A_QUESTION
+
+# How many clients ask, how often, how many lines at once at most, of a store of so many imports.
+CLIENTS, ROUNDS, MOST_LINES, IMPORTS = 64, 12, 40, 6
+SEED = 20261129
+LONG = "x" * 5_000
+# The hub, with the next two replies exchanged.
+TAKING = "                asker, line = self.on_their_way.popleft()\n"
+EXCHANGING = """\
+                if len(self.on_their_way) > 1:
+                    first, second = self.on_their_way.popleft(), self.on_their_way.popleft()
+                    self.on_their_way.extendleft((first, second))
+"""
+SOON = 10
+
+
+class Model:
+    """What one client is told, by the rules of the guide: each import brought one concept."""
+
+    def __init__(self, number: int) -> None:
+        self.chance, self.pin = random.Random(SEED + number), IMPORTS
+
+    def next(self) -> tuple[str, list[str]]:
+        """A line, and the reply to it."""
+        number = self.chance.randint(1, IMPORTS)
+        return self.chance.choice((self.asked, self.asked, self.asked, self.receipt, self.pinned,
+                                   self.unpinned, self.refused))(number)
+
+    def asked(self, number: int) -> tuple[str, list[str]]:
+        rows = ["ROW " + concept(number)] if number <= self.pin else []
+        return f"HISTORY C {concept_id(number)}", [*rows, f"END {len(rows)}"]
+
+    def receipt(self, number: int) -> tuple[str, list[str]]:
+        there = [f"OK {number} 1 20250131"]
+        return f"RECEIPT {number}", there if number <= self.pin else ["ERR 44 PinRange"]
+
+    def pinned(self, number: int) -> tuple[str, list[str]]:
+        self.pin = number
+        return f"PIN {number}", [f"OK {number}"]
+
+    def unpinned(self, _: int) -> tuple[str, list[str]]:
+        self.pin = IMPORTS
+        return "UNPIN", ["OK"]
+
+    def refused(self, number: int) -> tuple[str, list[str]]:
+        return (LONG, ["ERR 40 Long"]) if number == 1 else ("IMPORT n1", NOT_A_QUESTION)
+
+
+@pytest.fixture(name="store")
+def some_imports(place: Place) -> Path:
+    """A store of some imports of a concept each, beside their releases and one more."""
+    own = place.make_store()
+    for number in range(1, IMPORTS + 2):
+        release = write_release(place.releases / f"n{number}", {"C": [concept(number)]})
+        if number <= IMPORTS:
+            assert place.import_one(own, release) == f"OK {number} 1 0"
+    return own
+
+
+def ask_all(place: Place, store: Path) -> None:
+    """Many clients send lines at the same time, and each is told what its own model says."""
+    with Hub(place, store, asks=True) as hub:
+        chance = random.Random(SEED)
+        crowd = [(hub.asker(), Model(number)) for number in range(CLIENTS)]
+        for _ in range(ROUNDS):
+            asked = [(client, [model.next() for _ in range(chance.randint(1, MOST_LINES))])
+                     for client, model in crowd]
+            for client, lines in asked:
+                client.send("".join(line + "\n" for line, _ in lines).encode())
+            for client, lines in chance.sample(asked, len(asked)):
+                for line, wanted in lines:
+                    assert client.read() == wanted, line[:30]
+
+
+def test_own_replies(place: Place, store: Path) -> None:
+    """Each of 64 clients is told the replies to its own lines, in their order."""
+    ask_all(place, store)
+
+
+def test_exchanged_replies(place: Place, store: Path) -> None:
+    """A hub that exchanges two replies is found out."""
+    exchanging = place.changed("program.py", TAKING, EXCHANGING + TAKING)
+    with pytest.raises((AssertionError, Wrong)):
+        ask_all(exchanging, store)
+
+
+def test_watching(place: Place, store: Path) -> None:
+    """Who watches is told of an import before it is answered, on either socket, and has its replies
+    in their order."""
+    with Hub(place, store, releases=place.releases, asks=True) as hub:
+        owner, watchers = hub.client(), [hub.asker(), hub.client()]
+        for watcher in watchers:
+            assert watcher.ask("WATCH") == [f"OK {IMPORTS}"]
+            assert watcher.ask("RECEIPT 1") == ["OK 1 1 20250131"]
+        assert owner.ask("IMPORT none") == ["ERR 45 NoFolder"]
+        assert owner.ask(f"CHECK n{IMPORTS + 1}") == [f"OK {IMPORTS + 1} 1 0"]
+        assert not any(watcher.has_reply() for watcher in watchers)
+        assert owner.ask(f"IMPORT n{IMPORTS + 1}") == [f"OK {IMPORTS + 1} 1 0"]
+        for watcher in watchers:
+            assert watcher.has_reply()
+            assert watcher.read() == [f"OK {IMPORTS + 1}"]
+
+
+def test_users(place: Place, two_imports: Path) -> None:
+    """A user has so many connections on the socket for questions and no more, which is told
+    once."""
+    with Hub(place, two_imports, "--connections-a-user", "3", asks=True) as hub:
+        clients = [hub.asker() for _ in range(3)]
+        for client in [*clients, hub.client()]:
+            assert client.ask("RECEIPT 1") == ["OK 1 6 20200131"]
+        for _ in range(2):
+            assert hub.asker().read() == ["ERR 41 Session"]
+        told = f"user {os.getuid()} has 3 connections, and gets no other one"
+        assert hub.logged() == [told]
+        clients[0].leave()
+
+        def is_served() -> bool:
+            client = hub.asker()
+            client.send(b"RECEIPT 1\n")
+            return client.read() == ["OK 1 6 20200131"]
+
+        until("another one is served", is_served)
+
+
+def test_idle(place: Place, two_imports: Path) -> None:
+    """Who says nothing for long is hung up on, but not who watches, nor who may change the
+    store."""
+    short = place.changed("clients.py", "IDLE_SECONDS, IDLE_SECONDS_IF_FULL = 600, 10",
+                          "IDLE_SECONDS, IDLE_SECONDS_IF_FULL = 1, 1")
+    with Hub(short, two_imports, asks=True) as hub:
+        silent, watcher, owner = hub.asker(), hub.asker(), hub.client()
+        assert silent.ask("PIN 1") == ["OK 1"]
+        assert watcher.ask("WATCH") == ["OK 2"]
+        assert silent.line() == b""
+        for client in (watcher, owner):
+            assert client.ask("RECEIPT 1") == ["OK 1 6 20200131"]
+
+
+def test_slow_lines(place: Place, two_imports: Path) -> None:
+    """A line that takes long is logged, with its user; those behind it aren't."""
+    slow = place.wrapped(HANDING_ON % ("""
+    if b"RECEIPT 2" in line:
+        time.sleep(1.5)""", ""))
+    with Hub(slow, two_imports) as hub:
+        client = hub.client()
+        client.send(b"RECEIPT 1\nRECEIPT 2\nRECEIPT 1\n")
+        assert [client.read()[0].split(" ")[1] for _ in range(3)] == ["1", "2", "1"]
+        told = [line.partition(" s for ")[2] for line in hub.logged()]
+        assert told == [f"RECEIPT 2 of user {os.getuid()}"]
+
+
+def test_replaced(place: Place, store: Path) -> None:
+    """Where another file takes the place of the store's, the hub ends with 1, and says why."""
+    shutil.copy(store, place.path("other"))
+    with Hub(place, store) as hub:
+        assert hub.first_line == "OK ready"
+        os.replace(place.path("other"), store)
+        began = time.monotonic()
+        assert hub.end() == 1
+        assert time.monotonic() - began < SOON
+        assert hub.logged() == ["the store's file was replaced: the hub ends"]

@@ -1,0 +1,605 @@
+"""Makes the mistakes that people make with the built program, and looks at what it does. It is
+given wrong paths, folders that are no release, whole packages, files that never end, names with
+control characters, a full disk, too few files that may be open, a store that is in use and one
+whose file is replaced. Each time its reply, its status and the line on standard error have to be as wanted
+within ten seconds, and the store has to be left as it was. Then four imports run on one store at
+once, and again beside a server: each release that was answered OK has to be there after the next
+opening, and no other. The lines in the help of `serve` have to be requests, and the demonstration
+what a case of bench/cases/ says."""
+
+from __future__ import annotations
+
+import os
+import pty
+import re
+import resource
+import select
+import shutil
+import subprocess
+from collections.abc import Callable, Mapping, Sequence
+from pathlib import Path
+from typing import NamedTuple
+
+import pytest
+
+from harness import TOP, Place, Ran, Server, mode
+
+# How long a call may take.
+SECONDS = 10
+# How many bytes of a terminal are read at a time.
+READ_BYTES = 1 << 16
+# The lines of the demonstration with their replies, as cases are written, and what the names there
+# stand for.
+DEMONSTRATION = TOP / "bench" / "cases" / "demonstration.txt"
+MEANINGS = {"CORE": "900000000000207008", "PRIM": "900000000000074008",
+            "SYN": "900000000000013009", "ECI": "900000000000448009"}
+# How many lines the help of `serve` has as examples, and the refusals of a line that is no request.
+EXAMPLES = 32
+NO_REQUEST = ("ERR 40 ", "ERR 41 ", "ERR 42 ", "ERR 43 ")
+CONCEPTS = "sct2_Concept_Delta_INT_20200131.txt"
+FULL_CONCEPTS = "sct2_Concept_Full_INT_20200131.txt"
+# What is told of a file that stands in a folder which isn't read.
+OUT_OF_PLACE = "sctd: warning: passed over %s, whose name is one to take: "
+COLUMNS = "id\teffectiveTime\tactive\tmoduleId\tdefinitionStatusId\n"
+ROOT_ROW = "138875005\t%s\t1\t900000000000207008\t900000000000074008\n"
+ROW = ROOT_ROW % "20200131"
+ROWS = COLUMNS + ROW
+# What tells the process that holds a store's lock.
+HOLDER = re.compile(r"in use by another process, whose id is (\d+)\n$")
+# The number of a user who owns nothing.
+OTHER_USER = 65534
+# A row of a language reference set, and one of a text definition, of the root concept.
+LANGUAGE = "der2_cRefset_LanguageDelta-en_INT_20200131.txt"
+LANGUAGE_ROWS = (
+    "id\teffectiveTime\tactive\tmoduleId\trefsetId\treferencedComponentId\tacceptabilityId\n"
+    "0b6a0c2e-5d0f-4c53-9f6e-8d9d2a7b1c01\t20200131\t1\t900000000000207008\t900000000000509007\t"
+    "1000015\t900000000000548007\n")
+DEFINITIONS = "sct2_TextDefinition_Delta-en_INT_20200131.txt"
+DEFINITION_ROWS = (
+    "id\teffectiveTime\tactive\tmoduleId\tconceptId\tlanguageCode\ttypeId\tterm\t"
+    "caseSignificanceId\n"
+    "1000015\t20200131\t1\t900000000000207008\t138875005\ten\t900000000000550004\tAll of it.\t"
+    "900000000000448009\n")
+ASSOCIATIONS = "Refset/Content/der2_cRefset_AssociationFull_INT_20200131.txt"
+ASSOCIATION_COLUMNS = ("id\teffectiveTime\tactive\tmoduleId\trefsetId\treferencedComponentId\t"
+                       "targetComponentId\n")
+PARTS = "no folder Terminology or Refset/Content in it"
+MISSING, FAILED = "ERR 45 NoFolder", "ERR 2 DiskFault"
+
+# What stands at a path: a text, or what makes it.
+Made = str | Callable[[Path], object]
+Files = Mapping[str, Made]
+
+
+# ---- What is there
+
+
+def endless(path: Path) -> None:
+    path.symlink_to("/dev/zero")
+
+
+def dangling(path: Path) -> None:
+    path.symlink_to("nowhere")
+
+
+def write(folder: Path, files: Files) -> None:
+    for name, made in files.items():
+        path = folder / name
+        path.parent.mkdir(parents=True, exist_ok=True)
+        if isinstance(made, str):
+            path.write_text(made, encoding="utf-8")
+        else:
+            made(path)
+
+
+@pytest.fixture(name="place")
+def place_with_releases(place: Place) -> Place:
+    """The program, beside releases of a row each."""
+    place.seconds = SECONDS
+    for number in range(1, 5):
+        write(place.releases / f"r{number}",
+              {f"Terminology/{CONCEPTS}": COLUMNS + ROOT_ROW % f"{2019 + number}0131"})
+    return place
+
+
+@pytest.fixture
+def store(place: Place) -> Path:
+    """A store without rows."""
+    assert place.run("init", "--store", "store") == (0, "OK\n", "")
+    return place.path("store")
+
+
+def refused(ran: Ran, reply: str, why: str, warnings: Sequence[str] = ()) -> None:
+    """It was refused by this reply, with this in the last line of standard error, and before it a
+    line for each warning, which it begins with."""
+    *warned, last = ran.faults.splitlines() or [""]
+    assert ran[:2] == (1, reply + "\n")
+    assert why in last + "\n"
+    assert len(warned) == len(warnings)
+    assert all(line.startswith(head) for line, head in zip(warned, warnings)), warned
+
+
+def imported(place: Place, *words: str | Path) -> Ran:
+    return place.run("import", "--quiet", "--store", "store", "--releases", "releases", *words)
+
+
+# ---- Folders that are no release
+
+
+class Folder(NamedTuple):
+    """What is in a folder of releases, which one is imported, and why that is refused."""
+
+    files: Files
+    name: str
+    why: str
+    reply: str = MISSING
+    warnings: Sequence[str] = ()
+    layout: int = 2
+
+
+def package(inner: str) -> Folder:
+    """A package's top folder."""
+    path = f"{inner}/Terminology/{CONCEPTS}"
+    return Folder({f"package/{path}": ROWS}, "package", f"{PARTS}; its folder {inner}",
+                  warnings=[OUT_OF_PLACE % path])
+
+
+def half(part: str, whole: str) -> Folder:
+    """A release of which one folder is a link that leads nowhere."""
+    return Folder({f"half/{whole}/{CONCEPTS}": ROWS, f"half/{part}": dangling}, "half",
+                  "leads nowhere")
+
+
+def in_terminology(made: Made, why: str, reply: str = MISSING) -> Folder:
+    return Folder({f"r/Terminology/{CONCEPTS}": made}, "r", why, reply)
+
+
+def in_refset(path: str, made: Made, why: str) -> Folder:
+    """A package, of which all is read, with something in Refset."""
+    files: Files = {f"r/Terminology/{CONCEPTS}": ROWS, "r/Refset/Map/readme.txt": "",
+             "r/Refset/Language": Path.mkdir, f"r/Refset/{path}": made}
+    return Folder(files, "r", why, layout=3)
+
+
+FOLDERS = {
+    "a wrong name": Folder({}, "absent", "releases/absent: no such folder"),
+    "a package's top folder, Full": package("Full"),
+    "a package's top folder, Delta": package("Delta"),
+    "a zip": Folder({"packed.zip": "PK"}, "packed.zip", "unpack the release"),
+    "a slash before it": Folder({}, "/r1", "one / between", "ERR 43 Arguments"),
+    "a lower-case folder": Folder(
+        {f"small/terminology/{CONCEPTS}": COLUMNS}, "small", "releases/small: " + PARTS,
+        warnings=[OUT_OF_PLACE % f"terminology/{CONCEPTS}"]),
+    "no file to take": Folder({"none/Terminology/readme.txt": ""}, "none", "no file to take"),
+    "a faulty line": in_terminology(COLUMNS + "?\n", f"{CONCEPTS}, line 2: ",
+                                    "ERR 23 Columns 1 2"),
+    "two rows of one id and date": in_terminology(
+        ROWS + ROW + ROW.replace("\t1\t", "\t0\t"),
+        f"{CONCEPTS}, line 4: the row differs from another one of the same id and date: "
+        f"{CONCEPTS}, line 2\n", "ERR 32 Contradiction 1 4"),
+    "a FIFO": in_terminology(os.mkfifo, "not a regular file"),
+    "an endless device": in_terminology(endless, "not a regular file"),
+    "a dangling file": in_terminology(dangling, "leads nowhere"),
+    "a dangling Terminology": half("Terminology", "Refset/Content"),
+    "a dangling Refset": half("Refset", "Terminology"),
+    "a dangling Refset/Content": half("Refset/Content", "Terminology"),
+    "a dangling release": Folder({"gone": dangling}, "gone", "leads nowhere"),
+    "a name that isn't UTF-8": Folder(
+        {"r/Terminology/caf\udce9\n.txt": ""}, "r",
+        "the name of a file in it isn't UTF-8: caf\\xe9\\n.txt\n"),
+    "a FIFO in Refset": in_refset(f"Language/{LANGUAGE}", os.mkfifo, "not a regular file"),
+    "an endless device in Refset": in_refset(f"Language/{LANGUAGE}", endless, "not a regular file"),
+    "a dangling file in Refset": in_refset(f"Language/{LANGUAGE}", dangling, "leads nowhere"),
+    "a misnamed file in Refset": in_refset("Language/\udcff.txt", "", "isn't UTF-8: \\xff.txt"),
+    "a misnamed folder in Refset": in_refset("\udcff", Path.mkdir, "isn't UTF-8: \\xff"),
+    "a dangling folder in Refset": in_refset("Metadata", dangling, "Metadata: a link that leads"),
+}
+
+
+@pytest.mark.parametrize("folder", FOLDERS.values(), ids=FOLDERS.keys())
+def test_folders(place: Place, folder: Folder) -> None:
+    """What is no release is refused, and the store left as it was."""
+    write(place.releases, folder.files)
+    before = place.make_store(layout=folder.layout).read_bytes()
+    refused(imported(place, folder.name), folder.reply, folder.why, folder.warnings)
+    assert place.path("store").read_bytes() == before
+
+
+@pytest.mark.parametrize("words", (
+    ["--releases", "releases", "package/Full/"], ["releases/package/Full"],
+    ["./releases//package/Full//"], ["alone"], ["alone/"], ["{}/releases/package/Full"]))
+def test_names(place: Place, store: Path, words: Sequence[str]) -> None:
+    """Names as people type them: with slashes at the end, and paths without a folder of
+    releases."""
+    for folder in ("releases/package/Full", "alone"):
+        write(place.path(folder), {f"Terminology/{CONCEPTS}": ROWS})
+    named = [word.format(place.folder) for word in words]
+    assert place.run("import", "--quiet", "--store", store, *named) == (0, "OK 1 1 0\n", "")
+
+
+@pytest.mark.parametrize("path, told", (("absent/", "./absent"),
+                                        ("releases/absent", "releases/absent")))
+def test_wrong_paths(place: Place, store: Path, path: str, told: str) -> None:
+    before = store.read_bytes()
+    refused(place.run("import", "--store", store, path), MISSING, f"sctd: {told}: no such folder")
+    assert store.read_bytes() == before
+
+
+# ---- What an import tells
+
+
+@pytest.mark.parametrize("is_quiet", (False, True))
+def test_telling(place: Place, store: Path, is_quiet: bool) -> None:
+    """What an import tells beside its reply."""
+    near = "xsct2_Concept_full_INT_20200131.txt"
+    write(place.releases / "told", {
+        f"Terminology/{CONCEPTS}": ROWS, f"Terminology/{near}": COLUMNS,
+        "Terminology/readme.txt": "", "Refset/Map/map.txt": "", "notes\nsctd: forged": ""})
+    words = ["--quiet"] if is_quiet else []
+    status, output, faults = place.run("import", "--store", store, "releases/told", *words)
+    assert status == 0 and output.startswith("OK ")
+    lines = faults.splitlines()
+    warning = f"sctd: warning: passed over Terminology/{near}, "
+    assert any(line.startswith(warning) for line in lines), lines
+    for line in ("reading " + CONCEPTS, f"took {CONCEPTS}: Concept, rows: 1",
+                 "passed over Terminology/readme.txt", "passed over Refset/Map/map.txt",
+                 "passed over notes\\nsctd: forged", "importing"):
+        assert ("sctd: " + line in lines) != is_quiet, (line, lines)
+    assert not any(line.startswith("sctd: forged") for line in lines)
+
+
+def test_few_kinds(place: Place, store: Path) -> None:
+    write(place.releases / "few", {ASSOCIATIONS: ASSOCIATION_COLUMNS})
+    told = "sctd: warning: no Concept, Description or Relationship file was taken\n"
+    assert place.run("import", "--quiet", "--store", store, "releases/few")[::2] == (0, told)
+
+
+def test_lacking(place: Place, store: Path) -> None:
+    """A Full release with concepts and no descriptions, and files that stand in other folders."""
+    write(place.releases / "lacking", {f"Full/Terminology/{FULL_CONCEPTS}": ROWS,
+                                       f"Full/terminology/{CONCEPTS}": COLUMNS})
+    told = OUT_OF_PLACE % f"terminology/{CONCEPTS}"
+    told += "a release has it in Terminology or a folder of Refset\n"
+    for kind in ("Description", "Relationship", "Refset"):
+        told += f"sctd: warning: a Full file of concepts was taken, and no {kind} file\n"
+    ran = place.run("import", "--quiet", "--store", store, "releases/lacking/Full")
+    assert ran[::2] == (0, told)
+
+
+def import_told(place: Place, store: Path, files: Files, reply: str, *lines: str) -> list[str]:
+    """An import of a concept and of files beside it, which has to be answered so, and to tell these
+    lines among others. The warnings that it tells."""
+    write(place.releases / "package", {f"Terminology/{CONCEPTS}": ROWS, **files})
+    ran = place.run("import", "--store", store, "--releases", "releases", "package")
+    told = ran.faults.splitlines()
+    assert ran[:2] == (0, reply + "\n")
+    assert [line for line in lines if "sctd: " + line not in told] == []
+    return [line for line in told if "warning" in line]
+
+
+WHOLE = {f"Refset/Language/{LANGUAGE}": LANGUAGE_ROWS,
+         f"Terminology/{DEFINITIONS}": DEFINITION_ROWS}
+PASSED_OVER = [f"passed over {name}" for name in WHOLE]
+TAKEN = [f"took {LANGUAGE}: Refset, rows: 1", f"took {DEFINITIONS}: Description, rows: 1"]
+
+
+@pytest.mark.parametrize("layout, reply, told", (
+    (2, "OK 1 1 0", PASSED_OVER), (3, "OK 1 3 0", TAKEN)))
+def test_packages(place: Place, layout: int, reply: str, told: Sequence[str]) -> None:
+    """A whole package, which a store of layout 2 takes in part."""
+    store = place.make_store(layout=layout)
+    assert import_told(place, store, WHOLE, reply, *told) == []
+    if layout == 2:
+        copied = place.copy(store, "copied", layout=3)
+        assert import_told(place, copied, WHOLE, "OK 2 2 1") == []
+
+
+@pytest.mark.parametrize("folder", ("Refset", "refset/Language", "Language", "Refset/Language/en"))
+def test_misplaced(place: Place, folder: str) -> None:
+    """Files of a package in a folder in which no package has them."""
+    path = f"{folder}/{LANGUAGE}"
+    warned = import_told(place, place.make_store(layout=3), {path: LANGUAGE_ROWS}, "OK 1 1 0")
+    assert [line.startswith(OUT_OF_PLACE % path) for line in warned] == [True]
+
+
+def test_beta_release(place: Place) -> None:
+    path = f"Refset/Language/x{LANGUAGE}"
+    warned = import_told(place, place.make_store(layout=3), {path: LANGUAGE_ROWS}, "OK 1 1 0")
+    assert any(line.startswith(f"sctd: warning: passed over {path}, ") for line in warned), warned
+
+
+def test_no_folder_in_refset(place: Place) -> None:
+    """What stands in Refset and isn't a folder, of a package that is read whole."""
+    files: Files = {
+        "Refset/Language": "", "Refset/Content/readme.txt": "", "Refset/fifo": os.mkfifo}
+    import_told(place, place.make_store(layout=3), files, "OK 1 1 0",
+                "passed over Refset/Language", "passed over Refset/fifo")
+
+
+# ---- Names with control characters
+
+FORGED = "store\nsctd: all is well\x1b[2J\r"
+SHOWN = "store\\nsctd: all is well\\u{1b}[2J\\r"
+
+
+@pytest.mark.parametrize("words, reply, told", (
+    (["init", "--store", "absent/" + FORGED], FAILED, "absent/" + SHOWN),
+    (["status", "--store", "absent/" + FORGED], FAILED, "absent/" + SHOWN),
+    (["serve", "--store", "store", "--releases", FORGED], MISSING, SHOWN)))
+def test_forged_paths(place: Place, store: Path, words: Sequence[str], reply: str,
+                      told: str) -> None:
+    """Paths with control characters make no line of their own on standard error."""
+    before = store.read_bytes()
+    refused(place.run(*words), reply, f"sctd: {told}: No such file")
+    assert store.read_bytes() == before
+
+
+def test_forged_names(place: Place) -> None:
+    """Nor does the name of a store, or of a file of a release."""
+    assert place.run("init", "--store", FORGED) == (0, "OK\n", "")
+    faults = place.run("status", "--store", FORGED).faults
+    assert faults.startswith(f"sctd: {SHOWN}: layout 3, ") and faults.count("\n") == 1
+    name = CONCEPTS.replace(".txt", "\nsctd: took it.txt")
+    write(place.releases, {f"forged/Terminology/{name}": COLUMNS + "?\n"})
+    ran = place.run("import", "--store", FORGED, "releases/forged")
+    assert ran.output == "ERR 23 Columns 1 2\n"
+    assert "\nsctd: took it" not in ran.faults
+    assert CONCEPTS.replace(".txt", "\\nsctd: took it.txt, line 2: ") in ran.faults
+
+
+# ---- Rights, the help, the demonstration
+
+
+def given(path: Path) -> None:
+    path.touch()
+    path.chmod(0o640)
+
+
+@pytest.mark.parametrize("name, file, made, rights", (
+    ("private", "private", None, 0o600), ("given", "given", given, 0o640),
+    ("link", "linked", lambda path: path.with_name("link").symlink_to(path), 0o600)),
+    ids=("alone", "that was there", "behind a link"))
+def test_new_rights(place: Place, name: str, file: str, made: Callable[[Path], None] | None,
+                    rights: int) -> None:
+    """A store is made for its owner alone, whatever the umask is; a file keeps its rights."""
+    path = place.path(file)
+    if made:
+        made(path)
+    ran = place.run("init", "--store", name, before=lambda: os.umask(0))
+    assert (ran.output, mode(path)) == ("OK\n", rights)
+
+
+def test_help(place: Place) -> None:
+    """Each line that the help of `serve` has as an example is a request: it is indented by two
+    spaces, and what it asks stands behind two more."""
+    told = place.run("serve", "--help").output.split("\n")
+    lines = [line[2:].split("  ")[0] for line in told if line.startswith("  0 ")]
+    assert len(lines) == EXAMPLES
+    place.make_store("helped", layout=3)
+    place.path("nothing").mkdir()
+    for line in lines:
+        ran = place.run("serve", "--store", "helped", "--releases", "nothing", given=line + "\n")
+        assert ran.status == 0 and ran.output, line
+        assert not ran.output.startswith(NO_REQUEST), line
+
+
+def demonstrated() -> list[str]:
+    """The lines of the demonstration, as a terminal shows them, each before those of its reply."""
+    shown = []
+    for line in DEMONSTRATION.read_text("utf-8").splitlines():
+        if line.startswith("> "):
+            shown.append(line)
+        elif line.startswith("< "):
+            columns = line[2:].split("|")
+            shown.append("\t".join(MEANINGS.get(column, column) for column in columns))
+    return shown
+
+
+def test_demonstration(place: Place) -> None:
+    """The demonstration has the lines and replies of the case that bench/cases/ has of it. Its
+    questions aren't shown where its output is no terminal."""
+    replies = "".join(line + "\n" for line in demonstrated() if not line.startswith("> "))
+    assert place.run("demo") == (0, replies, "")
+
+
+def test_demonstration_on_a_terminal(place: Place) -> None:
+    """There the questions are shown."""
+    main, other = pty.openpty()
+    ran = subprocess.run([place.program, "demo"], cwd=place.folder, stdin=subprocess.DEVNULL,
+                         stdout=other, stderr=other, timeout=SECONDS, check=False)
+    os.close(other)
+    shown = b""
+    while select.select([main], [], [], 0.1)[0]:
+        try:
+            piece = os.read(main, READ_BYTES)
+        except OSError:
+            break
+        if not piece:
+            break
+        shown += piece
+    os.close(main)
+    assert ran.returncode == 0
+    assert shown.decode().replace("\r\n", "\n").splitlines() == demonstrated()
+
+
+# ---- Files that are no store, or can't be had
+
+STORES = {
+    "a wrong path": ("absent", "No such file"), "a wrong folder": ("absent/store", "No such file"),
+    "a folder": ("folder", "Is a directory"), "a FIFO": ("pipe", "not a regular file"),
+    "a full device": ("/dev/full", "not a regular file"),
+}
+TASKS = (["import", "--releases", "releases", "r1"], ["serve", "--releases", "releases"], ["init"])
+
+
+@pytest.mark.parametrize("path, why", STORES.values(), ids=STORES.keys())
+@pytest.mark.parametrize("words", TASKS, ids=" ".join)
+def test_stores(place: Place, words: Sequence[str], path: str, why: str) -> None:
+    write(place.folder, {"pipe": os.mkfifo, "folder": Path.mkdir})
+    if (words, path) != (["init"], "absent"):
+        refused(place.run(*words, "--store", path), FAILED, f"{path}: {why}")
+        assert not place.path("absent").exists()
+
+
+@pytest.mark.parametrize("words, reply, why", (
+    (["serve", "--store", "store", "--releases", "relaeses"], MISSING,
+     "sctd: relaeses: No such file"),
+    (["serve", "--store", "store", "--releases", "text"], MISSING, "sctd: text: not a folder"),
+    (["init", "--store", "store"], "ERR 4 NotEmpty", "store: the file isn't empty"),
+    (["serve", "--store", "text", "--releases", "releases"], "ERR 7 NotAStore",
+     "text: the file is no store")))
+def test_wrong_words(place: Place, store: Path, words: Sequence[str], reply: str, why: str) -> None:
+    before = store.read_bytes()
+    place.path("text").write_text("no store", encoding="ascii")
+    refused(place.run(*words), reply, why)
+    assert store.read_bytes() == before
+
+
+@pytest.mark.skipif(os.geteuid() == 0, reason="root may read everything")
+def test_no_permission(place: Place, store: Path) -> None:
+    folder = place.releases / "r1" / "Terminology"
+    folder.chmod(0o200)
+    refused(imported(place, "r1"), MISSING, "Permission denied")
+    folder.chmod(0o700)
+    store.chmod(0)
+    refused(place.run("serve", "--store", "store", "--releases", "releases"), FAILED,
+            "store: Permission denied")
+
+
+def test_a_full_disk(place: Place, small_disk: Path) -> None:
+    """A file system without room."""
+    place.make_store("small/store")
+    other = small_disk / "other"
+    room = os.statvfs(small_disk)
+    other.write_bytes(bytes(room.f_bavail * room.f_frsize))
+    words = ("import", "--quiet", "--store", "small/store", "--releases", "releases", "r1")
+    before = place.path("small/store").read_bytes()
+    refused(place.run(*words), FAILED, "small/store: No space left")
+    assert place.path("small/store").read_bytes() == before
+    other.unlink()
+    assert place.run(*words)[:2] == (0, "OK 1 1 0\n")
+
+
+def test_few_files(place: Place, store: Path) -> None:
+    """A process that may have five files open, as with `ulimit -n 5`: one too few to begin with."""
+    ran = place.run("status", "--store", store,
+                    before=lambda: resource.setrlimit(resource.RLIMIT_NOFILE, (5, 5)))
+    assert ran == (1, "", "sctd: /: Too many open files (os error 24)\nERR 2 DiskFault\n")
+
+
+# ---- A store whose file is replaced while it is served
+
+
+def move_copy(path: Path) -> None:
+    shutil.copy(path, f"{path}-copy")
+    os.replace(f"{path}-copy", path)
+
+
+def link_copy(path: Path) -> None:
+    shutil.copy(path, f"{path}-copy")
+    path.unlink()
+    path.symlink_to(f"{path}-copy")
+
+
+def bytes_of(path: Path) -> bytes | None:
+    return path.read_bytes() if path.exists() else None
+
+
+@pytest.mark.parametrize("change, left", (
+    (move_copy, "OK 1 1 1 -\n"), (link_copy, "OK 1 1 1 -\n"), (Path.unlink, None),
+    (lambda path: os.truncate(path, 16384), None)),
+    ids=("a replaced file", "a linked copy", "a removed file", "a cut file"))
+def test_replaced(place: Place, store: Path, change: Callable[[Path], object],
+                  left: str | None) -> None:
+    """Another file is put in the place of a store that is served, or the file goes or is cut: an
+    import is refused, and why is told. What the path leads to then is left as it is."""
+    assert imported(place, "r1")[:2] == (0, "OK 1 1 0\n")
+    with Server(place, "store", place.releases) as server:
+        assert server.ask("STATUS") == ["OK 1 1 1 -"]
+        change(store)
+        before = bytes_of(store)
+        assert server.ask("IMPORT r2") == [FAILED]
+        assert (server.end(), server.unread) == (0, b"")
+        assert server.told() == "sctd: store: the file was replaced or removed while it was open\n"
+    assert bytes_of(store) == before
+    if left:
+        assert place.run("status", "--store", store)[:2] == (0, left)
+
+
+def test_moved_back(place: Place, store: Path) -> None:
+    """The path leads to the same file again."""
+    with Server(place, store, place.releases) as server:
+        assert server.ask("STATUS") == ["OK 0 0 0 -"]
+        store.rename(place.path("away")).rename(store)
+        assert server.ask("IMPORT r1") == ["OK 1 1 0"]
+        assert (server.end(), server.unread, server.told()) == (0, b"", "")
+
+
+# ---- A store that is in use
+
+
+@pytest.mark.skipif(os.geteuid() != 0, reason="it takes the superuser")
+@pytest.mark.skipif(shutil.which("flock") is None, reason="there is no flock")
+def test_other_user(place: Place, store: Path) -> None:
+    """Another user's process has the lock: it is told which one."""
+    store.chmod(0o644)
+    place.folder.chmod(0o755)
+    # It has the lock once it says something.
+    with subprocess.Popen(["flock", store, "cat"], user=OTHER_USER, stdin=subprocess.PIPE,
+                          stdout=subprocess.PIPE) as holder:
+        assert holder.stdin and holder.stdout
+        holder.stdin.write(b"locked\n")
+        holder.stdin.flush()
+        assert holder.stdout.readline() == b"locked\n"
+        ran = place.run("status", "--store", store)
+        assert ran[:2] == (1, "ERR 2 DiskFault\n")
+        assert HOLDER.findall(ran.faults) == [str(holder.pid)]
+    assert place.run("status", "--store", store)[:2] == (0, "OK 0 0 0 -\n")
+
+
+NAMES = ("r1", "r2", "r3", "r4")
+
+
+def import_at_once(place: Place, holder: int | None = None) -> int:
+    """Imports releases by processes of their own at once. The number of those that were answered
+    OK. Where the id of the process that holds the store is known, each has to be refused and to
+    tell it."""
+    words = ["import", "--store", "store", "--releases", "releases"]
+    begun = [subprocess.Popen([place.program, *words, name], cwd=place.folder,
+                              stdout=subprocess.PIPE, stderr=subprocess.PIPE) for name in NAMES]
+    passed = 0
+    for process in begun:
+        output, faults = process.communicate(timeout=SECONDS)
+        if holder is None and process.returncode == 0 and output.startswith(b"OK "):
+            passed += 1
+            continue
+        assert (process.returncode, output) == (1, b"ERR 2 DiskFault\n")
+        assert b"in use by another" in faults
+        assert holder is None or HOLDER.findall(faults.decode()) == [str(holder)]
+    return passed
+
+
+def count_imports(place: Place) -> list[str]:
+    """The words for how many imports and rows there are after an opening."""
+    ran = place.run("serve", "--store", "store", "--releases", "releases", given="0 STATUS\n")
+    return ran.output.split()[1:3]
+
+
+@pytest.mark.parametrize("_turn", range(5))
+def test_four_at_once(place: Place, store: Path, _turn: int) -> None:
+    passed = import_at_once(place)
+    assert passed >= 1
+    assert count_imports(place) == [str(passed)] * 2
+    assert store.exists()
+
+
+def test_beside_a_server(place: Place) -> None:
+    """Four at once beside a server, which imports too."""
+    with Server(place, place.make_store(), place.releases) as server:
+        assert server.ask("STATUS") == ["OK 0 0 0 -"]
+        import_at_once(place, server.process.pid)
+        assert [server.ask("IMPORT " + name) for name in NAMES] == [
+            [f"OK {number} 1 0"] for number in range(1, 5)]
+        import_at_once(place, server.process.pid)
+        assert (server.end(), server.unread) == (0, b"")
+    assert count_imports(place) == ["4", "4"]
