@@ -48,7 +48,7 @@ def arguments() -> argparse.Namespace:
     parser.add_argument("names", nargs="*", metavar="NAME", help="as in test_NAME.py")
     parser.add_argument("--only", metavar="TRIAL", default="", help="a text in names of trials")
     parser.add_argument("--tree", type=Path, default=TOP, help="whose hub and clients are tried")
-    return parser.parse_args()
+    return parser.parse_intermixed_args()
 
 
 def words_of(asked: argparse.Namespace) -> list[str]:
