@@ -13,16 +13,16 @@ the status is 1 then. Standard library alone.
 
 from __future__ import annotations
 
-import os
 import re
 import sys
 from collections.abc import Sequence
+from pathlib import Path
 from typing import NamedTuple
 
-from edits import TOP, read
+from documents import TOP
 
 CRATE = "sctd"
-DOCUMENT = os.path.join("docs", "internals", "PROMISES.md")
+DOCUMENT = "docs/internals/PROMISES.md"
 # What `rt ci` prints of the crate: of its proof, or that an earlier one is kept.
 PROOF = re.compile(rf"^== {CRATE}\n(.*?)^rt: {CRATE} proved$", re.M | re.S)
 KEPT = re.compile(rf"^rt: {CRATE} is kept:", re.M)
@@ -75,9 +75,9 @@ def main(words: Sequence[str]) -> int:
     if len(words) != 1:
         print((__doc__ or "").strip(), file=sys.stderr)
         return 2
-    output = read(words[0])
+    output = Path(words[0]).read_text("utf-8")
     built = printed(output)
-    fault = fault_of(output, read(os.path.join(TOP, DOCUMENT)))
+    fault = fault_of(output, (TOP / DOCUMENT).read_text("utf-8"))
     agreed = (f"axioms as {DOCUMENT} has them: {built}" if built
               else f"axioms not compared: {CRATE} was proved by an earlier run")
     print(fault or agreed, file=sys.stderr)

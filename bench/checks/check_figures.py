@@ -50,7 +50,7 @@ CASES = "grep -rhE '^case ' --exclude=wrong.txt crates/*/data/cases bench/cases/
 CRATES = "ls -d crates/*/ | wc -l"
 # The definitions that the contract of an answer rests on.
 REACH = (
-    "python3 bench/checks/count_reach.py line_server::answer"
+    "python3 bench/rattle/count_reach.py line_server::answer"
     " | sed -nE 's/.*: ([0-9]+) words.*/\\1/p'"
 )
 # The calls that always_refused.py plants.
@@ -150,7 +150,7 @@ FIGURES = [
            " | sed -nE 's/^keep -> //p'" % DAMAGE),
 ]
 
-TABLES = [Table("docs/internals/ARCHITECTURE.md", "python3 bench/checks/count_reach.py"),
+TABLES = [Table("docs/internals/ARCHITECTURE.md", "python3 bench/rattle/count_reach.py"),
           Table("bench/README.md", "python3 bench/faults/always_refused.py --table"),
           Table("bench/README.md", "python3 bench/faults/gateway_faults.py --table"),
           Table("bench/README.md", "python3 bench/faults/make_all_tests.py table")]

@@ -24,10 +24,11 @@ import re
 import sys
 from collections.abc import Iterator
 
-from documents import documents, lost_links, name_of
-from edits import read
+from documents import TOP, documents, lost_links, name_of
 
-ROOT = os.path.dirname(os.path.dirname(os.path.dirname(os.path.abspath(__file__))))
+sys.path.append(str(TOP / "bench" / "rattle"))
+from source import TOP as ROOT, read  # noqa: E402
+
 QUOTED = re.compile(r"`([^`]+)`")
 NAMED = re.compile(r"(?<![\w:])(\w+)::((?:\w+::)*)(\{[^}]*\}|\w+)")
 PATH = re.compile(r"[\w.-]+(?:/[\w.-]+)+\.(?:rt|antt|py|md|rs|service)$")

@@ -33,8 +33,9 @@ from pathlib import Path
 from typing import Iterable, Iterator, NamedTuple
 
 TOP = Path(__file__).resolve().parents[2]
-sys.path += [str(TOP / "bench"), str(TOP / "bench" / "trials")]
+sys.path += [str(TOP / "bench" / folder) for folder in ("", "trials", "rattle")]
 from case_texts import names_of_cases  # noqa: E402
+from source import Item, function_around  # noqa: E402
 from unproved import Builder, bytes_of, kit_folder, run_program, status_of  # noqa: E402
 
 # How long a test may take, and a program of cases, with the checks of `rt try` in it.
@@ -353,25 +354,20 @@ def faults_of_refusal(call: Call, text: str, sources: Sources) -> Iterator[str]:
             yield "%s has no %s::%s" % (crate, name, variant)
 
 
-def body_of(lines: list[str], head: str) -> int:
-    """The number of the first line of a body, below a head and its contract."""
-    places = [place for place, line in enumerate(lines) if head in line]
-    if len(places) != 1:
-        raise ValueError("%r stands %d times" % (head, len(places)))
-    depth = len(lines[places[0]]) - len(lines[places[0]].lstrip())
-    for place in range(places[0], len(lines)):
-        line = lines[place]
-        if line.endswith("{") and len(line) - len(line.lstrip()) == depth:
-            return place + 1
-    raise ValueError("%r has no body" % head)
+def at_its_begin(text: str, function: Item, line: str) -> str:
+    """The text of a file with a line more at the beginning of a function's body."""
+    assert function.brace is not None
+    return f"{text[: function.brace + 1]}\n{line}{text[function.brace + 1 :]}"
 
 
 def planted(text: str, call: Call, number: int) -> str:
     """The text of a file in which the call gives its refusal while its number is on."""
-    lines = text.split("\n")
-    line = "if %s::is_on(%d) { return %s; }" % (SWITCH, number, call.refusal)
-    lines.insert(body_of(lines, call.head), line)
-    return "\n".join(lines)
+    if text.count(call.head) != 1:
+        raise ValueError(f"{call.head!r} stands {text.count(call.head)} times")
+    found = function_around(text, text.index(call.head))
+    if found is None:
+        raise ValueError(f"{call.head!r} has no body")
+    return at_its_begin(text, found[0], f"if {SWITCH}::is_on({number}) {{ return {call.refusal}; }}")
 
 
 def crate_of(top: Path, name: str) -> Path:

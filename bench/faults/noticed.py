@@ -26,52 +26,26 @@ import tempfile
 from pathlib import Path
 
 TOP = Path(__file__).resolve().parents[2]
-sys.path += [str(TOP / "bench"), str(TOP / "bench" / "checks")]
-from always_refused import SWITCH, Tests, add_switch, body_of, build  # noqa: E402
+sys.path += [str(TOP / "bench"), str(TOP / "bench" / "rattle")]
+from always_refused import SWITCH, Tests, add_switch, at_its_begin, build  # noqa: E402
 from always_refused import crate_of, is_program  # noqa: E402
-from edits import FOLDERS, Change, Edit, edits_of  # noqa: E402
+from edits import Change, Edit, all_edits  # noqa: E402
+from source import Item, function_around, parts_of_impl  # noqa: E402
 from unproved import Builder, kit_folder  # noqa: E402
 
 BY = "layer_cases,store_cases,program_cases,history_cases,test_program,try_cases"
 # The number of an edit is one byte, and 0 is none.
 MOST = 255
-HEAD = re.compile(r"( *)(?:pub(?:\(crate\))? )?(?:const )?fn (\w+)")
 OPENED, CLOSED = "([{<", ")]}>"
 
 
 def edits_named(name: str) -> list[Edit]:
     """The edits of a crate, or the one of a name `CRATE/EDIT`."""
     crate, _, edit = name.partition("/")
-    every = [one for folder in FOLDERS for one in edits_of(crate, folder)]
-    found = [one for one in every if edit in ("", one.name)]
+    found = [one for one in all_edits(crate) if edit in ("", one.name)]
     if not found:
         raise SystemExit("noticed.py: there is no edit %s" % name)
     return found
-
-
-def head_above(lines: list[str], place: int) -> int:
-    """The number of the line with the head of the function that a line stands in."""
-    depth = len(lines[place]) - len(lines[place].lstrip())
-    for at in range(place, -1, -1):
-        match = HEAD.match(lines[at])
-        if match and len(match[1]) < depth:
-            return at
-    raise ValueError("it changes no function")
-
-
-def end_of(lines: list[str], start: int) -> int:
-    """The number of the line that closes the function with this head."""
-    depth = len(lines[start]) - len(lines[start].lstrip())
-    return next(at for at in range(start, len(lines)) if lines[at] == " " * depth + "}")
-
-
-def is_of_trait(lines: list[str], start: int) -> bool:
-    """Whether the function is one of a trait, or of an `impl` of a trait."""
-    if not lines[start].startswith(" "):
-        return False
-    above = reversed(lines[:start])
-    owner = next(line for line in above if re.match(r"(impl|(pub )?trait)\b", line))
-    return " for " in owner or "trait " in owner
 
 
 def skip(text: str, at: int) -> int:
@@ -87,9 +61,9 @@ def skip(text: str, at: int) -> int:
             return at
 
 
-def parameters(text: str, name: str) -> list[str]:
-    """The names of a function's parameters; the text begins at or before its head."""
-    at = text.index("fn " + name) + len("fn " + name)
+def parameters(text: str) -> list[str]:
+    """The names of a function's parameters; the text begins with its own name."""
+    at = len((re.match(r"\w+", text) or [""])[0])
     if text[at] == "<":
         at = skip(text, at)
     inside, names, depth = text[at + 1 : skip(text, at) - 1], [""], 0
@@ -111,42 +85,45 @@ def call_of(name: str, names: list[str], is_method: bool) -> str:
     return "%s%s(%s)" % ("Self::" if is_method else "", name, ", ".join(names))
 
 
-def plant_function(lines: list[str], start: int, changes: list[Change], number: int) -> None:
-    """Puts a changed copy of a function before it, which it calls while the number is on."""
-    end = end_of(lines, start)
-    match = HEAD.match(lines[start])
-    assert match
-    name, whole = match[2], "\n".join(lines[start : end + 1])
-    changed = whole
+def planted(text: str, function: Item, is_method: bool, changes: list[Change], number: int) -> str:
+    """The text of a file with a changed copy of a function before it, which it calls while the
+    number is on."""
+    changed, name = function.text, function.name
     for change in changes:
         changed = changed.replace(change.old, change.new, 1)
-    copied = "%s_edited_%d" % (name, number)
-    changed = re.sub(r"\bfn %s\b" % name, "fn " + copied, changed, count=1)
-    names = parameters(whole, name)
-    body = body_of(lines[start : end + 1], lines[start]) + start
-    line = "if %s::is_on(%d) { return %s; }" % (
-        SWITCH, number, call_of(copied, names, match[1] != ""))
-    lines.insert(body, line)
-    lines[start:start] = changed.split("\n")
+    copied = f"{name}_edited_{number}"
+    changed = re.sub(rf"\bfn {name}\b", f"fn {copied}", changed, count=1)
+    call = call_of(copied, parameters(function.head.strip()), is_method)
+    text = at_its_begin(text, function, f"if {SWITCH}::is_on({number}) {{ return {call}; }}")
+    return text[: function.begin] + changed + text[function.begin :]
 
 
 def plant(top: Path, edit: Edit, number: int) -> None:
     """Plants an edit in a copy of the repository. A ValueError says why it can't be."""
     for file in dict.fromkeys(change.path for change in edit.changes):
         path = top / "crates" / edit.crate / file
-        lines = path.read_text(encoding="utf-8").split("\n")
+        text = path.read_text(encoding="utf-8")
         of_function: dict[int, list[Change]] = {}
         for change in (change for change in edit.changes if change.path == file):
             # Changed copies stand before their functions.
-            place = max((at for at, line in enumerate(lines) if change.old in line), default=-1)
-            if place < 0:
-                raise ValueError("%r isn't there" % change.old)
-            of_function.setdefault(head_above(lines, place), []).append(change)
-        for start in sorted(of_function, reverse=True):
-            if is_of_trait(lines, start):
+            of_function.setdefault(place_in(text, change), []).append(change)
+        for at in sorted(of_function, reverse=True):
+            found = function_around(text, at)
+            assert found
+            function, holder = found
+            if holder and (holder.sort == "trait" or parts_of_impl(holder.head)[0]):
                 raise ValueError("it changes a function of a trait")
-            plant_function(lines, start, of_function[start], number)
-        path.write_text("\n".join(lines), encoding="utf-8")
+            text = planted(text, function, holder is not None, of_function[at], number)
+        path.write_text(text, encoding="utf-8")
+
+
+def place_in(text: str, change: Change) -> int:
+    """Where the function begins that a change changes."""
+    at = text.rfind(change.old)
+    found = function_around(text, at)
+    if at < 0 or found is None:
+        raise ValueError(f"{change.old!r} isn't there" if at < 0 else "it changes no function")
+    return found[0].begin
 
 
 def plant_all(top: Path, edits: list[Edit]) -> dict[int, Edit]:

@@ -25,9 +25,10 @@ import os
 import sys
 from collections.abc import Iterator
 
-from edits import EDITS, ENDING, FOLDERS, RECORD, TOP, Edit, Misfit, Record
-from edits import all_edits, edits_of, folder_of, record_of, texts_with
+from edits import EDITS, ENDING, FOLDERS, RECORD, Edit, Misfit, Record
+from edits import all_edits, edits_of, record_of, texts_with
 from grounds import Stale, kit_version, why_stale
+from source import TOP, folder_of
 
 # Why a line doesn't count.
 FAULTS = [why for why in Stale if why is not Stale.OTHER_KIT]
@@ -101,7 +102,7 @@ def main(words: list[str]) -> int:
     count, wrong, older, other, unknown = 0, 0, 0, 0, 0
     for crate in sorted(os.listdir(os.path.join(TOP, "crates"))):
         edits = all_edits(crate)
-        stale = [f"{fault}: run python3 bench/faults/try_edits.py {crate}"
+        stale = [f"{fault}: run python3 bench/rattle/try_edits.py {crate}"
                  for fault in faults_of_record(crate, edits)]
         for fault in [*faults_of_files(crate), *faults_of_edits(edits), *stale]:
             wrong += 1

@@ -1,7 +1,7 @@
 #!/usr/bin/env python3
 """Lists the lemmas of proofs/ that state the same under other names, in groups.
 
-    python3 bench/checks/same_statements.py [--loose] [--std FOLDER] [--only CRATE]
+    python3 bench/rattle/same_statements.py [--loose] [--std FOLDER] [--only CRATE]
 
 Two statements are the same if they are but for the names of what they bind, for braces in place of
 parentheses, and for the names that a file gives to what it imports. The parameters of a module

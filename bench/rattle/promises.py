@@ -29,8 +29,8 @@ from typing import NamedTuple
 
 import edits
 import grounds
-from check_private import Item, parts_of_impl
-from edits import TOP, Edit, read
+from edits import Edit
+from source import TOP, Item, files_of, folder_of, parts_of_impl, read
 
 DOCUMENT = os.path.join("docs", "internals", "PROMISES.md")
 PROVED, LIST = "## Proved", "## The clauses"
@@ -41,7 +41,7 @@ MARK = re.compile(r"^ *// promise: (?P<names>.+)\n", re.M)
 CLAUSE = re.compile(r" *ensures (?:(?P<name>\w+) )?\{| *impl\b")
 HEAD = """
 Each row has the clauses of a promise, crate by crate, and how many edits change the body of one of
-their functions, or of a function that these call there. `python3 bench/checks/promises.py` makes
+their functions, or of a function that these call there. `python3 bench/rattle/promises.py` makes
 it, and with the name of a promise prints these edits.
 
 | Promise | Clauses |
@@ -135,8 +135,8 @@ def clauses() -> list[Clause]:
     """All clauses with names of promises."""
     found: list[Clause] = []
     for crate in sorted(grounds.tree().crates):
-        for path in sorted(edits.files_in(os.path.join(edits.folder_of(crate), edits.SRC))):
-            found += clauses_in(path) if path.endswith(".rt") else ()
+        for path in files_of(os.path.join(folder_of(crate), edits.SRC), ".rt"):
+            found += clauses_in(path)
     return found
 
 
@@ -170,7 +170,7 @@ def called_by(function: Item, own: set[Item]) -> set[Item]:
 @functools.lru_cache(maxsize=None)
 def callers(crate: str) -> dict[Item, set[Item]]:
     """By each function of a crate the ones that may call it."""
-    top = edits.folder_of(crate) + os.sep
+    top = folder_of(crate) + os.sep
     own = {it for path, functions in grounds.tree().functions.items() if path.startswith(top)
            for it in functions}
     found: dict[Item, set[Item]] = {}

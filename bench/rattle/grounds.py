@@ -12,7 +12,7 @@ below it. Proofs, comments, blank space and the bodies of other functions are no
 that changes anything but bodies of functions has the whole crate as its grounds: its src/, specs/
 and proofs/, and the specs/ and traits of the crates below.
 
-What a name is said of is found as check_private.py finds it, by the lines `use` and `ghost use`. A
+What a name is said of is found as source.py finds it, by the lines `use` and `ghost use`. A
 method is taken by its name alone, where its type or trait is among the grounds: so more may be
 taken than the function calls, and never less. A call without a name, such as `?`, `for` or a
 comparison, is one of a trait that isn't of this repository: of these all methods are taken that the
@@ -43,9 +43,9 @@ from collections.abc import Iterable, Iterator
 from typing import NamedTuple, Union
 
 import edits
-from check_private import RUST_PATH, Item, Key, Node, OfType, Project, Reader, RustModule
-from check_private import names_in, parts_of_impl
-from edits import TOP, Edit, Line, Record, folder_of, read
+from edits import Edit, Line, Record
+from source import RUST_PATH, TOP, Item, Key, Node, OfType, Project, Reader, RustModule, folder_of
+from source import names_in, parts_of_impl, read
 
 # What can be among the grounds: a word of specs/, or an item of Rattle, of a function its contract.
 Ground = Union[Key, Item]
@@ -95,9 +95,6 @@ class Tree(Project):
                 self.made_for.setdefault(item, []).append(impl)
         self.cited_by: dict[Ground, list[Ground]] = {}
         self.lines: dict[Ground, str] = {}
-
-    def reach_public(self) -> None:
-        """Nothing: what a public contract reaches is no matter here."""
 
     def take_places(self, module: RustModule) -> None:
         for item in module.items:
@@ -350,7 +347,7 @@ def sums_at(commit: str) -> dict[str, Sums]:
         archive = output("git", "-C", TOP, "archive", commit, "crates", "crates.txt")
         with tarfile.open(fileobj=io.BytesIO(archive)) as files:
             files.extractall(folder)
-        scripts = os.path.join(folder, "bench", "checks")
+        scripts = os.path.join(folder, "bench", "rattle")
         shutil.copytree(os.path.dirname(os.path.abspath(__file__)), scripts)
         lines = output(sys.executable, os.path.join(scripts, os.path.basename(__file__)))
     named = (line.split() for line in lines.decode().splitlines())

@@ -55,23 +55,17 @@ from dataclasses import dataclass
 from importlib.machinery import SourceFileLoader
 from typing import Any
 
-sys.path.append(os.path.join(os.path.dirname(os.path.dirname(os.path.abspath(__file__))), "checks"))
-import edits as editing  # noqa: E402
-import grounds  # noqa: E402
-from check_edits import faults_of_edits  # noqa: E402
-from edits import EDITS, MUST_FAIL, TOP, Change, Edit, Line  # noqa: E402
-from edits import Misfit, Record, read, texts_with  # noqa: E402
+import edits as editing
+import grounds
+from check_edits import faults_of_edits
+from edits import EDITS, MUST_FAIL, Change, Edit, Line, Misfit, Record, texts_with
+from source import TOP, functions_of, read
 
 # The statement that does nothing, and in how many functions it is tried before the edits.
 PLANTED = " let planted = 0u8; let _ = planted;"
 PLANTS = 6
 # Where a crate has what a check of it kept.
 KEPT = os.path.join("out", "incremental")
-
-COMMENTS = re.compile(r'//[^\n]*|b?"(?:\\.|[^"\\])*"|b?\'(?:\\[^\']*|[^\'\\\n])\'', re.S)
-TRAIT = re.compile(r"(?:pub(?:\([^)]*\))? )?trait\b")
-OWNERS = re.compile(r"^(?:pub(?:\([^)]*\))? )?(?:impl|trait)\b[^{;]*\{", re.M)
-CLAUSE = re.compile(r"\b(ensures|requires|ghost|decreases)\b\*?[^{}]*\Z")
 
 # What a check prints: of each function; of a goal that isn't proved, above its function's line; of
 # an answer that doesn't prove its goal, in a function's folder of proofs/, and of those that rest
@@ -93,7 +87,7 @@ ENDED = re.compile(r"(only=|logic=)\S+")
 
 @dataclass(frozen=True)
 class Function:
-    """A function of a source file: its module, the head of the `impl` block around it, its name,
+    """A function of a source file: its module, the head of the impl or trait around it, its name,
     and where its body begins and ends."""
 
     module: str
@@ -103,7 +97,7 @@ class Function:
     end: int
 
     def is_method_of_trait(self) -> bool:
-        return " for " in self.owner or re.match(TRAIT, self.owner) is not None
+        return " for " in self.owner or self.owner.startswith("trait")
 
 
 class Outcome(enum.Enum):
@@ -168,49 +162,18 @@ def link_folder(folder: str, to: str) -> None:
     shutil.copytree(folder, to, copy_function=link_or_copy)
 
 
-def end_of(text: str, at: int) -> int:
-    """Where the braces close that open at this place."""
-    depth = 0
-    for found in re.compile(r"[{}]").finditer(text, at):
-        depth += 1 if found[0] == "{" else -1
-        if not depth:
-            return found.end()
-    return len(text)
-
-
-def body_of(text: str, at: int) -> int | None:
-    """Where the body begins of the function whose head stands here, past its clauses."""
-    begin = at
-    while True:
-        found = re.compile(r"[{;\[]").search(text, at)
-        if not found or found[0] == ";":
-            return None
-        if found[0] == "[":
-            at = text.find("]", found.start()) + 1 or len(text)
-        elif CLAUSE.search(text[begin : found.start()]):
-            at = begin = end_of(text, found.start())
-        else:
-            return found.start()
-
-
 def functions_in(text: str, path: str) -> list[Function]:
-    """The functions of the text of a source file."""
-    text = COMMENTS.sub(lambda it: re.sub(r"[^\n]", " ", it[0]), text)
-    owners = [(it.start(), end_of(text, it.end() - 1), it[0]) for it in OWNERS.finditer(text)]
+    """The functions with a body of the text of a source file."""
     module = re.sub(r"^src/|\.rt$|/mod\.rt$", "", path).replace("/", "::")
     module = "" if module in ("lib", "main") else module
-    found = []
-    for head in re.finditer(r"\bfn (\w+)", text):
-        body = body_of(text, head.end())
-        if body is not None:
-            owner = next((it for begin, end, it in owners if begin < head.start() < end), "")
-            found.append(Function(module, owner, head[1], body, end_of(text, body)))
-    return found
+    return [Function(module, f"{holder.sort}{holder.head}" if holder else "", item.name, item.brace,
+                     item.end)
+            for item, holder in functions_of(text) if item.brace is not None]
 
 
 def proved_owner(owner: str) -> str:
     """The prover's name of a type, or of an `impl` of a trait, by the head of its block."""
-    head = re.sub(r"^(pub(\([^)]*\))? )?(impl(<[^{]*?>)? |trait )", "", owner.strip("{ \n"))
+    head = re.sub(r"^(impl(<[^{]*?>)? |trait )", "", owner.strip())
     of_trait, is_impl, of_type = head.partition(" for ")
     named = re.match(r"\w+", of_type if is_impl else head)
     return (named[0] if named else "") + (re.sub(r"\W", "", of_trait) if is_impl else "")

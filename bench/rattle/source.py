@@ -1,36 +1,24 @@
-#!/usr/bin/env python3
-"""Checks that the words of specs/ which no public contract reaches stand apart.
+"""Isn't started: the one reader of Rattle and of specs/, which all scripts here stand on.
 
-check_private.py [--list] [--count] [--why CRATE.WORD]
-
-A word is a definition of a crate's specs/. It is reached if a public contract cites it, or the
-definition of a word that is reached. Public contracts are the clauses of functions and traits that
-other crates can name (a law is such a function), the ghost members of these traits and of their
-impls for types that other crates can name, the Model and the ghost fields of these types, and the
-Value and the view of the types in their fields. Proofs cite words too, and reach none; and where a
-ghost member cites a definition whose body is shut, that is a proof, and isn't reached.
-
-A module is private if its name, or that of a module around it, begins or ends with `Private`. A
-word that is reached and stands in one is said in a line of its own on standard error, with the path
-by which it is reached, and the status is 1 then; `--list` does the same for a word that isn't
-reached and stands in no such module. `--count` prints a table of the counts, and `--why` the path
-to a word. A name that a term binds itself counts as the word of that name: so a word may be taken
-for a reached one, and never the other way round. Nothing is built. Standard library alone.
+Of a file of Rattle it reads the items, with the clauses of functions, and passes over bodies; of a
+file of specs/ the lines `use` and the words, which are its definitions. A project is all crates, and
+what the names in them are. Standard library alone.
 """
 
 from __future__ import annotations
 
+import functools
 import glob
 import os
 import re
-import sys
-from collections.abc import Callable, Collection, Iterable, Iterator, Sequence
+from collections.abc import Collection, Iterable, Iterator, Sequence
 from typing import NamedTuple, Optional, Union
 
-from edits import read
+TOP = os.path.dirname(os.path.dirname(os.path.dirname(os.path.abspath(__file__))))
+CRATES = os.path.join(TOP, "crates")
 
-ROOT = os.path.dirname(os.path.dirname(os.path.dirname(os.path.abspath(__file__))))
-
+# A line of crates.txt: a crate, and which ones it uses.
+USES = re.compile(r"^(\w+)[^:#\n]*:([^#\n]*)", re.M)
 USE = re.compile(r"\s*(?:pub )?(?:ghost )?use (?P<path>[^\s;{]+?)(?:\.\{(?P<names>[^}]*)\})?"
                  r"(?: as (?P<alias>\S+?))?;?\s*$")
 DECLARATION = re.compile(r"(?:(?:abbrev|unfoldable|pattern) )*(?:pub )?(?:(?P<sort>record|data) )?"
@@ -58,6 +46,38 @@ Node = Union[Key, OfType]
 Scope = dict[str, Union[Node, str, None]]
 
 
+def read(path: str) -> str:
+    with open(path, encoding="utf-8", newline="") as file:
+        return file.read()
+
+
+@functools.cache
+def uses() -> dict[str, list[str]]:
+    """Of each crate of the repository those that it uses, in the order of crates.txt."""
+    found = {it[1]: it[2].split() for it in USES.finditer(read(os.path.join(TOP, "crates.txt")))}
+    return {name: [one for one in used if one in found] for name, used in found.items()}
+
+
+def crates_below(crate: str) -> set[str]:
+    """The crates of the repository that a crate uses, directly or through others."""
+    below: set[str] = set()
+    left = [crate]
+    while left:
+        new = set(uses()[left.pop()]) - below
+        below |= new
+        left += new
+    return below
+
+
+def folder_of(crate: str) -> str:
+    return os.path.join(CRATES, crate)
+
+
+def files_of(folder: str, ending: str) -> list[str]:
+    """The files below a folder of a crate whose names end so."""
+    return sorted(glob.glob(f"{folder}/**/*{ending}", recursive=True))
+
+
 def without_comments(text: str) -> str:
     return QUOTED.sub(lambda found: found[0] if found[0].startswith('"') else "", text)
 
@@ -65,11 +85,6 @@ def without_comments(text: str) -> str:
 def spellings(name: str) -> list[str]:
     """A name, and the parts that stand between the arguments if it is an operator."""
     return [name] + [part for part in name.split("◌") if part and part != name]
-
-
-def is_private_name(module: str) -> bool:
-    """Whether a module's path says that its words are private."""
-    return any(re.match(r"Private|.*Private$", part) for part in module.split("."))
 
 
 # ---- antt
@@ -169,9 +184,10 @@ class Item:
     def __init__(self, sort: str, name: str, is_open: bool) -> None:
         self.sort, self.name, self.is_open = sort, name, is_open
         self.head, self.is_test, self.is_inline = "", False, False
-        # Its text in its file, and where that begins, where the body of a function does, and where
-        # it ends.
-        self.text, self.begin, self.body, self.end = "", 0, 0, 0
+        # Its text in its file, and where that begins and ends. Of a function where its head and its
+        # clauses end, and where the brace of its body stands, if it has one.
+        self.text, self.begin, self.end, self.body = "", 0, 0, 0
+        self.brace: int | None = None
         # The head of each clause, and its term.
         self.clauses: list[tuple[str, str]] = []
         self.items: list[Item] = []
@@ -358,10 +374,31 @@ class Reader:
             name = self.until("{")
             item.clauses.append((kind + " " + name.strip(), self.term()))
         item.body = self.at
-        if self.peek() == "{":
+        if self.token() == "{":
+            item.brace = self.at = self.at - 1
             self.skip_group()
-        else:
-            self.token()
+
+
+def functions_in(items: Iterable[Item], holder: Item | None = None
+                 ) -> Iterator[tuple[Item, Item | None]]:
+    """The functions among items, and in the impls, traits and modules among them, each with the
+    impl or trait around it."""
+    for item in items:
+        if item.sort == "fn":
+            yield item, holder
+        elif item.sort in ("impl", "trait", "mod"):
+            yield from functions_in(item.items, None if item.sort == "mod" else item)
+
+
+def functions_of(text: str) -> Iterator[tuple[Item, Item | None]]:
+    """The functions of the text of a file."""
+    return functions_in(Reader(text).items())
+
+
+def function_around(text: str, at: int) -> tuple[Item, Item | None] | None:
+    """The function of the text of a file in which a place lies, if it has a body."""
+    return next((found for found in functions_of(text)
+                 if found[0].begin <= at < found[0].end and found[0].brace is not None), None)
 
 
 RUST_PATH = re.compile(r"[A-Za-z_]\w*(?:::[A-Za-z_]\w*)*")
@@ -440,7 +477,7 @@ class Crate:
 
     def __init__(self, name: str) -> None:
         self.name = name
-        self.folder = os.path.join(ROOT, "crates", name)
+        self.folder = os.path.join(TOP, "crates", name)
         self.specs: dict[str, Module] = {}
         for path in sorted(glob.glob(self.folder + "/specs/**/*.antt", recursive=True)):
             module = os.path.relpath(path, self.folder + "/specs")[: -len(".antt")]
@@ -459,26 +496,17 @@ Found = Union[Item, RustModule, None]
 
 
 class Project:
-    """All crates, and what their public contracts reach."""
+    """All crates, and what the names in them are."""
 
     def __init__(self) -> None:
-        names = sorted(os.path.basename(d) for d in glob.glob(ROOT + "/crates/*"))
+        names = sorted(os.path.basename(d) for d in glob.glob(CRATES + "/*"))
         self.crates = {name: Crate(name) for name in names}
         self.words = {w.key: w for c in self.crates.values() for m in c.specs.values()
                       for w in m.words}
         self.scopes: dict[Module, Scope] = {}
-        self.public: set[Item] = set()
-        # By what each node is reached: another one, or a public contract.
-        self.why: dict[Node, Union[Node, str]] = {}
-        self.left: list[Node] = []
-        for crate in self.crates.values():
-            self.take_exports(crate.root, set())
         self.impls = [(module, item) for crate in self.crates.values()
                       for module in crate.root.all() for item in module.items
                       if item.sort == "impl"]
-        self.reach_public()
-        while self.left:
-            self.follow(self.left.pop())
 
     # ---- names
 
@@ -569,8 +597,6 @@ class Project:
             if node:
                 yield node
 
-    # ---- what other crates can name
-
     def resolve(self, module: RustModule, parts: list[str],
                 seen: tuple[tuple[RustModule, tuple[str, ...]], ...] = ()) -> Found:
         """The item or the module that a path of Rattle names, or None."""
@@ -594,151 +620,12 @@ class Project:
             return self.resolve(found, rest, seen)
         return found
 
-    def take_exports(self, module: RustModule, seen: set[RustModule]) -> None:
-        """Takes what a module hands out: its `pub` items, and what it passes on."""
-        if module in seen:
-            return
-        seen.add(module)
-        found: list[Found] = [
-            item for item in module.named.values() if item.is_open or item.name == "main"]
-        found += [below for below in module.below.values() if below.is_open]
-        for parts, is_open in module.used.values():
-            if is_open:
-                found.append(self.resolve(module, parts))
-        for item in found:
-            if isinstance(item, RustModule):
-                self.take_exports(item, seen)
-            elif item is not None:
-                self.public.add(item)
-
     def types_in(self, module: RustModule, text: str) -> Iterator[Item]:
         """The types that a piece of Rattle names."""
         for path in RUST_PATH.findall(STRING.sub("", text)):
             found = self.resolve(module, path.split("::"))
             if isinstance(found, Item) and found.sort in ("struct", "enum", "type", "trait"):
                 yield found
-
-    # ---- what is reached
-
-    def reach(self, node: Optional[Node], by: Union[Node, str]) -> None:
-        if node and node not in self.why:
-            self.why[node] = by
-            self.left.append(node)
-
-    def reach_terms(self, clauses: Sequence[tuple[str, str]], module: RustModule,
-                    holders: Sequence[Item], by: str, hidden: Collection[str] = (),
-                    is_member: bool = False) -> None:
-        """Reaches what clauses cite, which stand in these items of a module."""
-        scope = self.scope_within(module, holders)
-        for name, text in clauses:
-            said = "%s · %s" % (by, name)
-            for node in self.cited(text, scope, hidden):
-                if not (is_member and self.is_proof(node)):
-                    self.reach(node, said)
-            for parts in names_in(text):
-                item = self.resolve(module, parts[:1]) if parts[0] not in scope else None
-                if isinstance(item, Item) and item.sort in ("struct", "enum"):
-                    self.reach(OfType(item.module.crate, item), said)
-
-    def is_proof(self, node: Node) -> bool:
-        """Whether it is a word whose body is shut."""
-        return not isinstance(node, OfType) and self.words[node].is_proof
-
-    def reach_function(self, item: Item, module: RustModule, holders: Sequence[Item],
-                       by: str) -> None:
-        inside = item.head[item.head.find("("):]
-        hidden = set(re.findall(r"(?:\(|,)\s*(?:mut )?(\w+)\s*:", inside)) | {"result", "self"}
-        for holder in holders:
-            if holder.sort == "trait":
-                hidden |= {i.name for i in holder.items if i.sort == "ghost"}
-        self.reach_terms(item.clauses, module, holders, by, hidden)
-
-    def reach_members(self, holder: Item, module: RustModule, by: str,
-                      is_wanted: Callable[[Item], bool]) -> None:
-        """Reaches what the members of a trait or an impl cite."""
-        for item in holder.items:
-            if item.sort == "fn" and is_wanted(item):
-                self.reach_function(item, module, [holder], by + "::" + item.name)
-            elif item.sort == "ghost" and is_wanted(item):
-                is_trait = holder.sort == "trait"
-                hidden = {i.name for i in holder.items if is_trait and i.sort == "ghost"}
-                self.reach_terms(item.clauses, module, [holder], by, hidden, True)
-
-    def reach_public(self) -> None:
-        """Reaches what public functions, traits, types and impls cite."""
-        for item in sorted(self.public, key=lambda i: (i.module.crate, i.name)):
-            by = item.module.crate + "::" + item.name
-            if item.sort == "fn":
-                self.reach_function(item, item.module, [], by)
-            elif item.sort == "trait":
-                self.reach_members(item, item.module, by, lambda member: True)
-            elif item.sort in ("struct", "enum"):
-                self.reach(OfType(item.module.crate, item), by)
-                self.reach_terms([c for i in item.items for c in i.clauses], item.module, [], by)
-        for module, item in self.impls:
-            self.reach_impl(module, item)
-
-    def reach_impl(self, module: RustModule, item: Item) -> None:
-        """Reaches what an impl cites, if it is one for a public type, of a public trait."""
-        trait, made = parts_of_impl(item.head)
-        types = list(self.types_in(module, made.split("<")[0]))
-        front = list(self.types_in(module, trait))
-        by = module.crate + "::" + re.sub(r"(?s)[^&\w'].*", "", made.split("::")[-1].strip())
-        if not all(t in self.public for t in types + front):
-            return
-        if not trait:
-            self.reach_members(item, module, by, lambda m: m.sort == "fn" and m.is_open)
-        elif trait.split("::")[-1] != "Model" or types:
-            self.reach_members(item, module, trait + " for " + by, lambda m: True)
-
-    def follow(self, node: Node) -> None:
-        """Reaches what a node that is reached cites itself."""
-        if isinstance(node, OfType):
-            self.follow_type(node)
-            return
-        module = self.crates[node[0]].specs[node[1]]
-        for cited in self.cited(self.words[node].text, self.scope_at(module)):
-            if (isinstance(cited, OfType) or cited[:2] != node[:2]
-                    or self.words[cited].line < self.words[node].line):
-                self.reach(cited, node)
-
-    def follow_type(self, node: OfType) -> None:
-        """Reaches the types of the fields, and what the Model says of the value."""
-        item = node.item
-        for found in self.types_in(item.module, item.head):
-            if found.sort in ("struct", "enum") and found is not item:
-                self.reach(OfType(found.module.crate, found), node)
-        for module, holder in self.impls:
-            trait, made = parts_of_impl(holder.head)
-            if module.crate == node.crate and trait.split("::")[-1] == "Model":
-                if item in self.types_in(module, made.split("<")[0]):
-                    self.reach_members(holder, module, self.said(node), is_of_value)
-
-    # ---- what is said
-
-    def said(self, node: Union[Node, str]) -> str:
-        if isinstance(node, str):
-            return node
-        if isinstance(node, OfType):
-            return "%s::%s" % (node.crate, node.item.name)
-        return "%s.specs.%s.%s" % node
-
-    def path_to(self, node: Union[Node, str]) -> str:
-        """How a node is reached, from itself up to a public contract."""
-        path = [self.said(node)]
-        while not isinstance(node, str):
-            node = self.why[node]
-            path.append(self.said(node))
-        return ", by ".join(path)
-
-    def is_wrong(self, word: Word, is_listing: bool) -> bool:
-        is_reached = word.key in self.why
-        return is_reached == is_private_name(word.module) and (is_reached or is_listing)
-
-
-def is_of_value(member: Item) -> bool:
-    """Whether a member of a Model says what value a type has."""
-    return member.name in ("Value", "view", "inverse")
 
 
 def parts_of_impl(head: str) -> tuple[str, str]:
@@ -754,44 +641,3 @@ def parts_of_impl(head: str) -> tuple[str, str]:
     head = head.split(" where ")[0]
     trait, found, made = head.partition(" for ")
     return (trait.strip(), made.strip()) if found else ("", head.strip())
-
-
-def print_counts(project: Project) -> None:
-    """A line for each crate with specs/: its words, those that are private, and their modules."""
-    print("%-18s %6s %8s %6s" % ("crate", "words", "private", "apart"))
-    total = [0, 0, 0]
-    for crate in project.crates.values():
-        words = [word for module in crate.specs.values() for word in module.words]
-        private = [word for word in words if word.key not in project.why]
-        apart = [word for word in private if is_private_name(word.module)]
-        counts = len(words), len(private), len(apart)
-        total = [a + b for a, b in zip(total, counts)]
-        if words:
-            print("%-18s %6d %8d %6d" % ((crate.name,) + counts))
-    print("%-18s %6d %8d %6d" % ("all", total[0], total[1], total[2]))
-
-
-def main(words: Sequence[str]) -> int:
-    is_listing, is_counting = "--list" in words, "--count" in words
-    asked = [word for word in words if not word.startswith("--")]
-    unknown = set(words) - {"--list", "--count", "--why"} - set(asked)
-    if unknown or bool(asked) != ("--why" in words):
-        print((__doc__ or "").strip(), file=sys.stderr)
-        return 2
-    project, wrong = Project(), 0
-    for key, word in project.words.items():
-        if "%s.%s" % (word.crate, word.name) in asked:
-            print(project.path_to(key) if key in project.why else project.said(key) + ": private")
-        if project.is_wrong(word, is_listing):
-            wrong += 1
-            path = os.path.relpath(project.crates[word.crate].specs[word.module].path, ROOT)
-            what = project.path_to(key) if key in project.why else "no public contract reaches it"
-            print("%s:%d: %s: %s" % (path, word.line, word.name, what), file=sys.stderr)
-    if is_counting:
-        print_counts(project)
-    print("%d words, %d not so" % (len(project.words), wrong), file=sys.stderr)
-    return 1 if wrong or not project.words else 0
-
-
-if __name__ == "__main__":
-    sys.exit(main(sys.argv[1:]))

@@ -18,7 +18,7 @@ import sys
 import tempfile
 from typing import NamedTuple
 
-CHECKS = os.path.dirname(os.path.abspath(__file__))
+SCRIPTS = os.path.dirname(os.path.abspath(__file__))
 
 LOW_SPECS = """-- Small numbers.
 use Rattle.std.specs.Prelude.{ℕ, ◌≡◌, ◌≤◌}
@@ -242,15 +242,15 @@ def write_tree(folder: str) -> None:
         os.makedirs(os.path.dirname(os.path.join(folder, path)), exist_ok=True)
         with open(os.path.join(folder, path), "w", encoding="utf-8") as file:
             file.write(text)
-    scripts = os.path.join(folder, "bench", "checks")
+    scripts = os.path.join(folder, "bench", "rattle")
     os.makedirs(scripts)
-    for name in ("edits.py", "grounds.py", "check_private.py"):
-        shutil.copy(os.path.join(CHECKS, name), scripts)
+    for name in ("edits.py", "grounds.py", "source.py"):
+        shutil.copy(os.path.join(SCRIPTS, name), scripts)
 
 
 def ask(folder: str, *words: str) -> str:
     """The edits of the tree that are stale."""
-    environment = {**os.environ, "PYTHONPATH": os.path.join(folder, "bench", "checks")}
+    environment = {**os.environ, "PYTHONPATH": os.path.join(folder, "bench", "rattle")}
     run = subprocess.run([sys.executable, "-c", ASK, *words], env=environment,
                          capture_output=True, text=True, check=False)
     return run.stdout.strip() if run.returncode == 0 else run.stderr

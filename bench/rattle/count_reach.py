@@ -17,17 +17,14 @@ are those that `sctd` uses, by crates.txt; the others count for specs and proofs
 built. Standard library alone.
 """
 
-import glob
 import os
 import re
 import sys
-from typing import Any, Dict, Iterable, Iterator, List, NamedTuple, Optional, Set, Tuple
+from typing import Any, Iterable, Iterator, NamedTuple, Optional
 
-import check_private
-from edits import read
-from check_private import Item, OfType, Project, RustModule
-
-ROOT = check_private.ROOT
+from check_private import Reached
+from source import Item, OfType, Project, RustModule, crates_below, files_of, folder_of
+from source import functions_in, parts_of_impl, read, without_comments
 
 # What README promises, and the calls through which it is kept.
 CONTRACTS = (
@@ -46,6 +43,7 @@ METER_NAMES = re.compile(r"ensures (?:meters|cache|same_cache|keeps|capacity|loo
 # A clause that hands on what a system is to a word that says more than counts.
 HANDS_ON = re.compile(r"\bP\.stands")
 
+PROGRAM = "sctd"
 # Where the store's questions stand.
 STORE = "history_store/src"
 QUESTIONS = ("queries.rt",)
@@ -56,13 +54,13 @@ class Found(NamedTuple):
 
     item: Item
     module: RustModule
-    holders: List[Item]
+    holders: list[Item]
 
 
-class Reach(Project):
+class Reach(Reached):
     """The words that some contracts reach."""
 
-    def __init__(self, names: Tuple[str, ...]) -> None:
+    def __init__(self, names: tuple[str, ...]) -> None:
         self.names = names
         super().__init__()
 
@@ -94,7 +92,7 @@ class Reach(Project):
     def method(self, owner: Item, name: str) -> Optional[Found]:
         """The method of a type, in an impl without a trait."""
         for module, impl in self.impls:
-            trait, made = check_private.parts_of_impl(impl.head)
+            trait, made = parts_of_impl(impl.head)
             if not trait and owner in self.types_in(module, made.split("<")[0]):
                 for item in impl.items:
                     if item.sort == "fn" and item.name == name:
@@ -109,47 +107,26 @@ def is_law(item: Item) -> bool:
 
 def line_count(text: str) -> int:
     """How many lines have text besides a comment."""
-    return sum(1 for line in check_private.without_comments(text).split("\n") if line.strip())
+    return sum(1 for line in without_comments(text).split("\n") if line.strip())
 
 
-def reach_of(project: Project) -> Tuple[int, int]:
+def reach_of(project: Reached) -> tuple[int, int]:
     """How many words are reached, and how many lines their definitions have."""
     reached = [word for word in project.words.values() if word.key in project.why]
     return len(reached), sum(line_count(word.text) for word in reached)
 
 
-def product_crates() -> Set[str]:
+def product_crates() -> set[str]:
     """The crates that the program uses, itself or through others."""
-    used: Dict[str, List[str]] = {}
-    with open(os.path.join(ROOT, "crates.txt"), encoding="utf-8") as file:
-        for line in file:
-            name, colon, uses = line.partition("#")[0].partition(":")
-            if colon:
-                used[name.strip()] = uses.split()
-    product, left = set(), ["sctd"]
-    while left:
-        name = left.pop()
-        if name in used and name not in product:
-            product.add(name)
-            left += used[name]
-    return product
+    return crates_below(PROGRAM) | {PROGRAM}
 
 
-def functions_in(items: List[Item]) -> Iterator[Item]:
-    """The functions among items, and those of traits, impls and modules in them."""
-    for item in items:
-        if item.sort == "fn" and not item.is_test:
-            yield item
-        elif item.sort in ("trait", "impl"):
-            yield from functions_in(item.items)
-
-
-def clauses_of(project: Project) -> Iterator[List[Tuple[str, str]]]:
+def clauses_of(project: Project) -> Iterator[list[tuple[str, str]]]:
     """The clauses of each function of product crates: the head of each clause, and its term."""
     for name in product_crates():
         for module in project.crates[name].root.all():
-            for item in functions_in(module.items):
-                yield item.clauses
+            own = [item for item in module.items if item.sort != "mod"]
+            yield from (item.clauses for item, _ in functions_in(own) if not item.is_test)
 
 
 def is_meter(head: str, term: str) -> bool:
@@ -160,12 +137,9 @@ def is_meter(head: str, term: str) -> bool:
 
 def lines_in(folder: str, crates: Iterable[str]) -> int:
     """How many lines the files of a folder of these crates have."""
-    total = 0
-    for crate in crates:
-        for path in glob.glob(os.path.join(ROOT, "crates", crate, folder, "**"), recursive=True):
-            if path.endswith((".rt", ".antt")):
-                total += read(path).count("\n")
-    return total
+    folders = [os.path.join(folder_of(crate), folder) for crate in crates]
+    return sum(read(path).count("\n") for it in folders for ending in (".rt", ".antt")
+               for path in files_of(it, ending))
 
 
 def ensured_by(name: str) -> int:
@@ -175,11 +149,11 @@ def ensured_by(name: str) -> int:
     return sum(1 for head, _ in found.item.clauses if head.startswith("ensures"))
 
 
-def rows() -> Iterator[Tuple[str, Any]]:
+def rows() -> Iterator[tuple[str, Any]]:
     """The rows of the table: what is counted, and its number or numbers."""
     for title, names in CONTRACTS:
         yield "words and lines that %s reaches" % title, reach_of(Reach(names))
-    project = Project()
+    project = Reached()
     yield "public words, and their lines", reach_of(project)
     every_crate = list(project.crates)
     yield "lines of specs/", lines_in("specs", every_crate)
@@ -197,7 +171,7 @@ def rows() -> Iterator[Tuple[str, Any]]:
         most,
     )
     yield "lines of the store's questions in `%s`" % STORE, sum(
-        read(os.path.join(ROOT, "crates", STORE, name)).count("\n") for name in QUESTIONS
+        read(os.path.join(folder_of(STORE), name)).count("\n") for name in QUESTIONS
     )
     yield "lines of src/ in product crates", lines_in("src", product_crates())
     yield "lines of proofs/", lines_in("proofs", every_crate)
@@ -209,7 +183,7 @@ def shown(counted: Any) -> str:
     return ", ".join("{:,}".format(number) for number in numbers)
 
 
-def main(names: List[str]) -> int:
+def main(names: list[str]) -> int:
     if any(name.startswith("-") for name in names):
         print((__doc__ or "").strip(), file=sys.stderr)
         return 2

@@ -22,7 +22,7 @@ from collections.abc import Iterable, Iterator
 from dataclasses import dataclass
 from typing import NamedTuple
 
-TOP = os.path.dirname(os.path.dirname(os.path.dirname(os.path.abspath(__file__))))
+from source import TOP, crates_below, folder_of, read
 
 # The folders of a crate that hold edits: CI tries those of the first, try_edits.py all.
 MUST_FAIL, EDITS = "must-fail", "edits"
@@ -32,8 +32,6 @@ ENDING = ".edit"
 SRC, SPECS, PROOFS = "src", "specs", "proofs"
 # A file of src/ whose clauses hold for code of the crates above: one that declares a trait.
 TRAIT = re.compile(r"^(?:pub(?:\([a-z]+\))? )?trait ", re.M)
-# A line of crates.txt: a crate, and which ones it uses.
-USES = re.compile(r"^(\w+)[^:#\n]*:([^#\n]*)", re.M)
 RECORD = f"{EDITS}/tried"
 # How a line begins that is a comment, in the files of these endings.
 COMMENTS = {".rt": b"//", ".antt": b"--"}
@@ -96,15 +94,6 @@ class Record:
         lines += [" ".join([f"edit {name}:", *filter(None, line)])
                   for name, line in sorted(self.lines.items())]
         return "\n".join(lines) + "\n"
-
-
-def read(path: str) -> str:
-    with open(path, encoding="utf-8", newline="") as file:
-        return file.read()
-
-
-def folder_of(crate: str) -> str:
-    return os.path.join(TOP, "crates", crate)
 
 
 def changes_in(text: str) -> Iterator[Change]:
@@ -170,19 +159,6 @@ def checksum_of_sources(crate: str) -> str:
     folder = folder_of(crate)
     parts = (os.path.join(folder, part) for part in (SRC, SPECS, PROOFS))
     return checksum_of_files(folder, (path for part in parts for path in files_in(part)))
-
-
-def crates_below(crate: str) -> set[str]:
-    """The crates of the repository that a crate uses, directly or through others."""
-    uses = {found[1]: set(found[2].split())
-            for found in USES.finditer(read(os.path.join(TOP, "crates.txt")))}
-    below: set[str] = set()
-    left = [crate]
-    while left:
-        new = uses[left.pop()] & uses.keys() - below
-        below |= new
-        left += new
-    return below
 
 
 def checksum_below(crate: str) -> str:

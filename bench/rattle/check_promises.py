@@ -23,9 +23,10 @@ from collections.abc import Iterator
 
 import edits
 import grounds
-from edits import MUST_FAIL, TOP, read
+from edits import MUST_FAIL
 from promises import DOCUMENT, Clause, Promise, clauses, label, made_list, promises, rows
 from promises import written_list
+from source import TOP, files_of, functions_of, read
 
 TRIALS = os.path.join(TOP, "bench", "trials")
 sys.path.append(TRIALS)
@@ -36,18 +37,9 @@ from try_program import SCRIPTS  # noqa: E402
 TRANSCRIPTS = "try_cases"
 # What makes the trials of the files that it is given by their names.
 BY_PYTEST = "trials/by_pytest.py"
-TEST = re.compile(r"#\[test\]\n\s*fn (\w+)")
 CASE = re.compile(r"^case (.+)$", re.M)
 # A function of a crate, as README names it.
 NAMED = re.compile(r"`(\w+)::((?:laws::)?[a-z]\w*)(?: · \w+)?`")
-
-
-def files_of(folder: str, ending: str) -> Iterator[str]:
-    """The texts of the files in a folder of each crate."""
-    for crate in grounds.tree().crates:
-        for path in edits.files_in(os.path.join(edits.folder_of(crate), folder)):
-            if path.endswith(ending):
-                yield f"{crate}\n{read(path)}"
 
 
 @functools.lru_cache(maxsize=None)
@@ -55,10 +47,12 @@ def shown_names() -> set[str]:
     """All edits, tests and cases."""
     found = {str(edit) for crate in grounds.tree().crates for edit in edits.all_edits(crate)}
     found.update(f"{TRANSCRIPTS}: {name}" for name in names_of_cases())
-    for text in files_of(edits.SRC, ".rt"):
-        found.update(f"{text.partition(chr(10))[0]}::{name}" for name in TEST.findall(text))
-    for text in files_of(os.path.join("data", "cases"), ".txt"):
-        found.update(f"{text.partition(chr(10))[0]}: {name}" for name in CASE.findall(text))
+    for crate, it in grounds.tree().crates.items():
+        for path in files_of(os.path.join(it.folder, edits.SRC), ".rt"):
+            found.update(f"{crate}::{item.name}" for item, _ in functions_of(read(path))
+                         if item.is_test)
+        for path in files_of(os.path.join(it.folder, "data", "cases"), ".txt"):
+            found.update(f"{crate}: {name}" for name in CASE.findall(read(path)))
     return found
 
 

@@ -1,0 +1,231 @@
+#!/usr/bin/env python3
+"""Checks that the words of specs/ which no public contract reaches stand apart.
+
+check_private.py [--list] [--count] [--why CRATE.WORD]
+
+A word is a definition of a crate's specs/. It is reached if a public contract cites it, or the
+definition of a word that is reached. Public contracts are the clauses of functions and traits that
+other crates can name (a law is such a function), the ghost members of these traits and of their
+impls for types that other crates can name, the Model and the ghost fields of these types, and the
+Value and the view of the types in their fields. Proofs cite words too, and reach none; and where a
+ghost member cites a definition whose body is shut, that is a proof, and isn't reached.
+
+A module is private if its name, or that of a module around it, begins or ends with `Private`. A
+word that is reached and stands in one is said in a line of its own on standard error, with the path
+by which it is reached, and the status is 1 then; `--list` does the same for a word that isn't
+reached and stands in no such module. `--count` prints a table of the counts, and `--why` the path
+to a word. A name that a term binds itself counts as the word of that name: so a word may be taken
+for a reached one, and never the other way round. Nothing is built. Standard library alone.
+"""
+
+from __future__ import annotations
+
+import os
+import re
+import sys
+from collections.abc import Callable, Collection, Sequence
+from typing import Optional, Union
+
+from source import TOP, Found, Item, Node, OfType, Project, RustModule, Word, names_in
+from source import parts_of_impl
+
+
+def is_private_name(module: str) -> bool:
+    """Whether a module's path says that its words are private."""
+    return any(re.match(r"Private|.*Private$", part) for part in module.split("."))
+
+
+class Reached(Project):
+    """What the public contracts of all crates reach."""
+
+    def __init__(self) -> None:
+        super().__init__()
+        self.public: set[Item] = set()
+        # By what each node is reached: another one, or a public contract.
+        self.why: dict[Node, Union[Node, str]] = {}
+        self.left: list[Node] = []
+        for crate in self.crates.values():
+            self.take_exports(crate.root, set())
+        self.reach_public()
+        while self.left:
+            self.follow(self.left.pop())
+
+    def take_exports(self, module: RustModule, seen: set[RustModule]) -> None:
+        """Takes what a module hands out: its `pub` items, and what it passes on."""
+        if module in seen:
+            return
+        seen.add(module)
+        found: list[Found] = [
+            item for item in module.named.values() if item.is_open or item.name == "main"]
+        found += [below for below in module.below.values() if below.is_open]
+        for parts, is_open in module.used.values():
+            if is_open:
+                found.append(self.resolve(module, parts))
+        for item in found:
+            if isinstance(item, RustModule):
+                self.take_exports(item, seen)
+            elif item is not None:
+                self.public.add(item)
+
+    # ---- what is reached
+
+    def reach(self, node: Optional[Node], by: Union[Node, str]) -> None:
+        if node and node not in self.why:
+            self.why[node] = by
+            self.left.append(node)
+
+    def reach_terms(self, clauses: Sequence[tuple[str, str]], module: RustModule,
+                    holders: Sequence[Item], by: str, hidden: Collection[str] = (),
+                    is_member: bool = False) -> None:
+        """Reaches what clauses cite, which stand in these items of a module."""
+        scope = self.scope_within(module, holders)
+        for name, text in clauses:
+            said = "%s · %s" % (by, name)
+            for node in self.cited(text, scope, hidden):
+                if not (is_member and self.is_proof(node)):
+                    self.reach(node, said)
+            for parts in names_in(text):
+                item = self.resolve(module, parts[:1]) if parts[0] not in scope else None
+                if isinstance(item, Item) and item.sort in ("struct", "enum"):
+                    self.reach(OfType(item.module.crate, item), said)
+
+    def is_proof(self, node: Node) -> bool:
+        """Whether it is a word whose body is shut."""
+        return not isinstance(node, OfType) and self.words[node].is_proof
+
+    def reach_function(self, item: Item, module: RustModule, holders: Sequence[Item],
+                       by: str) -> None:
+        inside = item.head[item.head.find("("):]
+        hidden = set(re.findall(r"(?:\(|,)\s*(?:mut )?(\w+)\s*:", inside)) | {"result", "self"}
+        for holder in holders:
+            if holder.sort == "trait":
+                hidden |= {i.name for i in holder.items if i.sort == "ghost"}
+        self.reach_terms(item.clauses, module, holders, by, hidden)
+
+    def reach_members(self, holder: Item, module: RustModule, by: str,
+                      is_wanted: Callable[[Item], bool]) -> None:
+        """Reaches what the members of a trait or an impl cite."""
+        for item in holder.items:
+            if item.sort == "fn" and is_wanted(item):
+                self.reach_function(item, module, [holder], by + "::" + item.name)
+            elif item.sort == "ghost" and is_wanted(item):
+                is_trait = holder.sort == "trait"
+                hidden = {i.name for i in holder.items if is_trait and i.sort == "ghost"}
+                self.reach_terms(item.clauses, module, [holder], by, hidden, True)
+
+    def reach_public(self) -> None:
+        """Reaches what public functions, traits, types and impls cite."""
+        for item in sorted(self.public, key=lambda i: (i.module.crate, i.name)):
+            by = item.module.crate + "::" + item.name
+            if item.sort == "fn":
+                self.reach_function(item, item.module, [], by)
+            elif item.sort == "trait":
+                self.reach_members(item, item.module, by, lambda member: True)
+            elif item.sort in ("struct", "enum"):
+                self.reach(OfType(item.module.crate, item), by)
+                self.reach_terms([c for i in item.items for c in i.clauses], item.module, [], by)
+        for module, item in self.impls:
+            self.reach_impl(module, item)
+
+    def reach_impl(self, module: RustModule, item: Item) -> None:
+        """Reaches what an impl cites, if it is one for a public type, of a public trait."""
+        trait, made = parts_of_impl(item.head)
+        types = list(self.types_in(module, made.split("<")[0]))
+        front = list(self.types_in(module, trait))
+        by = module.crate + "::" + re.sub(r"(?s)[^&\w'].*", "", made.split("::")[-1].strip())
+        if not all(t in self.public for t in types + front):
+            return
+        if not trait:
+            self.reach_members(item, module, by, lambda m: m.sort == "fn" and m.is_open)
+        elif trait.split("::")[-1] != "Model" or types:
+            self.reach_members(item, module, trait + " for " + by, lambda m: True)
+
+    def follow(self, node: Node) -> None:
+        """Reaches what a node that is reached cites itself."""
+        if isinstance(node, OfType):
+            self.follow_type(node)
+            return
+        module = self.crates[node[0]].specs[node[1]]
+        for cited in self.cited(self.words[node].text, self.scope_at(module)):
+            if (isinstance(cited, OfType) or cited[:2] != node[:2]
+                    or self.words[cited].line < self.words[node].line):
+                self.reach(cited, node)
+
+    def follow_type(self, node: OfType) -> None:
+        """Reaches the types of the fields, and what the Model says of the value."""
+        item = node.item
+        for found in self.types_in(item.module, item.head):
+            if found.sort in ("struct", "enum") and found is not item:
+                self.reach(OfType(found.module.crate, found), node)
+        for module, holder in self.impls:
+            trait, made = parts_of_impl(holder.head)
+            if module.crate == node.crate and trait.split("::")[-1] == "Model":
+                if item in self.types_in(module, made.split("<")[0]):
+                    self.reach_members(holder, module, self.said(node), is_of_value)
+
+    # ---- what is said
+
+    def said(self, node: Union[Node, str]) -> str:
+        if isinstance(node, str):
+            return node
+        if isinstance(node, OfType):
+            return "%s::%s" % (node.crate, node.item.name)
+        return "%s.specs.%s.%s" % node
+
+    def path_to(self, node: Union[Node, str]) -> str:
+        """How a node is reached, from itself up to a public contract."""
+        path = [self.said(node)]
+        while not isinstance(node, str):
+            node = self.why[node]
+            path.append(self.said(node))
+        return ", by ".join(path)
+
+    def is_wrong(self, word: Word, is_listing: bool) -> bool:
+        is_reached = word.key in self.why
+        return is_reached == is_private_name(word.module) and (is_reached or is_listing)
+
+
+def is_of_value(member: Item) -> bool:
+    """Whether a member of a Model says what value a type has."""
+    return member.name in ("Value", "view", "inverse")
+
+
+def print_counts(project: Reached) -> None:
+    """A line for each crate with specs/: its words, those that are private, and their modules."""
+    print("%-18s %6s %8s %6s" % ("crate", "words", "private", "apart"))
+    total = [0, 0, 0]
+    for crate in project.crates.values():
+        words = [word for module in crate.specs.values() for word in module.words]
+        private = [word for word in words if word.key not in project.why]
+        apart = [word for word in private if is_private_name(word.module)]
+        counts = len(words), len(private), len(apart)
+        total = [a + b for a, b in zip(total, counts)]
+        if words:
+            print("%-18s %6d %8d %6d" % ((crate.name,) + counts))
+    print("%-18s %6d %8d %6d" % ("all", total[0], total[1], total[2]))
+
+
+def main(words: Sequence[str]) -> int:
+    is_listing, is_counting = "--list" in words, "--count" in words
+    asked = [word for word in words if not word.startswith("--")]
+    unknown = set(words) - {"--list", "--count", "--why"} - set(asked)
+    if unknown or bool(asked) != ("--why" in words):
+        print((__doc__ or "").strip(), file=sys.stderr)
+        return 2
+    project, wrong = Reached(), 0
+    for key, word in project.words.items():
+        if "%s.%s" % (word.crate, word.name) in asked:
+            print(project.path_to(key) if key in project.why else project.said(key) + ": private")
+        if project.is_wrong(word, is_listing):
+            wrong += 1
+            path = os.path.relpath(project.crates[word.crate].specs[word.module].path, TOP)
+            what = project.path_to(key) if key in project.why else "no public contract reaches it"
+            print("%s:%d: %s: %s" % (path, word.line, word.name, what), file=sys.stderr)
+    if is_counting:
+        print_counts(project)
+    print("%d words, %d not so" % (len(project.words), wrong), file=sys.stderr)
+    return 1 if wrong or not project.words else 0
+
+
+if __name__ == "__main__":
+    sys.exit(main(sys.argv[1:]))
