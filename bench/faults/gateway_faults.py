@@ -4,11 +4,11 @@
 gateway_faults.py PROGRAM [NUMBER|TESTS ..]
 gateway_faults.py --table
 
-PROGRAM is the built `sctd`. Each fault is a text of a file that is exchanged, and the tests that
-are run with it: TESTS, such as `test_hub`, stands for all faults that are tried with these. One
-that no test fails for is said to be NOT SEEN, and the status is 1 then. It takes some minutes. With
---table it prints the rows that bench/README.md has of it, and tries nothing. Standard library
-alone; the gateway and its tests need their packages.
+PROGRAM is the built `sctd`. Each fault of gateway_faults.txt, page_faults.txt and
+expression_faults.txt is a text of a file that is exchanged, and the tests that are run with it: TESTS, such as `test_hub`, stands for
+all faults that are tried with these. One that no test fails for is said to be NOT SEEN, and the
+status is 1 then. It takes some minutes. With --table it prints the rows that bench/README.md has
+of it, and tries nothing. Standard library alone; the gateway and its tests need their packages.
 """
 
 from __future__ import annotations
@@ -20,21 +20,48 @@ import subprocess
 import sys
 import tempfile
 from collections import Counter
-from collections.abc import Sequence
+from collections.abc import Iterator, Sequence
+from pathlib import Path
+from typing import NamedTuple
 
 ROOT = os.path.dirname(os.path.dirname(os.path.dirname(os.path.abspath(__file__))))
 sys.path[:0] = [os.path.join(ROOT, "bench", "trials"), os.path.join(ROOT, "packaging")]
-from expression_fault_table import FAULTS as OF_EXPRESSIONS  # noqa: E402
-from gateway_fault_table import FAULTS as OF_GATEWAY  # noqa: E402
-from gateway_fault_table import Fault  # noqa: E402
 from needs import python_with  # noqa: E402
-from page_fault_table import FAULTS as OF_PAGES  # noqa: E402
-from page_fault_table import PAGE  # noqa: E402
 from try_gateway import OF_TESTS, words_of  # noqa: E402
 
-FAULTS = [*OF_GATEWAY, *OF_PAGES, *OF_EXPRESSIONS]
+# The browser's trial.
+PAGE = "try_page.py"
 SECONDS = 300
 NOT_RUN = 3
+
+
+class Fault(NamedTuple):
+    """What is wrong, the tests that are run, the file as seen from sctd_service/gateway, its text,
+    and what stands there instead."""
+
+    fault: str
+    tests: str
+    file: str
+    old: str
+    new: str
+
+
+def faults_in(name: str) -> Iterator[Fault]:
+    """The faults of a file beside this one, behind what it says of itself."""
+    blocks = Path(__file__).with_name(name).read_text("utf-8").rstrip("\n").split("\n\n")
+    for block in blocks[1:]:
+        found: dict[str, list[str]] = {field: [] for field in Fault._fields}
+        for line in block.split("\n"):
+            field, _, text = line.partition(":")
+            found[field].append(text.removeprefix(" "))
+        yield Fault(*map("\n".join, found.values()))
+
+
+FAULTS = [
+    fault
+    for name in ("gateway_faults.txt", "page_faults.txt", "expression_faults.txt")
+    for fault in faults_in(name)
+]
 
 
 def failed(root: str, python: str, program: str, tests: str) -> list[str]:
@@ -80,13 +107,13 @@ def tried(number: int, fault: Fault, python: str, program: str) -> bool:
         if text.count(fault.old) != 1:
             print(
                 "%d: %s: NO FAULT: the text stands there %d times"
-                % (number, fault.what, text.count(fault.old))
+                % (number, fault.fault, text.count(fault.old))
             )
             return False
         with open(path, "w", encoding="utf-8") as file:
             file.write(text.replace(fault.old, fault.new))
         found = failed(root, python, program, fault.tests)
-    print("%d: %s: %s" % (number, fault.what, "; ".join(found) or "NOT SEEN"), flush=True)
+    print("%d: %s: %s" % (number, fault.fault, "; ".join(found) or "NOT SEEN"), flush=True)
     return bool(found)
 
 
