@@ -36,7 +36,10 @@ import subprocess
 import sys
 import tempfile
 from collections.abc import Sequence
+from pathlib import Path
 from typing import NamedTuple, Optional
+
+from moments import compiled
 
 # How long the program may take.
 SECONDS = 60
@@ -49,47 +52,6 @@ HEADER = "id\teffectiveTime\tactive\tmoduleId\tdefinitionStatusId"
 REST = "\t1\t900000000000207008\t900000000000074008"
 # Of each release the dates of the root concept's versions. The last one brings nothing new.
 RELEASES = (("20200131",), ("20200731", "20210131"), ("20210731",), ("20200131",))
-
-LIBRARY = r"""
-#define _GNU_SOURCE
-#include <dlfcn.h>
-#include <fcntl.h>
-#include <stdio.h>
-#include <stdlib.h>
-#include <string.h>
-#include <unistd.h>
-static void note(int fd, const char *what, long place, long length, const void *bytes) {
-    static ssize_t (*real)(int, const void *, size_t);
-    static int log_fd = -1;
-    char link[64], path[4096], line[8192];
-    if (!real) real = (ssize_t (*)(int, const void *, size_t))dlsym(RTLD_NEXT, "write");
-    if (log_fd < 0) log_fd = open(getenv("CALLS"), O_CREAT | O_WRONLY | O_APPEND, 0600);
-    snprintf(link, sizeof link, "/proc/self/fd/%d", fd);
-    long n = readlink(link, path, sizeof path - 1);
-    path[n < 0 ? 0 : n] = 0;
-    int first = bytes && length ? *(const unsigned char *)bytes : -1;
-    n = snprintf(line, sizeof line, "%d %s %ld %ld %d %s\n", fd, what, place, length, first, path);
-    real(log_fd, line, n);
-}
-#define REAL(name) static __typeof__(&name) real; if (!real) real = dlsym(RTLD_NEXT, #name)
-ssize_t write(int fd, const void *b, size_t n) {
-    REAL(write); ssize_t done = real(fd, b, n); note(fd, "write", -1, done, b); return done;
-}
-ssize_t pwrite(int fd, const void *b, size_t n, off_t at) {
-    REAL(pwrite); ssize_t done = real(fd, b, n, at); note(fd, "write", at, done, b); return done;
-}
-ssize_t pwrite64(int fd, const void *b, size_t n, off64_t at) {
-    REAL(pwrite64); ssize_t done = real(fd, b, n, at); note(fd, "write", at, done, b); return done;
-}
-int fsync(int fd) { REAL(fsync); int r = real(fd); if (!r) note(fd, "sync", -1, 0, 0); return r; }
-int fdatasync(int fd) {
-    REAL(fdatasync); int r = real(fd); if (!r) note(fd, "sync", -1, 0, 0); return r;
-}
-int ftruncate(int fd, off_t n) {
-    REAL(ftruncate); int r = real(fd, n); if (!r) note(fd, "cut", n, 0, 0); return r;
-}
-"""
-
 
 class Call(NamedTuple):
     """Which file it changes, what it does (write, sync, cut), where, how many bytes, the first."""
@@ -123,11 +85,7 @@ class Tracer:
         self.folder, self.log = folder, os.path.join(folder, "calls")
         self.how = how or way_here()
         if self.how == "library":
-            source, self.library = (os.path.join(folder, "calls." + end) for end in ("c", "so"))
-            with open(source, "w", encoding="ascii") as file:
-                file.write(LIBRARY)
-            made = ["cc", "-shared", "-fPIC", "-w", "-o", self.library, source, "-ldl"]
-            subprocess.run(made, check=True)
+            self.library = compiled("syncs", Path(folder))
 
     def run(self, words: list[str], text: str) -> tuple[str, list[Call]]:
         """What the program writes, and its calls."""
@@ -137,7 +95,7 @@ class Tracer:
         if self.how == "strace":
             words = ["strace", "-f", "-y", "-xx", "-o", self.log, "-e", "trace=" + TRACED, *words]
         else:
-            around["LD_PRELOAD"] = self.library
+            around["LD_PRELOAD"] = str(self.library)
         try:
             done = subprocess.run(words, input=text.encode(), stdout=subprocess.PIPE, env=around,
                                   check=False, timeout=SECONDS)

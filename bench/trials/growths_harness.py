@@ -11,6 +11,8 @@ from concurrent.futures import ThreadPoolExecutor
 from pathlib import Path
 from typing import Callable, Iterator, NamedTuple, Optional, Sequence
 
+from moments import compiled
+
 # How long a run may take, and how many go on at a time.
 SECONDS = 60
 AT_ONCE = 2
@@ -19,28 +21,6 @@ ALONE, ALL_BEHIND = 1, -1
 
 OUT_OF_MEMORY = b"ERR 1 OutOfMemory\n"
 DISK_FAULT = b"ERR 2 DiskFault\n"
-
-LIBRARY = """
-#include <errno.h>
-#include <fcntl.h>
-#include <stddef.h>
-#include <stdlib.h>
-extern void *__libc_malloc(size_t), *__libc_calloc(size_t, size_t), *__libc_realloc(void *, size_t);
-static long first = -1, left;
-static int refuses(void) {
-    if (first < 0) { first = atol(getenv("REFUSE")); left = atol(getenv("REFUSE_COUNT")); }
-    if (first > 1) { first--; return 0; }
-    if (left == 0) return 0;
-    left--;
-    if (first == 1) { first = 0; open(getenv("REFUSED"), O_CREAT | O_WRONLY, 0600); }
-    errno = ENOMEM;
-    return 1;
-}
-void *malloc(size_t n) { return refuses() ? NULL : __libc_malloc(n); }
-void *calloc(size_t n, size_t m) { return refuses() ? NULL : __libc_calloc(n, m); }
-void *realloc(void *p, size_t n) { return refuses() ? NULL : __libc_realloc(p, n); }
-"""
-
 
 class Wrong(Exception):
     """Something was answered or left that mustn't be."""
@@ -88,11 +68,7 @@ class Program:
     """The program, and the library that refuses requests for memory in it."""
 
     def __init__(self, program: Path, folder: Path) -> None:
-        self.program, self.library = program, folder / "refuse.so"
-        source = folder / "refuse.c"
-        source.write_text(LIBRARY, encoding="ascii")
-        built = ["cc", "-shared", "-fPIC", "-o", str(self.library), str(source)]
-        subprocess.run(built, check=True)
+        self.program, self.library = program, compiled("growths", folder)
 
     def run(self, words: Sequence[str], folder: Path, given: bytes = b"",
             refusals: Optional[Refusals] = None) -> tuple[Ran, bool]:
