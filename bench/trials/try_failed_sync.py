@@ -15,6 +15,7 @@ It takes root, strace, e2fsprogs, util-linux and a loop device; where it lacks o
 
 from __future__ import annotations
 
+import argparse
 import os
 import shutil
 import signal
@@ -22,14 +23,13 @@ import subprocess
 import sys
 import tempfile
 import time
-from collections.abc import Sequence
+from pathlib import Path
 
-ROOT = os.path.dirname(os.path.dirname(os.path.dirname(os.path.abspath(__file__))))
-sys.path.append(os.path.join(ROOT, "service"))
+from harness import BLOCK, RELEASES, TOP, Place
+
+sys.path.append(str(TOP / "service"))
 from sctd_service.hub import opening  # noqa: E402
 
-RELEASES = os.path.join(ROOT, "docs", "releases")
-BLOCK = 4096
 # An import's syncs: two of the opening, then one of the segment, of the gate that is closed, of the
 # content, and of the gate that is opened.
 CONTENT_SYNC = 5
@@ -45,26 +45,24 @@ class NotRun(Exception):
     """Why it can't be run here."""
 
 
-def run(*words: str, check: bool = True) -> subprocess.CompletedProcess[str]:
+def run(*words: str | Path, check: bool = True) -> subprocess.CompletedProcess[str]:
     done = subprocess.run(words, capture_output=True, text=True, check=False)
     if check and done.returncode != 0:
-        raise NotRun("%s: %s" % (words[0], done.stderr.strip().split("\n")[-1]))
+        raise NotRun(f"{words[0]}: {done.stderr.strip()}")
     return done
 
 
 class Medium:
     """A file system on a loop device whose blocks stand in a small tmpfs."""
 
-    def __init__(self, place: str) -> None:
-        self.outer = os.path.join(place, "outer")
-        self.inner = os.path.join(place, "inner")
-        self.image = os.path.join(self.outer, "image")
-        self.filler = os.path.join(self.outer, "filler")
-        self.store = os.path.join(self.inner, "store")
+    def __init__(self, place: Place) -> None:
+        self.outer, self.inner = place.path("outer"), place.path("inner")
+        self.image, self.filler = self.outer / "image", self.outer / "filler"
+        self.store = self.inner / "store"
 
     def __enter__(self) -> Medium:
-        os.mkdir(self.outer)
-        os.mkdir(self.inner)
+        self.outer.mkdir()
+        self.inner.mkdir()
         run("mount", "-t", "tmpfs", "-o", "size=9m", "tmpfs", self.outer)
         try:
             run("truncate", "-s", "6m", self.image)
@@ -72,10 +70,10 @@ class Medium:
                 "-b", str(BLOCK), self.image)
             self.mount()
             # Every block of the image gets room in the tmpfs, so that only the one below lacks it.
-            zeros = os.path.join(self.inner, "zeros")
-            run("dd", "if=/dev/zero", "of=" + zeros, "bs=%d" % BLOCK, check=False)
+            zeros = self.inner / "zeros"
+            run("dd", "if=/dev/zero", f"of={zeros}", f"bs={BLOCK}", check=False)
             os.sync()
-            os.remove(zeros)
+            zeros.unlink()
             os.sync()
         except BaseException:
             self.__exit__()
@@ -92,8 +90,7 @@ class Medium:
     def mount_again(self) -> None:
         """From here on only what the medium has is seen."""
         run("umount", self.inner)
-        with open("/proc/sys/vm/drop_caches", "w", encoding="ascii") as file:
-            file.write("3\n")
+        Path("/proc/sys/vm/drop_caches").write_text("3\n", encoding="ascii")
         self.mount()
 
     def block_of(self, block: int) -> int:
@@ -108,120 +105,93 @@ class Medium:
         """Lets each write of this block of the store fail."""
         at = self.block_of(block) * BLOCK
         run("fallocate", "-p", "-o", str(at), "-l", str(BLOCK), self.image)
-        run("dd", "if=/dev/zero", "of=" + self.filler, "bs=%d" % BLOCK, check=False)
+        run("dd", "if=/dev/zero", f"of={self.filler}", f"bs={BLOCK}", check=False)
 
     def accept(self) -> None:
-        os.remove(self.filler)
+        self.filler.unlink()
 
 
-def gates(path: str) -> tuple[bool, bool]:
-    """Whether each of the two gates is open."""
-    with open(path, "rb") as file:
-        head = file.read(2 * BLOCK + 1)
-    return head[0] == OPEN, head[2 * BLOCK] == OPEN
-
-
-def older_gate(path: str) -> int:
+def older_gate(store: Path) -> int:
     """The block of the gate that the next import opens: one that is closed, or else that of the
     older directory."""
-    first_open, second_open = gates(path)
-    if not (first_open and second_open):
-        return 2 if first_open else 0
-    epochs = []
-    with open(path, "rb") as file:
-        for at in (BLOCK, 3 * BLOCK):
-            file.seek(at)
-            epochs.append(int.from_bytes(file.read(8), "big"))
-    return 0 if epochs[0] < epochs[1] else 2
+    head = store.read_bytes()[: 4 * BLOCK]
+    is_open = [head[at] == OPEN for at in (0, 2 * BLOCK)]
+    if not all(is_open):
+        return 2 if is_open[0] else 0
+    first, second = (int.from_bytes(head[at : at + 8], "big") for at in (BLOCK, 3 * BLOCK))
+    return 0 if first < second else 2
 
 
-class Program:
-    """The program, on a store."""
-
-    def __init__(self, path: str, store: str) -> None:
-        self.path, self.store = path, store
-
-    def words(self, command: str, *more: str) -> list[str]:
-        return [self.path, command, "--store", self.store, *more]
-
-    def said(self, command: str, *more: str, given: str = "") -> str:
-        """What it writes for these words and lines."""
-        done = subprocess.run(self.words(command, *more), input=given, capture_output=True,
-                              text=True, check=False)
-        return done.stdout.strip()
-
-    def status(self) -> str:
-        return self.said("serve", "--releases", RELEASES, given="0 STATUS\n")
-
-    def import_stopped_at_sync(self, release: str, sync: int, sent: str,
-                               trace: str) -> subprocess.Popen[str]:
-        """An import that gets a signal at one of its syncs; the opening makes the first one."""
-        trap = ["strace", "-f", "-o", trace, "-e", "trace=fsync",
-                "-e", "inject=fsync:signal=%s:when=%d" % (sent, sync)]
-        words = self.words("import", "--releases", RELEASES, release)
-        return subprocess.Popen([*trap, *words], stdout=subprocess.PIPE,
-                                stderr=subprocess.DEVNULL, text=True)
+def status(place: Place, store: Path) -> str:
+    """What a server says of a store."""
+    return place.run("serve", "--store", store, "--releases", RELEASES,
+                     given="0 STATUS\n").output.strip()
 
 
-def wait_for_stop(trace: str) -> int:
+def stopped_import(place: Place, medium: Medium, release: str, sent: str) -> subprocess.Popen[str]:
+    """An import that gets a signal at one of its syncs; the opening makes the first one."""
+    return subprocess.Popen(
+        ["strace", "-f", "-o", place.path("trace"), "-e", "trace=fsync", "-e",
+         f"inject=fsync:signal={sent}:when={CONTENT_SYNC}", place.program, "import", "--store",
+         medium.store, "--releases", RELEASES, release],
+        stdout=subprocess.PIPE, stderr=subprocess.DEVNULL, text=True)
+
+
+def wait_for_stop(trace: Path) -> int:
     """The process that the trace says is stopped."""
     for _ in range(LOOKS):
         time.sleep(BETWEEN_LOOKS)
-        if os.path.exists(trace):
-            with open(trace, encoding="utf-8", errors="replace") as file:
-                for line in file:
-                    if "stopped by SIGSTOP" in line:
-                        return int(line.split()[0])
+        for line in trace.read_text("utf-8", "replace").split("\n") if trace.exists() else ():
+            if "stopped by SIGSTOP" in line:
+                return int(line.split()[0])
     raise NotRun("strace doesn't stop the import")
 
 
-def trial(program_path: str, place: str) -> tuple[str, str]:
+def trial(place: Place) -> tuple[str, str]:
     """What the server says after the restart, and what the medium has in the end."""
     with Medium(place) as medium:
-        program = Program(program_path, medium.store)
-        program.said("init")
-        if program.said("import", "--releases", RELEASES, "r1") != "OK 1 6 0":
+        place.done("init", "--store", medium.store)
+        if place.import_one(medium.store, RELEASES / "r1") != "OK 1 6 0":
             raise SystemExit("the first import isn't confirmed")
         os.sync()
         # The last sync of the import after it is that of this gate.
         older = older_gate(medium.store)
-        trace = os.path.join(place, "trace")
-        import_of_r2 = program.import_stopped_at_sync("r2", CONTENT_SYNC, "STOP", trace)
-        stopped = wait_for_stop(trace)
+        import_of_r2 = stopped_import(place, medium, "r2", "STOP")
+        stopped = wait_for_stop(place.path("trace"))
         medium.refuse(older)
         os.kill(stopped, signal.SIGCONT)
         reply = import_of_r2.communicate()[0].strip()
         if not reply.startswith("ERR 2 "):
-            raise NotRun("the medium took the block: %r" % reply)
+            raise NotRun(f"the medium took the block: {reply!r}")
         medium.accept()
-        opening.drop_pages(medium.store)
-        restarted = program.status()
-        program.import_stopped_at_sync("r3", CONTENT_SYNC, "KILL", trace).communicate()
+        opening.drop_pages(str(medium.store))
+        restarted = status(place, medium.store)
+        stopped_import(place, medium, "r3", "KILL").communicate()
         medium.mount_again()
-        return restarted, program.status()
+        return restarted, status(place, medium.store)
 
 
-def main(words: Sequence[str]) -> int:
-    if len(words) != 1:
-        print((__doc__ or "").strip(), file=sys.stderr)
-        return 2
+def main() -> int:
+    assert __doc__
+    parser = argparse.ArgumentParser(description=__doc__.split("\n", maxsplit=1)[0])
+    parser.add_argument("program", type=Path, help="the built sctd")
+    asked = parser.parse_args()
     try:
         missing = [tool for tool in TOOLS if shutil.which(tool) is None]
         if os.geteuid() != 0 or missing:
-            raise NotRun("it takes root" if not missing else "there is no " + missing[0])
-        program = os.path.abspath(words[0])
-        with tempfile.TemporaryDirectory() as place:
-            found = trial(program, place)
+            raise NotRun("it takes root" if not missing else f"there is no {missing[0]}")
+        with tempfile.TemporaryDirectory() as folder:
+            found = trial(Place(asked.program.resolve(), Path(folder)))
     except NotRun as why:
-        print("not run: %s" % why)
+        print(f"not run: {why}")
         return NOT_RUN
     print("after the restart %r, on the medium in the end %r" % found)
     confirmed = "OK 1 6 1 -"
     if found != (confirmed, confirmed):
-        print("%r was wanted both times" % confirmed)
+        print(f"{confirmed!r} was wanted both times")
         return 1
     return 0
 
 
 if __name__ == "__main__":
-    sys.exit(main(sys.argv[1:]))
+    sys.exit(main())

@@ -21,19 +21,16 @@ and has the status 1 where an answer is another one. Standard library alone.
 
 from __future__ import annotations
 
-import os
+import argparse
 import random
-import shutil
-import subprocess
 import sys
 import tempfile
 from collections import Counter
 from collections.abc import Iterator, Sequence
-from typing import NamedTuple
+from pathlib import Path
 
-BENCH = os.path.dirname(os.path.dirname(os.path.abspath(__file__)))
-sys.path.append(os.path.join(BENCH, "measurements"))
-import make_release  # noqa: E402
+from harness import BLOCK, LAST_WORDS, Place, Server, Wrong
+import make_release
 
 # How many components of a sort of files are asked for.
 ASKED_OF_A_SORT = 10
@@ -41,49 +38,14 @@ ASKED_OF_A_SORT = 10
 DIRECTORY_BITS, BITS_AT_ONCE = 20, 200
 # How long a run of the program may take.
 SECONDS = 600
-BLOCK = 4096
 GATES = (0, 2 * BLOCK)
 DIRECTORIES = (BLOCK, 3 * BLOCK)
-LAST_LINES = ("END ", "ERR ", "OK ")
 
 # A bit: the place of its byte, and its value there.
 Bit = tuple[int, int]
 # Where a bit stood, and what became of it; and how many there were of each.
 Fate = tuple[str, str]
 Fates = Counter[Fate]
-
-
-class Wrong(Exception):
-    """Something was answered that may not be."""
-
-
-class Program(NamedTuple):
-    """The program, the path of a store, and the folder of its releases."""
-
-    path: str
-    store: str
-    releases: str
-
-    def words(self, command: str, *more: str) -> list[str]:
-        return [self.path, command, "--store", self.store, *more]
-
-    def run(self, command: str, *more: str, given: str = "") -> tuple[str, int]:
-        """What it writes, and its status."""
-        done = subprocess.run(
-            self.words(command, *more), input=given.encode(), stdout=subprocess.PIPE,
-            stderr=subprocess.DEVNULL, timeout=SECONDS, check=False)
-        return done.stdout.decode(), done.returncode
-
-    def answers(self, asked: str) -> str:
-        """What a server writes for lines."""
-        return self.run("serve", "--releases", self.releases, given=asked)[0]
-
-    def answers_after(self, release: str, asked: str) -> str:
-        """The same once a release is imported."""
-        said, status = self.run("import", "--quiet", "--releases", self.releases, release)
-        if status:
-            raise Wrong("import %s: %r" % (release, said))
-        return self.answers(asked)
 
 
 def number(data: bytes, at: int, length: int) -> int:
@@ -93,10 +55,8 @@ def number(data: bytes, at: int, length: int) -> int:
 class Store:
     """The file of a store, and where what is read of it stands."""
 
-    def __init__(self, path: str) -> None:
-        self.path = path
-        with open(path, "rb") as file:
-            self.data = file.read()
+    def __init__(self, path: Path) -> None:
+        self.path, self.data = path, path.read_bytes()
         at = max(DIRECTORIES, key=lambda place: number(self.data, place, 8))
         self.directory = at
         self.older = min(DIRECTORIES, key=lambda place: number(self.data, place, 8))
@@ -130,9 +90,16 @@ class Store:
             file.write(bytes([byte]))
 
 
-def questions(lines: Sequence[str]) -> str:
-    """The lines of the protocol that ask these questions."""
-    return "".join("0 %s\n" % line for line in lines)
+def answers(place: Place, store: Path, lines: Sequence[str]) -> list[str]:
+    """What a server writes for lines, and first of its state: the reply to each."""
+    asked = "".join(f"0 {line}\n" for line in ("STATUS", *lines))
+    ran = place.run("serve", "--store", store, "--releases", place.releases, given=asked)
+    replies = [""]
+    for line in ran.output.splitlines(keepends=True):
+        replies[-1] += line
+        if line.split(" ")[0].rstrip("\n") in LAST_WORDS:
+            replies.append("")
+    return replies[:-1]
 
 
 def chosen(store: Store, chance: random.Random, bits: int) -> Iterator[Bit]:
@@ -145,74 +112,38 @@ def chosen(store: Store, chance: random.Random, bits: int) -> Iterator[Bit]:
             yield start + chance.randrange(length), 1 << chance.randrange(8)
 
 
-def flipped(program: Program, store: Store, bit: Bit, before: Sequence[str], asked: str) -> Fate:
+def flipped(place: Place, store: Store, bit: Bit, before: Sequence[Sequence[str]],
+            lines: Sequence[str]) -> Fate:
     """What became of a bit, where lines were answered like this before, and before that."""
     at, value = bit
-    place = store.place(at)
+    where = store.place(at)
     store.put(at, store.data[at] ^ value)
     try:
-        said, status = program.run("status")
-        if said.startswith("ERR 8 ") and status == 1:
-            if place == "unread":
-                raise Wrong("byte %d isn't read, and was refused" % at)
-            return place, "refused"
-        if place not in ("gate", "unread"):
-            raise Wrong("bit %d of byte %d, %s: %r" % (value, at, place, said))
-        answers = program.answers(asked)
-        if place != "unread" and answers == before[0]:
-            return place, "older"
-        if answers != before[1]:
-            raise Wrong("bit %d of byte %d, %s: other answers" % (value, at, place))
-        return place, "same"
+        ran = place.run("status", "--store", store.path)
+        if ran.output.startswith("ERR 8 ") and ran.status == 1:
+            if where == "unread":
+                raise Wrong(f"byte {at} isn't read, and was refused")
+            return where, "refused"
+        if where not in ("gate", "unread"):
+            raise Wrong(f"bit {value} of byte {at}, {where}: {ran.output!r}")
+        said = answers(place, store.path, lines)
+        if where != "unread" and said == before[0]:
+            return where, "older"
+        if said != before[1]:
+            raise Wrong(f"bit {value} of byte {at}, {where}: other answers")
+        return where, "same"
     finally:
         store.put(at, store.data[at])
 
 
-def replies_in(said: str) -> list[str]:
-    """The replies of these lines, each with its last line."""
-    replies = [""]
-    for line in said.splitlines(keepends=True):
-        replies[-1] += line
-        if line.startswith(LAST_LINES):
-            replies.append("")
-    return replies[:-1]
-
-
-class Server:
-    """The program, serving the store."""
-
-    def __init__(self, program: Program) -> None:
-        self.process = subprocess.Popen(
-            program.words("serve", "--releases", program.releases), stdin=subprocess.PIPE,
-            stdout=subprocess.PIPE, stderr=subprocess.DEVNULL)
-        assert self.process.stdin and self.process.stdout
-        self.input, self.output = self.process.stdin, self.process.stdout
-
-    def ask(self, line: str) -> list[str]:
-        """The lines of the reply to this line."""
-        self.input.write(line.encode())
-        self.input.flush()
-        said: list[str] = []
-        while not said or not said[-1].startswith(LAST_LINES):
-            said.append(self.output.readline().decode())
-            if not said[-1]:
-                raise Wrong("%r: no reply" % line)
-        return said
-
-    def end(self) -> None:
-        self.input.close()
-        self.output.close()
-        self.process.wait()
-
-
-def while_open(program: Program, store: Store, chance: random.Random, lines: Sequence[str],
+def while_open(place: Place, store: Store, chance: random.Random, lines: Sequence[str],
                wanted: Sequence[str]) -> int:
     """Rows are asked for while bits of a segment are turned over: how many were refused. A first
     reply is waited for, since the opening reads every record."""
-    server, refused = Server(program), 0
-    try:
-        server.ask("0 STATUS\n")
-        for line, reply in zip(questions(lines).splitlines(keepends=True), wanted):
+    refused = 0
+    with Server(place, store.path, place.releases) as server:
+        server.ask("STATUS")
+        for line, reply in zip(lines, wanted):
             start, end = chance.choice(store.segments)
             turned = [chance.randrange(start, end) for _ in range(BITS_AT_ONCE)]
             for at in turned:
@@ -222,44 +153,43 @@ def while_open(program: Program, store: Store, chance: random.Random, lines: Seq
                 store.put(at, store.data[at])
             if said[-1].startswith("ERR 8 "):
                 refused += 1
-            elif "".join(said) != reply:
-                raise Wrong("%r: %r in place of %r" % (line, said, reply))
-    finally:
-        server.end()
+            elif "".join(f"{one}\n" for one in said) != reply:
+                raise Wrong(f"{line!r}: {said!r} in place of {reply!r}")
     return refused
 
 
-def tried(program: Program, rows: int, bits: int, chance: random.Random) -> tuple[Fates, str]:
+def tried(place: Place, rows: int, bits: int, chance: random.Random) -> tuple[Fates, str]:
     """What became of the bits, and what was answered while the store was open."""
-    make_release.main(["--package", program.releases, str(rows)])
-    program.run("init", "--layout", "3")
-    lines = list(some_questions(os.path.join(program.releases, "full"), chance))
-    asked = "0 STATUS\n" + questions(lines)
-    shown = [program.answers_after(name, asked) for name in ("full", "delta")]
-    store = Store(program.store)
-    fates = Counter(
-        flipped(program, store, bit, shown, asked) for bit in chosen(store, chance, bits))
-    refused = while_open(program, store, chance, lines, replies_in(shown[1])[1:])
-    return fates, "while open: refused %d of %d" % (refused, len(lines))
+    make_release.main(["--package", str(place.releases), str(rows)])
+    path = place.make_store(layout=3)
+    lines = list(some_questions(place.releases / "full", chance))
+    shown = []
+    for name in ("full", "delta"):
+        place.import_one(path, place.releases / name)
+        shown.append(answers(place, path, lines))
+    store = Store(path)
+    fates = Counter(flipped(place, store, bit, shown, lines) for bit in chosen(store, chance, bits))
+    refused = while_open(place, store, chance, lines, shown[1][1:])
+    return fates, f"while open: refused {refused} of {len(lines)}"
 
 
-def main(words: Sequence[str]) -> int:
-    if not 1 <= len(words) <= 4:
-        print((__doc__ or "").strip(), file=sys.stderr)
-        return 2
-    given = [int(word) for word in words[1:]]
-    rows, bits, seed = given + [20000, 200, 1][len(given) :]
-    folder = tempfile.mkdtemp(prefix="sctd-flips-")
-    program = Program(os.path.abspath(words[0]), os.path.join(folder, "store"), folder)
-    try:
-        fates, said = tried(program, rows, bits, random.Random(seed))
-    except Wrong as wrong:
-        print("WRONG: %s" % wrong)
-        return 1
-    finally:
-        shutil.rmtree(folder)
-    for (place, what), count in sorted(fates.items()):
-        print("%s %s %d" % (place, what, count))
+def main() -> int:
+    assert __doc__
+    parser = argparse.ArgumentParser(description=__doc__.split("\n", maxsplit=1)[0])
+    parser.add_argument("program", type=Path, help="the built sctd")
+    for name, usual in (("rows", 20_000), ("bits", 200), ("seed", 1)):
+        parser.add_argument(name, type=int, nargs="?", default=usual)
+    asked = parser.parse_args()
+    with tempfile.TemporaryDirectory(prefix="sctd-flips-") as folder:
+        place = Place(asked.program.resolve(), Path(folder))
+        place.seconds = SECONDS
+        try:
+            fates, said = tried(place, asked.rows, asked.bits, random.Random(asked.seed))
+        except Wrong as wrong:
+            print(f"WRONG: {wrong}")
+            return 1
+    for (where, what), count in sorted(fates.items()):
+        print(f"{where} {what} {count}")
     print(said)
     if not fates["record", "refused"]:
         print("NOTHING TRIED: no bit of a record was turned over")
@@ -267,7 +197,7 @@ def main(words: Sequence[str]) -> int:
     return 0
 
 
-def some_questions(folder: str, chance: random.Random) -> Iterator[str]:
+def some_questions(folder: Path, chance: random.Random) -> Iterator[str]:
     """What is asked of some components of a release: their versions, and of concepts what is above
     them, what was ever said of them and what they were called, and of reference sets the members
     and the values, for which many rows are read."""
@@ -279,14 +209,11 @@ def some_questions(folder: str, chance: random.Random) -> Iterator[str]:
                 yield from questions_about(kind, row)
 
 
-def rows_in(folder: str, name: str) -> Iterator[list[str]]:
+def rows_in(folder: Path, name: str) -> Iterator[list[str]]:
     """The columns of the rows in a file of a release."""
-    where, file = os.path.split(name)
-    start = file.split("{}")[0]
-    for found in sorted(os.listdir(os.path.join(folder, where))):
-        if found.startswith(start):
-            with open(os.path.join(folder, where, found), encoding="utf-8") as rows:
-                yield from (row.rstrip("\n").split("\t") for row in list(rows)[1:])
+    for path in sorted(folder.glob(name.partition("{}")[0] + "*")):
+        for row in path.read_text("utf-8").split("\n")[1:-1]:
+            yield row.split("\t")
 
 
 def questions_about(kind: str, row: Sequence[str]) -> Iterator[str]:
@@ -303,4 +230,4 @@ def questions_about(kind: str, row: Sequence[str]) -> Iterator[str]:
 
 
 if __name__ == "__main__":
-    sys.exit(main(sys.argv[1:]))
+    sys.exit(main())
