@@ -367,7 +367,8 @@ def planted(text: str, call: Call, number: int) -> str:
     found = function_around(text, text.index(call.head))
     if found is None:
         raise ValueError(f"{call.head!r} has no body")
-    return at_its_begin(text, found[0], f"if {SWITCH}::is_on({number}) {{ return {call.refusal}; }}")
+    line = f"if {SWITCH}::is_on({number}) {{ return {call.refusal}; }}"
+    return at_its_begin(text, found[0], line)
 
 
 def crate_of(top: Path, name: str) -> Path:

@@ -1,14 +1,15 @@
 #!/usr/bin/env python3
-"""Puts faults into a copy of the gateway, one at a time, and says which of its tests fail.
+"""Puts faults into a copy of the gateway and the hub, one at a time, and says which tests fail.
 
 gateway_faults.py PROGRAM [NUMBER|TESTS ..]
 gateway_faults.py --table
 
-PROGRAM is the built `sctd`. Each fault of gateway_faults.txt, page_faults.txt and
-expression_faults.txt is a text of a file that is exchanged, and the tests that are run with it: TESTS, such as `test_hub`, stands for
-all faults that are tried with these. One that no test fails for is said to be NOT SEEN, and the
-status is 1 then. It takes some minutes. With --table it prints the rows that bench/README.md has
-of it, and tries nothing. Standard library alone; the gateway and its tests need their packages.
+PROGRAM is the built `sctd`. Each fault of gateway_faults.txt, page_faults.txt, expression_faults.txt
+and hub_faults.txt is a text of a file that is exchanged, and the tests that are run with it: TESTS,
+such as `test_hub`, stands for all faults that are tried with these. One that no test fails for is
+said to be NOT SEEN, and the status is 1 then. It takes some minutes. With --table it prints the
+rows that bench/README.md has of it, and tries nothing. Standard library alone; the gateway and its
+tests need their packages.
 """
 
 from __future__ import annotations
@@ -57,11 +58,8 @@ def faults_in(name: str) -> Iterator[Fault]:
         yield Fault(*map("\n".join, found.values()))
 
 
-FAULTS = [
-    fault
-    for name in ("gateway_faults.txt", "page_faults.txt", "expression_faults.txt")
-    for fault in faults_in(name)
-]
+TABLES = ("gateway_faults.txt", "page_faults.txt", "expression_faults.txt", "hub_faults.txt")
+FAULTS = [fault for name in TABLES for fault in faults_in(name)]
 
 
 def failed(root: str, python: str, program: str, tests: str) -> list[str]:
@@ -69,7 +67,11 @@ def failed(root: str, python: str, program: str, tests: str) -> list[str]:
     found: list[str] = []
     for test in tests.split():
         words, folder = [sys.executable, os.path.join("bench", "trials", PAGE), program], root
-        if test != PAGE:
+        name, _, trial = test.partition(":")
+        if trial:
+            words[1] = os.path.join("bench", "trials", "by_pytest.py")
+            words += [name.removeprefix("test_"), "--only", trial]
+        elif test != PAGE:
             hub = os.path.join(root, "service", "sctd-hub")
             words = words_of(python, program, hub, [test])
             folder = os.path.join(root, "service")
@@ -95,7 +97,7 @@ def failed(root: str, python: str, program: str, tests: str) -> list[str]:
 def tried(number: int, fault: Fault, python: str, program: str) -> bool:
     """Whether a test fails with the fault."""
     with tempfile.TemporaryDirectory() as root:
-        for name in ("service", "packaging", "bench", "docs"):
+        for name in ("service", "packaging", "bench", "docs", "examples"):
             shutil.copytree(
                 os.path.join(ROOT, name),
                 os.path.join(root, name),
@@ -121,14 +123,19 @@ def numbers_of(word: str) -> list[int]:
     """The faults that a word of the command stands for."""
     if word.isdigit():
         return [int(word)]
-    return [number for number, fault in enumerate(FAULTS) if word in fault.tests.split()]
+    return [number for number, fault in enumerate(FAULTS) if word in names_of(fault)]
+
+
+def names_of(fault: Fault) -> list[str]:
+    """The files of tests that a fault is tried with."""
+    return [test.partition(":")[0] for test in fault.tests.split()]
 
 
 def print_rows() -> None:
     """A row for each file of tests that faults are tried with."""
-    counts = Counter(test for fault in FAULTS for test in fault.tests.split())
+    counts = Counter(test for fault in FAULTS for test in names_of(fault))
     for test, count in sorted(counts.items()):
-        print(f"| `{test.removesuffix('.py')}` | {count} of the gateway and the page"
+        print(f"| `{test.removesuffix('.py')}` | {count} of the gateway, the page and the hub"
               f" | `gateway_faults.py PROGRAM {test}` |")
 
 

@@ -56,7 +56,7 @@ def words_of(asked: argparse.Namespace) -> list[str]:
     here = Path(__file__).resolve().parent
     files = [str(here / f"test_{name}.py") for name in asked.names] or [str(here)]
     paths = [f"--program={asked.program.resolve()}", f"--tree={asked.tree.resolve()}"]
-    return ["-q", "-rs", "--tb=short", "-p", "no:cacheprovider", "-k", asked.only, *paths, *files]
+    return ["-q", "-rfEs", "--tb=short", "-p", "no:cacheprovider", "-k", asked.only, *paths, *files]
 
 
 def main() -> int:

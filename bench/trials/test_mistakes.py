@@ -1,11 +1,11 @@
 """Makes the mistakes that people make with the built program, and looks at what it does. It is
 given wrong paths, folders that are no release, whole packages, files that never end, names with
 control characters, a full disk, too few files that may be open, a store that is in use and one
-whose file is replaced. Each time its reply, its status and the line on standard error have to be as wanted
-within ten seconds, and the store has to be left as it was. Then four imports run on one store at
-once, and again beside a server: each release that was answered OK has to be there after the next
-opening, and no other. The lines in the help of `serve` have to be requests, and the demonstration
-what a case of bench/cases/ says."""
+whose file is replaced. Each time its reply, its status and the line on standard error have to be as
+wanted within ten seconds, and the store has to be left as it was. Then four imports run on one
+store at once, and again beside a server: each release that was answered OK has to be there after
+the next opening, and no other. The lines in the help of `serve` have to be requests, and the
+demonstration what a case of bench/cases/ says."""
 
 from __future__ import annotations
 

@@ -25,8 +25,8 @@ MOVED_FROM = "900000000000525002"
 CLIENT, READER = "examples/client.py", "examples/read_records.py"
 # The most memory that a long run may take beside that of a short one.
 MOST_MEMORY = 8 << 20
-# Runs a command, and prints how much memory it took at most. (Of what this process itself starts the
-# system counts what this one has, too.)
+# Runs a command, and prints how much memory it took at most. (Of what this process itself starts
+# the system counts what this one has, too.)
 MEASURING = """
 import resource, subprocess, sys
 subprocess.run(sys.argv[1:], stdout=subprocess.DEVNULL, check=True)
