@@ -20,6 +20,7 @@ for a reached one, and never the other way round. Nothing is built. Standard lib
 
 from __future__ import annotations
 
+import argparse
 import os
 import re
 import sys
@@ -205,27 +206,27 @@ def print_counts(project: Reached) -> None:
     print("%-18s %6d %8d %6d" % ("all", total[0], total[1], total[2]))
 
 
-def main(words: Sequence[str]) -> int:
-    is_listing, is_counting = "--list" in words, "--count" in words
-    asked = [word for word in words if not word.startswith("--")]
-    unknown = set(words) - {"--list", "--count", "--why"} - set(asked)
-    if unknown or bool(asked) != ("--why" in words):
-        print((__doc__ or "").strip(), file=sys.stderr)
-        return 2
+def main() -> int:
+    assert __doc__
+    parser = argparse.ArgumentParser(description=__doc__.split("\n", maxsplit=1)[0])
+    parser.add_argument("--list", action="store_true", help="those that belong apart, too")
+    parser.add_argument("--count", action="store_true", help="print a table of the counts")
+    parser.add_argument("--why", nargs="+", default=[], metavar="CRATE.WORD")
+    asked = parser.parse_args()
     project, wrong = Reached(), 0
     for key, word in project.words.items():
-        if "%s.%s" % (word.crate, word.name) in asked:
+        if f"{word.crate}.{word.name}" in asked.why:
             print(project.path_to(key) if key in project.why else project.said(key) + ": private")
-        if project.is_wrong(word, is_listing):
+        if project.is_wrong(word, asked.list):
             wrong += 1
             path = os.path.relpath(project.crates[word.crate].specs[word.module].path, TOP)
             what = project.path_to(key) if key in project.why else "no public contract reaches it"
-            print("%s:%d: %s: %s" % (path, word.line, word.name, what), file=sys.stderr)
-    if is_counting:
+            print(f"{path}:{word.line}: {word.name}: {what}", file=sys.stderr)
+    if asked.count:
         print_counts(project)
-    print("%d words, %d not so" % (len(project.words), wrong), file=sys.stderr)
+    print(f"{len(project.words)} words, {wrong} not so", file=sys.stderr)
     return 1 if wrong or not project.words else 0
 
 
 if __name__ == "__main__":
-    sys.exit(main(sys.argv[1:]))
+    sys.exit(main())

@@ -17,6 +17,7 @@ are those that `sctd` uses, by crates.txt; the others count for specs and proofs
 built. Standard library alone.
 """
 
+import argparse
 import os
 import re
 import sys
@@ -183,17 +184,18 @@ def shown(counted: Any) -> str:
     return ", ".join("{:,}".format(number) for number in numbers)
 
 
-def main(names: list[str]) -> int:
-    if any(name.startswith("-") for name in names):
-        print((__doc__ or "").strip(), file=sys.stderr)
-        return 2
+def main() -> int:
+    assert __doc__
+    parser = argparse.ArgumentParser(description=__doc__.split("\n", maxsplit=1)[0])
+    parser.add_argument("names", nargs="*", metavar="CRATE::PATH")
+    names = parser.parse_args().names
     try:
         for name in names:
             print("%s: %d words, %d lines" % ((name,) + reach_of(Reach((name,)))))
         if names[1:]:
             print("together: %d words, %d lines" % reach_of(Reach(tuple(names))))
         for title, counted in () if names else rows():
-            print("| %s | %s |" % (title, shown(counted)))
+            print(f"| {title} | {shown(counted)} |")
     except LookupError as error:
         print(error, file=sys.stderr)
         return 1
@@ -201,4 +203,4 @@ def main(names: list[str]) -> int:
 
 
 if __name__ == "__main__":
-    sys.exit(main(sys.argv[1:]))
+    sys.exit(main())

@@ -28,6 +28,7 @@ alone.
 
 from __future__ import annotations
 
+import argparse
 import enum
 import functools
 import hashlib
@@ -420,19 +421,21 @@ def print_grounds(name: str) -> None:
                 print(f"  {line}", end="")
 
 
-def main(words: list[str]) -> int:
-    if words[:1] == ["--between"] and len(words) == 3:
-        print_between(*words[1:])
+def main() -> int:
+    assert __doc__
+    parser = argparse.ArgumentParser(description=__doc__.split("\n", maxsplit=1)[0])
+    parser.add_argument("names", nargs="*", metavar="CRATE[/EDIT]")
+    parser.add_argument("--between", nargs=2, metavar=("OLD", "NEW"), help="two commits")
+    asked = parser.parse_args()
+    if asked.between:
+        print_between(*asked.between)
         return 0
-    if any(word.startswith("-") for word in words):
-        print((__doc__ or "").strip(), file=sys.stderr)
-        return 2
-    for name in words:
+    for name in asked.names:
         print_grounds(name)
-    for name, found in {} if words else sums().items():
+    for name, found in {} if asked.names else sums().items():
         print(name, *found)
     return 0
 
 
 if __name__ == "__main__":
-    sys.exit(main(sys.argv[1:]))
+    sys.exit(main())

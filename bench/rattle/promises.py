@@ -20,6 +20,7 @@ library alone.
 
 from __future__ import annotations
 
+import argparse
 import functools
 import os
 import re
@@ -281,20 +282,22 @@ def print_promise(name: str) -> None:
             print("".join(f"{shown}\n" for shown in promise.shown), end="")
 
 
-def main(words: list[str]) -> int:
-    if any(word.startswith("-") for word in words) and words != ["--renew"]:
-        print((__doc__ or "").strip(), file=sys.stderr)
-        return 2
-    if words == ["--renew"]:
+def main() -> int:
+    assert __doc__
+    parser = argparse.ArgumentParser(description=__doc__.split("\n", maxsplit=1)[0])
+    parser.add_argument("promises", nargs="*", metavar="PROMISE")
+    parser.add_argument("--renew", action="store_true", help="write the list into PROMISES")
+    asked = parser.parse_args()
+    if asked.renew:
         text = document().removesuffix(written_list()) + made_list()
         with open(os.path.join(TOP, DOCUMENT), "w", encoding="utf-8", newline="") as file:
             file.write(text)
-    elif not words:
+    elif not asked.promises:
         print(made_list(), end="")
-    for name in words if words != ["--renew"] else ():
+    for name in asked.promises:
         print_promise(name)
     return 0
 
 
 if __name__ == "__main__":
-    sys.exit(main(sys.argv[1:]))
+    sys.exit(main())
