@@ -53,7 +53,7 @@ MOST_AT_ONCE = 2
 # How long a test, a program of a crate and a script of bench/ may take.
 TEST_SECONDS = 120
 PROGRAM_SECONDS = 120
-SCRIPT_SECONDS = 300
+SCRIPT_SECONDS = 1_200
 # How much of what a part says is printed where it fails.
 LINES_TOLD = 40
 

@@ -12,10 +12,10 @@ from collections.abc import Iterator
 from pathlib import Path
 
 import pytest
-from harness import RELEASES, TOP, Place
+from harness import RELEASES, TOP, Place, Wrong
 
-# How long all trials of a script may take.
-ALL_SECONDS = 280
+# How long a trial may take: no longer than ten seconds on a machine that has nothing else to do.
+TRIAL_SECONDS = 280
 # How much room a small file system has.
 SMALL = "64k"
 NUMBERS = itertools.count(1)
@@ -28,17 +28,19 @@ def pytest_addoption(parser: pytest.Parser) -> None:
 
 def pytest_configure() -> None:
     """What trials have started is ended on the way out, so that is taken at a signal too."""
-    for number in (signal.SIGTERM, signal.SIGALRM):
-        signal.signal(number, leave)
-    signal.alarm(ALL_SECONDS)
+    signal.signal(signal.SIGTERM, lambda *_: pytest.exit("the trials were stopped", returncode=1))
+    signal.signal(signal.SIGALRM, late)
     # (Some have more than a thousand clients.)
     most = resource.getrlimit(resource.RLIMIT_NOFILE)[1]
     resource.setrlimit(resource.RLIMIT_NOFILE, (most, most))
 
 
-def leave(number: int, _: object) -> None:
-    why = "were stopped" if number == signal.SIGTERM else f"haven't ended after {ALL_SECONDS} s"
-    pytest.exit(f"the trials {why}", returncode=1)
+def late(*_: object) -> None:
+    raise Wrong(f"the trial hasn't ended after {TRIAL_SECONDS} seconds")
+
+
+def pytest_runtest_setup() -> None:
+    signal.alarm(TRIAL_SECONDS)
 
 
 @pytest.fixture(scope="session")
