@@ -19,7 +19,8 @@ many seconds it took; below it stands what failed. The parts are:
 
 The last line is `N passed, M failed`, and `, K skipped` where there are any: of tests, scripts and
 programs. The status is 0 where nothing failed. WORD takes the parts with this text in their name.
-It needs the kit's `rt` on the path, and ten minutes of two processors. Standard library alone.
+It needs the kit's `rt` on the path, and ten minutes of two processors. Standard library alone; some
+trials need pytest, and are skipped without it.
 """
 
 from __future__ import annotations

@@ -7,7 +7,7 @@ Each script of the list below is run with PROGRAM, the built `sctd`. One that co
 ends with a line `N passed, M failed`, and every other one counts as one. One that can't be run on
 this machine says why and ends with status 3: it is skipped, and not counted as passed. PASSED and
 FAILED are what `rt ci` counted; the last line is `N passed, M failed` of both together, and the
-status is 1 where something failed. Standard library alone.
+status is 1 where something failed. Standard library alone; by_pytest.py needs pytest.
 """
 
 from __future__ import annotations
