@@ -452,8 +452,7 @@ def test_types(place: Place) -> None:
     files = sorted(path.name for path in examples.glob("*.py"))
     done = subprocess.run(["mypy", "--strict", "--cache-dir=/dev/null", *files], cwd=examples,
                           env=os.environ | {"MYPYPATH": str(place.script("service"))},
-                          stdout=subprocess.PIPE, stderr=subprocess.STDOUT, timeout=HUB_SECONDS * 2,
-                          check=False)
+                          stdout=subprocess.PIPE, stderr=subprocess.STDOUT, check=False)
     assert (done.returncode, done.stdout.decode()) == (
         0, f"Success: no issues found in {len(files)} source files\n")
 
