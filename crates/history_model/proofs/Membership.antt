@@ -105,17 +105,17 @@ members_cons refset date after rows b ys up here = above_cons (λ row. is_member
 pub members_and_the_rest : MembersAndTheRest
 unfolding members
 members_and_the_rest refset date after limit rows up =
-    goes_on (λ id. members_above refset date id rows) (λ id b ys e. members_cons refset date id rows b ys up e) limit after
+    goes_on (λ (row : RowValue). row.id) (λ id. members_above refset date id rows) (λ id b ys e. members_cons refset date id rows b ys up e) limit after
 
 pub pages_of_members_are_all : PagesOfMembersAreAll
 unfolding members
 pages_of_members_are_all refset date after limit rows pages up some are =
-    are_all (λ id. members_above refset date id rows) (λ id b ys e. members_cons refset date id rows b ys up e) limit some (ArePagesOfMembers refset date limit rows) (λ id. (λ e. e, λ e. e)) (λ id first others. (λ e. e, λ e. e)) after pages are
+    are_all (λ (row : RowValue). row.id) (λ id. members_above refset date id rows) (λ id b ys e. members_cons refset date id rows b ys up e) limit some (ArePagesOfMembers refset date limit rows) (λ id. (λ e. e, λ e. e)) (λ id first others. (λ e. e, λ e. e)) after pages are
 
 pub pages_of_members_end : PagesOfMembersEnd
 unfolding members
 pages_of_members_end refset date after limit rows up some =
-    ends (λ id. members_above refset date id rows) (λ id b ys e. members_cons refset date id rows b ys up e) limit some (ArePagesOfMembers refset date limit rows) (λ id. (λ e. e, λ e. e)) (λ id first others. (λ e. e, λ e. e)) (length (members_above refset date after rows)) after (omega arith)
+    ends (λ (row : RowValue). row.id) (λ id. members_above refset date id rows) (λ id b ys e. members_cons refset date id rows b ys up e) limit some (ArePagesOfMembers refset date limit rows) (λ id. (λ e. e, λ e. e)) (λ id first others. (λ e. e, λ e. e)) (length (members_above refset date after rows)) after (omega arith)
 
 -- ---- the active members
 

@@ -1,0 +1,5 @@
+use Rattle.history_model.proofs.Relationships as relationships
+use Rattle.history_model.proofs.laws.sources_ascend.Goals as goal
+
+pub returns : goal.returns
+returns c = relationships.sources_ascend
