@@ -28,7 +28,7 @@ LINE_LIMIT = 4096
 # What may stand behind AT.
 QUESTIONS = frozenset(
     "GET HISTORY CHILDREN ANCESTORS DESCENDANTS TERMS SEARCH REPLACED REPLACES ABOUT TIMELINE PAGE "
-    "DELTA DATES DIGEST RECEIPT MEMBERS VALUES CALLED".split()
+    "DELTA DATES DIGEST RECEIPT MEMBERS VALUES CALLED SOURCES ROWS ADDED".split()
 )
 NO_ARGUMENTS, NO_SUCH_IMPORT = ["ERR 43 Arguments"], ["ERR 44 PinRange"]
 # What needs members is refused with below layout 3: these, and questions with the letter M.
@@ -190,7 +190,8 @@ class Model:
     def asked(self, command: str, said: Reply, words: str) -> Reply:
         """What a command is answered: below layout 3 nothing that needs members, unless its
         arguments are none."""
-        needs = command in OF_MEMBERS or command in QUESTIONS and words.startswith("M ")
+        kind = words.split(" ")[command == "ADDED" :][:1]
+        needs = command in OF_MEMBERS or command in QUESTIONS and kind == ["M"]
         return LATER_LAYOUT if needs and not self.keeps_all and said != NO_ARGUMENTS else said
 
     def call_of(self, command: str) -> Optional[Callable[[Optional[int], str], Reply]]:
@@ -317,6 +318,26 @@ class Model:
                     digest.update(("%s %s\n" % (kind, "\t".join(columns))).encode())
         return ["OK " + digest.hexdigest()]
 
+    def rows_after(self, words: str, is_wanted: Callable[[int], bool]) -> Reply:
+        """The first rows of a kind after a key, of those imports whose numbers are wanted."""
+        kind, name, date, limit = words.split(" ")
+        if (name == "-") != (date == "-"):
+            return NO_ARGUMENTS
+        after = (-1, "") if name == "-" else (name_of(kind, name), date)
+        table = self.kinds[kind].of
+        keys = sorted((own, day) for own in table for day in table[own] if (own, day) > after)
+        found = [table[own][day] for own, day in keys]
+        return rows_and_end([c for number, c in found if is_wanted(number)][: int(limit)])
+
+    def do_rows(self, session: Optional[int], words: str) -> Reply:
+        return self.rows_after(words, lambda number: number <= self.pin(session))
+
+    def do_added(self, session: Optional[int], words: str) -> Reply:
+        number, _, rest = words.partition(" ")
+        said = self.rows_after(rest, lambda other: other == int(number))
+        is_seen = 1 <= int(number) <= self.pin(session)
+        return said if is_seen or said == NO_ARGUMENTS else NO_SUCH_IMPORT
+
     def do_receipt(self, session: Optional[int], words: str) -> Reply:
         number = int(words)
         if number == 0:
@@ -335,6 +356,13 @@ class Model:
         concept, date = words.split(" ")
         links = self.links(session, date)
         return ids_and_end({child for child, parent in links if parent == int(concept)})
+
+    def do_sources(self, session: Optional[int], words: str) -> Reply:
+        type_id, destination, date, after, limit = words.split(" ")
+        found = {int(c[SOURCE]) for c in self.active(session, "R", date)
+                 if c[DESTINATION] == destination and type_id in ("-", c[TYPE])}
+        least = 0 if after == "-" else int(after)
+        return ids_and_end(sorted(name for name in found if name > least)[: int(limit)])
 
     def do_ancestors(self, session: Optional[int], words: str) -> Reply:
         concept, date = words.split(" ")

@@ -4,11 +4,13 @@ ghost use Rattle.std.specs.Prelude.{◌≤◌, ℕ, List, Option};
 ghost use Rattle.std.specs.Prelude.{◌↔◌, IsTrue};
 ghost use Rattle.line_commands.specs.Commands.{At};
 ghost use Rattle.line_commands.specs.Requests.{command_of};
-ghost use Rattle.questions.specs.Questions.{question_of};
-ghost use Rattle.line_server.specs.Replies.{NeedsLater, NeedsMembers};
+ghost use Rattle.questions.specs.Questions.{question_of, row_question_of};
+ghost use Rattle.line_server.specs.Replies.{NeedsLater, NeedsMembers, AsksMembers};
 ghost use Rattle.line_server.specs.Private.{IsCarriedOut, IsQueried, QuestionCanBeAsked};
 
-use crate::queries::{answer_dates, answer_digest, answer_ids, answer_receipt, answer_rows};
+use crate::queries::{
+    answer_added, answer_dates, answer_digest, answer_ids, answer_receipt, answer_rows,
+};
 use crate::refusal::LineRefusal;
 use crate::reply::Reply;
 use crate::source::scope_for;
@@ -21,22 +23,31 @@ use rf2_rows::Kind;
 use std::alloc::Global;
 
 /// Whether the question asks for members of reference sets, or is answered by what they say.
-fn needs_members(question: &Question<'_>) -> bool
-    ensures { IsTrue result ↔ NeedsMembers (question_of question.now) }
+fn asks_members(question: &RowQuestion<'_>) -> bool
+    ensures { IsTrue result ↔ AsksMembers (row_question_of question.now) }
 {
-    let Question::ForRows(question) = *question else {
-        return false;
-    };
-    match question {
+    match *question {
         RowQuestion::Get { kind, .. }
         | RowQuestion::History { kind, .. }
         | RowQuestion::About { kind, .. }
         | RowQuestion::Timeline { kind, .. }
         | RowQuestion::Page { kind, .. }
-        | RowQuestion::Delta { kind, .. } => kind == Kind::Member,
+        | RowQuestion::Delta { kind, .. }
+        | RowQuestion::AllRows { kind, .. } => kind == Kind::Member,
         RowQuestion::Members { .. } | RowQuestion::Values { .. } | RowQuestion::Called { .. } => {
             true
         }
+        _ => false,
+    }
+}
+
+/// The same of any question.
+fn needs_members(question: &Question<'_>) -> bool
+    ensures { IsTrue result ↔ NeedsMembers (question_of question.now) }
+{
+    match *question {
+        Question::ForRows(question) => asks_members(&question),
+        Question::Added { kind, .. } => kind == Kind::Member,
         _ => false,
     }
 }
@@ -74,6 +85,12 @@ pub(crate) fn ask<D: Disk>(
         Question::Dates => answer_dates(alloc, pin, store),
         Question::Digest => answer_digest(alloc, pin, store),
         Question::Receipt { number } => answer_receipt(alloc, number, pin, store),
+        Question::Added {
+            number,
+            kind,
+            after,
+            limit,
+        } => answer_added(alloc, number, kind, after, limit, pin, store),
     }
 }
 

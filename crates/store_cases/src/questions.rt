@@ -77,6 +77,7 @@ fn rows_asked(question: Question, prefix: &str) -> Option<RowQuestion<'_>> {
             after,
             limit,
         }),
+        Question::AllRows(kind, after, limit) => Some(RowQuestion::AllRows { kind, after, limit }),
         _ => None,
     }
 }
@@ -96,6 +97,13 @@ fn find(
         Question::Children(concept, date) => IdQuestion::Children { concept, date },
         Question::Descendants(concept, date) => IdQuestion::Descendants { concept, date },
         Question::Ancestors(concept, date) => IdQuestion::Ancestors { concept, date },
+        Question::Sources(type_id, destination, date, after, limit) => IdQuestion::Sources {
+            type_id,
+            destination,
+            date,
+            after,
+            limit,
+        },
         _ => return store.dates(pin),
     };
     let ids = store.ids(&concepts, pin)?;
