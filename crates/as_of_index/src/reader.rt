@@ -1,11 +1,11 @@
 //! Reads rows at their places.
 
-ghost use Rattle.std.specs.Prelude.{◌≡◌, ◌≢◌, ◌+◌, ◌≤◌, ℕ, IfOk, IfErr};
+ghost use Rattle.std.specs.Prelude.{◌≢◌, ◌+◌, ◌≤◌, ℕ, IfOk, IfErr};
 ghost use Rattle.rf2_values.specs.Row.{RowValue};
-ghost use Rattle.rf2_values.specs.Key.{key_of};
 ghost use Rattle.history_model.specs.declared.stamped.StampedRow.{StampedRow};
+ghost use Rattle.segment.specs.declared.place.RowPlace.{RowPlace};
 ghost use Rattle.segment.specs.Standing.{StandsAt};
-ghost use Rattle.as_of_index.specs.Reader.{ReaderView, LeavesReader};
+ghost use Rattle.as_of_index.specs.Reader.{ReaderView, IsReturned, LeavesReader};
 ghost use Rattle.fault_counts.specs.declared.fault.ReadFault.TheVariants as readfault;
 
 use fault_counts::ReadFault;
@@ -26,11 +26,8 @@ pub trait RowReader {
 
     /// Reads the row at a place of a list.
     fn row(&mut self, alloc: Global, segment: usize, at: RowPlace) -> Result<StampedRow, ReadFault>
-        ensures found { (view self.old).is_honest → (s : StampedRow)
-            → StandsAt (view self.old).lists segment at s → IfOk result (λ row. row ≡ s) }
-        // Whatever it returns, a row has the key of its place.
         // promise: keys_are_right_on_every_disk
-        ensures keyed { IfOk result (λ row. key_of row.row ≡ at.key) }
+        ensures shown { IfOk result (λ row. (view self.old).may_be segment at row) }
         // If there is a row at the place, an honest reader fails only because of the disk or
         // memory.
         ensures undamaged { (view self.old).is_honest → (s : StampedRow)
@@ -44,6 +41,10 @@ pub trait RowReader {
             → (view self.new).work ≤ (view self.old).work + cost s.row }
         ensures reader { LeavesReader result (view self.old) (view self.new) }
         ensures stays { stays self.old self.new };
+
+    /// A row that it may return has the place's key, and of an honest reader it is the one there.
+    ghost returned: { (r : Self) (segment : ℕ) (at : RowPlace) (row : StampedRow)
+        → (view r).may_be segment at row → IsReturned (view r) segment at row };
 
     ghost stays_still: { (r : Self) → stays r r };
 

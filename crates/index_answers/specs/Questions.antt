@@ -1,13 +1,11 @@
 -- What questions find. `rows` are the rows that a pin shows.
-use Rattle.std.specs.Prelude.{◌≡◌, ℕ, List, option_to_list}
-use Rattle.rf2_values.specs.declared.key.Key.{Key}
+use Rattle.std.specs.Prelude.{◌≡◌, ℕ, Bool, true, false, List, option_to_list}
 use Rattle.rf2_values.specs.Row.{RowValue}
 use Rattle.history_model.specs.Queries.{get, versions, page, delta, terms, search_terms, about}
 use Rattle.history_model.specs.Queries.{timeline, replacements, replaces, members, values, called}
 use Rattle.history_model.specs.Queries.{children}
 use Rattle.history_model.specs.Hierarchy.{AreAncestors, AreDescendants}
 use Rattle.history_model.specs.KeyOrder.{rows_after}
-use Rattle.as_of_index.specs.Reader.{AreSame, AreSameInAnyOrder}
 use Rattle.index_answers.specs.declared.question.RowQuestion.{RowQuestion}
 use Rattle.index_answers.specs.declared.question.RowQuestion.TheVariants as asked
 use Rattle.index_answers.specs.declared.question.IdQuestion.{IdQuestion}
@@ -31,13 +29,11 @@ rows_for (asked.Values refset date after limit) rows = values refset date after 
 rows_for (asked.Called concept date refset) rows = called concept date refset rows
 rows_for (asked.After after limit) rows = rows_after after limit rows
 
--- how the keys of the rows of an answer are those of the rows that are asked for, whatever was read:
--- the same in the same order; or in any order for associations, which are put in order once they
--- are read
-abbrev pub SameKeysFor : RowQuestion → List Key → List Key → Type 0
-SameKeysFor (asked.Replaced id date) = AreSameInAnyOrder
-SameKeysFor (asked.Replaces id date) = AreSameInAnyOrder
-SameKeysFor question = AreSame
+-- whether the rows of an answer are put in order once they are read
+abbrev pub is_put_in_order : RowQuestion → Bool
+is_put_in_order (asked.Replaced id date) = true
+is_put_in_order (asked.Replaces id date) = true
+is_put_in_order question = false
 
 -- the identifiers that a question asks for
 abbrev pub AreIdsFor : IdQuestion → List RowValue → List ℕ → Type 0

@@ -7,7 +7,7 @@ ghost use Rattle.history_model.specs.Queries.{get};
 ghost use Rattle.as_of_index.specs.Current.{rows_seen};
 ghost use Rattle.as_of_index.specs.Places.{Lists};
 ghost use Rattle.as_of_index.specs.Reader.{IsRowsRead, IsRowsReadBy};
-ghost use Rattle.index_answers.specs.Questions.{rows_for, SameKeysFor};
+ghost use Rattle.index_answers.specs.Questions.{rows_for, is_put_in_order};
 
 use crate::question::RowQuestion;
 use as_of_index::{AsOf, Index, ReadFault, RowReader};
@@ -54,7 +54,7 @@ pub fn select<R: RowReader>(
     question: &RowQuestion<'_>,
     pin: u32,
 ) -> Result<Vec<Row>, ReadFault>
-    ensures answer { IsRowsReadBy (SameKeysFor question.now) result (λ rows. rows.items)
+    ensures answer { IsRowsReadBy (is_put_in_order question.now) result (λ rows. rows.items)
         (λ lists. rows_for question.now (rows_at pin (listed lists))) (λ lists. lists ≡ index.now)
         R.cost (R.view reader.old) (R.view reader.new) }
     ensures stays { R.stays reader.old reader.new }
