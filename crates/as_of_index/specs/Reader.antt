@@ -18,7 +18,7 @@ pub record ReaderView : Type 1 where
   pub lists : List (List StampedRow)
   -- the rows that it returns are those of its lists
   pub is_honest : Type 0
-  -- the row may be what it returns for a place of the list with this number, honest or not
+  -- the row may be at the place of the list with this number, by what it reads, honest or not
   pub may_be : ℕ → RowPlace → StampedRow → Type 0
   -- how much has been read, in a measure that the reader chooses: bytes, or rows
   pub work : ℕ
@@ -27,16 +27,17 @@ pub record ReaderView : Type 1 where
   -- how often a call failed with `Damaged`
   pub damages : ℕ
 
--- what a reader that returns this row for a place says of it: it has the place's key, and if the
--- reader is honest it is the row that is there
+-- the row was returned for a place: it has the place's key, and is one that may be there; if the
+-- reader is honest it is the row that stands there
 pub record IsReturned (view : ReaderView) (segment : ℕ) (at : RowPlace) (row : StampedRow)
     : Type 0 where
   pub keyed : key_of row.row ≡ at.key
+  pub may_be : view.may_be segment at row
   pub exact : view.is_honest → (there : StampedRow) → StandsAt view.lists segment at there
       → row ≡ there
 
 -- the effect of a call on a reader, whatever the result: its lists are unchanged, an honest reader
--- stays honest, no further row may be returned, and each count of errors rises if its error is
+-- stays honest, no further row may be at a place, and each count of errors rises if its error is
 -- returned, and otherwise is unchanged
 pub record LeavesReader {T : Type 0} (result : Result T ReadFault) (old new : ReaderView)
     : Type 0 where
@@ -47,16 +48,16 @@ pub record LeavesReader {T : Type 0} (result : Result T ReadFault) (old new : Re
   pub disk_faults : Counts CountsDiskFault result old.disk_faults new.disk_faults
   pub damages : Counts CountsDamage result old.damages new.damages
 
--- the row may be what the reader returns for the place of the wanted one
+-- the row was returned for the place of the wanted one
 pub record IsReadFor (view : ReaderView) (row wanted : RowValue) : Type 0 where
   pub segment : ℕ
   pub at : RowPlace
   pub there : StampedRow
   pub wanted_is : wanted ≡ there.row
   pub stands : StandsAt view.lists segment at there
-  pub returned : StampedRow
-  pub row_is : row ≡ returned.row
-  pub may_be : view.may_be segment at returned
+  pub read : StampedRow
+  pub row_is : row ≡ read.row
+  pub returned : IsReturned view segment at read
 
 -- Rows were put in order once they were read: if those that were read are the wanted ones, those that
 -- are given are them in their order.
@@ -76,9 +77,9 @@ abbrev pub AreFor : (put_in_order : Bool) → (RowValue → RowValue → Type 0)
 AreFor false IsFor given wanted = AllZip IsFor given wanted
 AreFor true IsFor given wanted = ArePutInOrder IsFor given wanted
 
--- The result of a query for the wanted rows; `rows_of` gives the rows in it. Each of these is one
--- that the reader may return for the place of a wanted one, as `AreFor` says, and the disk fails or
--- a row is damaged only if one is wanted, with an honest reader not even then. Whatever the result,
+-- The result of a query for the wanted rows; `rows_of` gives the rows in it. Each of these was
+-- returned for the place of a wanted one, as `AreFor` says. The disk fails or a row is damaged only
+-- if one is wanted, and with an honest reader none is damaged. Whatever the result,
 -- no more is read than the wanted rows take, each counted once.
 pub record AnswersRowsBy {T : Type 0} (put_in_order : Bool) (result : Result T ReadFault)
     (rows_of : T → List RowValue) (wanted : List RowValue) (cost : RowValue → ℕ)

@@ -3,7 +3,6 @@
 ghost use Rattle.std.specs.Prelude.{◌≢◌, ◌+◌, ◌≤◌, ℕ, IfOk, IfErr};
 ghost use Rattle.rf2_values.specs.Row.{RowValue};
 ghost use Rattle.history_model.specs.declared.stamped.StampedRow.{StampedRow};
-ghost use Rattle.segment.specs.declared.place.RowPlace.{RowPlace};
 ghost use Rattle.segment.specs.Standing.{StandsAt};
 ghost use Rattle.as_of_index.specs.Reader.{ReaderView, IsReturned, LeavesReader};
 ghost use Rattle.fault_counts.specs.declared.fault.ReadFault.TheVariants as readfault;
@@ -27,7 +26,7 @@ pub trait RowReader {
     /// Reads the row at a place of a list.
     fn row(&mut self, alloc: Global, segment: usize, at: RowPlace) -> Result<StampedRow, ReadFault>
         // promise: keys_are_right_on_every_disk
-        ensures shown { IfOk result (λ row. (view self.old).may_be segment at row) }
+        ensures returned { IfOk result (IsReturned (view self.old) segment at) }
         // If there is a row at the place, an honest reader fails only because of the disk or
         // memory.
         ensures undamaged { (view self.old).is_honest → (s : StampedRow)
@@ -41,10 +40,6 @@ pub trait RowReader {
             → (view self.new).work ≤ (view self.old).work + cost s.row }
         ensures reader { LeavesReader result (view self.old) (view self.new) }
         ensures stays { stays self.old self.new };
-
-    /// A row that it may return has the place's key, and of an honest reader it is the one there.
-    ghost returned: { (r : Self) (segment : ℕ) (at : RowPlace) (row : StampedRow)
-        → (view r).may_be segment at row → IsReturned (view r) segment at row };
 
     ghost stays_still: { (r : Self) → stays r r };
 

@@ -8,7 +8,7 @@ use Rattle.history_model.specs.declared.stamped.StampedRow.{StampedRow}
 use Rattle.history_model.specs.Lists.{listed}
 use Rattle.disk_model.specs.Disk.{Moments}
 use Rattle.lru.specs.LruCache.{LruCache}
-use Rattle.blocks.specs.Cache.{LooksUpSome}
+use Rattle.blocks.specs.Cache.{ShowsFile, LooksUpSome}
 use Rattle.blocks.proofs.Looked.{some_more}
 use Rattle.directory.specs.declared.entry.Entry.{Entry}
 use Rattle.directory.specs.Listings.{IsEntry, form_in}
@@ -64,6 +64,13 @@ pub record IsRecordOf (entries : List Entry) (segment : ℕ) (s : StampedRow) (p
   pub listed : slice_get entries segment ≡ Some entry
   pub within : p.at + p.bytes ≤ entry.bytes
   pub there : IsThere (form_in entry.sums) (4096 * entry.first + p.at) s p file
+
+-- the row's record is at its place in the file that is read of the disk through the cache, if there is
+-- one
+abbrev pub MayBe : (reads_as : List ℕ → Type 0) → LruCache ℕ (List ℕ) → List Entry → ℕ → RowPlace
+    → StampedRow → Type 0
+MayBe reads_as cache entries segment at row =
+    (file : List ℕ) → ShowsFile reads_as cache file → IsRecordOf entries segment row at file
 
 -- the rows of the lists
 abbrev pub rows_of : List (List StampedRow) → List RowValue

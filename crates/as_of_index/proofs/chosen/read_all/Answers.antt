@@ -33,7 +33,7 @@ loop-k-preserved g c =
           let first = take c.loop-k.k-index rows in
           rw c.in_ok-push.ensures.items
           (subst (λ xs. AllZip (IsReadFor (g.R.RowReader.view a.reader.now)) (c.loop-k.rows.items ++ found.found.row ∷ []) xs) (sym (map_push (λ (s : StampedRow). s.row) first w.0) ∙ ap (map (λ (s : StampedRow). s.row)) (sym w.2))
-          (reads_more so_far.reader w.1 found.ensures.shown c.loop-k.rows.items (map (λ (s : StampedRow). s.row) first) (so_far.each rows stand)));
+          (reads_more so_far.reader w.1 found.ensures.returned c.loop-k.rows.items (map (λ (s : StampedRow). s.row) first) (so_far.each rows stand)));
     }
 
 pub returns-in_err-found-clause-answer : goal.returns-in_err-found-clause-answer

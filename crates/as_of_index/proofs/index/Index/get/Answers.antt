@@ -20,7 +20,7 @@ returns-in_ok-stamped-in-Some-clause-answer g c =
           let more = read.ensures.work_always w.0 w.1 in
           let cost = ap (λ o. sum_by g.R.RowReader.cost (option_to_list o)) w.2 in
           record {
-            each = reads_one (not_read (g.R.RowReader.view c.args.reader.now)) w.1 read.ensures.shown _ w.2;
+            each = reads_one (not_read (g.R.RowReader.view c.args.reader.now)) w.1 read.ensures.returned _ w.2;
             undamaged = λ honest. tt;
             causes = λ none. tt;
             work_always = omega arith;

@@ -65,7 +65,7 @@ loop-self-preserved g c =
             let k = so_far.each listed_so in
             let count = AllZip-long _ _ _ k.1 in (
               k.0 ++ r.0.row ∷ [],
-              rw w.in_ok-push-in-Some.ensures.items (reads_more so_far.reader r.1 w.in_ok-found-in-Some.ensures.shown c.loop-self.rows.items k.0 k.1),
+              rw w.in_ok-push-in-Some.ensures.items (reads_more so_far.reader r.1 w.in_ok-found-in-Some.ensures.returned c.loop-self.rows.items k.0 k.1),
               after_more a.pin lists are c.loop-self.last (c.in-Some.segment, c.in-Some.at) r.0 a.limit k.0 _ (omega arith) next r.2 r.3 r.4 (c.is_shown.ensures.0 w.if-is_shown.true) k.2,
             );
       })

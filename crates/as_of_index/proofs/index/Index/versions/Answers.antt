@@ -56,7 +56,7 @@ loop-segment-preserved g c =
             let r = version_row a.kind a.id a.pin lists are c.loop-segment.after (c.in-Some.segment, c.in-Some.at) next in
             let k = so_far.each listed_so in (
               k.0 ++ r.0.row ∷ [],
-              rw w.in_ok-push.ensures.items (reads_more so_far.reader r.1 w.in_ok-version.ensures.shown c.loop-segment.rows.items k.0 k.1),
+              rw w.in_ok-push.ensures.items (reads_more so_far.reader r.1 w.in_ok-version.ensures.returned c.loop-segment.rows.items k.0 k.1),
               versions_push a.kind a.id a.pin lists are c.loop-segment.after (c.in-Some.segment, c.in-Some.at) k.0 _ r.0 next r.1 (c.is_shown.ensures.0 w.if-is_shown.true) k.2,
             );
       })

@@ -59,7 +59,7 @@ loop-lists-preserved-in_ok-push-in-Some g c =
           let k = so_far.each listed_so in
           let count = AllZip-long _ _ _ k.1 in (
             k.0 ++ w.0.row ∷ [],
-            rw c.in_ok-push-in-Some.ensures.items (reads_more so_far.reader w.1 found.ensures.shown c.loop-lists.rows.items k.0 k.1),
+            rw c.in_ok-push-in-Some.ensures.items (reads_more so_far.reader w.1 found.ensures.returned c.loop-lists.rows.items k.0 k.1),
             walk_more a.kind a.from a.as_of.now lists c.loop-lists.last c.in-Some.id a.limit k.0 _ w.0.row (omega arith)
                 (rw (c.as_slice-lists.ensures.value, c.self.view_is, listed_so) at c.in-Some.ensures.next) w.2 w.3 k.2,
           );
