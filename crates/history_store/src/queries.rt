@@ -16,7 +16,7 @@ impl<D: Disk> Store<D> {
     ghost use Rattle.history_model.specs.Brought.{ImportReceiptOf};
     ghost use Rattle.history_model.specs.History.{IsHistory};
     ghost use Rattle.history_model.specs.Queries.{dates};
-    ghost use Rattle.index_answers.specs.Questions.{rows_for, SameKeysFor, AreIdsFor};
+    ghost use Rattle.index_answers.specs.Questions.{rows_for, is_put_in_order, AreIdsFor};
     ghost use Rattle.history_store.specs.Answers.{IsReadingOf};
     ghost use Rattle.history_store.specs.Queries.{IsRowsQueryBy, IsIndexQuery};
     ghost use Rattle.history_store.specs.Refusals.{of_read};
@@ -49,7 +49,7 @@ impl<D: Disk> Store<D> {
     /// The rows that a question finds, among those that the first `pin` imports brought.
     pub fn select(&mut self, question: &RowQuestion<'_>, pin: u32) -> Result<Vec<Row>, Refusal>
         requires { pin ≤ self.old.history.imports }
-        ensures answer { IsRowsQueryBy (SameKeysFor question.now) result (λ rows. rows.items)
+        ensures answer { IsRowsQueryBy (is_put_in_order question.now) result (λ rows. rows.items)
             (rows_for question.now) pin D.view self.old self.new }
         // On every disk the store's rows are in key order, each with the number of an import.
         ensures history { IsHistory self.old.history }

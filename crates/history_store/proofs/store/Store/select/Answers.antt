@@ -1,5 +1,5 @@
 use Rattle.std.proofs.Common.{◌≡◌, refl}
-use Rattle.index_answers.specs.Questions.{rows_for, SameKeysFor}
+use Rattle.index_answers.specs.Questions.{rows_for, is_put_in_order}
 use Rattle.history_store.proofs.Lent.{reader_honest, held_after}
 use Rattle.history_store.proofs.Querying.{row_items, rows_answered, closed_rows}
 use Rattle.history_store.proofs.store.Store.select.Goals as goal
@@ -19,7 +19,7 @@ returns-clause-answer g c = rw (← c.self.view_is) (
     rows_answered g.D.Disk.view row_items (rows_for c.args.question.now) c.args.pin
     (λ ls. ls ≡ c.self.inside.index) _ c.answered.new.self c.self.inside.index c.new-reader.result.shown.now c.new-reader.result.entries.now
     c.new-reader.result.disk.now c.select-read.new.reader.disk.now c.new-reader.result.cache.now c.select-read.new.reader.cache.now c.select-read.result c.answered.result
-    (SameKeysFor c.args.question.now) refl c.if-self.false r.disk r.cache r.entries r.shown
+    (is_put_in_order c.args.question.now) refl c.if-self.false r.disk r.cache r.entries r.shown
     refl (λ up. reader_honest g.D.Disk.view _ _ _ _ _ _ _ _ _ _ c.self.invariant.0 r.disk r.cache r.entries r.shown up c.if-self.false (g.met.D.Disk.now_is_image c.self.inside.disk up))
     e.answer e.stays.0 e.stays.5 e.stays.6 a.same a.left a.disk a.cache a.acknowledged)
 
@@ -27,7 +27,7 @@ pub returns-clause-history : goal.returns-clause-history
 returns-clause-history g c = rw (← c.self.view_is) c.self.invariant.0.kept.history
 
 pub returns-then-self-clause-answer : goal.returns-then-self-clause-answer
-returns-then-self-clause-answer g c = rw (← c.self.view_is) (closed_rows g.D.Disk.view row_items (rows_for c.args.question.now) c.args.pin (SameKeysFor c.args.question.now) _ c.if-self.true)
+returns-then-self-clause-answer g c = rw (← c.self.view_is) (closed_rows g.D.Disk.view row_items (rows_for c.args.question.now) c.args.pin (is_put_in_order c.args.question.now) _ c.if-self.true)
 
 pub returns-then-self-clause-history : goal.returns-then-self-clause-history
 returns-then-self-clause-history g c = rw (← c.self.view_is) c.self.invariant.0.kept.history
