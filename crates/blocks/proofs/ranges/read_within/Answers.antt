@@ -1,6 +1,6 @@
 use Rattle.std.proofs.Common.{◌≡◌, inl, ℕ, ◌+◌, List, ◌++◌, take, drop, None, refl, subst, sym, ap, ◌∙◌, arith}
 use Rattle.lru.specs.LruCache.{LruCache}
-use Rattle.blocks.specs.Cache.{kept_of, AgreesWith, KeepsRead}
+use Rattle.blocks.specs.Cache.{kept_of, AgreesWith, ShowsFile, KeepsRead}
 use Rattle.blocks.proofs.Kept.{agrees_promoted, count_kept}
 use Rattle.blocks.proofs.Looked.{read_up}
 use Rattle.blocks.proofs.PartsRead.{part_of_kept, part_of_read}
@@ -51,7 +51,7 @@ returns-clause-count g c file shows =
 pub returns-clause-bytes : goal.returns-clause-bytes
 returns-clause-bytes g c file shows enough =
     let gone = c.copy_kept.ensures.missing c.if-copy_kept.false in
-    let still = (shows.0, subst (λ (k : LruCache ℕ (List ℕ)). AgreesWith k file) (sym gone.1) shows.1) in
+    let still : ShowsFile (g.D.Disk.view c.args.disk.now).reads_as c.copy_kept.new.self file = (shows.0, subst (λ (k : LruCache ℕ (List ℕ)). AgreesWith k file) (sym gone.1) shows.1) in
     let part = part_of_read file _ c.read.new.into c.args.block c.args.skip c.args.n c.in_ok-count.count enough (c.in_ok-count.ensures.count file still) (c.in_ok-count.ensures.bytes file still) in
     c.copy_part.ensures
     ∙ ap (λ (l : List ℕ). take c.args.at l ++ take c.args.n (drop c.args.skip c.read.new.into) ++ drop (c.args.at + c.args.n) l) gone.2
