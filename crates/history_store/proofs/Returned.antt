@@ -1,7 +1,10 @@
 -- What is known of rows that a reader returned for wanted ones.
 use Rattle.std.proofs.Common.{◌≡◌, ℕ, Bool, true, false, List, [], ◌∷◌, map, refl, sym, ap, subst, ◌∙◌}
 use Rattle.std.specs.List.{AllZip}
+use Rattle.std.specs.List.Sorted.{IsPermutation}
 use Rattle.std.proofs.lemmas.List.Elements.{same_from_all_zip}
+use Rattle.std.proofs.lemmas.List.Sorted.{IsPermutation-sym, IsPermutation-trans, IsPermutation-map}
+use Rattle.rf2_values.specs.declared.key.Key.{Key}
 use Rattle.rf2_values.specs.Row.{RowValue}
 use Rattle.rf2_values.specs.Key.{key_of}
 use Rattle.history_model.specs.declared.stamped.StampedRow.{StampedRow}
@@ -11,7 +14,7 @@ use Rattle.lru.specs.LruCache.{LruCache}
 use Rattle.disk_model.specs.View.{DiskView}
 use Rattle.blocks.specs.Cache.{ShowsFile}
 use Rattle.directory.specs.declared.entry.Entry.{Entry}
-use Rattle.as_of_index.specs.Reader.{ReaderView, IsReadFor, AreFor}
+use Rattle.as_of_index.specs.Reader.{ReaderView, IsReadFor, ArePutInOrder, AreFor}
 use Rattle.as_of_index.proofs.Returned.{zip_weaker}
 use Rattle.history_store.specs.Stored.{IsRecordOf, MayBe}
 use Rattle.history_store.specs.StoreValue.{StoreValue}
@@ -21,6 +24,21 @@ use Rattle.history_store.specs.Queries.{IsStoredFor}
 pub for_weaker : (put_in_order : Bool) (R Q : RowValue → RowValue → Type 0) → ((x y : RowValue) → R x y → Q x y) → (given wanted : List RowValue) → AreFor put_in_order R given wanted → AreFor put_in_order Q given wanted
 for_weaker false R Q so given wanted each = zip_weaker R Q so given wanted each
 for_weaker true R Q so given wanted o = record { read = o.read; those = o.those; each = zip_weaker R Q so o.read o.those o.each; given_are = o.given_are; wanted_are = o.wanted_are; in_order = o.in_order }
+
+module _ (R : RowValue → RowValue → Type 0) (so : (x y : RowValue) → R x y → key_of x ≡ key_of y) where
+  -- rows that have the keys of the wanted ones each
+  pub keyed_same : (given wanted : List RowValue) → AllZip R given wanted → map key_of given ≡ map key_of wanted
+  keyed_same [] [] each = refl
+  keyed_same [] (y ∷ ys) each = absurd each
+  keyed_same (x ∷ xs) [] each = absurd each
+  keyed_same (x ∷ xs) (y ∷ ys) each = ap (λ k. k ∷ map key_of xs) (so x y each.0) ∙ ap (λ ks. key_of y ∷ ks) (keyed_same xs ys each.1)
+
+  -- and were put in order
+  pub keyed_moved : (given wanted : List RowValue) → ArePutInOrder R given wanted → IsPermutation (map key_of wanted) (map key_of given)
+  keyed_moved given wanted o =
+      IsPermutation-trans (map key_of wanted) (map key_of o.those) (map key_of given)
+      (IsPermutation-sym (map key_of o.those) (map key_of wanted) (IsPermutation-map key_of o.those wanted o.wanted_are))
+      (subst (λ (ks : List Key). IsPermutation ks (map key_of given)) (keyed_same o.read o.those o.each) (IsPermutation-map key_of o.read given o.given_are))
 
 module _ (shown : ReaderView) where
   exact_for : shown.is_honest → (row wanted : RowValue) → IsReadFor shown row wanted → wanted ≡ row

@@ -1,12 +1,13 @@
 -- Definitions for private functions and proofs, of this crate or of one above it. No public clause
 -- cites them.
-use Rattle.std.specs.Prelude.{◌≡◌, ℕ, List, Result, ◌≤◌}
-use Rattle.rf2_values.specs.declared.key.Key.{Key}
+use Rattle.std.specs.Prelude.{◌≡◌, ℕ, List, Result, ◌≤◌, map}
 use Rattle.rf2_values.specs.Row.{RowValue}
+use Rattle.rf2_values.specs.Key.{key_of}
 use Rattle.disk_model.specs.View.{DiskView}
 use Rattle.index_answers.specs.declared.question.RowQuestion.{RowQuestion}
 use Rattle.index_answers.specs.declared.question.IdQuestion.{IdQuestion}
-use Rattle.index_answers.specs.Questions.{rows_for, SameKeysFor, AreIdsFor}
+use Rattle.index_answers.specs.Questions.{rows_for, is_put_in_order, AreIdsFor}
+use Rattle.as_of_index.specs.Reader.{AreFor}
 use Rattle.history_store.specs.StoreValue.{StoreValue}
 use Rattle.line_commands.specs.Questions.{Question, Children, Ancestors, Descendants, Dates, Digest}
 use Rattle.line_commands.specs.Questions.{Receipt, SpellsQuestion}
@@ -84,8 +85,10 @@ pub record AsksForRows (question : Question) (asked : RowQuestion) : Type 0 wher
   pub by_rows : AsksRows question
   pub finds : (rows : List RowValue) (answer : Answer)
       → answer ≡ Rows (rows_for asked rows) → IsFound question rows answer
-  pub keys : (given wanted : List Key)
-      → SameKeysFor asked given wanted → AreKeysFor question given wanted
+  pub keys : (IsFor : RowValue → RowValue → Type 0)
+      → ((row wanted : RowValue) → IsFor row wanted → key_of row ≡ key_of wanted)
+      → (given wanted : List RowValue) → AreFor (is_put_in_order asked) IsFor given wanted
+      → AreKeysFor question (map key_of given) (map key_of wanted)
 
 -- it finds these identifiers
 pub record AsksForIds (question : Question) (asked : IdQuestion) : Type 0 where
