@@ -90,8 +90,8 @@ fn chosen(index: &Index) -> Result<Chosen, Fail> {
     Ok(Chosen {
         segment,
         at,
-        refset: 0,
-        target: 0,
+        first: 0,
+        second: 0,
     })
 }
 
