@@ -1,14 +1,15 @@
 use Rattle.std.proofs.Common.{Ok, ◌≡◌, ◌-◌, [], ◌∷◌, ◌++◌, length, map, sym, ap, subst, ◌∙◌, arith, rules}
-use Rattle.std.specs.List.{sum_by}
+use Rattle.std.specs.List.{sum_by, AllZip}
 use Rattle.std.proofs.lemmas.List.{length_push}
 use Rattle.std.proofs.lemmas.List.Sums.{sum_by_push}
-use Rattle.rf2_values.specs.Key.{key_of}
+use Rattle.std.proofs.lemmas.Slice.Zip.{AllZip-long}
+use Rattle.as_of_index.specs.Reader.{IsReadFor}
 use Rattle.history_model.specs.History.{rows_at}
 use Rattle.history_model.specs.KeyOrder.{rows_after}
 use Rattle.history_model.specs.Lists.{listed}
 use Rattle.segment.specs.Standing.{StandsAt}
 use Rattle.as_of_index.proofs.Standing.{are_lists}
-use Rattle.as_of_index.proofs.SameKeys.{key_there, keys_push, same_count}
+use Rattle.as_of_index.proofs.Returned.{reads_more}
 use Rattle.as_of_index.proofs.KeyOrder.{row_next, fewer_after, after_more, after_cost, after_hidden, after_done, after_full}
 use Rattle.as_of_index.proofs.Reading.{not_read, reads_on, has_read, read_so, fails_on, row_wanted}
 use Rattle.as_of_index.proofs.index.Index.rows_after.Goals as goal
@@ -30,8 +31,7 @@ loop-self-init g c =
       work = omega arith;
       work_always = λ listed_so. omega (arith, sum);
       stays = g.met.R.RowReader.stays_still a.reader.now;
-      rows = λ honest listed_so. rw c.new-rows.ensures.items first;
-      keys = λ listed_so. ([], ap (map key_of) c.new-rows.ensures.items, first);
+      each = λ listed_so. ([], rw c.new-rows.ensures.items tt, first);
     }
 
 pub loop-self-smaller : goal.loop-self-smaller
@@ -58,23 +58,14 @@ loop-self-preserved g c =
             let sum = after_cost a.pin lists are g.R.RowReader.cost c.loop-self.last (c.in-Some.segment, c.in-Some.at) r.0 a.limit c.loop-self.rows.items w.in_ok-found-in-Some.found.row (omega arith) next r.2 r.3 r.4 (c.is_shown.ensures.0 w.if-is_shown.true) in
             rw w.in_ok-push-in-Some.ensures.items (omega arith);
         stays = g.met.R.RowReader.stays_on a.reader.now _ _ so_far.stays w.in_ok-found-in-Some.ensures.stays;
-        rows = λ honest listed_so.
+        each = λ listed_so.
             let are = are_lists lists (rw (c.self.view_is, listed_so) at c.self.invariant.places) in
             let next = rw (c.as_slice.ensures.value, c.self.view_is, listed_so) at c.in-Some.ensures in
             let r = row_next a.pin lists are c.loop-self.last (c.in-Some.segment, c.in-Some.at) next in
-            let stands = subst (λ ls. StandsAt ls c.in-Some.segment c.in-Some.at r.0) (sym (so_far.reader.lists)) r.1 in
-            let same = w.in_ok-found-in-Some.ensures.found (so_far.reader.honesty honest) r.0 stands in
-            rw (w.in_ok-push-in-Some.ensures.items, same)
-            (after_more a.pin lists are c.loop-self.last (c.in-Some.segment, c.in-Some.at) r.0 a.limit c.loop-self.rows.items _ (omega arith) next r.2 r.3 r.4 (c.is_shown.ensures.0 w.if-is_shown.true) (so_far.rows honest listed_so));
-        keys = λ listed_so.
-            let are = are_lists lists (rw (c.self.view_is, listed_so) at c.self.invariant.places) in
-            let next = rw (c.as_slice.ensures.value, c.self.view_is, listed_so) at c.in-Some.ensures in
-            let r = row_next a.pin lists are c.loop-self.last (c.in-Some.segment, c.in-Some.at) next in
-            let row = w.in_ok-found-in-Some.found.row in
-            let k = so_far.keys listed_so in
-            let count = same_count c.loop-self.rows.items k.0 k.1 in (
+            let k = so_far.each listed_so in
+            let count = AllZip-long _ _ _ k.1 in (
               k.0 ++ r.0.row ∷ [],
-              ap (map key_of) w.in_ok-push-in-Some.ensures.items ∙ keys_push c.loop-self.rows.items k.0 row r.0.row k.1 (key_there lists c.in-Some.segment c.in-Some.at r.0 row r.1 w.in_ok-found-in-Some.ensures.keyed),
+              rw w.in_ok-push-in-Some.ensures.items (reads_more so_far.reader r.1 w.in_ok-found-in-Some.ensures.returned c.loop-self.rows.items k.0 k.1),
               after_more a.pin lists are c.loop-self.last (c.in-Some.segment, c.in-Some.at) r.0 a.limit k.0 _ (omega arith) next r.2 r.3 r.4 (c.is_shown.ensures.0 w.if-is_shown.true) k.2,
             );
       })
@@ -91,17 +82,11 @@ loop-self-preserved g c =
             let least = so_far.work_always listed_so in
             omega arith;
         stays = so_far.stays;
-        rows = λ honest listed_so.
+        each = λ listed_so.
             let are = are_lists lists (rw (c.self.view_is, listed_so) at c.self.invariant.places) in
             let next = rw (c.as_slice.ensures.value, c.self.view_is, listed_so) at c.in-Some.ensures in
             let r = row_next a.pin lists are c.loop-self.last (c.in-Some.segment, c.in-Some.at) next in
-            ap (λ ys. c.loop-self.rows.items ++ ys) (sym (after_hidden a.pin lists are c.loop-self.last (c.in-Some.segment, c.in-Some.at) r.0 (a.limit - length c.loop-self.rows.items) next r.2 r.3 r.4 (λ le. let yes = c.is_shown.ensures.1 le in let no_yes = w.if-is_shown.false in absurd (cc))))
-            ∙ so_far.rows honest listed_so;
-        keys = λ listed_so.
-            let are = are_lists lists (rw (c.self.view_is, listed_so) at c.self.invariant.places) in
-            let next = rw (c.as_slice.ensures.value, c.self.view_is, listed_so) at c.in-Some.ensures in
-            let r = row_next a.pin lists are c.loop-self.last (c.in-Some.segment, c.in-Some.at) next in
-            let k = so_far.keys listed_so in
+            let k = so_far.each listed_so in
             (k.0, k.1, ap (λ ys. k.0 ++ ys) (sym (after_hidden a.pin lists are c.loop-self.last (c.in-Some.segment, c.in-Some.at) r.0 (a.limit - length k.0) next r.2 r.3 r.4 (λ le. let yes = c.is_shown.ensures.1 le in let no_yes = w.if-is_shown.false in absurd (cc)))) ∙ k.2);
       })
     ]
@@ -121,12 +106,11 @@ returns-in_err-found-in-Some-clause-answer g c =
           let more = c.in_err-found-in-Some.ensures.work_always w.0 stands in
           let sum = after_cost a.pin lists are g.R.RowReader.cost c.loop-self.last (c.in-Some.segment, c.in-Some.at) w.0 a.limit c.loop-self.rows.items w.0.row (omega arith) next w.2 w.3 w.4 (c.is_shown.ensures.0 c.if-is_shown.true) in
           record {
-            found = λ honest. search rules;
-            keys = search rules;
+            each = search rules;
             undamaged = λ honest. (let other = c.in_err-found-in-Some.ensures.undamaged (so_far.reader.honesty honest) w.0 stands in search rules);
             causes = λ none.
-                let k = so_far.keys listed_so in
-                let count = same_count c.loop-self.rows.items k.0 k.1 in
+                let k = so_far.each listed_so in
+                let count = AllZip-long _ _ _ k.1 in
                 absurd (row_wanted k.0 _ _ w.0.row (after_more a.pin lists are c.loop-self.last (c.in-Some.segment, c.in-Some.at) w.0 a.limit k.0 _ (omega arith) next w.2 w.3 w.4 (c.is_shown.ensures.0 c.if-is_shown.true) k.2) none);
             work_always = omega arith;
           };
@@ -149,8 +133,7 @@ returns-in_err-push-in-Some-clause-answer g c =
           let more = c.in_ok-found-in-Some.ensures.work_always w.0 stands in
           let sum = after_cost a.pin lists are g.R.RowReader.cost c.loop-self.last (c.in-Some.segment, c.in-Some.at) w.0 a.limit c.loop-self.rows.items w.0.row (omega arith) next w.2 w.3 w.4 (c.is_shown.ensures.0 c.if-is_shown.true) in
           record {
-            found = λ honest. search rules;
-            keys = search rules;
+            each = search rules;
             undamaged = λ honest. search rules;
             causes = λ none. search rules;
             work_always = omega arith;
@@ -167,12 +150,11 @@ returns-in-None-clause-answer g c =
     record {
       rows = λ listed_so.
           let are = are_lists lists (rw (c.self.view_is, listed_so) at c.self.invariant.places) in
-          let k = so_far.keys listed_so in
+          let k = so_far.each listed_so in
           let least = so_far.work_always listed_so in
           let none = rw (c.as_slice.ensures.value, c.self.view_is, listed_so) at c.in-None.ensures in
           record {
-            found = λ honest. after_done a.pin lists are c.loop-self.last _ c.loop-self.rows.items _ none (so_far.rows honest listed_so);
-            keys = k.1 ∙ ap (map key_of) (after_done a.pin lists are c.loop-self.last _ k.0 _ none k.2);
+            each = subst (λ xs. AllZip (IsReadFor (g.R.RowReader.view a.reader.now)) c.loop-self.rows.items xs) (after_done a.pin lists are c.loop-self.last _ k.0 _ none k.2) k.1;
             undamaged = λ honest. tt;
             causes = λ none. tt;
             work_always = omega arith;
@@ -189,12 +171,11 @@ returns-clause-answer g c =
     record {
       rows = λ listed_so.
           let are = are_lists lists (rw (c.self.view_is, listed_so) at c.self.invariant.places) in
-          let k = so_far.keys listed_so in
+          let k = so_far.each listed_so in
           let least = so_far.work_always listed_so in
-          let count = same_count c.loop-self.rows.items k.0 k.1 in
+          let count = AllZip-long _ _ _ k.1 in
           record {
-            found = λ honest. after_full a.pin lists are c.loop-self.last a.limit c.loop-self.rows.items _ (omega arith) (so_far.rows honest listed_so);
-            keys = k.1 ∙ ap (map key_of) (after_full a.pin lists are c.loop-self.last a.limit k.0 _ (omega arith) k.2);
+            each = subst (λ xs. AllZip (IsReadFor (g.R.RowReader.view a.reader.now)) c.loop-self.rows.items xs) (after_full a.pin lists are c.loop-self.last a.limit k.0 _ (omega arith) k.2) k.1;
             undamaged = λ honest. tt;
             causes = λ none. tt;
             work_always = omega arith;

@@ -1,7 +1,7 @@
-use Rattle.std.proofs.Common.{◌≡◌, ◌++◌, ◌-◌, ◌+◌, ◌≤◌, List, length, map}
-use Rattle.std.specs.List.{filter, sum_by}
+use Rattle.std.proofs.Common.{◌≡◌, ◌++◌, ◌-◌, ◌+◌, ◌≤◌, List, length}
+use Rattle.std.specs.List.{filter, sum_by, AllZip}
 use Rattle.rf2_values.specs.Row.{RowValue}
-use Rattle.rf2_values.specs.Key.{key_of}
+use Rattle.as_of_index.specs.Reader.{IsReadFor}
 use Rattle.history_model.specs.History.{rows_at}
 use Rattle.history_model.specs.KeyOrder.{is_key_after, rows_after}
 use Rattle.history_model.specs.Lists.{listed}
@@ -19,8 +19,7 @@ invariant-loop-self g l =
       work : (r.view l.reader).work ≤ (r.view l.fn.reader).work + sum_by r.cost l.rows.items;
       work_always : Lists l.self (r.view l.fn.reader).lists → (r.view l.reader).work + sum_by r.cost (rows_after l.last (l.limit - length l.rows.items) (rows_at l.pin (listed (r.view l.fn.reader).lists))) ≤ (r.view l.fn.reader).work + sum_by r.cost (rows_after l.fn.after l.limit (rows_at l.pin (listed (r.view l.fn.reader).lists)));
       stays : r.stays l.fn.reader l.reader;
-      rows : (r.view l.fn.reader).is_honest → Lists l.self (r.view l.fn.reader).lists → l.rows.items ++ rows_after l.last (l.limit - length l.rows.items) (rows_at l.pin (listed (r.view l.fn.reader).lists)) ≡ rows_after l.fn.after l.limit (rows_at l.pin (listed (r.view l.fn.reader).lists));
-      keys : Lists l.self (r.view l.fn.reader).lists → (right : List RowValue) × (map key_of l.rows.items ≡ map key_of right) × (right ++ rows_after l.last (l.limit - length right) (rows_at l.pin (listed (r.view l.fn.reader).lists)) ≡ rows_after l.fn.after l.limit (rows_at l.pin (listed (r.view l.fn.reader).lists)));
+      each : Lists l.self (r.view l.fn.reader).lists → (right : List RowValue) × AllZip (IsReadFor (r.view l.fn.reader)) l.rows.items right × (right ++ rows_after l.last (l.limit - length right) (rows_at l.pin (listed (r.view l.fn.reader).lists)) ≡ rows_after l.fn.after l.limit (rows_at l.pin (listed (r.view l.fn.reader).lists)));
     }
 
 abbrev pub decreases-loop-self : goal.decreases-loop-self
