@@ -11,7 +11,7 @@ use rf2_rows::{Key, Row};
 impl<D: Disk> Store<D> {
     ghost use Rattle.history_model.specs.History.{IsHistory};
     ghost use Rattle.history_model.specs.KeyOrder.{rows_after};
-    ghost use Rattle.as_of_index.specs.Reader.{AreSame};
+    ghost use Rattle.std.specs.Prelude.{false};
     ghost use Rattle.history_store.specs.Queries.{IsRowsQueryBy};
 
     /// The first `limit` rows whose keys are greater than `after`, if that is given, in key order,
@@ -25,7 +25,7 @@ impl<D: Disk> Store<D> {
         requires { pin ≤ self.old.history.imports }
         // promise: an_answer_is_the_defined_one, no_damage_is_invented
         // promise: a_digest_is_that_of_the_rows
-        ensures answer { IsRowsQueryBy AreSame result (λ rows. rows.items) (rows_after after limit)
+        ensures answer { IsRowsQueryBy false result (λ rows. rows.items) (rows_after after limit)
             pin D.view self.old self.new }
         // On every disk the store's rows are in key order, each with the number of an import.
         // promise: an_answer_is_the_defined_one, a_digest_is_that_of_the_rows
