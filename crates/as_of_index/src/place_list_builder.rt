@@ -4,7 +4,7 @@ ghost use Rattle.std.specs.Prelude.{◌≡◌, ◌++◌, ◌∷◌, [], length, 
 ghost use Rattle.history_model.specs.InOrder.{IsAscending};
 ghost use Rattle.as_of_index.specs.Places.{place_cmp};
 
-use crate::dates::{DateEntry, cut, note};
+use crate::dates::{DateEntry, REMEMBERED, cut, note_remembered};
 use crate::place_list::{PlaceList, first_import, first_time, last_time, time_of};
 use segment::RowPlace;
 use std::alloc::{AllocError, Global};
@@ -23,6 +23,9 @@ pub struct PlaceListBuilder {
     first_import: u32,
     /// The effective times and imports of the places.
     dates: Vec<DateEntry>,
+    /// The numbers of entries of `dates` that were found, by their slots. If one isn't right, the
+    /// entry is searched for.
+    remembered: [usize; REMEMBERED],
 }
 
 impl Model for PlaceListBuilder {
@@ -54,6 +57,7 @@ impl PlaceListBuilder {
             last_time: 0,
             first_import: u32::MAX,
             dates: Vec::new(alloc),
+            remembered: [0; REMEMBERED],
         }
     }
 
@@ -71,7 +75,7 @@ impl PlaceListBuilder {
     {
         let number = self.len();
         self.places.reserve(1)?;
-        note(&mut self.dates, &place, number)?;
+        note_remembered(&mut self.dates, &mut self.remembered, &place, number)?;
         let Ok(()) = self.places.push(place) else {
             unreachable!()
         };
@@ -111,6 +115,7 @@ impl PlaceListBuilder {
             last_time,
             first_import,
             dates,
+            ..
         } = self;
         PlaceList {
             places,
