@@ -6,6 +6,7 @@ mod as_of;
 mod chosen;
 mod cursors;
 mod dates;
+mod heads;
 mod hints;
 mod index;
 mod key_order;
