@@ -2,6 +2,7 @@
 use Rattle.std.proofs.Common.{◌≡◌, ℕ, ◌<◌, ◌≤◌, List, [], ◌∷◌, length, sym, subst, arith}
 use Rattle.std.specs.Prelude.{Option, Some, None}
 use Rattle.std.proofs.lemmas.Option.{same_Some, none-some}
+use Rattle.rf2_values.specs.Row.{RowValue}
 use Rattle.history_model.specs.Queries.{page, all_above, search_terms, terms_above, delta, changed_above, members, members_above, values, values_above}
 use Rattle.history_model.specs.Membership.{last_component}
 use Rattle.history_model.proofs.Snapshots.{page_cons}
@@ -10,6 +11,9 @@ use Rattle.history_model.proofs.Audits.{changed_cons}
 use Rattle.history_model.proofs.Membership.{members_cons, few_values_are_all, values_and_the_rest, none_above, joined_are_all, some_end}
 use Rattle.question_model.specs.Questions.{Search, Page, Delta, Members, Values}
 use Rattle.question_model.specs.Laws.{ArePages, PageAndTheRest, ShortPageIsLast, PagesAreAll, PagesEnd}
+
+abbrev its_id : RowValue → ℕ
+its_id row = row.id
 
 own_least : (limit most : ℕ) → Some limit ≡ Some most → 1 ≤ most → 1 ≤ limit
 own_least limit most is some = subst (λ n. 1 ≤ n) (sym (same_Some limit most is)) some
@@ -28,26 +32,26 @@ short_page_is_last question most rows is short = absurd (none-some most is)
 
 pub page_and_the_rest : PageAndTheRest
 unfolding page search_terms delta members
-page_and_the_rest (Search prefix date after limit) most rows is up = goes_on (λ id. terms_above prefix date id rows) (λ id b ys e. search_cons prefix date id rows b ys up e) limit after
-page_and_the_rest (Page kind date after limit) most rows is up = goes_on (λ id. all_above kind date id rows) (λ id b ys e. page_cons kind date id rows b ys up e) limit after
-page_and_the_rest (Delta kind from date after limit) most rows is up = goes_on (λ id. changed_above kind from date id rows) (λ id b ys e. changed_cons kind from date id rows b ys up e) limit after
-page_and_the_rest (Members refset date after limit) most rows is up = goes_on (λ id. members_above refset date id rows) (λ id b ys e. members_cons refset date id rows b ys up e) limit after
+page_and_the_rest (Search prefix date after limit) most rows is up = goes_on its_id (λ id. terms_above prefix date id rows) (λ id b ys e. search_cons prefix date id rows b ys up e) limit after
+page_and_the_rest (Page kind date after limit) most rows is up = goes_on its_id (λ id. all_above kind date id rows) (λ id b ys e. page_cons kind date id rows b ys up e) limit after
+page_and_the_rest (Delta kind from date after limit) most rows is up = goes_on its_id (λ id. changed_above kind from date id rows) (λ id b ys e. changed_cons kind from date id rows b ys up e) limit after
+page_and_the_rest (Members refset date after limit) most rows is up = goes_on its_id (λ id. members_above refset date id rows) (λ id b ys e. members_cons refset date id rows b ys up e) limit after
 page_and_the_rest (Values refset date after limit) most rows is up = values_and_the_rest refset date after limit rows up
 page_and_the_rest question most rows is up = absurd (none-some most is)
 
 pub pages_are_all : PagesAreAll
 unfolding page search_terms delta members
 pages_are_all (Search prefix date after limit) most rows pages is some up are =
-    are_all (λ id. terms_above prefix date id rows) (λ id b ys e. search_cons prefix date id rows b ys up e) limit (own_least limit most is some)
+    are_all its_id (λ id. terms_above prefix date id rows) (λ id b ys e. search_cons prefix date id rows b ys up e) limit (own_least limit most is some)
     (λ id. ArePages (Search prefix date id limit) rows) (λ id. (λ e. e, λ e. e)) (λ id first others. (λ e. e, λ e. e)) after pages are
 pages_are_all (Page kind date after limit) most rows pages is some up are =
-    are_all (λ id. all_above kind date id rows) (λ id b ys e. page_cons kind date id rows b ys up e) limit (own_least limit most is some)
+    are_all its_id (λ id. all_above kind date id rows) (λ id b ys e. page_cons kind date id rows b ys up e) limit (own_least limit most is some)
     (λ id. ArePages (Page kind date id limit) rows) (λ id. (λ e. e, λ e. e)) (λ id first others. (λ e. e, λ e. e)) after pages are
 pages_are_all (Delta kind from date after limit) most rows pages is some up are =
-    are_all (λ id. changed_above kind from date id rows) (λ id b ys e. changed_cons kind from date id rows b ys up e) limit (own_least limit most is some)
+    are_all its_id (λ id. changed_above kind from date id rows) (λ id b ys e. changed_cons kind from date id rows b ys up e) limit (own_least limit most is some)
     (λ id. ArePages (Delta kind from date id limit) rows) (λ id. (λ e. e, λ e. e)) (λ id first others. (λ e. e, λ e. e)) after pages are
 pages_are_all (Members refset date after limit) most rows pages is some up are =
-    are_all (λ id. members_above refset date id rows) (λ id b ys e. members_cons refset date id rows b ys up e) limit (own_least limit most is some)
+    are_all its_id (λ id. members_above refset date id rows) (λ id b ys e. members_cons refset date id rows b ys up e) limit (own_least limit most is some)
     (λ id. ArePages (Members refset date id limit) rows) (λ id. (λ e. e, λ e. e)) (λ id first others. (λ e. e, λ e. e)) after pages are
 pages_are_all (Values refset date after limit) most rows pages is some up are =
     let least = own_least limit most is some in
@@ -58,16 +62,16 @@ pages_are_all question most rows pages is some up are = absurd (none-some most i
 pub pages_end : PagesEnd
 unfolding page search_terms delta members
 pages_end (Search prefix date after limit) most rows is some up =
-    ends (λ id. terms_above prefix date id rows) (λ id b ys e. search_cons prefix date id rows b ys up e) limit (own_least limit most is some)
+    ends its_id (λ id. terms_above prefix date id rows) (λ id b ys e. search_cons prefix date id rows b ys up e) limit (own_least limit most is some)
     (λ id. ArePages (Search prefix date id limit) rows) (λ id. (λ e. e, λ e. e)) (λ id first others. (λ e. e, λ e. e)) (length (terms_above prefix date after rows)) after (omega arith)
 pages_end (Page kind date after limit) most rows is some up =
-    ends (λ id. all_above kind date id rows) (λ id b ys e. page_cons kind date id rows b ys up e) limit (own_least limit most is some)
+    ends its_id (λ id. all_above kind date id rows) (λ id b ys e. page_cons kind date id rows b ys up e) limit (own_least limit most is some)
     (λ id. ArePages (Page kind date id limit) rows) (λ id. (λ e. e, λ e. e)) (λ id first others. (λ e. e, λ e. e)) (length (all_above kind date after rows)) after (omega arith)
 pages_end (Delta kind from date after limit) most rows is some up =
-    ends (λ id. changed_above kind from date id rows) (λ id b ys e. changed_cons kind from date id rows b ys up e) limit (own_least limit most is some)
+    ends its_id (λ id. changed_above kind from date id rows) (λ id b ys e. changed_cons kind from date id rows b ys up e) limit (own_least limit most is some)
     (λ id. ArePages (Delta kind from date id limit) rows) (λ id. (λ e. e, λ e. e)) (λ id first others. (λ e. e, λ e. e)) (length (changed_above kind from date after rows)) after (omega arith)
 pages_end (Members refset date after limit) most rows is some up =
-    ends (λ id. members_above refset date id rows) (λ id b ys e. members_cons refset date id rows b ys up e) limit (own_least limit most is some)
+    ends its_id (λ id. members_above refset date id rows) (λ id b ys e. members_cons refset date id rows b ys up e) limit (own_least limit most is some)
     (λ id. ArePages (Members refset date id limit) rows) (λ id. (λ e. e, λ e. e)) (λ id first others. (λ e. e, λ e. e)) (length (members_above refset date after rows)) after (omega arith)
 pages_end (Values refset date after limit) most rows is some up =
     let least = own_least limit most is some in
