@@ -13,10 +13,10 @@ ghost use Rattle.links.specs.Private.Asking.{AreEnough, placed_cmp};
 ghost use Rattle.links.specs.Private.Memberships.{asked_above};
 
 use crate::Links;
-use crate::finding::{Asked, asked_all, find_by_key};
+use crate::finding::{Asked, asked_for, find_by_key};
 use crate::posting::{Posting, Tag};
 use crate::postings::Sealed;
-use crate::wanted::{is_above, part};
+use crate::wanted::{all_with, is_above, part};
 use as_of_index::{AsOf, Chosen, Index, ReadFault, RowReader, read_all};
 use rf2_values::{Kind, Row, Sctid};
 use std::alloc::{AllocError, Global};
@@ -94,7 +94,7 @@ fn enough_by_id(
 {
     let all = Asked {
         above: after,
-        ..asked_all(Tag::Member, refset, as_of)
+        ..asked_for(all_with(Tag::Member, refset), as_of)
     };
     let mut rows = posted_rows(alloc, links, index, &all)?;
     let mut count = limit as usize;

@@ -6,7 +6,7 @@ ghost use Rattle.history_model.specs.InOrder.{Has};
 ghost use Rattle.history_model.specs.Queries.{is_above};
 ghost use Rattle.links.specs.Edges.{rank_of};
 ghost use Rattle.links.specs.Private.Asking.{is_up_to, is_between, is_second, is_wanted, key_of};
-ghost use Rattle.links.specs.Private.Asking.{low_rank, high_rank};
+ghost use Rattle.links.specs.Private.Asking.{low_rank, high_rank, all_with, sources_with};
 
 use crate::posting::{Posting, Tag, place_of, rank, rank_of};
 
@@ -27,6 +27,33 @@ pub(crate) struct Wanted {
     pub(crate) seconds: Seconds,
     /// Whether only postings of active rows are wanted.
     pub(crate) active: bool,
+}
+
+/// All postings of a tag and a first number.
+pub(crate) fn all_with(tag: Tag, first: u64) -> Wanted
+    ensures { result ≡ all_with tag first }
+{
+    Wanted {
+        tag,
+        first,
+        seconds: Seconds::Between(None, None),
+        active: false,
+    }
+}
+
+/// The postings of active relationships of a type, if one is given, to a destination.
+pub(crate) fn sources_with(type_id: Option<u64>, destination: u64) -> Wanted
+    ensures { result ≡ sources_with type_id destination }
+{
+    match type_id {
+        None => all_with(Tag::Source, destination),
+        Some(type_id) => Wanted {
+            tag: Tag::Source,
+            first: destination,
+            seconds: Seconds::Only(u128::from(type_id)),
+            active: false,
+        },
+    }
 }
 
 /// Whether a number is greater than `after`, if that is given.

@@ -3,8 +3,8 @@ use Rattle.history_model.specs.declared.stamped.StampedRow.{StampedRow}
 use Rattle.as_of_index.specs.Places.{Lists}
 use Rattle.as_of_index.specs.Private.Postings.{numbered}
 use Rattle.links.specs.Private.{postings_in}
-use Rattle.links.specs.Private.Asking.{GivesSecond, AreGiven}
-use Rattle.links.proofs.hierarchy.find_seconds.Given as goal
+use Rattle.links.specs.Private.Asking.{GivesEnd, AreGiven}
+use Rattle.links.proofs.incoming.find_ends.Given as goal
 
 abbrev pub invariant-loop-segment : goal.invariant-loop-segment
-invariant-loop-segment l = (lists : List (List StampedRow)) → Lists l.index lists → AreGiven (GivesSecond lists l.asked) (numbered 0 (postings_in (take l.segment l.links))) l.ids.items
+invariant-loop-segment l = (lists : List (List StampedRow)) → Lists l.index lists → AreGiven (GivesEnd lists l.asked) (numbered 0 (postings_in (take l.segment l.links))) l.ids.items
