@@ -47,7 +47,8 @@ from typing import Optional
 BENCH = os.path.dirname(os.path.dirname(os.path.abspath(__file__)))
 sys.path += [os.path.join(BENCH, "measurements"), os.path.join(BENCH, "trials")]
 import make_release as rf2  # noqa: E402
-from soak_model import CONCEPT, KINDS, REFERENCED, REFSET, SUBJECTS, TARGET  # noqa: E402
+from soak_model import CONCEPT, DESTINATION, KINDS, REFERENCED, REFSET, SUBJECTS  # noqa: E402
+from soak_model import TARGET, TYPE  # noqa: E402
 from soak_model import Columns, Fault, File, Model, State, publications  # noqa: E402
 
 DATES = ["%d%s31" % (year, month) for year in range(2015, 2026) for month in ("01", "07")]
@@ -380,7 +381,7 @@ class Soak:
         chance = self.chance
         date = chance.choice(DATES + [LAST_DATE])
         kind = chance.choice(KINDS)
-        what = chance.randrange(29)
+        what = chance.randrange(31)
         if what < 4:
             return "GET %s %s %s" % (kind, self.component(kind), date)
         if what < 6:
@@ -402,7 +403,18 @@ class Soak:
             return self.of_reference_sets(what, date)
         if what == 27:
             return chance.choice(["DATES", "DATES", "DIGEST"])
-        return "RECEIPT %d" % chance.randint(0, self.model.state.imports + 1)
+        if what == 28:
+            return "RECEIPT %d" % chance.randint(0, self.model.state.imports + 1)
+        return self.sources(date)
+
+    def sources(self, date: str) -> str:
+        """What has a relationship to a concept, as a rule to one that is a destination."""
+        chance, found = self.chance, self.releases.row_of("R")
+        known = found if chance.random() < 0.7 else None
+        destination = known[DESTINATION] if known else self.component("C")
+        kinds = ["-", known[TYPE] if known else self.component("C"), str(rf2.ROOT)]
+        after, limit = chance.choice(["-", "-", self.component("C")]), chance.choice([1, 7, 50])
+        return "SOURCES %s %s %s %s %d" % (chance.choice(kinds), destination, date, after, limit)
 
     def of_reference_sets(self, what: int, date: str) -> str:
         """The members of a reference set, its values, or what a concept was called."""

@@ -28,7 +28,7 @@ LINE_LIMIT = 4096
 # What may stand behind AT.
 QUESTIONS = frozenset(
     "GET HISTORY CHILDREN ANCESTORS DESCENDANTS TERMS SEARCH REPLACED REPLACES ABOUT TIMELINE PAGE "
-    "DELTA DATES DIGEST RECEIPT MEMBERS VALUES CALLED".split()
+    "DELTA DATES DIGEST RECEIPT MEMBERS VALUES CALLED SOURCES".split()
 )
 NO_ARGUMENTS, NO_SUCH_IMPORT = ["ERR 43 Arguments"], ["ERR 44 PinRange"]
 # What needs members is refused with below layout 3: these, and questions with the letter M.
@@ -335,6 +335,13 @@ class Model:
         concept, date = words.split(" ")
         links = self.links(session, date)
         return ids_and_end({child for child, parent in links if parent == int(concept)})
+
+    def do_sources(self, session: Optional[int], words: str) -> Reply:
+        type_id, destination, date, after, limit = words.split(" ")
+        found = {int(c[SOURCE]) for c in self.active(session, "R", date)
+                 if c[DESTINATION] == destination and type_id in ("-", c[TYPE])}
+        least = 0 if after == "-" else int(after)
+        return ids_and_end(sorted(name for name in found if name > least)[: int(limit)])
 
     def do_ancestors(self, session: Optional[int], words: str) -> Reply:
         concept, date = words.split(" ")

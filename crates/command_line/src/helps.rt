@@ -58,6 +58,9 @@ Questions of reference sets, which are concepts, as 723264001:
 Questions of an audit:
   0 ANCESTORS 1000004 20210131       all concepts above the concept
   0 DESCENDANTS 138875005 20210131   all concepts below it
+  0 SOURCES 116680003 138875005 20210131 - 100
+                                     what has a relationship of this type to the
+                                     concept; of any type for - in its place
   0 REPLACES 2000001 20210131        the active associations that lead to the component
   0 TIMELINE D 1000004               all versions of what was ever about it
                                      (D, R, V, A, M)

@@ -69,6 +69,10 @@ pub fn ask_plainly(alloc: Global, shown: &[Row], question: Question, prefix: &st
         Question::Ancestors(id, date) => {
             spell_concepts(alloc, &plain_history::ancestors(alloc, shown, id, date)?)
         }
+        Question::Sources(type_id, id, date, after, limit) => {
+            let found = plain_history::sources(alloc, shown, type_id, id, date, after, limit)?;
+            spell_concepts(alloc, &found)
+        }
         Question::Dates => spell_dates(alloc, &plain_history::dates(alloc, shown)?),
         _ => spell_rows(alloc, &find(alloc, shown, question, prefix)?),
     }

@@ -12,11 +12,11 @@ use Rattle.rf2_values.specs.Row.{IsIdOf, SpellsId, IsConcept, IsComponent}
 use Rattle.rf2_values.proofs.Ids.{same_ids}
 use Rattle.rf2_values.proofs.Decimals.{time_below}
 use Rattle.line_commands.specs.declared.unread.Unread.TheVariants as unread
-use Rattle.line_commands.specs.Spelling.{word_of_question, letter, IsSubjectOf, SpellsQuestion, SpellsAfter, SpellsComponentAfter, most_rows}
+use Rattle.line_commands.specs.Spelling.{word_of_question, letter, IsSubjectOf, SpellsQuestion, SpellsAfter, SpellsComponentAfter, SpellsType, most_rows}
 use Rattle.question_model.specs.Questions.{Question, Get, History, Children, Ancestors, Descendants}
 use Rattle.question_model.specs.Questions.{Terms, Search, Replaced, Replaces, About, Timeline, Page}
 use Rattle.question_model.specs.Questions.{Delta, Members, Values, Called, Dates, Digest, Receipt}
-use Rattle.question_model.specs.Questions.{ForRows, ForIds}
+use Rattle.question_model.specs.Questions.{ForRows, ForIds, Sources}
 use Rattle.question_model.specs.Questions.{RowQuestion, IdQuestion}
 use Rattle.line_commands.specs.Commands.{Command, Ask, At, Import, Check, Pin, Unpin, Merge, Step, Publish, Abandon, Trim, Status, word_of, SpellsArguments}
 use Rattle.line_commands.specs.Requests.{with_rest, sessions, Asks, HasSession, HasCommand}
@@ -103,6 +103,17 @@ same_refset_words refset other date day a b limit most h g time also is_word oth
     let second = peel (decimal date) (decimal day) _ _ (decimal_word date (time_below date time)) (decimal_word day (time_below day also)) first.1 in
     let third = peel a b _ _ is_word other_word second.1 in
     (same_concepts refset other h g first.0, same_times date day time also second.0, third.0, decimal_injective limit most (omega arith) (omega arith) third.1)
+
+-- so is the type of a relationship or none
+same_type : (a b : Option ℕ) (t u : List ℕ) → t ≡ u → SpellsType a t → SpellsType b u → a ≡ b
+same_type None None t u text s h = refl
+same_type None (Some id) t u text s h = let high = h.0.sctid.high in absurd (no_dash_number id u (omega arith) (sym text ∙ s) h.1)
+same_type (Some id) None t u text s h = let high = s.0.sctid.high in absurd (no_dash_number id t (omega arith) (text ∙ h) s.1)
+same_type (Some id) (Some jd) t u text s h = ap (λ (x : ℕ). Some x) (same_concepts id jd s.0 h.0 (sym s.1 ∙ text ∙ h.1))
+
+pub type_word : (type_id : Option ℕ) (t : List ℕ) → SpellsType type_id t → IsWord t
+type_word None t h = subst IsWord (sym h) none_word
+type_word (Some id) t h = let high = h.0.sctid.high in subst IsWord (sym h.1) (decimal_word id (omega arith))
 
 rest_same : (xs ys : List (List ℕ)) (x y : List (List ℕ)) → xs ≡ x → ys ≡ y → behind xs ≡ behind ys → behind x ≡ behind y
 rest_same xs ys x y e f same = sym (ap behind e) ∙ same ∙ ap behind f
@@ -218,6 +229,14 @@ one_id_question (Ancestors id date) (Ancestors jd day) xs ys w s t same =
 one_id_question (Descendants id date) (Descendants jd day) xs ys w s t same =
     let e = same_concept_dates id jd date day s.0 t.0 s.1 t.1 (same_Some _ _ (rest_same xs ys _ _ s.2 t.2 same)) in
     ap (λ (x : ℕ). Descendants x date) e.0 ∙ ap (λ (x : ℕ). Descendants jd x) e.1
+one_id_question (Sources type_id to date after limit) (Sources other of day since most) xs ys w s t same =
+    let whole = same_Some _ _ (rest_same xs ys _ _ s.8 t.8 same) in
+    let first = peel s.0 t.0 _ _ (type_word type_id s.0 s.2) (type_word other t.0 t.2) whole in
+    let e = same_refset_words to of date day s.1 t.1 limit most s.4 t.4 s.5 t.5 (component_after_word after s.1 s.3) (component_after_word since t.1 t.3) s.7 t.7 first.1 in
+    let types = same_type type_id other s.0 t.0 first.0 s.2 t.2 in
+    let afters = same_component_after after since s.1 t.1 e.2 s.3 t.3 in
+    ap (λ (x : Option ℕ). Sources x to date after limit) types ∙ ap (λ (x : ℕ). Sources other x date after limit) e.0 ∙ ap (λ (x : ℕ). Sources other of x after limit) e.1
+    ∙ ap (λ (x : Option ℕ). Sources other of day x limit) afters ∙ ap (λ (x : ℕ). Sources other of day since x) e.3
 one_id_question p q xs ys w s t same = absurd (false≢true (sym (ap (bytes_eq (word_of_question (ForIds p))) w)))
 
 one_question : (p q : Question) (xs ys : List (List ℕ)) → word_of_question p ≡ word_of_question q → SpellsQuestion p xs → SpellsQuestion q ys → behind xs ≡ behind ys → p ≡ q

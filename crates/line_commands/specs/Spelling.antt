@@ -9,7 +9,7 @@ use Rattle.rf2_values.specs.Time.{IsTime}
 use Rattle.question_model.specs.Questions.{Question, ForRows, ForIds, Dates, Digest, Receipt}
 use Rattle.question_model.specs.Questions.{Get, History, Terms, Search, Replaced, Replaces, About, Timeline}
 use Rattle.question_model.specs.Questions.{Page, Delta, Members, Values, Called}
-use Rattle.question_model.specs.Questions.{Children, Ancestors, Descendants}
+use Rattle.question_model.specs.Questions.{Children, Ancestors, Descendants, Sources}
 
 -- the word of a question
 abbrev pub word_of_question : Question → List ℕ
@@ -29,6 +29,7 @@ word_of_question (ForRows (Delta kind from date after limit)) = codes "DELTA"
 word_of_question (ForRows (Members refset date after limit)) = codes "MEMBERS"
 word_of_question (ForRows (Values refset date after limit)) = codes "VALUES"
 word_of_question (ForRows (Called concept date refset)) = codes "CALLED"
+word_of_question (ForIds (Sources type_id destination date after limit)) = codes "SOURCES"
 word_of_question Dates = codes "DATES"
 word_of_question Digest = codes "DIGEST"
 word_of_question (Receipt number) = codes "RECEIPT"
@@ -66,6 +67,11 @@ SpellsAfter kind (Some id) text = IsIdOf kind id × SpellsId kind id text
 abbrev pub SpellsComponentAfter : Option ℕ → List ℕ → Type 0
 SpellsComponentAfter None text = text ≡ codes "-"
 SpellsComponentAfter (Some id) text = IsComponent id × (text ≡ decimal id)
+
+-- the type of a relationship, or `-` for any type
+abbrev pub SpellsType : Option ℕ → List ℕ → Type 0
+SpellsType None text = text ≡ codes "-"
+SpellsType (Some id) text = IsConcept id × (text ≡ decimal id)
 
 -- How the arguments of a question are spelled. The last one of TERMS and SEARCH may contain spaces.
 abbrev pub SpellsQuestion : Question → List (List ℕ) → Type 0
@@ -113,6 +119,10 @@ SpellsQuestion (ForRows (Values refset date after limit)) texts =
 SpellsQuestion (ForRows (Called concept date refset)) texts =
     IsConcept concept × IsTime date × IsConcept refset
     × (texts ≡ decimal concept ∷ decimal date ∷ decimal refset ∷ [])
+SpellsQuestion (ForIds (Sources type_id destination date after limit)) texts =
+    (word : List ℕ) × (text : List ℕ) × SpellsType type_id word × SpellsComponentAfter after text
+    × IsConcept destination × IsTime date × (1 ≤ limit) × (limit ≤ most_rows)
+    × (texts ≡ word ∷ decimal destination ∷ decimal date ∷ text ∷ decimal limit ∷ [])
 SpellsQuestion Dates texts = texts ≡ []
 SpellsQuestion Digest texts = texts ≡ []
 SpellsQuestion (Receipt number) texts =

@@ -6,7 +6,7 @@ ghost use Rattle.std.specs.Str.{IsUtf8};
 ghost use Rattle.rf2_values.specs.Member.{SpellsMember};
 ghost use Rattle.rf2_values.specs.Row.{IsOfClass, IsComponent, IsIdOf, SpellsId};
 ghost use Rattle.line_commands.specs.Spelling.{letter, IsSubjectOf, SpellsAfter};
-ghost use Rattle.line_commands.specs.Spelling.{SpellsComponentAfter};
+ghost use Rattle.line_commands.specs.Spelling.{SpellsComponentAfter, SpellsType};
 ghost use Rattle.line_commands.specs.Requests.{sessions};
 
 use crate::command::SESSIONS;
@@ -129,6 +129,20 @@ pub(crate) fn prefix(text: &[u8]) -> Option<&str>
     match str::from_utf8(text) {
         Ok(prefix) => Some(prefix),
         Err(_) => None,
+    }
+}
+
+/// The type of a relationship, or `-` for any type.
+pub(crate) fn type_of(text: &[u8]) -> Option<Option<Sctid>>
+    ensures { MatchOption result ((o : Option ℕ) → SpellsType o text.now → ⊥)
+        (λ o. SpellsType o text.now) }
+{
+    if text == b"-".as_slice() {
+        return Some(None);
+    }
+    match sctid_of(text, Class::Concept) {
+        Some(id) => Some(Some(id)),
+        None => None,
     }
 }
 

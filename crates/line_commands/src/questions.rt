@@ -8,7 +8,8 @@ ghost use Rattle.rf2_values.specs.Time.{IsTime};
 ghost use Rattle.line_commands.specs.Private.{IsQuestionReadAs, text_of_question};
 
 use crate::columns::{
-    after, component, component_after, identifier, kind, limit, prefix, sctid_of, subject,
+    after, component, component_after, identifier, kind, limit, prefix,
+    sctid_of, subject, type_of,
 };
 use crate::words::{QuestionWord, cut, cut_thrice, cut_twice};
 use question_model::{IdQuestion, Question, RowQuestion};
@@ -227,6 +228,25 @@ fn called(text: &[u8]) -> Option<Question<'_>>
     }))
 }
 
+fn sources(text: &[u8]) -> Option<Question<'_>>
+    ensures { IsQuestionReadAs (codes "SOURCES") (Some text.now) result }
+{
+    let (word, rest) = cut(text)?;
+    let (to, day, from, count) = cut_thrice(rest)?;
+    let type_id = type_of(word)?;
+    let destination = sctid_of(to, Class::Concept)?;
+    let date = EffectiveTime::parse(day)?;
+    let after = component_after(from)?;
+    let limit = limit(count, MOST_ROWS)?;
+    Some(Question::ForIds(IdQuestion::Sources {
+        type_id,
+        destination,
+        date,
+        after,
+        limit,
+    }))
+}
+
 fn receipt(text: &[u8]) -> Option<Question<'_>>
     ensures { IsQuestionReadAs (codes "RECEIPT") (Some text.now) result }
 {
@@ -259,6 +279,7 @@ pub(crate) fn question<'a>(word: QuestionWord, rest: Option<&'a [u8]>) -> Option
             QuestionWord::Members => members(text),
             QuestionWord::Values => values(text),
             QuestionWord::Called => called(text),
+            QuestionWord::Sources => sources(text),
             QuestionWord::Receipt => receipt(text),
             QuestionWord::Dates | QuestionWord::Digest => None,
         },

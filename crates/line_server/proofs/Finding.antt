@@ -7,7 +7,7 @@ use Rattle.history_model.proofs.Hierarchy.{one_list_of_ancestors, one_list_of_de
 use Rattle.history_store.specs.declared.refusal.Refusal.{Refusal}
 use Rattle.history_store.specs.declared.refusal.Refusal.TheVariants as store
 use Rattle.question_model.specs.Questions.{Question, Dates, Digest, Receipt, ForRows, ForIds}
-use Rattle.question_model.specs.Questions.{IdQuestion, Children, Ancestors, Descendants}
+use Rattle.question_model.specs.Questions.{IdQuestion, Children, Ancestors, Descendants, Sources}
 use Rattle.question_model.specs.Wanted.{AreIdsFor}
 use Rattle.line_server.specs.declared.refusal.LineRefusal.{LineRefusal}
 use Rattle.line_server.specs.declared.refusal.LineRefusal.TheVariants as refusals
@@ -38,6 +38,7 @@ same_ids : (question : IdQuestion) (rows : List RowValue) (ids others : List ℕ
 same_ids (Children concept date) rows ids others are also = are ∙ sym also
 same_ids (Ancestors concept date) rows ids others are also = one_list_of_ancestors concept date rows ids others are also
 same_ids (Descendants concept date) rows ids others are also = one_list_of_descendants concept date rows ids others are also
+same_ids (Sources type_id destination date after limit) rows ids others are also = are ∙ sym also
 
 -- a question finds one answer
 pub one_found : (question : Question) (rows : List RowValue) (x y : Answer) → IsFound question rows x → IsFound question rows y → x ≡ y

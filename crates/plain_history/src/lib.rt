@@ -10,6 +10,7 @@ mod edges;
 mod hierarchy;
 mod known;
 mod membership;
+mod relationships;
 mod releases;
 mod snapshots;
 
@@ -19,5 +20,6 @@ pub use edges::{about, children, replacements};
 pub use hierarchy::{ancestors, descendants, parents};
 pub use known::KnownRows;
 pub use membership::{called, members, values};
+pub use relationships::sources;
 pub use releases::{accepts, after_release, import_receipt, receipt, rows_at};
 pub use snapshots::{get, page, snapshot, versions};

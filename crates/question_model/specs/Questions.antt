@@ -24,11 +24,13 @@ pub data RowQuestion : Type 0 where
   Values : (refset date : ℕ) (after : Option ℕ) (limit : ℕ) → RowQuestion
   Called : (concept date refset : ℕ) → RowQuestion
 
--- a question for the identifiers of concepts at a date
+-- a question for identifiers at a date
 pub data IdQuestion : Type 0 where
   Children : (concept date : ℕ) → IdQuestion
   Ancestors : (concept date : ℕ) → IdQuestion
   Descendants : (concept date : ℕ) → IdQuestion
+  Sources : (type_id : Option ℕ) (destination date : ℕ) (after : Option ℕ) (limit : ℕ)
+      → IdQuestion
 
 -- A question about the imports that a session sees. A question changes nothing, and its answer
 -- depends on the session's pin.
@@ -58,6 +60,8 @@ abbrev pub id_question_of : RustIdQuestion → IdQuestion
 id_question_of (ids.Children concept date) = Children concept date
 id_question_of (ids.Ancestors concept date) = Ancestors concept date
 id_question_of (ids.Descendants concept date) = Descendants concept date
+id_question_of (ids.Sources type_id destination date after limit) =
+    Sources type_id destination date after limit
 
 abbrev pub question_of : RustQuestion → Question
 question_of (asked.ForRows question) = ForRows (row_question_of question)

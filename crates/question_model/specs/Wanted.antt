@@ -5,9 +5,10 @@ use Rattle.history_model.specs.Queries.{get, versions, page, delta, terms, searc
 use Rattle.history_model.specs.Queries.{timeline, replacements, replaces, members, values, called}
 use Rattle.history_model.specs.Queries.{children}
 use Rattle.history_model.specs.Hierarchy.{AreAncestors, AreDescendants}
+use Rattle.history_model.specs.Relationships.{sources}
 use Rattle.question_model.specs.Questions.{RowQuestion, Get, History, Terms, Search, Replaced, Replaces}
 use Rattle.question_model.specs.Questions.{About, Timeline, Page, Delta, Members, Values, Called}
-use Rattle.question_model.specs.Questions.{IdQuestion, Children, Ancestors, Descendants}
+use Rattle.question_model.specs.Questions.{IdQuestion, Children, Ancestors, Descendants, Sources}
 
 -- the rows that a question asks for
 abbrev pub rows_for : RowQuestion → List RowValue → List RowValue
@@ -30,3 +31,5 @@ abbrev pub AreIdsFor : IdQuestion → List RowValue → List ℕ → Type 0
 AreIdsFor (Children concept date) rows ids = ids ≡ children concept date rows
 AreIdsFor (Ancestors concept date) rows ids = AreAncestors concept date rows ids
 AreIdsFor (Descendants concept date) rows ids = AreDescendants concept date rows ids
+AreIdsFor (Sources type_id destination date after limit) rows ids =
+    ids ≡ sources type_id destination date after limit rows

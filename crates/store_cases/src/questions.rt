@@ -96,6 +96,13 @@ fn find(
         Question::Children(concept, date) => IdQuestion::Children { concept, date },
         Question::Descendants(concept, date) => IdQuestion::Descendants { concept, date },
         Question::Ancestors(concept, date) => IdQuestion::Ancestors { concept, date },
+        Question::Sources(type_id, destination, date, after, limit) => IdQuestion::Sources {
+            type_id,
+            destination,
+            date,
+            after,
+            limit,
+        },
         _ => return store.dates(pin),
     };
     let ids = store.ids(&concepts, pin)?;

@@ -1,0 +1,80 @@
+-- What the words behind SOURCES are.
+use Rattle.std.proofs.Common.{◌≡◌, ◌≢◌, ℕ, ◌≤◌, ◌<◌, ◌^◌, Option, Some, None, List, [], ◌∷◌, ◌++◌, refl, sym, ap, subst, ◌∙◌, arith}
+use Rattle.std.specs.Prelude.{decimal, codes, MatchOption}
+use Rattle.std.specs.Str.{bytes_eq}
+use Rattle.std.proofs.lemmas.Bool.{false≢true}
+use Rattle.std.proofs.lemmas.Option.{same_Some, none-some}
+use Rattle.rf2_values.specs.declared.row.Kind.{Kind}
+use Rattle.rf2_values.specs.declared.key.Key.{Key}
+use Rattle.rf2_values.specs.Row.{IsConcept}
+use Rattle.rf2_values.specs.Time.{IsTime}
+use Rattle.question_model.specs.Questions.{Question, Get, ForRows, ForIds, Children, Sources}
+use Rattle.line_commands.specs.Spelling.{letter, most_rows, SpellsType, SpellsKeyAfter, SpellsRows, SpellsComponentAfter}
+use Rattle.line_commands.specs.Private.{IsWord, IsRowsText, IsSpelledQuestion, behind}
+use Rattle.line_commands.proofs.FirstWords.{decimal_word, letter_word, no_space, peel, one_letter}
+use Rattle.line_commands.proofs.Forms.{told}
+use Rattle.line_commands.proofs.Readings.{type_word, key_words, component_after_word}
+use Rattle.line_commands.proofs.Refsets.{RefsetForm}
+
+-- ---- SOURCES
+
+record SourcesForm (text : List ℕ) : Type 0 where
+  type_id : Option ℕ
+  word : List ℕ
+  spells : SpellsType type_id word
+  rest : List ℕ
+  others : RefsetForm SpellsComponentAfter rest
+  whole_is : text ≡ word ++ 32 ∷ rest
+
+sources_form : (text : List ℕ) (question : Question) → IsSpelledQuestion (codes "SOURCES") (Some text) question → SourcesForm text
+sources_form text (ForIds (Sources type_id destination date after limit)) s =
+    record {
+      type_id = type_id;
+      word = s.spelled.0;
+      spells = s.spelled.2;
+      rest = decimal destination ++ 32 ∷ (decimal date ++ 32 ∷ (s.spelled.1 ++ 32 ∷ decimal limit));
+      others = record {
+        refset = destination;
+        date = date;
+        after = after;
+        word = s.spelled.1;
+        limit = limit;
+        is_concept = s.spelled.4;
+        is_time = s.spelled.5;
+        spells = s.spelled.3;
+        is_word = component_after_word after s.spelled.1 s.spelled.3;
+        low = s.spelled.6;
+        high = s.spelled.7;
+        whole = refl;
+      };
+      whole_is = told _ _ text _ s.rest_is s.spelled.8 refl;
+    }
+sources_form text (ForRows (Get kind id date)) s = absurd (false≢true (ap (bytes_eq (codes "SOURCES")) s.word_is))
+sources_form text question s = absurd (false≢true (ap (bytes_eq (codes "SOURCES")) s.word_is))
+
+pub sources_uncut : (text : List ℕ) → IsWord text → (question : Question) → IsSpelledQuestion (codes "SOURCES") (Some text) question → ⊥
+sources_uncut text free question s = let f = sources_form text question s in no_space text f.word f.rest free f.whole_is
+
+module _ (text word rest : List ℕ) (is_word : IsWord word) (cut : text ≡ word ++ 32 ∷ rest) (question : Question) (s : IsSpelledQuestion (codes "SOURCES") (Some text) question) where
+  abbrev sources_words : SourcesForm text
+  sources_words = sources_form text question s
+
+  apart_so : (word ≡ sources_words.word) × (rest ≡ sources_words.rest)
+  apart_so = let f = sources_words in peel word f.word rest f.rest is_word (type_word f.type_id f.word f.spells) (sym cut ∙ f.whole_is)
+
+  -- what follows the type is spelled as what follows VALUES
+  pub sources_rest : RefsetForm SpellsComponentAfter rest
+  sources_rest = subst (RefsetForm SpellsComponentAfter) (sym apart_so.1) sources_words.others
+
+  pub sources_no_type : ((o : Option ℕ) → SpellsType o word → ⊥) → ⊥
+  sources_no_type none = none sources_words.type_id (subst (SpellsType sources_words.type_id) (sym apart_so.0) sources_words.spells)
+
+pub sources_found : (text word rest a b u y : List ℕ) (type_id : Option ℕ) (destination date : ℕ) (after : Option ℕ) (limit : ℕ) → text ≡ word ++ 32 ∷ rest → rest ≡ a ++ 32 ∷ (b ++ 32 ∷ (u ++ 32 ∷ y)) → SpellsType type_id word
+    → IsConcept destination → a ≡ decimal destination → IsTime date → b ≡ decimal date → SpellsComponentAfter after u → 1 ≤ limit → limit ≤ most_rows → y ≡ decimal limit → IsSpelledQuestion (codes "SOURCES") (Some text) (ForIds (Sources type_id destination date after limit))
+sources_found text word rest a b u y type_id destination date after limit cut others spells concept first time day from low high last = record {
+  word_is = refl;
+  arguments = word ∷ decimal destination ∷ decimal date ∷ u ∷ decimal limit ∷ [];
+  spelled = (word, u, spells, from, concept, time, low, high, refl);
+  rest_is = ap (λ (t : List ℕ). Some (word ++ 32 ∷ (t ++ 32 ∷ (decimal date ++ 32 ∷ (u ++ 32 ∷ decimal limit))))) (sym first) ∙ ap (λ (t : List ℕ). Some (word ++ 32 ∷ (a ++ 32 ∷ (t ++ 32 ∷ (u ++ 32 ∷ decimal limit))))) (sym day)
+      ∙ ap (λ (t : List ℕ). Some (word ++ 32 ∷ (a ++ 32 ∷ (b ++ 32 ∷ (u ++ 32 ∷ t))))) (sym last) ∙ ap (λ (t : List ℕ). Some (word ++ 32 ∷ t)) (sym others) ∙ ap (λ (t : List ℕ). Some t) (sym cut);
+}
