@@ -28,7 +28,7 @@ LINE_LIMIT = 4096
 # What may stand behind AT.
 QUESTIONS = frozenset(
     "GET HISTORY CHILDREN ANCESTORS DESCENDANTS TERMS SEARCH REPLACED REPLACES ABOUT TIMELINE PAGE "
-    "DELTA DATES DIGEST RECEIPT MEMBERS VALUES CALLED SOURCES".split()
+    "DELTA DATES DIGEST RECEIPT MEMBERS VALUES CALLED SOURCES ROWS".split()
 )
 NO_ARGUMENTS, NO_SUCH_IMPORT = ["ERR 43 Arguments"], ["ERR 44 PinRange"]
 # What needs members is refused with below layout 3: these, and questions with the letter M.
@@ -316,6 +316,20 @@ class Model:
                 for columns in self.kinds[kind].all_of(name, self.pin(session)):
                     digest.update(("%s %s\n" % (kind, "\t".join(columns))).encode())
         return ["OK " + digest.hexdigest()]
+
+    def rows_after(self, words: str, is_wanted: Callable[[int], bool]) -> Reply:
+        """The first rows of a kind after a key, of those imports whose numbers are wanted."""
+        kind, name, date, limit = words.split(" ")
+        if (name == "-") != (date == "-"):
+            return NO_ARGUMENTS
+        after = (-1, "") if name == "-" else (name_of(kind, name), date)
+        table = self.kinds[kind].of
+        keys = sorted((own, day) for own in table for day in table[own] if (own, day) > after)
+        found = [table[own][day] for own, day in keys]
+        return rows_and_end([c for number, c in found if is_wanted(number)][: int(limit)])
+
+    def do_rows(self, session: Optional[int], words: str) -> Reply:
+        return self.rows_after(words, lambda number: number <= self.pin(session))
 
     def do_receipt(self, session: Optional[int], words: str) -> Reply:
         number = int(words)

@@ -105,6 +105,9 @@ pub fn rows_found<R: RowReader>(
             let as_of = AsOf { date, pin };
             search(alloc, made, reader, prefix, as_of, (after, limit))
         }
+        Question::AllRows(kind, after, limit) => {
+            index.rows_of_kind(reader, kind, after, limit, pin)
+        }
         Question::Children(_, _)
         | Question::Descendants(_, _)
         | Question::Ancestors(_, _)

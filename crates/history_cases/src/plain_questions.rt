@@ -52,6 +52,9 @@ fn find<'a>(
         Question::Search(date, after, limit) => {
             plain_history::search_terms(alloc, shown, prefix, date, after, limit)?
         }
+        Question::AllRows(kind, after, limit) => {
+            plain_history::rows_of_kind(alloc, shown, kind, after, limit)?
+        }
         _ => return Err(NoAnswer::NoQuestion),
     })
 }

@@ -147,5 +147,8 @@ pub fn select<R: RowReader>(
             let as_of = AsOf { date, pin };
             called(alloc, links, places, reader, concept, as_of, refset)
         }
+        RowQuestion::AllRows { kind, after, limit } => {
+            places.rows_of_kind(reader, kind, after, limit, pin)
+        }
     }
 }

@@ -18,7 +18,7 @@ use Rattle.line_commands.specs.Spelling.{word_of_question, letter}
 use Rattle.question_model.specs.Questions.{Question, Get, History, Children, Ancestors, Descendants}
 use Rattle.question_model.specs.Questions.{Terms, Search, Replaced, Replaces, About, Timeline, Page}
 use Rattle.question_model.specs.Questions.{Delta, Members, Values, Called, Dates, Digest, Receipt}
-use Rattle.question_model.specs.Questions.{ForRows, ForIds, Sources}
+use Rattle.question_model.specs.Questions.{ForRows, ForIds, AllRows, Sources}
 use Rattle.line_commands.specs.Commands.{Command, Ask, At, Import, Check, Pin, Unpin, Merge, Step, Publish, Abandon, Trim, Status, word_of}
 use Rattle.line_commands.specs.Requests.{with_rest, spaced}
 use Rattle.line_commands.specs.Private.{IsWord, IsOther, text_of_question, behind}
@@ -68,6 +68,7 @@ question_is_word (ForRows (Delta kind from date after limit)) = from_test (codes
 question_is_word (ForRows (Members refset date after limit)) = from_test (codes "MEMBERS") refl
 question_is_word (ForRows (Values refset date after limit)) = from_test (codes "VALUES") refl
 question_is_word (ForRows (Called concept date refset)) = from_test (codes "CALLED") refl
+question_is_word (ForRows (AllRows kind after limit)) = from_test (codes "ROWS") refl
 question_is_word (ForIds (Sources type_id destination date after limit)) = from_test (codes "SOURCES") refl
 question_is_word Dates = from_test (codes "DATES") refl
 question_is_word Digest = from_test (codes "DIGEST") refl
@@ -138,7 +139,7 @@ spaced_is word (t ∷ ts) = refl
 
 -- the words of questions for rows, and of those for identifiers
 row_words : List (List ℕ)
-row_words = codes "GET" ∷ codes "HISTORY" ∷ codes "TERMS" ∷ codes "SEARCH" ∷ codes "REPLACED" ∷ codes "REPLACES" ∷ codes "ABOUT" ∷ codes "TIMELINE" ∷ codes "PAGE" ∷ codes "DELTA" ∷ codes "MEMBERS" ∷ codes "VALUES" ∷ codes "CALLED" ∷ []
+row_words = codes "GET" ∷ codes "HISTORY" ∷ codes "TERMS" ∷ codes "SEARCH" ∷ codes "REPLACED" ∷ codes "REPLACES" ∷ codes "ABOUT" ∷ codes "TIMELINE" ∷ codes "PAGE" ∷ codes "DELTA" ∷ codes "MEMBERS" ∷ codes "VALUES" ∷ codes "CALLED" ∷ codes "ROWS" ∷ []
 
 id_words : List (List ℕ)
 id_words = codes "CHILDREN" ∷ codes "ANCESTORS" ∷ codes "DESCENDANTS" ∷ codes "SOURCES" ∷ []
@@ -175,6 +176,7 @@ form_is (ForRows (Delta kind from date after limit)) = refl
 form_is (ForRows (Members refset date after limit)) = refl
 form_is (ForRows (Values refset date after limit)) = refl
 form_is (ForRows (Called concept date refset)) = refl
+form_is (ForRows (AllRows kind after limit)) = refl
 form_is (ForIds (Children concept date)) = refl
 form_is (ForIds (Ancestors concept date)) = refl
 form_is (ForIds (Descendants concept date)) = refl
@@ -218,6 +220,7 @@ some_question asking.Delta = (ForRows (Delta kinds.Concept 0 0 None 0), refl)
 some_question asking.Members = (ForRows (Members 0 0 None 0), refl)
 some_question asking.Values = (ForRows (Values 0 0 None 0), refl)
 some_question asking.Called = (ForRows (Called 0 0 0), refl)
+some_question asking.AllRows = (ForRows (AllRows kinds.Concept None 0), refl)
 some_question asking.Sources = (ForIds (Sources None 0 0 None 0), refl)
 some_question asking.Dates = (Dates, refl)
 some_question asking.Digest = (Digest, refl)

@@ -1,4 +1,4 @@
--- What the words behind SOURCES are.
+-- What the words behind ROWS and SOURCES are.
 use Rattle.std.proofs.Common.{◌≡◌, ◌≢◌, ℕ, ◌≤◌, ◌<◌, ◌^◌, Option, Some, None, List, [], ◌∷◌, ◌++◌, refl, sym, ap, subst, ◌∙◌, arith}
 use Rattle.std.specs.Prelude.{decimal, codes, MatchOption}
 use Rattle.std.specs.Str.{bytes_eq}
@@ -8,13 +8,66 @@ use Rattle.rf2_values.specs.declared.row.Kind.{Kind}
 use Rattle.rf2_values.specs.declared.key.Key.{Key}
 use Rattle.rf2_values.specs.Row.{IsConcept}
 use Rattle.rf2_values.specs.Time.{IsTime}
-use Rattle.question_model.specs.Questions.{Question, Get, ForRows, ForIds, Children, Sources}
+use Rattle.question_model.specs.Questions.{Question, Get, ForRows, ForIds, Children, AllRows, Sources}
 use Rattle.line_commands.specs.Spelling.{letter, most_rows, SpellsType, SpellsKeyAfter, SpellsRows, SpellsComponentAfter}
 use Rattle.line_commands.specs.Private.{IsWord, IsRowsText, IsSpelledQuestion, behind}
 use Rattle.line_commands.proofs.FirstWords.{decimal_word, letter_word, no_space, peel, one_letter}
 use Rattle.line_commands.proofs.Forms.{told}
 use Rattle.line_commands.proofs.Readings.{type_word, key_words, component_after_word}
 use Rattle.line_commands.proofs.Refsets.{RefsetForm}
+
+-- ---- a kind, a key and a limit
+
+pub none_of_rows : (text : List ℕ) (r : Option (Kind × Option Key × ℕ)) → r ≡ None → ((k : Kind) (o : Option Key) (n : ℕ) → IsRowsText k o n text → ⊥) → MatchOption r ((k : Kind) (o : Option Key) (n : ℕ) → IsRowsText k o n text → ⊥) (λ x. IsRowsText x.0 x.1 x.2 text)
+none_of_rows text None e none = none
+none_of_rows text (Some x) e none = absurd (none-some x (sym e))
+
+module _ (text : List ℕ) (k : Kind) (o : Option Key) (n : ℕ) (f : IsRowsText k o n text) where
+  abbrev spelled : SpellsRows k o n f.0
+  spelled = f.1
+
+  whole : text ≡ letter k ++ 32 ∷ (spelled.0 ++ 32 ∷ (spelled.1 ++ 32 ∷ decimal n))
+  whole = same_Some _ _ (sym f.2 ∙ ap behind spelled.5)
+
+  words : IsWord spelled.0 × IsWord spelled.1
+  words = key_words k o spelled.0 spelled.1 spelled.2
+
+  pub rows_uncut : ((a b c x : List ℕ) → IsWord a → IsWord b → IsWord c → text ≢ a ++ 32 ∷ (b ++ 32 ∷ (c ++ 32 ∷ x))) → ⊥
+  rows_uncut none = none (letter k) spelled.0 spelled.1 _ (letter_word k) words.0 words.1 whole
+
+  module _ (a b u y : List ℕ) (is_word : IsWord a) (other_word : IsWord b) (third_word : IsWord u) (cut : text ≡ a ++ 32 ∷ (b ++ 32 ∷ (u ++ 32 ∷ y))) where
+    apart : (a ≡ letter k) × (b ≡ spelled.0) × (u ≡ spelled.1) × (y ≡ decimal n)
+    apart =
+        let p = peel a (letter k) _ _ is_word (letter_word k) (sym cut ∙ whole) in
+        let q = peel b spelled.0 _ _ other_word words.0 p.1 in
+        let r = peel u spelled.1 _ _ third_word words.1 q.1 in
+        (p.0, q.0, r.0, r.1)
+
+    pub rows_no_kind : ((l : Kind) → a ≢ letter l) → ⊥
+    rows_no_kind none = none k apart.0
+
+    pub rows_no_key : (l : Kind) → a ≡ letter l → ((p : Option Key) → SpellsKeyAfter l p b u → ⊥) → ⊥
+    rows_no_key l is none =
+        let same : k ≡ l = one_letter k l (sym apart.0 ∙ is) in
+        none o (subst (λ (z : Kind). SpellsKeyAfter z o b u) same
+        (subst (λ (z : List ℕ). SpellsKeyAfter k o z u) (sym apart.1) (subst (λ (z : List ℕ). SpellsKeyAfter k o spelled.0 z) (sym apart.2) spelled.2)))
+
+    pub rows_no_limit : ((m : ℕ) → 1 ≤ m → m ≤ most_rows → y ≢ decimal m) → ⊥
+    rows_no_limit none = none n spelled.3 spelled.4 apart.3
+
+pub rows_found : (text a b u y : List ℕ) (kind : Kind) (after : Option Key) (limit : ℕ) → text ≡ a ++ 32 ∷ (b ++ 32 ∷ (u ++ 32 ∷ y)) → a ≡ letter kind → SpellsKeyAfter kind after b u → 1 ≤ limit → limit ≤ most_rows → y ≡ decimal limit → IsRowsText kind after limit text
+rows_found text a b u y kind after limit cut first spells low high last = (
+  letter kind ∷ b ∷ u ∷ decimal limit ∷ [],
+  (b, u, spells, low, high, refl),
+  ap (λ (t : List ℕ). Some (t ++ 32 ∷ (b ++ 32 ∷ (u ++ 32 ∷ decimal limit)))) (sym first) ∙ ap (λ (t : List ℕ). Some (a ++ 32 ∷ (b ++ 32 ∷ (u ++ 32 ∷ t)))) (sym last) ∙ ap (λ (t : List ℕ). Some t) (sym cut),
+)
+
+-- ---- ROWS
+
+pub no_rows : (text : List ℕ) → ((k : Kind) (o : Option Key) (n : ℕ) → IsRowsText k o n text → ⊥) → (question : Question) → IsSpelledQuestion (codes "ROWS") (Some text) question → ⊥
+no_rows text none (ForRows (AllRows k o n)) s = none k o n (s.arguments, s.spelled, s.rest_is)
+no_rows text none (ForIds (Children concept date)) s = false≢true (ap (bytes_eq (codes "ROWS")) s.word_is)
+no_rows text none question s = false≢true (ap (bytes_eq (codes "ROWS")) s.word_is)
 
 -- ---- SOURCES
 

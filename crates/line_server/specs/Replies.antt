@@ -24,7 +24,7 @@ use Rattle.history_store.specs.MergeAnswers.{IsBeginningOf, IsSteppingOf, IsPubl
 use Rattle.history_store.specs.MergeAnswers.{IsAbandoningOf, IsTrimmingOf}
 use Rattle.line_commands.specs.declared.unread.Unread.{Unread}
 use Rattle.question_model.specs.Questions.{RowQuestion, Get, History, About, Timeline, Page, Delta}
-use Rattle.question_model.specs.Questions.{Members, Values, Called}
+use Rattle.question_model.specs.Questions.{Members, Values, Called, AllRows}
 use Rattle.question_model.specs.Questions.{Question, ForRows, ForIds, Dates as AskDates, Digest}
 use Rattle.question_model.specs.Questions.{Receipt as AskReceipt}
 use Rattle.question_model.specs.Wanted.{rows_for, AreIdsFor}
@@ -328,6 +328,7 @@ AsksMembers (Delta kind from date after limit) = kind ≡ kinds.Member
 AsksMembers (Members refset date after limit) = Unit {0}
 AsksMembers (Values refset date after limit) = Unit {0}
 AsksMembers (Called concept date refset) = Unit {0}
+AsksMembers (AllRows kind after limit) = kind ≡ kinds.Member
 AsksMembers _ = ⊥
 
 abbrev pub NeedsMembers : Question → Type 0

@@ -30,7 +30,8 @@ fn asks_members(question: &RowQuestion<'_>) -> bool
         | RowQuestion::About { kind, .. }
         | RowQuestion::Timeline { kind, .. }
         | RowQuestion::Page { kind, .. }
-        | RowQuestion::Delta { kind, .. } => kind == Kind::Member,
+        | RowQuestion::Delta { kind, .. }
+        | RowQuestion::AllRows { kind, .. } => kind == Kind::Member,
         RowQuestion::Members { .. } | RowQuestion::Values { .. } | RowQuestion::Called { .. } => {
             true
         }

@@ -7,6 +7,7 @@
 mod audit;
 mod descriptions;
 mod edges;
+mod exports;
 mod hierarchy;
 mod known;
 mod membership;
@@ -17,6 +18,7 @@ mod snapshots;
 pub use audit::{dates, delta, replaces, timeline};
 pub use descriptions::{search_terms, terms};
 pub use edges::{about, children, replacements};
+pub use exports::rows_of_kind;
 pub use hierarchy::{ancestors, descendants, parents};
 pub use known::KnownRows;
 pub use membership::{called, members, values};

@@ -1,6 +1,7 @@
 -- Questions, with texts as their bytes.
 use Rattle.std.specs.Prelude.{ℕ, List, Option}
 use Rattle.rf2_values.specs.declared.row.Kind.{Kind}
+use Rattle.rf2_values.specs.declared.key.Key.{Key}
 use Rattle.question_model.specs.declared.question.RowQuestion.{RowQuestion as RustRowQuestion}
 use Rattle.question_model.specs.declared.question.RowQuestion.TheVariants as rows
 use Rattle.question_model.specs.declared.question.IdQuestion.{IdQuestion as RustIdQuestion}
@@ -23,6 +24,7 @@ pub data RowQuestion : Type 0 where
   Members : (refset date : ℕ) (after : Option ℕ) (limit : ℕ) → RowQuestion
   Values : (refset date : ℕ) (after : Option ℕ) (limit : ℕ) → RowQuestion
   Called : (concept date refset : ℕ) → RowQuestion
+  AllRows : (kind : Kind) (after : Option Key) (limit : ℕ) → RowQuestion
 
 -- a question for identifiers at a date
 pub data IdQuestion : Type 0 where
@@ -55,6 +57,7 @@ row_question_of (rows.Replaces id date) = Replaces id date
 row_question_of (rows.Members refset date after limit) = Members refset date after limit
 row_question_of (rows.Values refset date after limit) = Values refset date after limit
 row_question_of (rows.Called concept date refset) = Called concept date refset
+row_question_of (rows.AllRows kind after limit) = AllRows kind after limit
 
 abbrev pub id_question_of : RustIdQuestion → IdQuestion
 id_question_of (ids.Children concept date) = Children concept date

@@ -1,6 +1,6 @@
 //! The questions, by what they are answered with.
 
-use rf2_values::{EffectiveTime, Kind, Sctid};
+use rf2_values::{EffectiveTime, Key, Kind, Sctid};
 
 /// A question for rows, among those that a pin shows.
 #[derive(Clone, Copy, Debug, PartialEq, Eq)]
@@ -96,6 +96,13 @@ pub enum RowQuestion<'a> {
         concept: Sctid,
         date: EffectiveTime,
         refset: Sctid,
+    },
+    /// All versions of the components of a kind, in the order of their keys: the first rows whose
+    /// keys are greater than `after`, if that is given, at most `limit`.
+    AllRows {
+        kind: Kind,
+        after: Option<Key>,
+        limit: u32,
     },
 }
 

@@ -77,6 +77,7 @@ fn rows_asked(question: Question, prefix: &str) -> Option<RowQuestion<'_>> {
             after,
             limit,
         }),
+        Question::AllRows(kind, after, limit) => Some(RowQuestion::AllRows { kind, after, limit }),
         _ => None,
     }
 }
