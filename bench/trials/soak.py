@@ -381,7 +381,7 @@ class Soak:
         chance = self.chance
         date = chance.choice(DATES + [LAST_DATE])
         kind = chance.choice(KINDS)
-        what = chance.randrange(32)
+        what = chance.randrange(33)
         if what < 4:
             return "GET %s %s %s" % (kind, self.component(kind), date)
         if what < 6:
@@ -405,7 +405,7 @@ class Soak:
             return chance.choice(["DATES", "DATES", "DIGEST"])
         if what == 28:
             return "RECEIPT %d" % chance.randint(0, self.model.state.imports + 1)
-        return self.sources(date) if what < 31 else self.in_key_order(kind)
+        return self.sources(date) if what < 31 else self.in_key_order(what, kind)
 
     def sources(self, date: str) -> str:
         """What has a relationship to a concept, as a rule to one that is a destination."""
@@ -416,12 +416,15 @@ class Soak:
         after, limit = chance.choice(["-", "-", self.component("C")]), chance.choice([1, 7, 50])
         return "SOURCES %s %s %s %s %d" % (chance.choice(kinds), destination, date, after, limit)
 
-    def in_key_order(self, kind: str) -> str:
-        """All rows of a kind after the key of a row."""
+    def in_key_order(self, what: int, kind: str) -> str:
+        """All rows of a kind, or those that an import brought, after the key of a row."""
         chance, found = self.chance, self.releases.row_of(kind)
         key = "%s %s" % (found[0], found[1]) if found and chance.random() < 0.7 else "- -"
-        keys = [key, key, key, "- %s" % DATES[0]]
-        return "ROWS %s %s %d" % (kind, chance.choice(keys), chance.choice([1, 7, 50]))
+        rows = "%s %s %d" % (kind, chance.choice([key, key, key, "- %s" % DATES[0]]),
+                             chance.choice([1, 7, 50]))
+        if what == 31:
+            return "ROWS " + rows
+        return "ADDED %d %s" % (chance.randint(0, self.model.state.imports + 1), rows)
 
     def of_reference_sets(self, what: int, date: str) -> str:
         """The members of a reference set, its values, or what a concept was called."""

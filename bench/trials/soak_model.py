@@ -28,7 +28,7 @@ LINE_LIMIT = 4096
 # What may stand behind AT.
 QUESTIONS = frozenset(
     "GET HISTORY CHILDREN ANCESTORS DESCENDANTS TERMS SEARCH REPLACED REPLACES ABOUT TIMELINE PAGE "
-    "DELTA DATES DIGEST RECEIPT MEMBERS VALUES CALLED SOURCES ROWS".split()
+    "DELTA DATES DIGEST RECEIPT MEMBERS VALUES CALLED SOURCES ROWS ADDED".split()
 )
 NO_ARGUMENTS, NO_SUCH_IMPORT = ["ERR 43 Arguments"], ["ERR 44 PinRange"]
 # What needs members is refused with below layout 3: these, and questions with the letter M.
@@ -190,7 +190,8 @@ class Model:
     def asked(self, command: str, said: Reply, words: str) -> Reply:
         """What a command is answered: below layout 3 nothing that needs members, unless its
         arguments are none."""
-        needs = command in OF_MEMBERS or command in QUESTIONS and words.startswith("M ")
+        kind = words.split(" ")[command == "ADDED" :][:1]
+        needs = command in OF_MEMBERS or command in QUESTIONS and kind == ["M"]
         return LATER_LAYOUT if needs and not self.keeps_all and said != NO_ARGUMENTS else said
 
     def call_of(self, command: str) -> Optional[Callable[[Optional[int], str], Reply]]:
@@ -330,6 +331,12 @@ class Model:
 
     def do_rows(self, session: Optional[int], words: str) -> Reply:
         return self.rows_after(words, lambda number: number <= self.pin(session))
+
+    def do_added(self, session: Optional[int], words: str) -> Reply:
+        number, _, rest = words.partition(" ")
+        said = self.rows_after(rest, lambda other: other == int(number))
+        is_seen = 1 <= int(number) <= self.pin(session)
+        return said if is_seen or said == NO_ARGUMENTS else NO_SUCH_IMPORT
 
     def do_receipt(self, session: Optional[int], words: str) -> Reply:
         number = int(words)

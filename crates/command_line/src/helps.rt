@@ -67,6 +67,7 @@ Questions of an audit:
   0 DELTA C 20200131 20210131 - 100  what changed after the one date, up to the other
   0 ROWS C - - 100                   all versions of the kind, from the first one on
   0 ROWS C 1000004 20210131 100      the same, behind the row of this id and date
+  0 ADDED 2 C - - 100                the same, of the rows that import 2 brought
   0 DATES                            the dates that have rows
   0 DIGEST                           the SHA-256 of all rows that the session sees
   0 AT 1 GET C 1000004 20210131      a question, of what the first import brought

@@ -18,7 +18,7 @@ use Rattle.line_commands.specs.Spelling.{word_of_question, letter}
 use Rattle.question_model.specs.Questions.{Question, Get, History, Children, Ancestors, Descendants}
 use Rattle.question_model.specs.Questions.{Terms, Search, Replaced, Replaces, About, Timeline, Page}
 use Rattle.question_model.specs.Questions.{Delta, Members, Values, Called, Dates, Digest, Receipt}
-use Rattle.question_model.specs.Questions.{ForRows, ForIds, AllRows, Sources}
+use Rattle.question_model.specs.Questions.{ForRows, ForIds, AllRows, Sources, Added}
 use Rattle.line_commands.specs.Commands.{Command, Ask, At, Import, Check, Pin, Unpin, Merge, Step, Publish, Abandon, Trim, Status, word_of}
 use Rattle.line_commands.specs.Requests.{with_rest, spaced}
 use Rattle.line_commands.specs.Private.{IsWord, IsOther, text_of_question, behind}
@@ -73,6 +73,7 @@ question_is_word (ForIds (Sources type_id destination date after limit)) = from_
 question_is_word Dates = from_test (codes "DATES") refl
 question_is_word Digest = from_test (codes "DIGEST") refl
 question_is_word (Receipt number) = from_test (codes "RECEIPT") refl
+question_is_word (Added number kind after limit) = from_test (codes "ADDED") refl
 
 pub command_is_word : (command : Command) → IsWord (word_of command)
 unfolding test
@@ -152,7 +153,8 @@ among word (one ∷ others) = if bytes_eq word one then true else among word oth
 pub form : List ℕ → ℕ
 form word =
     if among word row_words then 1 else if among word id_words then 2
-    else if bytes_eq word (codes "DATES") then 3 else if bytes_eq word (codes "DIGEST") then 4 else if bytes_eq word (codes "RECEIPT") then 5 else 0
+    else if bytes_eq word (codes "DATES") then 3 else if bytes_eq word (codes "DIGEST") then 4 else if bytes_eq word (codes "RECEIPT") then 5
+    else if bytes_eq word (codes "ADDED") then 6 else 0
 
 abbrev pub form_of : Question → ℕ
 form_of (ForRows question) = 1
@@ -160,6 +162,7 @@ form_of (ForIds question) = 2
 form_of Dates = 3
 form_of Digest = 4
 form_of (Receipt number) = 5
+form_of (Added number kind after limit) = 6
 
 pub form_is : (question : Question) → form (word_of_question question) ≡ form_of question
 unfolding form among row_words id_words
@@ -184,6 +187,7 @@ form_is (ForIds (Sources type_id destination date after limit)) = refl
 form_is Dates = refl
 form_is Digest = refl
 form_is (Receipt number) = refl
+form_is (Added number kind after limit) = refl
 
 some_form : (question : Question) → nat_eq 0 (form_of question) ≡ false
 some_form (ForRows question) = refl
@@ -191,6 +195,7 @@ some_form (ForIds question) = refl
 some_form Dates = refl
 some_form Digest = refl
 some_form (Receipt number) = refl
+some_form (Added number kind after limit) = refl
 
 -- no other command has a question's word
 pub not_asked : (question : Question) (command : Command) → IsOther command → word_of_question question ≡ word_of command → ⊥
@@ -225,6 +230,7 @@ some_question asking.Sources = (ForIds (Sources None 0 0 None 0), refl)
 some_question asking.Dates = (Dates, refl)
 some_question asking.Digest = (Digest, refl)
 some_question asking.Receipt = (Receipt 0, refl)
+some_question asking.Added = (Added 0 kinds.Concept None 0, refl)
 
 pub one_letter : (k l : Kind) → letter k ≡ letter l → k ≡ l
 one_letter kinds.Concept kinds.Concept e = refl

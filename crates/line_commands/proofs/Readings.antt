@@ -17,7 +17,7 @@ use Rattle.line_commands.specs.Spelling.{word_of_question, letter, IsSubjectOf, 
 use Rattle.question_model.specs.Questions.{Question, Get, History, Children, Ancestors, Descendants}
 use Rattle.question_model.specs.Questions.{Terms, Search, Replaced, Replaces, About, Timeline, Page}
 use Rattle.question_model.specs.Questions.{Delta, Members, Values, Called, Dates, Digest, Receipt}
-use Rattle.question_model.specs.Questions.{ForRows, ForIds, AllRows, Sources}
+use Rattle.question_model.specs.Questions.{ForRows, ForIds, AllRows, Sources, Added}
 use Rattle.question_model.specs.Questions.{RowQuestion, IdQuestion}
 use Rattle.line_commands.specs.Commands.{Command, Ask, At, Import, Check, Pin, Unpin, Merge, Step, Publish, Abandon, Trim, Status, word_of, SpellsArguments}
 use Rattle.line_commands.specs.Requests.{with_rest, sessions, Asks, HasSession, HasCommand}
@@ -280,6 +280,14 @@ one_question (Receipt m) (Receipt n) xs ys w s t same =
     let low = s.1 in
     let high = t.1 in
     ap (λ (x : ℕ). Receipt x) (decimal_injective m n (omega arith) (omega arith) (same_Some _ _ (rest_same xs ys _ _ s.2 t.2 same)))
+one_question (Added m k a x) (Added n l b y) xs ys w s t same =
+    let whole = same_Some _ _ (rest_same xs ys _ _ s.3 t.3 same) in
+    let low = s.1 in
+    let high = t.1 in
+    let heads = one_head (decimal m) (decimal n) _ _ (decimal_word m (omega arith)) (decimal_word n (omega arith)) (sym (spaced_is (decimal m) s.0) ∙ whole ∙ spaced_is (decimal n) t.0) in
+    let numbers = decimal_injective m n (omega arith) (omega arith) heads.0 in
+    let e = one_rows k l a b x y s.0 t.0 s.2 t.2 heads.1 in
+    ap (λ (z : ℕ). Added z k a x) numbers ∙ ap (λ (z : Kind). Added n z a x) e.0 ∙ ap (λ (z : Option Key). Added n l z x) e.1 ∙ ap (λ (z : ℕ). Added n l b z) e.2
 one_question p q xs ys w s t same = absurd (false≢true (sym (ap (nat_eq (form_of p)) (sym (form_is p) ∙ ap form w ∙ form_is q))))
 
 -- ---- one command

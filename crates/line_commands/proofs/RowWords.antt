@@ -1,4 +1,4 @@
--- What the words behind ROWS and SOURCES are.
+-- What the words behind ROWS, ADDED and SOURCES are.
 use Rattle.std.proofs.Common.{◌≡◌, ◌≢◌, ℕ, ◌≤◌, ◌<◌, ◌^◌, Option, Some, None, List, [], ◌∷◌, ◌++◌, refl, sym, ap, subst, ◌∙◌, arith}
 use Rattle.std.specs.Prelude.{decimal, codes, MatchOption}
 use Rattle.std.specs.Str.{bytes_eq}
@@ -8,7 +8,7 @@ use Rattle.rf2_values.specs.declared.row.Kind.{Kind}
 use Rattle.rf2_values.specs.declared.key.Key.{Key}
 use Rattle.rf2_values.specs.Row.{IsConcept}
 use Rattle.rf2_values.specs.Time.{IsTime}
-use Rattle.question_model.specs.Questions.{Question, Get, ForRows, ForIds, Children, AllRows, Sources}
+use Rattle.question_model.specs.Questions.{Question, Get, ForRows, ForIds, Children, AllRows, Sources, Added}
 use Rattle.line_commands.specs.Spelling.{letter, most_rows, SpellsType, SpellsKeyAfter, SpellsRows, SpellsComponentAfter}
 use Rattle.line_commands.specs.Private.{IsWord, IsRowsText, IsSpelledQuestion, behind}
 use Rattle.line_commands.proofs.FirstWords.{decimal_word, letter_word, no_space, peel, one_letter}
@@ -68,6 +68,63 @@ pub no_rows : (text : List ℕ) → ((k : Kind) (o : Option Key) (n : ℕ) → I
 no_rows text none (ForRows (AllRows k o n)) s = none k o n (s.arguments, s.spelled, s.rest_is)
 no_rows text none (ForIds (Children concept date)) s = false≢true (ap (bytes_eq (codes "ROWS")) s.word_is)
 no_rows text none question s = false≢true (ap (bytes_eq (codes "ROWS")) s.word_is)
+
+-- ---- ADDED
+
+record AddedForm (text : List ℕ) : Type 0 where
+  number : ℕ
+  below : number < 2 ^ 32
+  kind : Kind
+  after : Option Key
+  limit : ℕ
+  rest : List ℕ
+  rows : IsRowsText kind after limit rest
+  whole_is : text ≡ decimal number ++ 32 ∷ rest
+
+added_form : (text : List ℕ) (question : Question) → IsSpelledQuestion (codes "ADDED") (Some text) question → AddedForm text
+added_form text (Added number kind after limit) s =
+    let r = s.spelled.2 in
+    let rest = letter kind ++ 32 ∷ (r.0 ++ 32 ∷ (r.1 ++ 32 ∷ decimal limit)) in
+    record {
+      number = number;
+      below = s.spelled.1;
+      kind = kind;
+      after = after;
+      limit = limit;
+      rest = rest;
+      rows = (s.spelled.0, r, ap behind r.5);
+      whole_is = told _ _ text _ s.rest_is (s.spelled.3 ∙ ap (λ (texts : List (List ℕ)). decimal number ∷ texts) r.5) refl;
+    }
+added_form text (ForRows (Get kind id date)) s = absurd (false≢true (ap (bytes_eq (codes "ADDED")) s.word_is))
+added_form text (ForIds (Children concept date)) s = absurd (false≢true (ap (bytes_eq (codes "ADDED")) s.word_is))
+added_form text question s = absurd (false≢true (ap (bytes_eq (codes "ADDED")) s.word_is))
+
+pub added_uncut : (text : List ℕ) → IsWord text → (question : Question) → IsSpelledQuestion (codes "ADDED") (Some text) question → ⊥
+added_uncut text free question s = let f = added_form text question s in no_space text (decimal f.number) f.rest free f.whole_is
+
+module _ (text word rest : List ℕ) (is_word : IsWord word) (cut : text ≡ word ++ 32 ∷ rest) (question : Question) (s : IsSpelledQuestion (codes "ADDED") (Some text) question) where
+  abbrev form : AddedForm text
+  form = added_form text question s
+
+  both : (word ≡ decimal form.number) × (rest ≡ form.rest)
+  both = let below = form.below in peel word (decimal form.number) rest form.rest is_word (decimal_word form.number (omega arith)) (sym cut ∙ form.whole_is)
+
+  pub added_no_number : ((n : ℕ) → n < 2 ^ 32 → word ≢ decimal n) → ⊥
+  added_no_number none = none form.number form.below both.0
+
+  pub added_no_rows : ((k : Kind) (o : Option Key) (n : ℕ) → IsRowsText k o n rest → ⊥) → ⊥
+  added_no_rows none = none form.kind form.after form.limit (subst (IsRowsText form.kind form.after form.limit) (sym both.1) form.rows)
+
+pub added_found : (text word rest : List ℕ) (number : ℕ) (kind : Kind) (after : Option Key) (limit : ℕ) → text ≡ word ++ 32 ∷ rest → number < 2 ^ 32 → word ≡ decimal number → IsRowsText kind after limit rest → IsSpelledQuestion (codes "ADDED") (Some text) (Added number kind after limit)
+added_found text word rest number kind after limit cut below is f =
+    let r = f.1 in
+    let texts = letter kind ∷ r.0 ∷ r.1 ∷ decimal limit ∷ [] in
+    let rest_is : letter kind ++ 32 ∷ (r.0 ++ 32 ∷ (r.1 ++ 32 ∷ decimal limit)) ≡ rest = same_Some _ _ (sym (ap behind r.5) ∙ f.2) in record {
+      word_is = refl;
+      arguments = decimal number ∷ texts;
+      spelled = (texts, below, (r.0, r.1, r.2, r.3, r.4, refl), refl);
+      rest_is = ap (λ (t : List ℕ). Some (decimal number ++ 32 ∷ t)) rest_is ∙ ap (λ (t : List ℕ). Some (t ++ 32 ∷ rest)) (sym is) ∙ ap (λ (t : List ℕ). Some t) (sym cut);
+    }
 
 -- ---- SOURCES
 

@@ -44,6 +44,7 @@ text_of_question asking.Sources = codes "SOURCES"
 text_of_question asking.Dates = codes "DATES"
 text_of_question asking.Digest = codes "DIGEST"
 text_of_question asking.Receipt = codes "RECEIPT"
+text_of_question asking.Added = codes "ADDED"
 
 abbrev pub text_of_word : Word → List ℕ
 text_of_word (words.Question word) = text_of_question word

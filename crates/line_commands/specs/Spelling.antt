@@ -7,7 +7,7 @@ use Rattle.rf2_values.specs.declared.row.Kind.TheVariants as kinds
 use Rattle.rf2_values.specs.declared.key.Key.{Key}
 use Rattle.rf2_values.specs.Row.{IsIdOf, SpellsId, IsConcept, IsComponent}
 use Rattle.rf2_values.specs.Time.{IsTime}
-use Rattle.question_model.specs.Questions.{Question, ForRows, ForIds, Dates, Digest, Receipt}
+use Rattle.question_model.specs.Questions.{Question, ForRows, ForIds, Dates, Digest, Receipt, Added}
 use Rattle.question_model.specs.Questions.{Get, History, Terms, Search, Replaced, Replaces, About, Timeline}
 use Rattle.question_model.specs.Questions.{Page, Delta, Members, Values, Called, AllRows}
 use Rattle.question_model.specs.Questions.{Children, Ancestors, Descendants, Sources}
@@ -35,6 +35,7 @@ word_of_question (ForIds (Sources type_id destination date after limit)) = codes
 word_of_question Dates = codes "DATES"
 word_of_question Digest = codes "DIGEST"
 word_of_question (Receipt number) = codes "RECEIPT"
+word_of_question (Added number kind after limit) = codes "ADDED"
 
 -- the greatest number of rows that can be asked for
 abbrev pub most_rows : ℕ
@@ -142,3 +143,5 @@ SpellsQuestion Dates texts = texts ≡ []
 SpellsQuestion Digest texts = texts ≡ []
 SpellsQuestion (Receipt number) texts =
     (1 ≤ number) × (number < 2 ^ 32) × (texts ≡ decimal number ∷ [])
+SpellsQuestion (Added number kind after limit) texts = (rest : List (List ℕ))
+    × (number < 2 ^ 32) × SpellsRows kind after limit rest × (texts ≡ decimal number ∷ rest)

@@ -10,7 +10,7 @@ ghost use Rattle.rf2_values.specs.declared.row.Kind.{Kind};
 ghost use Rattle.rf2_values.specs.declared.key.Key.{Key};
 
 use crate::columns::{
-    after, component, component_after, identifier, key_after, kind, limit, prefix,
+    after, component, component_after, identifier, import_number, key_after, kind, limit, prefix,
     sctid_of, subject, type_of,
 };
 use crate::words::{QuestionWord, cut, cut_thrice, cut_twice};
@@ -230,7 +230,7 @@ fn called(text: &[u8]) -> Option<Question<'_>>
     }))
 }
 
-/// The arguments of ROWS: a kind, a key, and a limit.
+/// The arguments of ROWS, which follow the number in those of ADDED: a kind, a key, and a limit.
 fn kind_key_and_limit(text: &[u8]) -> Option<(Kind, Option<Key>, u32)>
     ensures { MatchOption result
         ((k : Kind) (o : Option Key) (n : ℕ) → IsRowsText k o n text.now → ⊥)
@@ -248,6 +248,20 @@ fn all_rows(text: &[u8]) -> Option<Question<'_>>
 {
     let (kind, after, limit) = kind_key_and_limit(text)?;
     Some(Question::ForRows(RowQuestion::AllRows { kind, after, limit }))
+}
+
+fn added(text: &[u8]) -> Option<Question<'_>>
+    ensures { IsQuestionReadAs (codes "ADDED") (Some text.now) result }
+{
+    let (word, rest) = cut(text)?;
+    let number = import_number(word)?;
+    let (kind, after, limit) = kind_key_and_limit(rest)?;
+    Some(Question::Added {
+        number,
+        kind,
+        after,
+        limit,
+    })
 }
 
 fn sources(text: &[u8]) -> Option<Question<'_>>
@@ -304,6 +318,7 @@ pub(crate) fn question<'a>(word: QuestionWord, rest: Option<&'a [u8]>) -> Option
             QuestionWord::AllRows => all_rows(text),
             QuestionWord::Sources => sources(text),
             QuestionWord::Receipt => receipt(text),
+            QuestionWord::Added => added(text),
             QuestionWord::Dates | QuestionWord::Digest => None,
         },
         None => match word {

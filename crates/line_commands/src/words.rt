@@ -33,6 +33,7 @@ pub(crate) enum QuestionWord {
     Dates,
     Digest,
     Receipt,
+    Added,
 }
 
 /// The word of a command.
@@ -123,6 +124,7 @@ pub(crate) fn question_word(text: &[u8]) -> Option<QuestionWord>
         b"DATES" => Some(QuestionWord::Dates),
         b"DIGEST" => Some(QuestionWord::Digest),
         b"RECEIPT" => Some(QuestionWord::Receipt),
+        b"ADDED" => Some(QuestionWord::Added),
         _ => None,
     }
 }

@@ -13,8 +13,10 @@ use Rattle.history_store.specs.Meters.{ReadsKnown}
 use Rattle.history_store.specs.Merging.{trimmed_len, step_cost}
 use Rattle.history_store.specs.Queries.{ReadsThroughCache, StepsThroughCache}
 use Rattle.history_store.specs.Reading.{row_cost}
+use Rattle.rf2_values.specs.Row.{RowValue}
+use Rattle.history_model.specs.Exports.{added}
 use Rattle.history_model.specs.History.{rows_at}
-use Rattle.question_model.specs.Questions.{Question, ForRows, ForIds, Dates, Digest, Receipt}
+use Rattle.question_model.specs.Questions.{Question, ForRows, ForIds, Dates, Digest, Receipt, Added}
 use Rattle.question_model.specs.Wanted.{rows_for}
 use Rattle.line_commands.specs.Commands.{Command, Ask, At, Import, Check, Step, Publish, Trim}
 use Rattle.line_commands.specs.Requests.{Asks}
@@ -74,21 +76,29 @@ LeavesQueried view old new =
     ((view old.disk).is_honest → (view new.disk).moments ≡ (view old.disk).moments)
     × ReadsThroughCache view old new
 
+-- what a question that finds these rows leaves of the disk: no more is read than they take, and no
+-- more than those of its answer
+abbrev pub LeavesRead : {D : Type 0} → (D → DiskView) → List RowValue → Result Answer LineRefusal
+    → StoreValue D → StoreValue D → Type 0
+LeavesRead view rows outcome old new =
+    LeavesQueried view old new
+    × ReadsFor outcome (view old.disk).bytes_read (view new.disk).bytes_read
+    × ((view new.disk).bytes_read ≤ (view old.disk).bytes_read + sum_by row_cost rows)
+
 -- what a question about the first `seen` imports leaves of the disk, which is unchanged if the
 -- index alone answers it
 abbrev pub LeavesAsked : {D : Type 0} → (D → DiskView) → ℕ → Question → Result Answer LineRefusal
     → StoreValue D → StoreValue D → Type 0
 LeavesAsked view seen (ForRows question) outcome old new =
-    LeavesQueried view old new
-    × ReadsFor outcome (view old.disk).bytes_read (view new.disk).bytes_read
-    × ((view new.disk).bytes_read ≤ (view old.disk).bytes_read
-    + sum_by row_cost (rows_for question (rows_at seen old.history.rows)))
+    LeavesRead view (rows_for question (rows_at seen old.history.rows)) outcome old new
 LeavesAsked view seen (ForIds question) outcome old new = new.disk ≡ old.disk
 LeavesAsked view seen Dates outcome old new = new.disk ≡ old.disk
 LeavesAsked view seen Digest outcome old new = LeavesQueried view old new
     × ((view new.disk).bytes_read
     ≤ (view old.disk).bytes_read + sum_by row_cost (rows_at seen old.history.rows))
 LeavesAsked view seen (Receipt number) outcome old new = new.disk ≡ old.disk
+LeavesAsked view seen (Added number kind after limit) outcome old new =
+    LeavesRead view (added number kind after limit old.history.rows) outcome old new
 
 -- the stored rows whose keys are in the release of the name are read, in the scope of the store's
 -- layout, and so many bytes besides

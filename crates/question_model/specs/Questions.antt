@@ -42,6 +42,7 @@ pub data Question : Type 0 where
   Dates : Question
   Digest : Question
   Receipt : (number : ℕ) → Question
+  Added : (number : ℕ) (kind : Kind) (after : Option Key) (limit : ℕ) → Question
 
 abbrev pub row_question_of : RustRowQuestion → RowQuestion
 row_question_of (rows.Get kind id date) = Get kind id date
@@ -72,3 +73,4 @@ question_of (asked.ForIds question) = ForIds (id_question_of question)
 question_of asked.Dates = Dates
 question_of asked.Digest = Digest
 question_of (asked.Receipt number) = Receipt number
+question_of (asked.Added number kind after limit) = Added number kind after limit

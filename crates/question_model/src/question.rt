@@ -153,4 +153,12 @@ pub enum Question<'a> {
     Receipt {
         number: u32,
     },
+    /// The rows of a kind that an import was the first to bring, in the order of their keys: the
+    /// first ones whose keys are greater than `after`, if that is given, at most `limit`.
+    Added {
+        number: u32,
+        kind: Kind,
+        after: Option<Key>,
+        limit: u32,
+    },
 }

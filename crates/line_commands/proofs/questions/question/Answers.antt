@@ -56,3 +56,6 @@ returns-in-AllRows c = rw (c.in-AllRows.is, c.in-Some.is) c.all_rows.ensures
 
 pub returns-in-Sources : goal.returns-in-Sources
 returns-in-Sources c = rw (c.in-Sources.is, c.in-Some.is) c.sources.ensures
+
+pub returns-in-Added : goal.returns-in-Added
+returns-in-Added c = rw (c.in-Added.is, c.in-Some.is) c.added.ensures
