@@ -42,12 +42,13 @@ pub enum Start {
     },
 }
 
-fn is_above(after: Option<u128>, id: u128) -> bool
-    ensures { result ≡ is_above after id }
+/// Whether a number is greater than `after`, if that is given.
+pub fn is_above(after: Option<u128>, number: u128) -> bool
+    ensures { result ≡ is_above after number }
 {
     match after {
         None => true,
-        Some(after) => after < id,
+        Some(after) => after < number,
     }
 }
 

@@ -19,8 +19,8 @@ use crate::Links;
 use crate::finding::{Asked, asked_for, row_at};
 use crate::posting::Posting;
 use crate::postings::Sealed;
-use crate::wanted::{part, sources_with};
-use as_of_index::{AsOf, Index};
+use crate::wanted::{part, sources_with, widened};
+use as_of_index::{AsOf, Index, is_above};
 use rf2_values::Sctid;
 use std::alloc::{AllocError, Global};
 
@@ -91,20 +91,11 @@ fn find_sources(
     find_ends(ids, links.as_slice(), index, &asked)
 }
 
-fn is_above(after: Option<u64>, id: u64) -> bool
-    ensures { result ≡ is_above after id }
-{
-    match after {
-        None => true,
-        Some(after) => after < id,
-    }
-}
-
 /// Removes the numbers that aren't greater than `after`, if that is given. Allocates nothing.
 fn keep_above(ids: &mut Vec<u64>, after: Option<u64>)
     ensures { ids.new.items ≡ filter (is_above after) ids.old.items }
 {
-    ids.retain(|id| is_above(after, *id));
+    ids.retain(|id| is_above(widened(after), u128::from(*id)));
 }
 
 /// The identifier as a number, if there is one.

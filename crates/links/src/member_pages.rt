@@ -16,8 +16,8 @@ use crate::Links;
 use crate::finding::{Asked, asked_for, find_by_key};
 use crate::posting::{Posting, Tag};
 use crate::postings::Sealed;
-use crate::wanted::{all_with, is_above, part};
-use as_of_index::{AsOf, Chosen, Index, ReadFault, RowReader, read_all};
+use crate::wanted::{all_with, part};
+use as_of_index::{AsOf, Chosen, Index, ReadFault, RowReader, is_above, read_all};
 use rf2_values::{Kind, Row, Sctid};
 use std::alloc::{AllocError, Global};
 

@@ -3,12 +3,12 @@
 ghost use Rattle.std.specs.Prelude.{◌≡◌, ◌≤◌, ◌↔◌};
 ghost use Rattle.std.specs.List.Sorted.{IsNonDecreasingBy};
 ghost use Rattle.history_model.specs.InOrder.{Has};
-ghost use Rattle.history_model.specs.Queries.{is_above};
 ghost use Rattle.links.specs.Edges.{rank_of};
 ghost use Rattle.links.specs.Private.Asking.{is_up_to, is_between, is_second, is_wanted, key_of};
 ghost use Rattle.links.specs.Private.Asking.{low_rank, high_rank, all_with, sources_with};
 
 use crate::posting::{Posting, Tag, place_of, rank, rank_of};
+use as_of_index::is_above;
 
 /// Which second numbers are wanted.
 #[derive(Clone, Copy)]
@@ -56,16 +56,6 @@ pub(crate) fn sources_with(type_id: Option<u64>, destination: u64) -> Wanted
     }
 }
 
-/// Whether a number is greater than `after`, if that is given.
-pub(crate) fn is_above(after: Option<u128>, number: u128) -> bool
-    ensures { result ≡ is_above after number }
-{
-    match after {
-        None => true,
-        Some(after) => after < number,
-    }
-}
-
 /// Whether a number is at most `last`, if that is given.
 fn is_up_to(last: Option<u128>, number: u128) -> bool
     ensures { result ≡ is_up_to last number }
@@ -76,7 +66,7 @@ fn is_up_to(last: Option<u128>, number: u128) -> bool
     }
 }
 
-fn widened(number: Option<u64>) -> Option<u128>
+pub(crate) fn widened(number: Option<u64>) -> Option<u128>
     ensures { result ≡ number }
 {
     match number {
