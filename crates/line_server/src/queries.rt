@@ -112,9 +112,9 @@ pub(crate) fn answer_added<D: Disk>(
     requires { pin ≤ store.old.history.imports }
     ensures { IsQueried result D.view (Added number kind after limit) pin store.old store.new }
 {
-    if !is_seen(number, pin) {
-        return Err(LineRefusal::PinRange);
+    if is_seen(number, pin) {
+        let found = store.added(number, kind, after, limit)?;
+        return Ok(reply_rows(alloc, &found)?);
     }
-    let found = store.added(number, kind, after, limit)?;
-    Ok(reply_rows(alloc, &found)?)
+    Err(LineRefusal::PinRange)
 }
