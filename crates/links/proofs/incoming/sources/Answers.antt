@@ -13,6 +13,6 @@ returns c =
     record {
       found = λ lists listed_so posts.
           let all = sources_once a.type_id a.destination a.as_of.date (rows_seen a.as_of lists) c.find_sources.new.ids.items c.sort_once.new.ids.items
-          (rw (c.value.ensures.value, c.number_of.ensures) at (c.in_ok-find_sources.ensures.found lists listed_so posts)) c.sort_once.ensures in
+          (rw (c.value.ensures.value, c.number_of-type_number.ensures) at (c.in_ok-find_sources.ensures.found lists listed_so posts)) c.sort_once.ensures in
           c.truncate.ensures.items ∙ ap (take a.limit) (c.keep_above.ensures ∙ ap (filter (is_above a.after)) all);
     }
