@@ -134,6 +134,12 @@ posting-there text rows from (d ∷ entries) end (suc k) j e row h within at low
       chain-first from (d ∷ entries) end zero e h at = let first : e.first ≡ from = ap (λ (x : Entry). x.first) (sym (same_Some d e at)) ∙ h.0 in omega (arith, first)
       chain-first from (d ∷ entries) end (suc k) e h at = let le = chain-first (from + d.count) entries end k e h.2 at in omega (arith, le)
 
+pub posting-at : (text rows : List ℕ) (entries : List Entry) (k j : ℕ) (e : Entry) (row : ℕ) → AreChained 0 entries (length rows) → slice_get entries k ≡ Some e → e.first ≤ j → j < e.first + e.count → slice_get rows j ≡ Some row
+    → slice_get (postings_in text entries rows) j ≡ Some (keyed row (key_in text e.key))
+posting-at text rows entries k j e row h at low high there =
+    let first : 0 + j ≡ j = omega arith in
+    posting-there text rows 0 entries (length rows) k j e row h (omega arith) at (subst (λ n. e.first ≤ n) (sym first) low) (subst (λ n. n < e.first + e.count) (sym first) high) (ap (slice_get rows) first ∙ there)
+
 -- ---- which entry it is
 
 abbrev pub is_passed : ℕ → Entry → Bool

@@ -1,1 +1,11 @@
 pub mod Chained
+pub mod Runs
+pub mod Numbering
+pub mod Ranking
+pub mod Found
+pub mod Shortest
+pub mod Posting
+pub mod Stepping
+pub mod Begun
+pub mod Marking
+pub mod Grouping

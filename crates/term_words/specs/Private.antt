@@ -6,12 +6,14 @@ use Rattle.std.specs.List.{AllByRecursion, starts_with}
 use Rattle.std.specs.Ordering.{nat_cmp, is_lt}
 use Rattle.std.specs.Cmp.Lexicographic.{slice_cmp}
 use Rattle.history_model.specs.declared.stamped.StampedRow.{StampedRow}
-use Rattle.history_model.specs.InOrder.{Has}
+use Rattle.history_model.specs.InOrder.{Has, IsAscending}
 use Rattle.history_model.specs.Words.{is_of_word, is_of_type, runs}
 use Rattle.segment.specs.declared.place.RowPlace.{RowPlace}
 use Rattle.as_of_index.specs.declared.as_of.AsOf.{AsOf}
 use Rattle.as_of_index.specs.declared.chosen.Chosen.{Chosen}
 use Rattle.as_of_index.specs.Current.{IsPlaceOfRow, IsCurrentAt}
+use Rattle.as_of_index.specs.Private.Chosen.{ranked_cmp}
+use Rattle.as_of_index.specs.Private.Once.{IsThere}
 use Rattle.term_prefix.specs.Terms.{TermAt, TextsRise}
 use Rattle.term_words.specs.declared.keys.Key.{Key}
 use Rattle.term_words.specs.declared.keys.KeyAt.{KeyAt}
@@ -156,13 +158,13 @@ is_measure (places.Word start len) = false
 
 -- ---- merging
 
--- the posting is the next one of its list, and the other list's next one isn't below it; or neither
--- list has one
+-- Which list has the next posting, and the posting, if these are the next ones of both lists: that
+-- of the first list unless the key of the other one is less. Or neither list has one.
 abbrev pub IsNext : Option TermAt → Option TermAt → Next → Type 0
 IsNext a b (next.First t) = (a ≡ Some (keyed t.row (key_of t.key)))
     × ((u : TermAt) → b ≡ Some u → is_lt (slice_cmp nat_cmp u.folded (key_of t.key)) ≡ false)
 IsNext a b (next.Second u) = (b ≡ Some (keyed u.row (key_of u.key)))
-    × ((t : TermAt) → a ≡ Some t → is_lt (slice_cmp nat_cmp t.folded (key_of u.key)) ≡ false)
+    × ((t : TermAt) → a ≡ Some t → is_lt (slice_cmp nat_cmp (key_of u.key) t.folded) ≡ true)
 IsNext a b next.Neither = (a ≡ None) × (b ≡ None)
 
 -- ---- searching
@@ -252,9 +254,16 @@ abbrev pub IsOfSome : List (List StampedRow) → AsOf → List Group → List (L
 IsOfSome lists as_of groups marks k = (g : Group) × Has groups g × (own : List Bool)
     × (slice_get marks g.segment ≡ Some own) × IsOfGroup lists as_of g own k
 
--- those rows are kept; or at least `count` of them, and all others have longer terms
+-- those rows are kept, each once
+pub record AreKept (lists : List (List StampedRow)) (as_of : AsOf) (groups : List Group)
+    (marks : List (List Bool)) (kept : List Chosen) : Type 0 where
+  pub only : (k : Chosen) → Has kept k → IsOfSome lists as_of groups marks k
+  pub all : (k : Chosen) → IsOfSome lists as_of groups marks k → IsThere ranked_cmp kept k
+
+-- in order, those rows are kept; or at least `count` of them, and all others have longer terms
 pub record AreShortest (lists : List (List StampedRow)) (as_of : AsOf) (groups : List Group)
     (marks : List (List Bool)) (count : ℕ) (kept : List Chosen) : Type 0 where
+  pub ascending : IsAscending ranked_cmp kept
   pub only : (k : Chosen) → Has kept k → IsOfSome lists as_of groups marks k
-  pub all : (k : Chosen) → IsOfSome lists as_of groups marks k → Has kept k
+  pub all : (k : Chosen) → IsOfSome lists as_of groups marks k → IsThere ranked_cmp kept k
       ⊎ ((count ≤ length kept) × ((j : Chosen) → Has kept j → j.first < k.first))

@@ -96,13 +96,17 @@ fn roomier(alloc: Global, text: &[u8], keys: &[KeyAt]) -> Result<Vec<u32>, Alloc
     let len = keys.len().saturating_mul(4).max(1024);
     let mut slots = vec![in alloc; FREE; len]?;
     for (number, key) in keys.iter().enumerate() {
+        let Ok(number) = u32::try_from(number) else {
+            return Ok(slots);
+        };
         let hash = hash_of(key_in(text, key));
-        note(slots.as_mut_slice(), hash, number as u32);
+        note(slots.as_mut_slice(), hash, number);
     }
     Ok(slots)
 }
 
 /// Adds a key with the next number. An `Err` changes no key.
+#[tactic(auto, using(crate::proofs::Numbering::same_keys, crate::proofs::Numbering::keys_kept, crate::proofs::Numbering::key_numbered))]
 fn add(
     alloc: Global,
     text: &mut Vec<u8>,

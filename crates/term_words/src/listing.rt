@@ -3,6 +3,7 @@
 
 ghost use Rattle.std.specs.Prelude.{◌≡◌, ◌<◌, ◌^◌, ◌+◌, ◌++◌, ◌∷◌, [], List, length, IsTrue};
 ghost use Rattle.std.specs.Prelude.{OnOk, OnErr, slice_get, ◌≤◌, ℕ};
+ghost use Rattle.std.specs.Option.{option_copied};
 ghost use Rattle.term_words.specs.Posted.{keyed};
 ghost use Rattle.term_words.specs.Laid.{key_of, AreChained, AreEntries, postings_in};
 ghost use Rattle.term_words.specs.Private.{IsLast, grown, SaysPosting};
@@ -75,7 +76,65 @@ fn lengthen(entries: &mut Vec<Entry>)
     }
 }
 
-/// Adds a posting. An `Err` changes nothing that is seen of the postings.
+/// Adds a row to the last entry, which has the key. An `Err` changes nothing.
+fn push_to_last(
+    text: &[u8],
+    entries: &mut Vec<Entry>,
+    rows: &mut Vec<u32>,
+    key: Key<'_>,
+    row: u32,
+) -> Result<(), AllocError>
+    requires last { IsLast text.now entries.old.items (key_of key) }
+    requires entries { AreEntries text.now entries.old.items rows.old.items }
+    requires few { length rows.old.items + 1 < 2 ^ 32 }
+    ensures ok { OnOk result (postings_in text.now entries.new.items rows.new.items
+        ≡ postings_in text.now entries.old.items rows.old.items
+        ++ keyed row (key_of key.entry) ∷ []) }
+    ensures entries { AreEntries text.now entries.new.items rows.new.items }
+    ensures err { OnErr result
+        ((entries.new.items ≡ entries.old.items) × (rows.new.items ≡ rows.old.items)) }
+{
+    rows.push(row)?;
+    lengthen(entries);
+    Ok(())
+}
+
+/// Adds a row with an entry of its own. An `Err` changes nothing that is seen of the postings.
+fn push_new(
+    text: &mut Vec<u8>,
+    entries: &mut Vec<Entry>,
+    rows: &mut Vec<u32>,
+    key: Key<'_>,
+    row: u32,
+    first: u32,
+) -> Result<(), AllocError>
+    requires first { first ≡ length rows.old.items }
+    requires entries { AreEntries text.old.items entries.old.items rows.old.items }
+    ensures ok { OnOk result (postings_in text.new.items entries.new.items rows.new.items
+        ≡ postings_in text.old.items entries.old.items rows.old.items
+        ++ keyed row (key_of key.entry) ∷ []) }
+    ensures entries { AreEntries text.new.items entries.new.items rows.new.items }
+    ensures err { OnErr result ((text.new.items ≡ text.old.items)
+        × (entries.new.items ≡ entries.old.items) × (rows.new.items ≡ rows.old.items)) }
+{
+    rows.reserve(1)?;
+    entries.reserve(1)?;
+    let key = lay(text, key)?;
+    let Ok(()) = entries.push(Entry {
+        key,
+        first,
+        count: 1,
+    }) else {
+        unreachable!()
+    };
+    let Ok(()) = rows.push(row) else {
+        unreachable!()
+    };
+    Ok(())
+}
+
+/// Adds a posting. Fails if there are 4,294,967,295 postings. An `Err` changes nothing that is seen
+/// of the postings.
 fn push(
     text: &mut Vec<u8>,
     entries: &mut Vec<Entry>,
@@ -91,7 +150,6 @@ fn push(
     ensures err { OnErr result (postings_in text.new.items entries.new.items rows.new.items
         ≡ postings_in text.old.items entries.old.items rows.old.items) }
 {
-    rows.reserve(1)?;
     let Ok(first) = u32::try_from(rows.len()) else {
         return Err(AllocError);
     };
@@ -99,22 +157,10 @@ fn push(
         return Err(AllocError);
     }
     if is_last(text, entries, key) {
-        lengthen(entries);
+        push_to_last(text, entries, rows, key, row)
     } else {
-        entries.reserve(1)?;
-        let key = lay(text, key)?;
-        let Ok(()) = entries.push(Entry {
-            key,
-            first,
-            count: 1,
-        }) else {
-            unreachable!()
-        };
+        push_new(text, entries, rows, key, row, first)
     }
-    let Ok(()) = rows.push(row) else {
-        unreachable!()
-    };
-    Ok(())
 }
 
 /// Whether the entry has the posting with this number.
@@ -152,6 +198,13 @@ fn entry_of(entries: &[Entry], near: usize, number: usize) -> usize
     entries.partition_point(|e| e.first as usize + (e.count as usize) <= number)
 }
 
+/// A reference to the entry with this number, if there is one.
+fn lent_at(entries: &[Entry], number: usize) -> Option<&Entry>
+    ensures { option_copied result ≡ slice_get entries.now number }
+{
+    entries.get(number)
+}
+
 /// The posting with this number, if there is one. `near` says at which entry it may be; it changes
 /// how long the search takes, and not what is found.
 pub(crate) fn posting_at<'a>(
@@ -168,7 +221,7 @@ pub(crate) fn posting_at<'a>(
         return None;
     }
     let entry = entry_of(entries, near, number);
-    match entries.get(entry) {
+    match lent_at(entries, entry) {
         Some(e) => Some(Posting {
             key: key_in(text, &e.key),
             row: rows[number],

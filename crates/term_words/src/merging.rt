@@ -4,9 +4,7 @@ ghost use Rattle.std.specs.Prelude.{◌≡◌, ◌+◌, ◌-◌, ◌≤◌, List
 ghost use Rattle.as_of_index.specs.Numbers.{TwoLists};
 ghost use Rattle.term_prefix.specs.Terms.{TermAt, TextsRise};
 ghost use Rattle.term_prefix.specs.Merged.{IsMergeOfTerms, no_terms_merged, terms_left};
-ghost use Rattle.term_prefix.specs.Private.{first_taken, second_taken};
 ghost use Rattle.term_words.specs.Private.{IsNext, SaysPosting};
-ghost use Rattle.term_words.specs.Laid.{key_of};
 
 use crate::keys::compare;
 use crate::listing::{Listing, Posting};

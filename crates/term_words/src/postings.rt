@@ -7,8 +7,8 @@ ghost use Rattle.std.specs.List.Sorted.{IsPermutation};
 ghost use Rattle.history_model.specs.Words.{words};
 ghost use Rattle.term_prefix.specs.Terms.{TextsRise};
 ghost use Rattle.term_words.specs.Posted.{posted_words, keyed, measure_key, word_key};
-ghost use Rattle.term_words.specs.Laid.{key_of};
-ghost use Rattle.term_words.specs.Private.{Posts};
+ghost use Rattle.term_words.specs.Laid.{key_of, ArePushed};
+ghost use Rattle.term_words.specs.Private.{Posts, IsPostedWith};
 
 use crate::keys::{Key, KeyAt};
 use crate::known::number_of;
@@ -103,6 +103,35 @@ fn post_all(
     Ok(())
 }
 
+/// Adds the postings of a description. An `Err` changes no posting.
+fn post_term(
+    alloc: Global,
+    text: &mut Vec<u8>,
+    keys: &mut Vec<KeyAt>,
+    slots: &mut Vec<u32>,
+    pushed: &mut Vec<Pushed>,
+    term: &str,
+    type_id: u64,
+    row: u32,
+) -> Result<(), AllocError>
+    ensures ok { ArePushed text.old.items keys.old.items pushed.old.items
+        → OnOk result (IsPostedWith text.old.items keys.old.items pushed.old.items
+        (map (keyed row) (measure_key (length (chars term.now)) type_id
+        ∷ map word_key (words term.now))) text.new.items keys.new.items pushed.new.items) }
+    ensures err { ArePushed text.old.items keys.old.items pushed.old.items
+        → OnErr result (IsPostedWith text.old.items keys.old.items pushed.old.items []
+        text.new.items keys.new.items pushed.new.items) }
+{
+    let len = pushed.len();
+    match post_all(alloc, text, keys, slots, pushed, term, type_id, row) {
+        Ok(()) => Ok(()),
+        Err(error) => {
+            pushed.truncate(len);
+            Err(error)
+        }
+    }
+}
+
 /// A term as a text.
 fn as_text(term: &[u8]) -> &str
     requires { IsUtf8 term.now }
@@ -137,10 +166,9 @@ impl Postings {
     {
         match &row.row.body {
             Body::Description(description) if row.row.active => {
-                let len = self.pushed.len();
                 let term = as_text(description.term.as_bytes());
                 let type_id = description.type_id.value();
-                let posted = post_all(
+                post_term(
                     self.alloc,
                     &mut self.text,
                     &mut self.keys,
@@ -149,11 +177,7 @@ impl Postings {
                     term,
                     type_id,
                     number,
-                );
-                if posted.is_err() {
-                    self.pushed.truncate(len);
-                }
-                posted
+                )
             }
             _ => Ok(()),
         }

@@ -2,13 +2,17 @@
 
 ghost use Rattle.std.specs.Prelude.{◌≡◌, ◌↔◌, List, length, map, IfOk, OnOk};
 ghost use Rattle.std.specs.Prelude.{true, IsTrue, take, drop, slice_get, slice_index_or, Some, []};
-ghost use Rattle.std.specs.List.Sorted.{IsPermutation, IsSorted, IsNonDecreasingBy};
+ghost use Rattle.std.specs.Prelude.{◌∷◌};
+ghost use Rattle.std.specs.Option.{option_copied};
+ghost use Rattle.std.specs.List.Sorted.{IsNonDecreasingBy};
+ghost use Rattle.std.specs.Ordering.{eq_by_cmp};
 ghost use Rattle.history_model.specs.declared.stamped.StampedRow.{StampedRow};
 ghost use Rattle.history_model.specs.Words.{is_of_type, some_words_found};
 ghost use Rattle.as_of_index.specs.Current.{rows_seen};
 ghost use Rattle.as_of_index.specs.Reader.{IsRowsRead};
 ghost use Rattle.as_of_index.specs.Places.{Lists};
 ghost use Rattle.as_of_index.specs.Private.Chosen.{ranked_cmp};
+ghost use Rattle.as_of_index.specs.Private.Once.{AreOnce};
 ghost use Rattle.term_words.specs.Posted.{ArePosted};
 ghost use Rattle.term_words.specs.Laid.{key_of};
 ghost use Rattle.term_words.specs.Private.{AreNarrowed, AddsMarks, AreMarked, EachMarked, AddsGroups};
@@ -42,15 +46,22 @@ pub(crate) struct Group<'a> {
     pub(crate) rows: &'a [u32],
 }
 
+/// Marks the row with this number, if it is marked among others.
+fn mark_row(marks: &mut Vec<bool>, among: &[bool], row: u32)
+    ensures { AddsMarks marks.old.items among.now (row ∷ []) marks.new.items }
+{
+    let row = row as usize;
+    if row < among.len() && row < marks.len() && among[row] {
+        marks[row] = true;
+    }
+}
+
 /// Marks those of the rows that are marked among others.
 fn mark_rows(marks: &mut Vec<bool>, among: &[bool], rows: &[u32])
     ensures { AddsMarks marks.old.items among.now rows.now marks.new.items }
 {
     for row in rows {
-        let row = *row as usize;
-        if row < among.len() && row < marks.len() && among[row] {
-            marks[row] = true;
-        }
+        mark_row(marks, among, *row);
     }
 }
 
@@ -178,6 +189,16 @@ fn is_marked(marks: &[bool], row: u32) -> bool
     }
 }
 
+/// The marks of the list with this number, if there are any.
+fn marks_at(marks: &[Vec<bool>], number: usize) -> Option<&[bool]>
+    ensures { option_copied result ≡ slice_get (map (λ m. m.items) marks.now) number }
+{
+    match marks.get(number) {
+        Some(of_list) => Some(of_list.as_slice()),
+        None => None,
+    }
+}
+
 /// Adds those of a group's rows that are marked and current.
 fn add_rows(
     kept: &mut Vec<Chosen>,
@@ -204,8 +225,29 @@ fn add_rows(
     Ok(())
 }
 
-/// The marked and current rows with the shortest terms: all of them, or at least `count`, and then
-/// all others have longer terms.
+/// The order of rows to be read: by the length of the term, then by id.
+fn compare(a: &Chosen, b: &Chosen) -> Ordering
+    ensures { result ≡ ranked_cmp a.now b.now }
+{
+    a.first.cmp(&b.first).then(a.second.cmp(&b.second).then(a.at.key.id.cmp(&b.at.key.id)))
+}
+
+fn is_same_rank(a: &Chosen, b: &Chosen) -> bool
+    ensures { result ≡ eq_by_cmp ranked_cmp a.now b.now }
+{
+    compare(a, b).is_eq()
+}
+
+/// Sorts the rows, and keeps each once. Allocates nothing.
+fn sort_once(kept: &mut Vec<Chosen>)
+    ensures { AreOnce ranked_cmp kept.old.items kept.new.items }
+{
+    kept.sort_unstable_by(|a, b| compare(a, b));
+    kept.dedup_by(|a, b| is_same_rank(a, b));
+}
+
+/// The marked and current rows with the shortest terms, in order: all of them, or at least `count`,
+/// and then all others have longer terms.
 fn shortest(
     alloc: Global,
     groups: &[Group<'_>],
@@ -222,28 +264,18 @@ fn shortest(
     let mut last = 0;
     for group in groups {
         if count <= kept.len() && last < group.len {
-            return Ok(kept);
+            sort_once(&mut kept);
+            if count <= kept.len() {
+                return Ok(kept);
+            }
         }
-        if let Some(of_list) = marks.get(group.segment) {
-            add_rows(&mut kept, group, of_list.as_slice(), index, as_of)?;
+        if let Some(of_list) = marks_at(marks, group.segment) {
+            add_rows(&mut kept, group, of_list, index, as_of)?;
         }
         last = group.len;
     }
+    sort_once(&mut kept);
     Ok(kept)
-}
-
-/// The order of rows to be read: by the length of the term, then by id.
-fn compare(a: &Chosen, b: &Chosen) -> Ordering
-    ensures { result ≡ ranked_cmp a.now b.now }
-{
-    a.first.cmp(&b.first).then(a.second.cmp(&b.second).then(a.at.key.id.cmp(&b.at.key.id)))
-}
-
-fn sort(kept: &mut Vec<Chosen>)
-    ensures same { IsPermutation kept.old.items kept.new.items }
-    ensures sorted { IsSorted ranked_cmp kept.new.items }
-{
-    kept.sort_unstable_by(|a, b| compare(a, b));
 }
 
 /// `limit` of the rows after the first `offset`.
@@ -294,7 +326,7 @@ pub fn find<R: RowReader>(
     let marks = marks_of(alloc, lists, index, &wanted)?;
     let groups = groups_of(alloc, lists, search.wanted_type)?;
     let count = search.offset as usize + search.limit as usize;
-    let mut kept = shortest(
+    let kept = shortest(
         alloc,
         groups.as_slice(),
         marks.as_slice(),
@@ -302,7 +334,6 @@ pub fn find<R: RowReader>(
         &search.as_of,
         count,
     )?;
-    sort(&mut kept);
     read_all(
         alloc,
         reader,

@@ -2,7 +2,8 @@
 
 ghost use Rattle.std.specs.Prelude.{◌≡◌, ◌++◌, ◌∷◌, [], ℕ, List, length, map, flat_map, chars};
 ghost use Rattle.std.specs.Prelude.{IfOk, OnOk, OnErr, slice_get, encode_utf8};
-ghost use Rattle.history_model.specs.Words.{unmarked, words};
+ghost use Rattle.std.specs.List.{filter};
+ghost use Rattle.history_model.specs.Words.{is_no_mark, unmarked, words};
 ghost use Rattle.term_words.specs.Posted.{word_key};
 ghost use Rattle.term_words.specs.Laid.{key_of, EachEndsWithin, keys_in};
 ghost use Rattle.term_words.specs.Private.{IsClosed, Follows, HasKey};
@@ -72,6 +73,23 @@ fn feed(
     }
 }
 
+/// Goes on with a character, unless it is a mark.
+fn feed_no_mark(
+    text: &mut Vec<u8>,
+    keys: &mut Vec<KeyAt>,
+    start: usize,
+    c: char,
+) -> Result<usize, AllocError>
+    ensures { IfOk result (λ next. Follows text.old.items keys.old.items start
+        (filter is_no_mark (c ∷ [])) text.new.items keys.new.items next) }
+{
+    if is_combining_mark(c) {
+        Ok(start)
+    } else {
+        feed(text, keys, start, c)
+    }
+}
+
 /// Goes on with a character, of which the marks are left out.
 fn feed_unmarked(
     text: &mut Vec<u8>,
@@ -84,10 +102,9 @@ fn feed_unmarked(
 {
     let mut next = start;
     let mut room = [c; 3];
-    for d in decomposition(c, Form::Nfd, &mut room) {
-        if !is_combining_mark(*d) {
-            next = feed(text, keys, next, *d)?;
-        }
+    let parts = decomposition(c, Form::Nfd, &mut room);
+    for part in parts {
+        next = feed_no_mark(text, keys, next, *part)?;
     }
     Ok(next)
 }
@@ -124,7 +141,7 @@ fn add_words(
     let folded = default_case_fold_str(alloc, term)?;
     let start = text.len();
     let last = feed_all(text, keys, start, folded.as_str())?;
-    let _end = close(text, keys, last)?;
+    close(text, keys, last)?;
     Ok(())
 }
 
