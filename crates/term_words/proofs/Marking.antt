@@ -46,9 +46,9 @@ adds_both marks marks' marks'' among xs ys a b = record {
       );
 }
 
-pub adds_more : (marks marks' marks'' among : List Bool) (rows : List ℕ) (i row : ℕ) → i < length rows → row ≡ get_or rows i row → AddsMarks marks among (take i rows) marks' → AddsMarks marks' among (row ∷ []) marks'' → AddsMarks marks among (take (i + 1) rows) marks''
-adds_more marks marks' marks'' among rows i row lt is a b =
-    subst (λ rs. AddsMarks marks among rs marks'') (ap (λ x. take i rows ++ x ∷ []) is ∙ sym (take_more rows i row lt)) (adds_both marks marks' marks'' among (take i rows) (row ∷ []) a b)
+pub adds_more : (marks marks' marks'' among : List Bool) (rows : List ℕ) (i row d : ℕ) → i < length rows → row ≡ get_or rows i d → AddsMarks marks among (take i rows) marks' → AddsMarks marks' among (row ∷ []) marks'' → AddsMarks marks among (take (i + 1) rows) marks''
+adds_more marks marks' marks'' among rows i row d lt is a b =
+    subst (λ rs. AddsMarks marks among rs marks'') (ap (λ x. take i rows ++ x ∷ []) is ∙ sym (take_more rows i d lt)) (adds_both marks marks' marks'' among (take i rows) (row ∷ []) a b)
 
 -- ---- one mark
 
@@ -111,10 +111,10 @@ unmarked_one marks among row none = record {
 
 -- ---- the rows of entries
 
-pub adds_entry : (marks marks' marks'' among : List Bool) (rows : List ℕ) (those : List Entry) (i : ℕ) (e : Entry) → i < length those → e ≡ get_or those i e → AddsMarks marks among (flat_map (rows_of rows) (take i those)) marks' → AddsMarks marks' among (rows_of rows e) marks'' → AddsMarks marks among (flat_map (rows_of rows) (take (i + 1) those)) marks''
-adds_entry marks marks' marks'' among rows those i e lt is a b =
+pub adds_entry : (marks marks' marks'' among : List Bool) (rows : List ℕ) (those : List Entry) (i : ℕ) (e d : Entry) → i < length those → e ≡ get_or those i d → AddsMarks marks among (flat_map (rows_of rows) (take i those)) marks' → AddsMarks marks' among (rows_of rows e) marks'' → AddsMarks marks among (flat_map (rows_of rows) (take (i + 1) those)) marks''
+adds_entry marks marks' marks'' among rows those i e d lt is a b =
     subst (λ rs. AddsMarks marks among rs marks'')
-    (ap (λ xs. flat_map (rows_of rows) (take i those) ++ xs) (sym (append-nil (rows_of rows e))) ∙ sym (flat_map-append (rows_of rows) (take i those) (e ∷ [])) ∙ ap (flat_map (rows_of rows)) (ap (λ x. take i those ++ x ∷ []) is ∙ sym (take_more those i e lt)))
+    (ap (λ xs. flat_map (rows_of rows) (take i those) ++ xs) (sym (append-nil (rows_of rows e))) ∙ sym (flat_map-append (rows_of rows) (take i those) (e ∷ [])) ∙ ap (flat_map (rows_of rows)) (ap (λ x. take i those ++ x ∷ []) is ∙ sym (take_more those i d lt)))
     (adds_both marks marks' marks'' among (flat_map (rows_of rows) (take i those)) (rows_of rows e) a b)
 
 -- a posting is of an entry, and each row of an entry is posted

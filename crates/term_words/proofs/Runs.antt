@@ -195,10 +195,10 @@ filter_both p (x ∷ xs) ys =
     ]
 
 -- one of a list more
-pub follows_more : (text text' text'' : List ℕ) (keys keys' keys'' : List KeyAt) (start start' start'' : ℕ) (p : ℕ → Bool) (cs : List ℕ) (i c : ℕ) → i < length cs → c ≡ get_or cs i c
+pub follows_more : (text text' text'' : List ℕ) (keys keys' keys'' : List KeyAt) (start start' start'' : ℕ) (p : ℕ → Bool) (cs : List ℕ) (i c d : ℕ) → i < length cs → c ≡ get_or cs i d
     → Follows text keys start (filter p (take i cs)) text' keys' start' → Follows text' keys' start' (filter p (c ∷ [])) text'' keys'' start'' → Follows text keys start (filter p (take (i + 1) cs)) text'' keys'' start''
-follows_more text text' text'' keys keys' keys'' start start' start'' p cs i c lt is first second =
-    subst (λ ds. Follows text keys start ds text'' keys'' start'') (sym (filter_both p (take i cs) (c ∷ [])) ∙ ap (filter p) (ap (λ x. take i cs ++ x ∷ []) is ∙ sym (take_more cs i c lt)))
+follows_more text text' text'' keys keys' keys'' start start' start'' p cs i c d lt is first second =
+    subst (λ ds. Follows text keys start ds text'' keys'' start'') (sym (filter_both p (take i cs) (c ∷ [])) ∙ ap (filter p) (ap (λ x. take i cs ++ x ∷ []) is ∙ sym (take_more cs i d lt)))
     (follows_both text text' text'' keys keys' keys'' start start' start'' (filter p (take i cs)) (filter p (c ∷ [])) first second)
 
 -- one character more

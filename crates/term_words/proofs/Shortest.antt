@@ -104,9 +104,9 @@ module _ (lists : List (List StampedRow)) (as_of : AsOf) (marks : List (List Boo
             let number : suc i + j ≡ suc (i + j) = omega arith in
             (let lt = w.0 in omega (arith, lt), λ d. ap (λ n. get_or (y ∷ xs) n d) number ∙ w.1 d)
 
-  pub shortest_some : (groups : List Group) (i count last : ℕ) (g : Group) (kept once : List Chosen) → IsNonDecreasingBy (λ (x : Group). x.len) groups → i < length groups → g ≡ get_or groups i g → AreKept lists as_of (take i groups) marks kept → AreOnce ranked_cmp kept once
+  pub shortest_some : (groups : List Group) (i count last : ℕ) (g d : Group) (kept once : List Chosen) → IsNonDecreasingBy (λ (x : Group). x.len) groups → i < length groups → g ≡ get_or groups i d → AreKept lists as_of (take i groups) marks kept → AreOnce ranked_cmp kept once
       → ((j : Chosen) → Has kept j → j.first ≤ last) → last < g.len → count ≤ length once → AreShortest lists as_of groups marks count once
-  shortest_some groups i count last g kept once rise lt is a o low longer many =
+  shortest_some groups i count last g d kept once rise lt is a o low longer many =
       let whole = take-append-drop i groups in
       record {
         ascending = o.ascending;
@@ -116,7 +116,7 @@ module _ (lists : List (List StampedRow)) (as_of : AsOf) (marks : List (List Boo
           | inr r ↦ inr (
             many,
             λ j h.
-                let le = behind groups i w.0 g rise lt r in
+                let le = behind groups i w.0 d rise lt r in
                 let own = ap (λ (x : Group). x.len) is in
                 let first = ap (λ (x : Chosen). x.first) w.4.5 in
                 let most = low j (o.only j h) in
@@ -142,13 +142,13 @@ module _ (lists : List (List StampedRow)) (as_of : AsOf) (marks : List (List Boo
   pub so_far_none : (groups : List Group) → IsSoFar groups 0 0 []
   so_far_none groups = record { kept_so = kept_none; low = λ j h. absurd h; next = λ d lt. omega arith }
 
-  one_more : (groups : List Group) (i : ℕ) (g : Group) → i < length groups → g ≡ get_or groups i g → take (i + 1) groups ≡ take i groups ++ g ∷ []
-  one_more groups i g lt is = take_more groups i g lt ∙ ap (λ x. take i groups ++ x ∷ []) (sym is)
+  one_more : (groups : List Group) (i : ℕ) (g d : Group) → i < length groups → g ≡ get_or groups i d → take (i + 1) groups ≡ take i groups ++ g ∷ []
+  one_more groups i g d lt is = take_more groups i d lt ∙ ap (λ x. take i groups ++ x ∷ []) (sym is)
 
-  next_len : (groups : List Group) (i : ℕ) (g d : Group) → IsNonDecreasingBy (λ (x : Group). x.len) groups → g ≡ get_or groups i g → i < length groups → i + 1 < length groups → g.len ≤ (get_or groups (i + 1) d).len
-  next_len groups i g d rise is here lt =
+  next_len : (groups : List Group) (i : ℕ) (g e d : Group) → IsNonDecreasingBy (λ (x : Group). x.len) groups → g ≡ get_or groups i e → i < length groups → i + 1 < length groups → g.len ≤ (get_or groups (i + 1) d).len
+  next_len groups i g e d rise is here lt =
       let le = rise i (i + 1) d (omega arith) lt in
-      let same : get_or groups i d ≡ g = any_default groups i d g here ∙ sym is in
+      let same : get_or groups i d ≡ g = any_default groups i d e here ∙ sym is in
       let own = ap (λ (x : Group). x.len) same in
       omega (arith, le, own) where
         any_default : (xs : List Group) (i : ℕ) (d e : Group) → i < length xs → get_or xs i d ≡ get_or xs i e
@@ -156,18 +156,18 @@ module _ (lists : List (List StampedRow)) (as_of : AsOf) (marks : List (List Boo
         any_default (x ∷ xs) zero d e lt = refl
         any_default (x ∷ xs) (suc i) d e lt = any_default xs i d e (omega arith)
 
-  pub so_far_more : (groups : List Group) (i last : ℕ) (g : Group) (own : List Bool) (kept kept' : List Chosen) → IsNonDecreasingBy (λ (x : Group). x.len) groups → i < length groups → g ≡ get_or groups i g → IsSoFar groups i last kept → slice_get marks g.segment ≡ Some own → AddsRows lists as_of g own kept kept' → IsSoFar groups (i + 1) g.len kept'
-  so_far_more groups i last g own kept kept' rise lt is a e adds = record {
-    kept_so = subst (λ gs. AreKept lists as_of gs marks kept') (sym (one_more groups i g lt is)) (kept_more (take i groups) g own kept kept' e a.kept_so adds);
-    low = low_more g own last kept kept' adds a.low (let le = a.next g lt in let same = ap (λ (x : Group). x.len) is in omega (arith, le, same));
-    next = λ d more. next_len groups i g d rise is lt more;
+  pub so_far_more : (groups : List Group) (i last : ℕ) (g e : Group) (own : List Bool) (kept kept' : List Chosen) → IsNonDecreasingBy (λ (x : Group). x.len) groups → i < length groups → g ≡ get_or groups i e → IsSoFar groups i last kept → slice_get marks g.segment ≡ Some own → AddsRows lists as_of g own kept kept' → IsSoFar groups (i + 1) g.len kept'
+  so_far_more groups i last g e own kept kept' rise lt is a marks_are adds = record {
+    kept_so = subst (λ gs. AreKept lists as_of gs marks kept') (sym (one_more groups i g e lt is)) (kept_more (take i groups) g own kept kept' marks_are a.kept_so adds);
+    low = low_more g own last kept kept' adds a.low (let le = a.next e lt in let same = ap (λ (x : Group). x.len) is in omega (arith, le, same));
+    next = λ d more. next_len groups i g e d rise is lt more;
   }
 
-  pub so_far_less : (groups : List Group) (i last : ℕ) (g : Group) (kept : List Chosen) → IsNonDecreasingBy (λ (x : Group). x.len) groups → i < length groups → g ≡ get_or groups i g → IsSoFar groups i last kept → slice_get marks g.segment ≡ None → IsSoFar groups (i + 1) g.len kept
-  so_far_less groups i last g kept rise lt is a e = record {
-    kept_so = subst (λ gs. AreKept lists as_of gs marks kept) (sym (one_more groups i g lt is)) (kept_less (take i groups) g kept e a.kept_so);
-    low = λ j h. (let most = a.low j h in let le = a.next g lt in let same = ap (λ (x : Group). x.len) is in omega (arith, most, le, same));
-    next = λ d more. next_len groups i g d rise is lt more;
+  pub so_far_less : (groups : List Group) (i last : ℕ) (g e : Group) (kept : List Chosen) → IsNonDecreasingBy (λ (x : Group). x.len) groups → i < length groups → g ≡ get_or groups i e → IsSoFar groups i last kept → slice_get marks g.segment ≡ None → IsSoFar groups (i + 1) g.len kept
+  so_far_less groups i last g e kept rise lt is a none = record {
+    kept_so = subst (λ gs. AreKept lists as_of gs marks kept) (sym (one_more groups i g e lt is)) (kept_less (take i groups) g kept none a.kept_so);
+    low = λ j h. (let most = a.low j h in let le = a.next e lt in let same = ap (λ (x : Group). x.len) is in omega (arith, most, le, same));
+    next = λ d more. next_len groups i g e d rise is lt more;
   }
 
   pub so_far_once : (groups : List Group) (i last : ℕ) (kept once : List Chosen) → IsSoFar groups i last kept → AreOnce ranked_cmp kept once → IsSoFar groups i last once

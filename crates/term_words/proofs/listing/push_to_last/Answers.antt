@@ -1,5 +1,5 @@
 use Rattle.std.proofs.Common.{◌≡◌, ◌+◌, ◌∷◌, ◌++◌, [], length, sym, ap, subst, ◌∙◌, arith}
-use Rattle.term_words.specs.Laid.{AreEntries, postings_in}
+use Rattle.term_words.specs.Laid.{AreEntries, key_of, postings_in}
 use Rattle.term_words.specs.Posted.{keyed}
 use Rattle.term_words.specs.Private.{grown}
 use Rattle.term_words.proofs.Chained.{chain-last, grown_postings, grown_are}
@@ -20,8 +20,8 @@ returns-clause-ok c =
     let are = subst (λ xs. AreEntries text xs rows) l.entries_are c.requires.entries in
     let grew = c.lengthen.ensures l.before l.last l.entries_are in
     (λ i. postings_in text (grew i) (c.in_ok-push.ensures.items i))
-    ∙ grown_postings text rows l.before l.last c.args.row _ are l.same
-    ∙ ap (λ xs. postings_in text xs rows ++ keyed c.args.row _ ∷ []) (sym l.entries_are)
+    ∙ grown_postings text rows l.before l.last c.args.row (key_of c.args.key) are l.same
+    ∙ ap (λ xs. postings_in text xs rows ++ keyed c.args.row (key_of c.args.key) ∷ []) (sym l.entries_are)
 
 pub returns-clause-entries : goal.returns-clause-entries
 returns-clause-entries c =

@@ -12,7 +12,7 @@ pub loop-part-preserved : goal.loop-part-preserved
 loop-part-preserved c =
     let parts = c.decomposition-parts.result.now in
     let i = c.loop-part.part-index in
-    follows_more c.args.text.now.items c.loop-part.text.items c.feed_no_mark.new.text.items c.args.keys.now.items c.loop-part.keys.items c.feed_no_mark.new.keys.items c.args.start c.loop-part.next _ is_no_mark parts i (get_or parts i 0) c.loop-part-test.true refl c.loop-part.invariant c.in_ok-next.ensures
+    follows_more c.args.text.now.items c.loop-part.text.items c.feed_no_mark.new.text.items c.args.keys.now.items c.loop-part.keys.items c.feed_no_mark.new.keys.items c.args.start c.loop-part.next _ is_no_mark parts i (get_or parts i 0) 0 c.loop-part-test.true refl c.loop-part.invariant c.in_ok-next.ensures
 
 pub returns : goal.returns
 returns c =
