@@ -1,4 +1,4 @@
-use Rattle.std.proofs.Common.{◌≡◌, [], ◌∷◌, get_or, take, refl, sym, ap, subst, ◌∙◌, take_all}
+use Rattle.std.proofs.Common.{◌≡◌, sym, ap, subst, ◌∙◌, take_all}
 use Rattle.std.specs.List.{filter}
 use Rattle.history_model.specs.Words.{is_no_mark}
 use Rattle.term_words.specs.Private.{Follows}
@@ -12,7 +12,7 @@ pub loop-part-preserved : goal.loop-part-preserved
 loop-part-preserved c =
     let parts = c.decomposition-parts.result.now in
     let i = c.loop-part.part-index in
-    follows_more c.args.text.now.items c.loop-part.text.items c.feed_no_mark.new.text.items c.args.keys.now.items c.loop-part.keys.items c.feed_no_mark.new.keys.items c.args.start c.loop-part.next _ is_no_mark parts i (get_or parts i 0) 0 c.loop-part-test.true refl c.loop-part.invariant c.in_ok-next.ensures
+    follows_more c.args.text.now.items c.loop-part.text.items c.feed_no_mark.new.text.items c.args.keys.now.items c.loop-part.keys.items c.feed_no_mark.new.keys.items c.args.start c.loop-part.next c.in_ok-next.next is_no_mark parts i c.part-item.result c.part-item.result c.loop-part-test.true c.part-item.is c.loop-part.invariant c.in_ok-next.ensures
 
 pub returns : goal.returns
 returns c =
