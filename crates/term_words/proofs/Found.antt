@@ -173,10 +173,10 @@ any_from p (y ∷ ys) x h e = elim h [
 
 any_of : (p : List ℕ → Bool) (xs : List (List ℕ)) → list_any p xs ≡ true → (x : List ℕ) × Has xs x × (p x ≡ true)
 any_of p [] e = absurd cc
-any_of p (y ∷ ys) e = by (p y) refl e where
-  by : (b : Bool) → p y ≡ b → (b || list_any p ys) ≡ true → (x : List ℕ) × Has (y ∷ ys) x × (p x ≡ true)
-  by true is f = (y, inl refl, is)
-  by false is f = let w = any_of p ys f in (w.0, inr w.1, w.2)
+any_of p (y ∷ ys) e = by (p y) refl e (λ f. any_of p ys f) where
+  by : (b : Bool) → p y ≡ b → (b || list_any p ys) ≡ true → (list_any p ys ≡ true → (x : List ℕ) × Has ys x × (p x ≡ true)) → (x : List ℕ) × Has (y ∷ ys) x × (p x ≡ true)
+  by true is f rest = (y, inl refl, is)
+  by false is f rest = let w = rest f in (w.0, inr w.1, w.2)
 
 all_from : (p : List ℕ → Bool) (xs : List (List ℕ)) → ((x : List ℕ) → Has xs x → p x ≡ true) → list_all p xs ≡ true
 all_from p [] h = refl

@@ -76,9 +76,14 @@ fn narrowed(
         marks.items) }
 {
     let mut marks = vec![in alloc; false; among.len()]?;
-    let text = list.list.text.as_slice();
-    for e in begun(text, list.list.entries.as_slice(), prefix) {
-        mark_rows(&mut marks, among, rows_of(list.list.rows.as_slice(), e));
+    let rows = list.list.rows.as_slice();
+    let those = begun(
+        list.list.text.as_slice(),
+        list.list.entries.as_slice(),
+        prefix,
+    );
+    for e in those {
+        mark_rows(&mut marks, among, rows_of(rows, e));
     }
     Ok(marks)
 }
