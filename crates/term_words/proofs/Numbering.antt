@@ -10,7 +10,11 @@ use Rattle.term_words.specs.declared.postings.Pushed.{Pushed}
 use Rattle.term_words.specs.Posted.{keyed}
 use Rattle.term_words.specs.Laid.{key_in, keys_in, EndsWithin, EachEndsWithin, pushed_in, all_pushed_in, ArePushed}
 use Rattle.term_words.specs.Private.{IsLaid, KeepsKeys, IsPostedWith}
-use Rattle.term_words.proofs.Chained.{keys-append, each-later, each-push, length-map}
+use Rattle.term_words.proofs.Chained.{keys-append, each-later, each-push}
+
+length_mapped : {X Y : Type 0} (f : X → Y) (xs : List X) → length (map f xs) ≡ length xs
+length_mapped f [] = refl
+length_mapped f (x ∷ xs) = ap suc (length_mapped f xs)
 
 -- ---- keys
 
@@ -29,7 +33,7 @@ longer text text' key at laid = let a = ap (λ (xs : List ℕ). length xs) laid.
 pub key_numbered : (text text' key : List ℕ) (keys : List KeyAt) (at : KeyAt) → EachEndsWithin (length text) keys → IsLaid text key text' at → slice_get (keys_in text' (keys ++ at ∷ [])) (length keys) ≡ Some key
 key_numbered text text' key keys at h laid =
     ap (λ ks. slice_get ks (length keys)) (keys_more text text' key keys at h laid)
-    ∙ ap (slice_get (keys_in text keys ++ key ∷ [])) (sym (length-map (key_in text) keys))
+    ∙ ap (slice_get (keys_in text keys ++ key ∷ [])) (sym (length_mapped (key_in text) keys))
     ∙ get-last (keys_in text keys) key
 
 pub keys_kept : (text text' key : List ℕ) (keys : List KeyAt) (at : KeyAt) → IsLaid text key text' at → KeepsKeys text keys text' (keys ++ at ∷ [])
@@ -62,8 +66,8 @@ many_keys : (text text' : List ℕ) (keys keys' : List KeyAt) (more : List (List
 many_keys text text' keys keys' more e =
     let a = ap (λ (ks : List (List ℕ)). length ks) e in
     let b = length-append (keys_in text keys) more in
-    let m = length-map (key_in text) keys in
-    let n = length-map (key_in text') keys' in
+    let m = length_mapped (key_in text) keys in
+    let n = length_mapped (key_in text') keys' in
     omega (arith, a, b, m, n)
 
 -- keys were added, and no posting
@@ -71,7 +75,7 @@ pub kept_postings : (text text' : List ℕ) (keys keys' : List KeyAt) (pushed : 
 kept_postings text text' keys keys' pushed are keeps =
     let w = keeps are.within in
     let le = many_keys text text' keys keys' w.1.0 w.1.1 in
-    let size = length-map (key_in text) keys in
+    let size = length_mapped (key_in text) keys in
     record {
       are = record { within = w.0; numbered = each-later_key (length keys) (length keys') pushed le are.numbered };
       same =
@@ -93,7 +97,7 @@ pub posted_one : (text : List ℕ) (keys : List KeyAt) (pushed : List Pushed) (n
 posted_one text keys pushed number row key are there =
     let p : Pushed = record { key = number; row = row } in
     let within = slice_get_within (keys_in text keys) number key there in
-    let size = length-map (key_in text) keys in
+    let size = length_mapped (key_in text) keys in
     record {
       are = record { within = are.within; numbered = all-push (λ (q : Pushed). q.key < length keys) pushed p are.numbered (omega (arith, within, size)) };
       same = map_push (pushed_in (keys_in text keys)) pushed p ∙ ap (λ k. all_pushed_in (keys_in text keys) pushed ++ keyed row k ∷ []) (get_or_from_slice_get (keys_in text keys) number key [] there);
@@ -120,7 +124,7 @@ taken_back text text' keys keys' pushed pushed' some w = record {
   same =
       take_map (keys_in text' keys') (length pushed) pushed'
       ∙ ap (take (length pushed)) w.same
-      ∙ ap (λ n. take n (all_pushed_in (keys_in text keys) pushed ++ some)) (sym (length-map (pushed_in (keys_in text keys)) pushed))
+      ∙ ap (λ n. take n (all_pushed_in (keys_in text keys) pushed ++ some)) (sym (length_mapped (pushed_in (keys_in text keys)) pushed))
       ∙ front (all_pushed_in (keys_in text keys) pushed) some
       ∙ sym (append-nil (all_pushed_in (keys_in text keys) pushed));
 } where
