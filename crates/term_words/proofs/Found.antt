@@ -20,7 +20,7 @@ use Rattle.history_model.specs.declared.stamped.StampedRow.{StampedRow}
 use Rattle.history_model.specs.InOrder.{Has, IsAscending, put_all, in_order}
 use Rattle.history_model.specs.History.{row_cmp}
 use Rattle.history_model.specs.Queries.{get, snapshot}
-use Rattle.history_model.specs.Words.{words, words_of_body, is_of_type, some_begins, begin_with_all, says_words, has_words, term_length, shortest_cmp, words_found, some_words_found}
+use Rattle.word_model.specs.Words.{words, words_of_body, is_of_type, some_begins, begin_with_all, says_words, has_words, term_length, shortest_cmp, words_found, some_words_found}
 use Rattle.std.proofs.lemmas.Option.{same_Some, slice_get_within}
 use Rattle.history_model.proofs.InOrder.{Has-append_left, Has-append_right, Has-append_cases, Has-all, Has-put_all_cases, Has-put_all_new, IsAscending-in_order}
 use Rattle.history_model.proofs.Filtered.{Has-filter, Has-filter_from, Has-map, Has-map_from, IsAscending-take}

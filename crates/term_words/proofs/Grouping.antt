@@ -6,7 +6,7 @@ use Rattle.std.proofs.lemmas.List.{take_more}
 use Rattle.std.proofs.lemmas.List.Sorted.{IsPermutation-sym}
 use Rattle.std.proofs.lemmas.Option.{same_Some, slice_get_within, slice_get_read}
 use Rattle.history_model.specs.InOrder.{Has}
-use Rattle.history_model.specs.Words.{is_of_type}
+use Rattle.word_model.specs.Words.{is_of_type}
 use Rattle.history_model.proofs.InOrder.{Has-append_left, Has-append_right, Has-append_cases}
 use Rattle.history_model.proofs.Items.{Has-permuted, Has-slice_get}
 use Rattle.term_prefix.specs.Terms.{TermAt}

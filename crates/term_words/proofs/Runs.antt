@@ -8,7 +8,7 @@ use Rattle.unicode_normalization.specs.Lookups.{is_combining_mark}
 use Rattle.caseless.specs.Caseless.{default_case_fold}
 use Rattle.std.proofs.lemmas.Str.{encodes-append, length-le-encodes}
 use Rattle.list_lemmas.proofs.Parts.{drop_whole}
-use Rattle.history_model.specs.Words.{is_of_word, is_between_words, is_no_mark, has_some, runs, plain, unmarked, words}
+use Rattle.word_model.specs.Words.{is_of_word, is_between_words, is_no_mark, has_some, runs, plain, unmarked, words}
 use Rattle.term_words.specs.declared.keys.KeyAt.{KeyAt}
 use Rattle.term_words.specs.declared.keys.KeyAt.TheVariants as places
 use Rattle.term_words.specs.Posted.{word_key}

@@ -1,4 +1,4 @@
-pub use Rattle.history_model.specs.Words
+pub use Rattle.word_model.specs.Words
 pub use Rattle.segment.specs.Standing
 pub use Rattle.as_of_index.specs.Places
 pub use Rattle.as_of_index.specs.Current

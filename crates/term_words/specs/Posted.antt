@@ -9,7 +9,7 @@ use Rattle.rf2_values.specs.declared.row.Body.TheVariants as body
 use Rattle.rf2_values.specs.Row.{RowValue}
 use Rattle.history_model.specs.declared.stamped.StampedRow.{StampedRow}
 use Rattle.history_model.specs.Lists.{AreLists, union}
-use Rattle.history_model.specs.Words.{words}
+use Rattle.word_model.specs.Words.{words}
 use Rattle.segment.specs.Standing.{places_of}
 use Rattle.as_of_index.specs.Postings.{posted_all, AllPosted}
 use Rattle.term_prefix.specs.Terms.{TermAt}

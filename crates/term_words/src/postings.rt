@@ -4,7 +4,7 @@ ghost use Rattle.std.specs.Prelude.{◌≡◌, ◌++◌, ◌∷◌, [], List, le
 ghost use Rattle.std.specs.Prelude.{IfOk};
 ghost use Rattle.std.specs.Str.{IsUtf8};
 ghost use Rattle.std.specs.List.Sorted.{IsPermutation};
-ghost use Rattle.history_model.specs.Words.{words};
+ghost use Rattle.word_model.specs.Words.{words};
 ghost use Rattle.term_prefix.specs.Terms.{TextsRise};
 ghost use Rattle.term_words.specs.Posted.{posted_words, keyed, measure_key, word_key};
 ghost use Rattle.term_words.specs.Laid.{key_of, ArePushed};

@@ -7,7 +7,7 @@ ghost use Rattle.std.specs.Option.{option_copied};
 ghost use Rattle.std.specs.List.Sorted.{IsNonDecreasingBy};
 ghost use Rattle.std.specs.Ordering.{eq_by_cmp};
 ghost use Rattle.history_model.specs.declared.stamped.StampedRow.{StampedRow};
-ghost use Rattle.history_model.specs.Words.{is_of_type, some_words_found};
+ghost use Rattle.word_model.specs.Words.{is_of_type, some_words_found};
 ghost use Rattle.as_of_index.specs.Current.{rows_seen};
 ghost use Rattle.as_of_index.specs.Reader.{IsRowsRead};
 ghost use Rattle.as_of_index.specs.Places.{Lists};

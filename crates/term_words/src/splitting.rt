@@ -3,7 +3,7 @@
 ghost use Rattle.std.specs.Prelude.{◌≡◌, ◌++◌, ◌∷◌, [], ℕ, List, length, map, flat_map, chars};
 ghost use Rattle.std.specs.Prelude.{IfOk, OnOk, OnErr, slice_get, encode_utf8};
 ghost use Rattle.std.specs.List.{filter};
-ghost use Rattle.history_model.specs.Words.{is_no_mark, unmarked, words};
+ghost use Rattle.word_model.specs.Words.{is_no_mark, unmarked, words};
 ghost use Rattle.term_words.specs.Posted.{word_key};
 ghost use Rattle.term_words.specs.Laid.{key_of, EachEndsWithin, keys_in};
 ghost use Rattle.term_words.specs.Private.{IsClosed, Follows, HasKey};

@@ -1,5 +1,5 @@
 use Rattle.std.specs.Prelude.{flat_map}
-use Rattle.history_model.specs.Words.{unmarked}
+use Rattle.word_model.specs.Words.{unmarked}
 use Rattle.term_words.specs.Private.{Follows}
 use Rattle.term_words.proofs.splitting.feed_all.Given as goal
 

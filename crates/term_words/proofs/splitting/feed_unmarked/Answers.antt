@@ -1,6 +1,6 @@
 use Rattle.std.proofs.Common.{◌≡◌, sym, ap, subst, ◌∙◌, take_all}
 use Rattle.std.specs.List.{filter}
-use Rattle.history_model.specs.Words.{is_no_mark}
+use Rattle.word_model.specs.Words.{is_no_mark}
 use Rattle.term_words.specs.Private.{Follows}
 use Rattle.term_words.proofs.Runs.{follows_none, follows_more}
 use Rattle.term_words.proofs.splitting.feed_unmarked.Goals as goal

@@ -1,6 +1,6 @@
 use Rattle.std.proofs.Common.{take}
 use Rattle.std.specs.List.{filter}
-use Rattle.history_model.specs.Words.{is_no_mark}
+use Rattle.word_model.specs.Words.{is_no_mark}
 use Rattle.term_words.specs.Private.{Follows}
 use Rattle.term_words.proofs.splitting.feed_unmarked.Given as goal
 
