@@ -15,7 +15,8 @@ use Rattle.term_words.specs.declared.keys.KeyAt.{KeyAt}
 use Rattle.term_words.specs.declared.keys.KeyAt.TheVariants as places
 use Rattle.term_words.specs.declared.listing.Entry.{Entry}
 use Rattle.term_words.specs.Posted.{keyed, word_key}
-use Rattle.term_words.specs.Laid.{key_in, EndsWithin, EachEndsWithin, keys_in, rows_of, entry_postings, postings_in, AreChained, AreEntries}
+use Rattle.term_words.specs.Laid.{key_in, EndsWithin, EachEndsWithin, keys_in, rows_of, entry_postings, postings_in}
+use Rattle.term_words.specs.Private.Chains.{AreChained, AreEntries}
 use Rattle.term_words.specs.Private.{IsLaid, IsLast, grown}
 
 -- ---- a text that grows

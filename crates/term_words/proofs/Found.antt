@@ -20,7 +20,7 @@ use Rattle.history_model.specs.declared.stamped.StampedRow.{StampedRow}
 use Rattle.history_model.specs.InOrder.{Has, IsAscending, put_all, in_order}
 use Rattle.history_model.specs.History.{row_cmp}
 use Rattle.history_model.specs.Queries.{get, snapshot}
-use Rattle.word_model.specs.Words.{words, words_of_body, is_of_type, some_begins, begin_with_all, says_words, has_words, term_length, shortest_cmp, words_found, some_words_found}
+use Rattle.word_model.specs.Words.{words, is_of_type, some_begins, begin_with_all, says_words, has_words, term_length, shortest_cmp, words_found, some_words_found}
 use Rattle.std.proofs.lemmas.Option.{same_Some, slice_get_within}
 use Rattle.history_model.proofs.InOrder.{Has-append_left, Has-append_right, Has-append_cases, Has-all, Has-put_all_cases, Has-put_all_new, IsAscending-in_order}
 use Rattle.history_model.proofs.Filtered.{Has-filter, Has-filter_from, Has-map, Has-map_from, IsAscending-take}
@@ -44,7 +44,7 @@ use Rattle.as_of_index.proofs.First.{taken_or_above, same_first}
 use Rattle.as_of_index.proofs.Numbered.{stands_there, place_of_row}
 use Rattle.as_of_index.proofs.Pushing.{stands, posting_there, posted_as}
 use Rattle.term_prefix.specs.Terms.{TermAt}
-use Rattle.term_words.specs.declared.search.Group.{Group}
+use Rattle.term_words.specs.declared.grouping.Group.{Group}
 use Rattle.term_words.specs.Posted.{ArePosted, posted_words, keyed, keys_of, measure_key, word_key}
 use Rattle.term_words.specs.Private.{IsBegun, IsMarked, AreMarked, EachMarked, IsSized, IsSizedIn, AreGroups, sized, IsOfGroup, IsOfSome, AreShortest}
 
@@ -393,7 +393,7 @@ module _ (lists : List (List StampedRow)) (are : ArePlaces (map places_of lists)
       let key_is : at.0.key ≡ key_of row = (standing_row lists are n at.0 s stands_at).1 ∙ ap key_of p.same in
       let now = current_where lists are as_of n at.0 s row stands_at h key_is in
       let segment_is = g.2 in
-      let k = sized g.0 at.0 in
+      let k = sized g.0.segment g.0.len at.0 in
       record {
         k = k;
         some = (

@@ -3,9 +3,11 @@ pub mod Runs
 pub mod Numbering
 pub mod Ranking
 pub mod Found
+pub mod Adding
 pub mod Shortest
 pub mod Posting
 pub mod Stepping
 pub mod Begun
-pub mod Marking
-pub mod Grouping
+pub mod Entries
+pub mod Marks
+pub mod Groups

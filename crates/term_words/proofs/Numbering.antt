@@ -1,9 +1,10 @@
 -- Different keys with numbers, and postings that are added.
 use Rattle.std.proofs.Common.{◌≡◌, ℕ, zero, suc, ◌+◌, ◌<◌, ◌≤◌, List, [], ◌∷◌, ◌++◌, length, get_or, take, map, refl, sym, ap, subst, ◌∙◌, arith, append_assoc, append-nil}
-use Rattle.std.specs.Prelude.{Some, slice_get, Result, Ok, Err, OnOk}
+use Rattle.std.specs.Prelude.{Some, slice_get, slice_index_or, Result, Ok, Err, OnOk, OnErr}
+use Rattle.std.specs.Option.{option_map}
 use Rattle.std.specs.List.{AllByRecursion}
-use Rattle.std.proofs.lemmas.List.{length-append, get_or_append_left, map_push}
-use Rattle.std.proofs.lemmas.Option.{get_or_from_slice_get, slice_get_within}
+use Rattle.std.proofs.lemmas.List.{length-append, get_or_append_left, map_push, take_more}
+use Rattle.std.proofs.lemmas.Option.{get_or_from_slice_get, slice_get_within, slice_get-get_or, slice_get-map}
 use Rattle.term_prefix.specs.Terms.{TermAt}
 use Rattle.term_words.specs.declared.keys.KeyAt.{KeyAt}
 use Rattle.term_words.specs.declared.postings.Pushed.{Pushed}
@@ -44,6 +45,15 @@ keys_kept text text' key keys at laid h = (
 
 pub same_keys : (text : List ℕ) (keys : List KeyAt) → KeepsKeys text keys text keys
 same_keys text keys h = (h, ([], sym (append-nil (keys_in text keys))))
+
+-- the key with a number, as it is read
+pub key_there : (text : List ℕ) (keys : List KeyAt) (number : ℕ) (all : List (List ℕ)) (at : KeyAt) (key : List ℕ) → keys_in text keys ≡ all → number < length all → at ≡ slice_index_or keys number at → key ≡ key_in text at → slice_get all number ≡ Some key
+key_there text keys number all at key are lt is key_is =
+    let many = length_mapped (key_in text) keys in
+    let same = ap (λ (ks : List (List ℕ)). length ks) are in
+    let within : number < length keys = omega (arith, many, same, lt) in
+    ap (λ ks. slice_get ks number) (sym are) ∙ slice_get-map (key_in text) keys number
+    ∙ ap (option_map (key_in text)) (slice_get-get_or keys number at within ∙ ap Some (sym is)) ∙ ap Some (sym key_is)
 
 -- ---- postings
 
@@ -108,12 +118,12 @@ posted_none text keys pushed are = record { are = are; same = sym (append-nil (a
 
 -- ---- postings that are taken back
 
-take_map : (keys : List (List ℕ)) (n : ℕ) (pushed : List Pushed) → all_pushed_in keys (take n pushed) ≡ take n (all_pushed_in keys pushed)
+pub take_map : (keys : List (List ℕ)) (n : ℕ) (pushed : List Pushed) → all_pushed_in keys (take n pushed) ≡ take n (all_pushed_in keys pushed)
 take_map keys zero pushed = refl
 take_map keys (suc n) [] = refl
 take_map keys (suc n) (p ∷ pushed) = ap (λ ts. pushed_in keys p ∷ ts) (take_map keys n pushed)
 
-take_numbered : (count n : ℕ) (pushed : List Pushed) → AllByRecursion (λ (p : Pushed). p.key < count) pushed → AllByRecursion (λ (p : Pushed). p.key < count) (take n pushed)
+pub take_numbered : (count n : ℕ) (pushed : List Pushed) → AllByRecursion (λ (p : Pushed). p.key < count) pushed → AllByRecursion (λ (p : Pushed). p.key < count) (take n pushed)
 take_numbered count zero pushed h = tt
 take_numbered count (suc n) [] h = tt
 take_numbered count (suc n) (p ∷ pushed) h = (h.0, take_numbered count n pushed h.1)
@@ -131,3 +141,20 @@ taken_back text text' keys keys' pushed pushed' some w = record {
   front : (xs ys : List TermAt) → take (length xs) (xs ++ ys) ≡ xs
   front [] ys = refl
   front (x ∷ xs) ys = ap (λ zs. x ∷ zs) (front xs ys)
+
+-- one word more
+pub words_next : (row : ℕ) (words : List (List ℕ)) (i : ℕ) (key : List ℕ) → slice_get words i ≡ Some key → map (keyed row) (take i words) ++ keyed row key ∷ [] ≡ map (keyed row) (take (i + 1) words)
+words_next row words i key there =
+    sym (map_push (keyed row) (take i words) key)
+    ∙ ap (map (keyed row)) (ap (λ k. take i words ++ k ∷ []) (sym (get_or_from_slice_get words i key [] there)) ∙ sym (take_more words i [] (slice_get_within words i key there)))
+
+-- whether the call failed or not, the postings are stored as they are to be
+pub are_after : {A E : Type 0} (r : Result A E) (text text' : List ℕ) (keys keys' : List KeyAt) (pushed pushed' : List Pushed) (posted : List TermAt) → OnOk r (IsPostedWith text keys pushed posted text' keys' pushed') → OnErr r (IsPostedWith text keys pushed [] text' keys' pushed') → ArePushed text' keys' pushed'
+are_after (Ok x) text text' keys keys' pushed pushed' posted ok err = ok.are
+are_after (Err e) text text' keys keys' pushed pushed' posted ok err = err.are
+
+pub seen_after : (text text' : List ℕ) (keys keys' : List KeyAt) (pushed pushed' : List Pushed) (posted posted' old : List TermAt) → all_pushed_in (keys_in text keys) pushed ≡ old → posted ≡ posted' → IsPostedWith text keys pushed posted text' keys' pushed' → all_pushed_in (keys_in text' keys') pushed' ≡ old ++ posted'
+seen_after text text' keys keys' pushed pushed' posted posted' old view is w = w.same ∙ (λ i. view i ++ is i)
+
+pub unseen_after : (text text' : List ℕ) (keys keys' : List KeyAt) (pushed pushed' : List Pushed) (old : List TermAt) → all_pushed_in (keys_in text keys) pushed ≡ old → IsPostedWith text keys pushed [] text' keys' pushed' → all_pushed_in (keys_in text' keys') pushed' ≡ old
+unseen_after text text' keys keys' pushed pushed' old view w = w.same ∙ append-nil (all_pushed_in (keys_in text keys) pushed) ∙ view

@@ -1,7 +1,9 @@
 -- Postings of lists that change.
-use Rattle.std.proofs.Common.{◌≡◌, ℕ, Bool, true, false, List, [], ◌∷◌, map, take, refl, ap, subst, arith, take_all}
+use Rattle.std.proofs.Common.{◌≡◌, ℕ, Bool, true, false, List, [], ◌∷◌, map, take, refl, sym, ap, subst, ◌∙◌, arith, take_all}
 use Rattle.std.specs.Prelude.{slice_set, if◌then◌else◌}
 use Rattle.std.specs.List.Sorted.{IsPermutation}
+use Rattle.rf2_values.specs.declared.row.Body.TheVariants as body
+use Rattle.rf2_values.specs.declared.row.Description.{Description}
 use Rattle.rf2_values.specs.Row.{RowValue}
 use Rattle.segment.specs.Standing.{places_of}
 use Rattle.as_of_index.specs.Numbers.{TwoLists}
@@ -9,7 +11,7 @@ use Rattle.as_of_index.proofs.Pushing.{all_more, all_set, all_removed}
 use Rattle.as_of_index.proofs.Unions.{merged_postings}
 use Rattle.term_prefix.specs.Terms.{TermAt}
 use Rattle.term_prefix.specs.Merged.{moved, in_both}
-use Rattle.term_words.specs.Posted.{posted_words, keyed, keys_of, PostedWordsMore, PostedWordsMerged, MergedWordsArePosted}
+use Rattle.term_words.specs.Posted.{posted_words, keyed, keys_of, term_keys, PostedWordsMore, PostedWordsMerged, MergedWordsArePosted}
 
 pub posted_words_more : PostedWordsMore
 posted_words_more lists words rows ts a p = all_more posted_words lists words rows ts a p
@@ -34,3 +36,8 @@ merged_words_are_posted a_rows b_rows a b m are of_a of_b h none =
     let whole_b : take m.taken.second b ≡ b = take_all m.taken.second b (omega (arith, none)) in
     merged_postings posted_words moved moved_row a_rows b_rows a b m.terms are of_a of_b
     (subst (λ xs. IsPermutation (in_both lists xs b) m.terms) whole_a (subst (λ ys. IsPermutation (in_both lists (take m.taken.first a) ys) m.terms) whole_b h.same))
+
+pub posted_is : (row : RowValue) (d : Description) (i type_id : ℕ) (term : List ℕ) → row.active ≡ true → row.body ≡ body.Description d → type_id ≡ d.type_id → term ≡ d.term → map (keyed i) (term_keys type_id term) ≡ posted_words row i
+posted_is row d i type_id term active is type_is term_is =
+    (λ j. map (keyed i) (term_keys (type_is j) (term_is j)))
+    ∙ sym (ap (λ b. if b then map (keyed i) (keys_of row.body) else []) active ∙ ap (λ b. map (keyed i) (keys_of b)) is)

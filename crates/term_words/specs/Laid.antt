@@ -1,20 +1,14 @@
 -- How keys and postings are stored, for the types' invariants: the bytes of words in one text, and
 -- each key once, with the numbers of the rows that have it behind one another.
-use Rattle.std.specs.Prelude.{◌≡◌, ◌≤◌, ◌<◌, ℕ, ◌+◌, List, [], ◌∷◌, map, flat_map, take, drop}
-use Rattle.std.specs.Prelude.{length, get_or}
+use Rattle.std.specs.Prelude.{◌≤◌, ◌<◌, ℕ, ◌+◌, List, [], map, flat_map, take, drop, length}
+use Rattle.std.specs.Prelude.{get_or}
 use Rattle.std.specs.List.{AllByRecursion}
-use Rattle.term_words.specs.declared.keys.Key.{Key}
-use Rattle.term_words.specs.declared.keys.Key.TheVariants as keys
 use Rattle.term_words.specs.declared.keys.KeyAt.{KeyAt}
 use Rattle.term_words.specs.declared.keys.KeyAt.TheVariants as places
 use Rattle.term_words.specs.declared.listing.Entry.{Entry}
 use Rattle.term_words.specs.declared.postings.Pushed.{Pushed}
 use Rattle.term_prefix.specs.Terms.{TermAt}
 use Rattle.term_words.specs.Posted.{measure_key, word_key, keyed}
-
-abbrev pub key_of : Key → List ℕ
-key_of (keys.Measure len type_id) = measure_key len type_id
-key_of (keys.Word word) = word_key word.now
 
 -- a key whose word's bytes are in a text
 abbrev pub key_in : List ℕ → KeyAt → List ℕ
@@ -44,18 +38,6 @@ entry_postings text rows e = map (λ row. keyed row (key_in text e.key)) (rows_o
 
 abbrev pub postings_in : List ℕ → List Entry → List ℕ → List TermAt
 postings_in text entries rows = flat_map (entry_postings text rows) entries
-
--- each entry has at least one row, and their rows stand one after the other, from number `from` to
--- number `end`
-abbrev pub AreChained : ℕ → List Entry → ℕ → Type 0
-AreChained from [] end = from ≡ end
-AreChained from (e ∷ entries) end =
-    (e.first ≡ from) × (0 < e.count) × AreChained (from + e.count) entries end
-
--- the entries have these rows, and the bytes of their words are within the text
-pub record AreEntries (text : List ℕ) (entries : List Entry) (rows : List ℕ) : Type 0 where
-  pub chained : AreChained 0 entries (length rows)
-  pub within : EachEndsWithin (length text) (map (λ e. e.key) entries)
 
 -- ---- postings as they are pushed
 

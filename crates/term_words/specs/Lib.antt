@@ -2,6 +2,7 @@ pub use Rattle.word_model.specs.Words
 pub use Rattle.segment.specs.Standing
 pub use Rattle.as_of_index.specs.Places
 pub use Rattle.as_of_index.specs.Current
+pub use Rattle.as_of_index.specs.Chosen
 pub use Rattle.as_of_index.specs.Postings
 pub use Rattle.as_of_index.specs.Numbers
 pub use Rattle.term_prefix.specs.Terms

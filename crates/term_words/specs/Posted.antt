@@ -24,9 +24,11 @@ abbrev pub word_key : List ℕ → List ℕ
 word_key word = 1 ∷ word
 
 -- a description is posted by the length and the type of its term, and by each of its words
+abbrev pub term_keys : ℕ → List ℕ → List (List ℕ)
+term_keys type_id term = measure_key (length (chars term)) type_id ∷ map word_key (words term)
+
 abbrev pub keys_of : Body → List (List ℕ)
-keys_of (body.Description d) =
-    measure_key (length (chars d.term)) d.type_id ∷ map word_key (words d.term)
+keys_of (body.Description d) = term_keys d.type_id d.term
 keys_of _ = []
 
 abbrev pub keyed : ℕ → List ℕ → TermAt

@@ -1,19 +1,22 @@
 -- Definitions for private functions and proofs. No public clause cites them.
+pub mod Chains
 use Rattle.std.specs.Prelude.{◌≡◌, ◌≤◌, ◌<◌, ◌⊎◌, ◌↔◌, ℕ, ◌+◌, ◌-◌, Bool, true, false, List, [], ◌∷◌}
 use Rattle.std.specs.Prelude.{◌++◌, length, map, drop, get_or, slice_get, slice_index_or, nat_eq}
 use Rattle.std.specs.Prelude.{Option, Some, None, Result, IfOk, OnOk, encode_utf8_all}
 use Rattle.std.specs.List.{AllByRecursion, starts_with}
 use Rattle.std.specs.Ordering.{nat_cmp, is_lt}
 use Rattle.std.specs.Cmp.Lexicographic.{slice_cmp}
+use Rattle.rf2_values.specs.Row.{RowValue}
 use Rattle.history_model.specs.declared.stamped.StampedRow.{StampedRow}
 use Rattle.history_model.specs.InOrder.{Has, IsAscending}
 use Rattle.word_model.specs.Words.{is_of_word, is_of_type, runs}
 use Rattle.segment.specs.declared.place.RowPlace.{RowPlace}
 use Rattle.as_of_index.specs.declared.as_of.AsOf.{AsOf}
 use Rattle.as_of_index.specs.declared.chosen.Chosen.{Chosen}
+use Rattle.as_of_index.specs.Chosen.{StandAtAll}
 use Rattle.as_of_index.specs.Current.{IsPlaceOfRow, IsCurrentAt}
 use Rattle.as_of_index.specs.Private.Chosen.{ranked_cmp}
-use Rattle.as_of_index.specs.Private.Once.{IsThere}
+use Rattle.as_of_index.specs.Private.Once.{IsThere, AreOnce}
 use Rattle.term_prefix.specs.Terms.{TermAt, TextsRise}
 use Rattle.term_words.specs.declared.keys.Key.{Key}
 use Rattle.term_words.specs.declared.keys.KeyAt.{KeyAt}
@@ -25,10 +28,11 @@ use Rattle.term_words.specs.declared.sealing.Numbered.{Numbered}
 use Rattle.term_words.specs.declared.sealing.Ranked.{Ranked}
 use Rattle.term_words.specs.declared.merging.Next.{Next}
 use Rattle.term_words.specs.declared.merging.Next.TheVariants as next
-use Rattle.term_words.specs.declared.search.Group.{Group}
+use Rattle.term_words.specs.declared.grouping.Group.{Group}
 use Rattle.term_words.specs.Posted.{keyed, measure_key, word_key}
-use Rattle.term_words.specs.Laid.{key_of, key_in, keys_in, EndsWithin, EachEndsWithin}
-use Rattle.term_words.specs.Laid.{all_pushed_in, ArePushed}
+use Rattle.term_words.specs.Laid.{key_in, keys_in, EndsWithin, EachEndsWithin}
+use Rattle.term_words.specs.Private.Chains.{key_of}
+use Rattle.term_words.specs.Laid.{all_pushed_in, ArePushed, rows_of}
 
 -- the bytes of a key's word were added to a text, where they are at this place
 pub record IsLaid (text key text' : List ℕ) (at : KeyAt) : Type 0 where
@@ -55,11 +59,6 @@ grown e = record { key = e.key; first = e.first; count = e.count + 1 }
 abbrev pub SaysPosting : Option TermAt → Option Posting → Type 0
 SaysPosting there None = there ≡ None
 SaysPosting there (Some p) = there ≡ Some (keyed p.row (key_of p.key))
-
--- the key that was read is the one that there is
-abbrev pub HasKey : Option (List ℕ) → Option Key → Type 0
-HasKey there None = there ≡ None
-HasKey there (Some key) = there ≡ Some (key_of key)
 
 -- ---- the words of a text
 
@@ -109,11 +108,11 @@ pub record IsPostedWith (text : List ℕ) (keys : List KeyAt) (pushed : List Pus
   pub same : all_pushed_in (keys_in text' keys') pushed'
       ≡ all_pushed_in (keys_in text keys) pushed ++ posted
 
-abbrev pub Posts : {E : Type 0} → Result (Unit {0}) E → List ℕ → List KeyAt → List Pushed
-    → List TermAt → List ℕ → List KeyAt → List Pushed → Type 0
-Posts result text keys pushed posted text' keys' pushed' = ArePushed text keys pushed
-    → OnOk result (IsPostedWith text keys pushed posted text' keys' pushed')
-    × ((some : List TermAt) × IsPostedWith text keys pushed some text' keys' pushed')
+-- some postings were added
+abbrev pub PostsSome : List ℕ → List KeyAt → List Pushed → List ℕ → List KeyAt → List Pushed
+    → Type 0
+PostsSome text keys pushed text' keys' pushed' =
+    (some : List TermAt) × IsPostedWith text keys pushed some text' keys' pushed'
 
 -- ---- postings that are put in order
 
@@ -212,6 +211,26 @@ abbrev pub IsSizedIn : List (List TermAt) → Option ℕ → ℕ → ℕ → ℕ
 IsSizedIn lists wanted_type n len i =
     (ts : List TermAt) × (slice_get lists n ≡ Some ts) × IsSized ts wanted_type len i
 
+-- the rows of the entry, which is by a length and the wanted type, are a group of list `n`
+pub record IsGroupOf (rows : List ℕ) (n : ℕ) (wanted_type : Option ℕ) (e : Entry) (g : Group)
+    : Type 0 where
+  pub type_id : ℕ
+  pub key_is : e.key ≡ places.Measure g.len type_id
+  pub of_type : is_of_type wanted_type type_id ≡ true
+  pub segment_is : g.segment ≡ n
+  pub rows_are : g.rows.now ≡ rows_of rows e
+
+-- the groups of these entries were added
+pub record AddsGroupsOf (rows : List ℕ) (n : ℕ) (wanted_type : Option ℕ) (those : List Entry)
+    (groups groups' : List Group) : Type 0 where
+  pub more : List Group
+  pub groups_are : groups' ≡ groups ++ more
+  pub only : (g : Group) → Has more g
+      → (e : Entry) × Has those e × IsGroupOf rows n wanted_type e g
+  pub all : (e : Entry) (len type_id : ℕ) → Has those e → e.key ≡ places.Measure len type_id
+      → is_of_type wanted_type type_id ≡ true
+      → (g : Group) × Has more g × IsGroupOf rows n wanted_type e g
+
 -- the rows of list `n` were added in groups
 pub record AddsGroups (ts : List TermAt) (n : ℕ) (wanted_type : Option ℕ)
     (groups groups' : List Group) : Type 0 where
@@ -230,23 +249,38 @@ pub record AreGroups (lists : List (List TermAt)) (wanted_type : Option ℕ) (gr
   pub all : (n len i : ℕ) → IsSizedIn lists wanted_type n len i
       → (g : Group) × Has groups g × (g.segment ≡ n) × (g.len ≡ len) × Has g.rows.now i
 
--- what is read of a group's row at this place
-abbrev pub sized : Group → RowPlace → Chosen
-sized g at = record { segment = g.segment; at = at; first = g.len; second = 0 }
+-- what is read of a row of list `n` at this place, if its term has this length
+abbrev pub sized : ℕ → ℕ → RowPlace → Chosen
+sized n len at = record { segment = n; at = at; first = len; second = 0 }
 
--- a marked row of the group that is current
+-- a marked row among these that is current
+abbrev pub IsOfRows : List (List StampedRow) → AsOf → ℕ → ℕ → List ℕ → List Bool → Chosen
+    → Type 0
+IsOfRows lists as_of n len rows marks k = (i : ℕ) × Has rows i × IsMarked marks i
+    × IsPlaceOfRow lists n i k.at × IsCurrentAt lists as_of n k.at × (k ≡ sized n len k.at)
+
 abbrev pub IsOfGroup : List (List StampedRow) → AsOf → Group → List Bool → Chosen → Type 0
-IsOfGroup lists as_of g marks k = (i : ℕ) × Has g.rows.now i × IsMarked marks i
-    × IsPlaceOfRow lists g.segment i k.at × IsCurrentAt lists as_of g.segment k.at
-    × (k ≡ sized g k.at)
+IsOfGroup lists as_of g marks k = IsOfRows lists as_of g.segment g.len g.rows.now marks k
 
--- those rows of the group were added
-pub record AddsRows (lists : List (List StampedRow)) (as_of : AsOf) (g : Group) (marks : List Bool)
-    (kept kept' : List Chosen) : Type 0 where
+-- those of the rows were added
+pub record AddsRows (lists : List (List StampedRow)) (as_of : AsOf) (n len : ℕ) (rows : List ℕ)
+    (marks : List Bool) (kept kept' : List Chosen) : Type 0 where
   pub more : List Chosen
   pub kept_are : kept' ≡ kept ++ more
-  pub only : (k : Chosen) → Has more k → IsOfGroup lists as_of g marks k
-  pub all : (k : Chosen) → IsOfGroup lists as_of g marks k → Has more k
+  pub only : (k : Chosen) → Has more k → IsOfRows lists as_of n len rows marks k
+  pub all : (k : Chosen) → IsOfRows lists as_of n len rows marks k → Has more k
+
+abbrev pub AddsRowsOf : List (List StampedRow) → AsOf → Group → List Bool → List Chosen
+    → List Chosen → Type 0
+AddsRowsOf lists as_of g marks kept kept' =
+    AddsRows lists as_of g.segment g.len g.rows.now marks kept kept'
+
+-- those of the group were added, if its list has marks
+pub record AddsMarked (lists : List (List StampedRow)) (as_of : AsOf) (g : Group)
+    (marks : List (List Bool)) (kept kept' : List Chosen) : Type 0 where
+  pub some : (own : List Bool) → slice_get marks g.segment ≡ Some own
+      → AddsRowsOf lists as_of g own kept kept'
+  pub none : slice_get marks g.segment ≡ None → kept' ≡ kept
 
 -- a marked row of some group that is current
 abbrev pub IsOfSome : List (List StampedRow) → AsOf → List Group → List (List Bool) → Chosen
@@ -267,3 +301,15 @@ pub record AreShortest (lists : List (List StampedRow)) (as_of : AsOf) (groups :
   pub only : (k : Chosen) → Has kept k → IsOfSome lists as_of groups marks k
   pub all : (k : Chosen) → IsOfSome lists as_of groups marks k → IsThere ranked_cmp kept k
       ⊎ ((count ≤ length kept) × ((j : Chosen) → Has kept j → j.first < k.first))
+
+-- Whether enough rows are kept: if so they are in order, each once, at least `count`, and the next
+-- ones have longer terms. Otherwise they are as before, or in order, each once.
+abbrev pub SaysEnough : ℕ → ℕ → ℕ → List Chosen → List Chosen → Bool → Type 0
+SaysEnough count last next kept kept' true =
+    AreOnce ranked_cmp kept kept' × (count ≤ length kept') × (last < next)
+SaysEnough count last next kept kept' false = (kept' ≡ kept) ⊎ AreOnce ranked_cmp kept kept'
+
+-- the rows are those that stand at these places
+abbrev pub StandFor : List (List StampedRow) → List Chosen → List RowValue → Type 0
+StandFor lists ks wanted = (rows : List StampedRow) × StandAtAll lists ks rows
+    × (map (λ s. s.row) rows ≡ wanted)

@@ -3,7 +3,8 @@
 ghost use Rattle.std.specs.Prelude.{◌≡◌, ◌++◌, ◌∷◌, [], IsTrue, OnOk, OnErr, length, take, drop};
 ghost use Rattle.std.specs.Ordering.{nat_cmp};
 ghost use Rattle.std.specs.Cmp.Lexicographic.{slice_cmp};
-ghost use Rattle.term_words.specs.Laid.{key_of, key_in};
+ghost use Rattle.term_words.specs.Laid.{key_in};
+ghost use Rattle.term_words.specs.Private.Chains.{key_of};
 ghost use Rattle.term_words.specs.Private.{AddsKey};
 
 use std::alloc::AllocError;

@@ -2,7 +2,8 @@
 
 ghost use Rattle.std.specs.Prelude.{◌≡◌, ◌<◌, length, IsTrue, IfSome, Some};
 ghost use Rattle.std.specs.Prelude.{slice_get};
-ghost use Rattle.term_words.specs.Laid.{key_of, keys_in, EachEndsWithin};
+ghost use Rattle.term_words.specs.Laid.{keys_in, EachEndsWithin};
+ghost use Rattle.term_words.specs.Private.Chains.{key_of};
 ghost use Rattle.term_words.specs.Private.{IsNumbered, KeepsKeys};
 
 use crate::keys::{Key, KeyAt, is_same, key_in, lay};

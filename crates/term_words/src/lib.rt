@@ -6,10 +6,12 @@
 //! counts only if it is the version of its component at the date and the pin.
 #![tactic(auto)]
 
+mod grouping;
 mod keys;
 mod known;
 pub mod laws;
 mod listing;
+mod marking;
 mod merging;
 mod postings;
 mod sealed;

@@ -5,7 +5,8 @@ ghost use Rattle.std.specs.Prelude.{◌≡◌, ◌<◌, ◌^◌, ◌+◌, ◌++�
 ghost use Rattle.std.specs.Prelude.{OnOk, OnErr, slice_get, ◌≤◌, ℕ};
 ghost use Rattle.std.specs.Option.{option_copied};
 ghost use Rattle.term_words.specs.Posted.{keyed};
-ghost use Rattle.term_words.specs.Laid.{key_of, AreChained, AreEntries, postings_in};
+ghost use Rattle.term_words.specs.Laid.{postings_in};
+ghost use Rattle.term_words.specs.Private.Chains.{key_of, AreChained, AreEntries};
 ghost use Rattle.term_words.specs.Private.{IsLast, grown, SaysPosting};
 
 use crate::keys::{Key, KeyAt, is_same, key_in, lay};
@@ -31,13 +32,22 @@ pub(crate) struct Listing {
 impl Model for Listing {
     ghost use Rattle.std.specs.Prelude.{List};
     ghost use Rattle.term_prefix.specs.Terms.{TermAt};
-    ghost use Rattle.term_words.specs.Laid.{postings_in, AreEntries};
+    ghost use Rattle.term_words.specs.Laid.{postings_in};
+    ghost use Rattle.term_words.specs.Private.Chains.{AreEntries};
 
     ghost Value = { List TermAt };
 
     ghost view = { λ a. postings_in a.text.items a.entries.items a.rows.items };
 
     ghost invariant = { λ a. AreEntries a.text.items a.entries.items a.rows.items };
+}
+
+/// What a list of postings is kept as.
+#[derive(Clone, Copy)]
+pub(crate) struct Parts<'a> {
+    pub(crate) text: &'a [u8],
+    pub(crate) entries: &'a [Entry],
+    pub(crate) rows: &'a [u32],
 }
 
 /// A posting, and the number of its entry.
@@ -240,6 +250,18 @@ impl Listing {
             text: Vec::new(alloc),
             entries: Vec::new(alloc),
             rows: Vec::new(alloc),
+        }
+    }
+
+    /// What the postings are kept as.
+    pub(crate) fn parts(&self) -> Parts<'_>
+        ensures same { postings_in result.text.now result.entries.now result.rows.now ≡ self.now }
+        ensures entries { AreEntries result.text.now result.entries.now result.rows.now }
+    {
+        Parts {
+            text: self.text.as_slice(),
+            entries: self.entries.as_slice(),
+            rows: self.rows.as_slice(),
         }
     }
 

@@ -4,6 +4,9 @@ ghost use Rattle.std.specs.Prelude.{◌≡◌, ◌+◌, ◌-◌, ◌≤◌, List
 ghost use Rattle.as_of_index.specs.Numbers.{TwoLists};
 ghost use Rattle.term_prefix.specs.Terms.{TermAt, TextsRise};
 ghost use Rattle.term_prefix.specs.Merged.{IsMergeOfTerms, no_terms_merged, terms_left};
+ghost use Rattle.term_prefix.specs.Private.{first_taken, second_taken};
+ghost use Rattle.term_words.specs.Posted.{keyed};
+ghost use Rattle.term_words.specs.Private.Chains.{key_of};
 ghost use Rattle.term_words.specs.Private.{IsNext, SaysPosting};
 
 use crate::keys::compare;
@@ -87,6 +90,59 @@ impl Merging {
             + b.list.len().saturating_sub(self.taken.second)
     }
 
+    /// Which posting is taken next.
+    fn next<'a>(&self, a: &'a Sealed, b: &'a Sealed) -> Next<'a>
+        ensures rising { TextsRise a.now × TextsRise b.now }
+        ensures found { IsNext (slice_get a.now self.now.taken.first)
+            (slice_get b.now self.now.taken.second) result }
+    {
+        let first = a.list.at(self.taken.first, self.near.first);
+        let second = b.list.at(self.taken.second, self.near.second);
+        next_of(first, second)
+    }
+
+    /// Takes the next posting of the first list.
+    fn take_first(
+        &mut self,
+        a: &Sealed,
+        numbers: &Numbers<'_>,
+        t: Posting<'_>,
+    ) -> Result<(), AllocError>
+        requires { slice_get a.now self.old.taken.first ≡ Some (keyed t.row (key_of t.key)) }
+        ensures ok { OnOk result (self.new
+            ≡ first_taken numbers.now (keyed t.entry.row (key_of t.entry.key)) self.old) }
+        ensures err { OnErr result (self.new ≡ self.old) }
+    {
+        self.list.push(t.key, numbers.of_first(t.row))?;
+        // The contract of `len` says that the next number is one, too.
+        let _many = a.list.len();
+        let next = self.taken.first + 1;
+        self.taken.first = next;
+        self.near.first = t.entry;
+        Ok(())
+    }
+
+    /// Takes the next posting of the second list.
+    fn take_second(
+        &mut self,
+        b: &Sealed,
+        numbers: &Numbers<'_>,
+        u: Posting<'_>,
+    ) -> Result<(), AllocError>
+        requires { slice_get b.now self.old.taken.second ≡ Some (keyed u.row (key_of u.key)) }
+        ensures ok { OnOk result (self.new
+            ≡ second_taken numbers.now (keyed u.entry.row (key_of u.entry.key)) self.old) }
+        ensures err { OnErr result (self.new ≡ self.old) }
+    {
+        self.list.push(u.key, numbers.of_second(u.row))?;
+        // The contract of `len` says that the next number is one, too.
+        let _many = b.list.len();
+        let next = self.taken.second + 1;
+        self.taken.second = next;
+        self.near.second = u.entry;
+        Ok(())
+    }
+
     /// Takes the next posting, if one is left.
     fn take_next(&mut self, a: &Sealed, b: &Sealed, numbers: &Numbers<'_>) -> Result<(), AllocError>
         ensures merged { IsMergeOfTerms numbers.now a.now b.now self.old
@@ -95,21 +151,9 @@ impl Merging {
             (terms_left a.now b.now self.new ≡ terms_left a.now b.now self.old - 1) }
         ensures err { OnErr result (self.new ≡ self.old) }
     {
-        let first = a.list.at(self.taken.first, self.near.first);
-        let second = b.list.at(self.taken.second, self.near.second);
-        match next_of(first, second) {
-            Next::First(t) => {
-                self.list.push(t.key, numbers.of_first(t.row))?;
-                self.taken.first += 1;
-                self.near.first = t.entry;
-                Ok(())
-            }
-            Next::Second(u) => {
-                self.list.push(u.key, numbers.of_second(u.row))?;
-                self.taken.second += 1;
-                self.near.second = u.entry;
-                Ok(())
-            }
+        match self.next(a, b) {
+            Next::First(t) => self.take_first(a, numbers, t),
+            Next::Second(u) => self.take_second(b, numbers, u),
             Next::Neither => Ok(()),
         }
     }

@@ -1,14 +1,15 @@
 //! The postings of rows, in the order in which rows are pushed.
 
-ghost use Rattle.std.specs.Prelude.{◌≡◌, ◌++◌, ◌∷◌, [], List, length, take, map, chars, OnOk, OnErr};
+ghost use Rattle.std.specs.Prelude.{◌≡◌, ◌++◌, ◌∷◌, [], length, chars, take, map, OnOk, OnErr};
 ghost use Rattle.std.specs.Prelude.{IfOk};
 ghost use Rattle.std.specs.Str.{IsUtf8};
 ghost use Rattle.std.specs.List.Sorted.{IsPermutation};
 ghost use Rattle.word_model.specs.Words.{words};
 ghost use Rattle.term_prefix.specs.Terms.{TextsRise};
-ghost use Rattle.term_words.specs.Posted.{posted_words, keyed, measure_key, word_key};
-ghost use Rattle.term_words.specs.Laid.{key_of, ArePushed};
-ghost use Rattle.term_words.specs.Private.{Posts, IsPostedWith};
+ghost use Rattle.term_words.specs.Posted.{posted_words, keyed, term_keys, word_key};
+ghost use Rattle.term_words.specs.Laid.{ArePushed};
+ghost use Rattle.term_words.specs.Private.Chains.{key_of};
+ghost use Rattle.term_words.specs.Private.{PostsSome, IsPostedWith};
 
 use crate::keys::{Key, KeyAt};
 use crate::known::number_of;
@@ -59,12 +60,48 @@ fn post(
     key: Key<'_>,
     row: u32,
 ) -> Result<(), AllocError>
-    ensures { Posts result text.old.items keys.old.items pushed.old.items
-        (keyed row (key_of key.entry) ∷ []) text.new.items keys.new.items pushed.new.items }
+    ensures ok { ArePushed text.old.items keys.old.items pushed.old.items
+        → OnOk result (IsPostedWith text.old.items keys.old.items pushed.old.items
+        (keyed row (key_of key.entry) ∷ []) text.new.items keys.new.items pushed.new.items) }
+    ensures some { ArePushed text.old.items keys.old.items pushed.old.items
+        → PostsSome text.old.items keys.old.items pushed.old.items
+        text.new.items keys.new.items pushed.new.items }
 {
     let number = number_of(alloc, text, keys, slots, key)?;
     pushed.push(Pushed { key: number, row })?;
     Ok(())
+}
+
+/// Adds the postings of a term's words. An `Err` may leave some of them.
+fn post_words(
+    alloc: Global,
+    text: &mut Vec<u8>,
+    keys: &mut Vec<KeyAt>,
+    slots: &mut Vec<u32>,
+    pushed: &mut Vec<Pushed>,
+    term: &str,
+    row: u32,
+) -> Result<(), AllocError>
+    ensures ok { ArePushed text.old.items keys.old.items pushed.old.items
+        → OnOk result (IsPostedWith text.old.items keys.old.items pushed.old.items
+        (map (keyed row) (map word_key (words term.now)))
+        text.new.items keys.new.items pushed.new.items) }
+    ensures some { ArePushed text.old.items keys.old.items pushed.old.items
+        → PostsSome text.old.items keys.old.items pushed.old.items
+        text.new.items keys.new.items pushed.new.items }
+{
+    let words = words_of(alloc, term)?;
+    for number in 0..words.len() {
+        post(alloc, text, keys, slots, pushed, words.at(number), row)?;
+    }
+    Ok(())
+}
+
+/// How many characters a term has.
+fn count_of(term: &str) -> usize
+    ensures { result ≡ length (chars term.now) }
+{
+    term.chars().count()
 }
 
 /// Adds the postings of a description. An `Err` may leave some of them.
@@ -78,29 +115,20 @@ fn post_all(
     type_id: u64,
     row: u32,
 ) -> Result<(), AllocError>
-    ensures { Posts result text.old.items keys.old.items pushed.old.items
-        (map (keyed row) (measure_key (length (chars term.now)) type_id
-        ∷ map word_key (words term.now))) text.new.items keys.new.items pushed.new.items }
+    ensures ok { ArePushed text.old.items keys.old.items pushed.old.items
+        → OnOk result (IsPostedWith text.old.items keys.old.items pushed.old.items
+        (map (keyed row) (term_keys type_id term.now))
+        text.new.items keys.new.items pushed.new.items) }
+    ensures some { ArePushed text.old.items keys.old.items pushed.old.items
+        → PostsSome text.old.items keys.old.items pushed.old.items
+        text.new.items keys.new.items pushed.new.items }
 {
-    let Ok(length) = u32::try_from(term.chars().count()) else {
+    let Ok(length) = u32::try_from(count_of(term)) else {
         return Err(AllocError);
     };
-    post(
-        alloc,
-        text,
-        keys,
-        slots,
-        pushed,
-        Key::Measure { length, type_id },
-        row,
-    )?;
-    let words = words_of(alloc, term)?;
-    for number in 0..words.len() {
-        if let Some(key) = words.get(number) {
-            post(alloc, text, keys, slots, pushed, key, row)?;
-        }
-    }
-    Ok(())
+    let measure = Key::Measure { length, type_id };
+    post(alloc, text, keys, slots, pushed, measure, row)?;
+    post_words(alloc, text, keys, slots, pushed, term, row)
 }
 
 /// Adds the postings of a description. An `Err` changes no posting.
@@ -116,8 +144,8 @@ fn post_term(
 ) -> Result<(), AllocError>
     ensures ok { ArePushed text.old.items keys.old.items pushed.old.items
         → OnOk result (IsPostedWith text.old.items keys.old.items pushed.old.items
-        (map (keyed row) (measure_key (length (chars term.now)) type_id
-        ∷ map word_key (words term.now))) text.new.items keys.new.items pushed.new.items) }
+        (map (keyed row) (term_keys type_id term.now))
+        text.new.items keys.new.items pushed.new.items) }
     ensures err { ArePushed text.old.items keys.old.items pushed.old.items
         → OnErr result (IsPostedWith text.old.items keys.old.items pushed.old.items []
         text.new.items keys.new.items pushed.new.items) }

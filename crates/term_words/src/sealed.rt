@@ -5,11 +5,12 @@ ghost use Rattle.std.specs.List.{starts_with};
 ghost use Rattle.std.specs.Ordering.{nat_cmp, is_lt};
 ghost use Rattle.std.specs.Cmp.Lexicographic.{slice_cmp};
 ghost use Rattle.history_model.specs.InOrder.{Has};
-ghost use Rattle.term_words.specs.Laid.{key_of, key_in, rows_of};
+ghost use Rattle.term_words.specs.Laid.{key_in, rows_of, postings_in};
+ghost use Rattle.term_words.specs.Private.Chains.{key_of};
 ghost use Rattle.term_words.specs.Private.{entry_keys, KeysRise, is_measure};
 
 use crate::keys::{Key, KeyAt, compare, is_same, key_in};
-use crate::listing::{Entry, Listing};
+use crate::listing::{Entry, Listing, Parts};
 use std::marker::Model;
 
 /// The postings of a list of rows, ascending by their keys.
@@ -99,5 +100,15 @@ pub(crate) fn rows_of<'a>(rows: &'a [u32], e: &Entry) -> &'a [u32]
         }
     } else {
         &[]
+    }
+}
+
+impl Sealed {
+    /// What the postings are kept as.
+    pub(crate) fn parts(&self) -> Parts<'_>
+        ensures same { postings_in result.text.now result.entries.now result.rows.now ≡ self.now }
+        ensures rising { KeysRise (entry_keys result.text.now result.entries.now) }
+    {
+        self.list.parts()
     }
 }

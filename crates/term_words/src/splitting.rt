@@ -1,12 +1,13 @@
 //! The words of a text.
 
 ghost use Rattle.std.specs.Prelude.{◌≡◌, ◌++◌, ◌∷◌, [], ℕ, List, length, map, flat_map, chars};
-ghost use Rattle.std.specs.Prelude.{IfOk, OnOk, OnErr, slice_get, encode_utf8};
+ghost use Rattle.std.specs.Prelude.{IfOk, OnOk, slice_get, encode_utf8, ◌<◌, Some};
 ghost use Rattle.std.specs.List.{filter};
 ghost use Rattle.word_model.specs.Words.{is_no_mark, unmarked, words};
 ghost use Rattle.term_words.specs.Posted.{word_key};
-ghost use Rattle.term_words.specs.Laid.{key_of, EachEndsWithin, keys_in};
-ghost use Rattle.term_words.specs.Private.{IsClosed, Follows, HasKey};
+ghost use Rattle.term_words.specs.Laid.{EachEndsWithin, keys_in};
+ghost use Rattle.term_words.specs.Private.Chains.{key_of};
+ghost use Rattle.term_words.specs.Private.{IsClosed, Follows};
 
 use crate::keys::{Key, KeyAt, key_in};
 use caseless::default_case_fold_str;
@@ -163,14 +164,12 @@ impl Keys {
         self.keys.len()
     }
 
-    /// The key with this number, if there is one.
-    pub(crate) fn get(&self, number: usize) -> Option<Key<'_>>
-        ensures { HasKey (slice_get self.now number) result }
+    /// The key with this number.
+    pub(crate) fn at(&self, number: usize) -> Key<'_>
+        requires { number < length self.now }
+        ensures { slice_get self.now number ≡ Some (key_of result) }
     {
-        match self.keys.get(number) {
-            Some(key) => Some(key_in(self.text.as_slice(), key)),
-            None => None,
-        }
+        key_in(self.text.as_slice(), &self.keys[number])
     }
 }
 

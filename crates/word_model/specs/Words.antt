@@ -51,14 +51,6 @@ words text = map encode_utf8_all (runs (plain text))
 
 -- ---- descriptions with words
 
-abbrev pub words_of_body : Body → List (List ℕ)
-words_of_body (body.Description d) = words d.term
-words_of_body _ = []
-
--- the words of an active description's term
-abbrev pub words_of : RowValue → List (List ℕ)
-words_of row = if row.active then words_of_body row.body else []
-
 -- one of these words begins with the wanted one
 abbrev pub some_begins : List (List ℕ) → List ℕ → Bool
 some_begins own wanted = list_any (λ word. starts_with nat_eq word wanted) own

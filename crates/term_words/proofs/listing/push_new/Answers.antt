@@ -1,5 +1,6 @@
 use Rattle.std.proofs.Common.{◌≡◌, ◌∷◌, ◌++◌, [], length, sym, ap, subst, ◌∙◌}
-use Rattle.term_words.specs.Laid.{AreEntries, postings_in}
+use Rattle.term_words.specs.Laid.{postings_in}
+use Rattle.term_words.specs.Private.Chains.{AreEntries}
 use Rattle.term_words.proofs.Chained.{new_entry, added_postings, added_are}
 use Rattle.term_words.proofs.listing.push_new.Goals as goal
 

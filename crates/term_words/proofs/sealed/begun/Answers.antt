@@ -5,7 +5,8 @@ use Rattle.std.proofs.lemmas.List.Sorted.{IsPartitionPoint-from_clause}
 use Rattle.as_of_index.proofs.Ordered.{splits}
 use Rattle.as_of_index.proofs.First.{parted}
 use Rattle.term_words.specs.declared.listing.Entry.{Entry}
-use Rattle.term_words.specs.Laid.{key_of, key_in}
+use Rattle.term_words.specs.Laid.{key_in}
+use Rattle.term_words.specs.Private.Chains.{key_of}
 use Rattle.term_words.proofs.Begun.{is_under, begins_so, under-falls, begun-falls, rise-drop, begun_from, begun_all}
 use Rattle.term_words.proofs.sealed.begun.Goals as goal
 
