@@ -2,10 +2,9 @@
 
 ghost use Rattle.std.specs.Prelude.{◌≡◌, ◌&&◌, map, IfOk};
 ghost use Rattle.history_model.specs.KeyOrder.{is_after};
-ghost use Rattle.history_model.specs.Exports.{is_kind_after, rows_of_kind, rows_added};
+ghost use Rattle.history_model.specs.Exports.{is_kind_after, all_of_kind, rows_of_kind};
 
 use crate::snapshots::is_kind;
-use history_model::StampedRow;
 use rf2_values::{Key, Kind, Row};
 use std::alloc::{AllocError, Global};
 
@@ -25,8 +24,24 @@ fn is_kind_after(row: &Row, kind: Kind, after: Option<Key>) -> bool
     is_kind(row, kind) && is_after(after, row)
 }
 
-/// The first `limit` rows of a kind with keys greater than `after`, if that is given.
-#[tactic(auto, unfolding(history_model::specs::Exports::rows_of_kind, history_model::specs::Exports::all_of_kind))]
+/// All rows of a kind with keys greater than `after`, if that is given.
+#[tactic(auto, unfolding(history_model::specs::Exports::all_of_kind))]
+fn all_of_kind(
+    alloc: Global,
+    rows: &[Row],
+    kind: Kind,
+    after: Option<Key>,
+) -> Result<Vec<&Row>, AllocError>
+    ensures { IfOk result
+        (λ found. map (λ row. row.now) found.items ≡ all_of_kind kind after rows.now) }
+{
+    rows.iter()
+        .filter(|row| is_kind_after(row, kind, after))
+        .collect(alloc)
+}
+
+/// The first `limit` of these.
+#[tactic(auto, using(crate::proofs::Listed::map_take), unfolding(history_model::specs::Exports::rows_of_kind))]
 pub fn rows_of_kind(
     alloc: Global,
     rows: &[Row],
@@ -38,8 +53,7 @@ pub fn rows_of_kind(
     ensures { IfOk result
         (λ found. map (λ row. row.now) found.items ≡ rows_of_kind kind after limit rows.now) }
 {
-    rows.iter()
-        .filter(|row| is_kind_after(row, kind, after))
-        .take(limit as usize)
-        .collect(alloc)
+    let mut found = all_of_kind(alloc, rows, kind, after)?;
+    found.truncate(limit as usize);
+    Ok(found)
 }

@@ -12,17 +12,17 @@ use rf2_values::{Body, EffectiveTime, Row, Sctid};
 use std::alloc::{AllocError, Global};
 
 /// Whether the type is the given one, if one is given.
-fn is_of_type(type_id: Option<Sctid>, other: Sctid) -> bool
+fn is_of_type(type_id: Option<u64>, other: Sctid) -> bool
     ensures { result ≡ is_of_type type_id other }
 {
     match type_id {
         None => true,
-        Some(type_id) => other == type_id,
+        Some(type_id) => other.value() == type_id,
     }
 }
 
 /// The source of an active relationship of the type to the destination, if the row is one.
-fn source_of(row: &Row, type_id: Option<Sctid>, destination: Sctid) -> Option<Sctid>
+fn source_of(row: &Row, type_id: Option<u64>, destination: Sctid) -> Option<Sctid>
     ensures { MatchOption result (leads_to type_id destination row.now ≡ false)
         (λ source. (leads_to type_id destination row.now ≡ true)
         × (source ≡ source_of row.now.body)) }
@@ -40,7 +40,7 @@ fn source_at(
     rows: &[Row],
     date: EffectiveTime,
     row: &Row,
-    type_id: Option<Sctid>,
+    type_id: Option<u64>,
     destination: Sctid,
 ) -> Option<Sctid>
     ensures { MatchOption result
@@ -61,7 +61,7 @@ fn source_at(
 fn all_sources(
     alloc: Global,
     rows: &[Row],
-    type_id: Option<Sctid>,
+    type_id: Option<u64>,
     destination: Sctid,
     date: EffectiveTime,
 ) -> Result<Vec<Sctid>, AllocError>
@@ -74,6 +74,16 @@ fn all_sources(
         }
     }
     Ok(found)
+}
+
+/// The identifier as a number, if there is one.
+fn number_of(id: Option<Sctid>) -> Option<u64>
+    ensures { result ≡ id }
+{
+    match id {
+        None => None,
+        Some(id) => Some(id.value()),
+    }
 }
 
 fn is_above(after: Option<u64>, id: Sctid) -> bool
@@ -100,7 +110,7 @@ pub fn sources(
     ensures { IfOk result
         (λ found. found.items ≡ sources type_id destination date after limit rows.now) }
 {
-    let mut found = all_sources(alloc, rows, type_id, destination, date)?;
+    let mut found = all_sources(alloc, rows, number_of(type_id), destination, date)?;
     found.retain(|id| is_above(after, *id));
     found.truncate(limit as usize);
     Ok(found)
