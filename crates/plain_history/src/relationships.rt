@@ -95,8 +95,14 @@ fn is_above(after: Option<u64>, id: Sctid) -> bool
     }
 }
 
+/// Removes those that aren't greater than `after`, if that is given.
+fn keep_above(ids: &mut Vec<Sctid>, after: Option<u64>)
+    ensures { ids.new.items ≡ filter (is_above after) ids.old.items }
+{
+    ids.retain(|id| is_above(after, *id));
+}
+
 /// The first `limit` of these that are greater than `after`, if that is given.
-#[tactic(auto, unfolding(history_model::specs::Relationships::sources, history_model::specs::Relationships::sources_above))]
 pub fn sources(
     alloc: Global,
     rows: &[Row],
@@ -111,7 +117,7 @@ pub fn sources(
         (λ found. found.items ≡ sources type_id destination date after limit rows.now) }
 {
     let mut found = all_sources(alloc, rows, number_of(type_id), destination, date)?;
-    found.retain(|id| is_above(after, *id));
+    keep_above(&mut found, after);
     found.truncate(limit as usize);
     Ok(found)
 }

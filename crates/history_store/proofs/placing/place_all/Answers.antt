@@ -1,9 +1,12 @@
-use Rattle.std.proofs.Common.{◌++◌, ◌∷◌, [], List, sym, ap, subst, ◌∙◌, arith, append_assoc}
+use Rattle.std.proofs.Common.{◌≡◌, ◌++◌, ◌∷◌, [], List, sym, ap, subst, ◌∙◌, arith, append_assoc, append-nil}
 use Rattle.std.specs.List.{AllByRecursion}
 use Rattle.history_model.specs.declared.stamped.StampedRow.{StampedRow}
-use Rattle.history_model.specs.History.{stamped}
+use Rattle.rf2_values.specs.Row.{RowValue}
+use Rattle.history_model.specs.InOrder.{IsAscending}
+use Rattle.history_model.specs.History.{stamped, stamped_cmp}
 use Rattle.segment.specs.Records.{segment_in, IsStamped}
 use Rattle.segment.proofs.SegmentLaws.{no_rows}
+use Rattle.history_store.proofs.NewSegment.{ascending_stamped}
 use Rattle.history_store.proofs.Places.{segment_begins, more_placed}
 use Rattle.history_store.proofs.placing.place_all.Goals as goal
 
@@ -58,3 +61,20 @@ loop-row-preserved-in_ok-push-3 c =
     let s : StampedRow = record { row = c.in-Some.row; import = c.args.import } in
     let next = more_placed c.args.form (of c.args.rows.items) c.loop-row.index c.push.new.self (of c.loop-row.row-iterator) (of c.next.new.self) c.loop-row.bytes.items _ s inv.split (ap of c.in-Some.ensures.steps) inv.bytes inv.each c.in_ok-push.ensures.ok c.in_ok-put_record.ensures.bytes c.in_ok-put_record.ensures.stamped in
     record { split = next.0; bytes = next.1; each = next.2 }
+
+pub seal-requires : goal.seal-requires
+seal-requires c =
+    let of = stamped c.args.import in
+    let all = c.loop-row.invariant.split ∙ ap (λ (l : List RowValue). c.loop-row.index ++ of l) c.in-None.ensures.steps.0 ∙ append-nil c.loop-row.index in
+    subst (IsAscending stamped_cmp) all (ascending_stamped c.args.import c.args.rows.items c.requires.ascending)
+
+pub returns-clause-segment : goal.returns-clause-segment
+returns-clause-segment c =
+    let of = stamped c.args.import in
+    let inv = c.loop-row.invariant in
+    let all = inv.split ∙ ap (λ (l : List RowValue). c.loop-row.index ++ of l) c.in-None.ensures.steps.0 ∙ append-nil c.loop-row.index in
+    record {
+      each = subst (AllByRecursion IsStamped) (sym all) inv.each;
+      ascending = ascending_stamped c.args.import c.args.rows.items c.requires.ascending;
+      bytes_are = inv.bytes ∙ ap (segment_in c.args.form) (sym all);
+    }
