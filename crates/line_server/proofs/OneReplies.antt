@@ -360,10 +360,10 @@ module _ {D : Type 0} (a b after next : Server D) (honest also : Type 0) (up : h
 
   one_question : (question : Question) (m n : ℕ) (x y : Result Answer LineRefusal) → m ≡ n → IsSure x → IsSure y → OutcomeAt honest m question x a after → OutcomeAt also n question y b next → (x ≡ y) × AreLike after next
   one_question (AskReceipt number) m n x y seen u v h k = one_receipt_told number m n x y seen h k
-  one_question (Added number kind after limit) m n x y seen u v h k =
-      let one = added_out number kind after limit honest up m x a after u h in
-      let two = added_out number kind after limit also so n y b next v k in
-      (one_added number kind after limit m n x y a b seen (sym same.history) (sym same.needs_reopen) one.0 two.0, then_like a b after next same one.1 two.1)
+  one_question (Added number kind from limit) m n x y seen u v h k =
+      let one = added_out number kind from limit honest up m x a after u h in
+      let two = added_out number kind from limit also so n y b next v k in
+      (one_added number kind from limit m n x y a b seen (sym same.history) (sym same.needs_reopen) one.0 two.0, then_like a b after next same one.1 two.1)
   one_question question m n x y seen u v h k = one_found_told question m n x y tt seen u v h k
 
 -- behind AT the number is compared first
