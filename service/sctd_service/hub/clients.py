@@ -9,7 +9,8 @@ from typing import Optional, cast
 
 from ..logs import log, tell
 from ..protocol import REFUSED
-from .lines import LINE_LIMIT, NOT_A_QUESTION, TOO_LONG, Lines, Sort, without_cr
+from .digests import Digests
+from .lines import LINE_LIMIT, NOT_A_QUESTION, TOO_LONG, Lines, Sort, pin_after, without_cr
 from .program import Ended, Program
 from .store import Store
 
@@ -45,6 +46,7 @@ class Client(asyncio.Protocol):
     def __init__(self, hub: "Hub", may_change: bool) -> None:
         self.hub, self.may_change = hub, may_change
         self.session, self.user, self.lines = 0, "nobody", Lines(LINE_LIMIT, may_change)
+        self.pin: Optional[bytes] = None
         # How many lines are on their way, and what they were answered that isn't sent yet.
         self.flying, self.replies = 0, list[bytes]()
         # Whether it waits for a turn, has a line that the hub carries out, has replies to read.
@@ -120,6 +122,7 @@ class Client(asyncio.Protocol):
 
     def answered(self, line: bytes, reply: bytes) -> None:
         self.flying -= 1
+        self.pin = pin_after(line, reply, self.pin)
         if self.hub.program.damaged_at:
             reply = with_damage(line, reply)
         self.replies.append(reply)
@@ -151,6 +154,7 @@ class Client(asyncio.Protocol):
         self.is_gone = True
         self.lines.clear()
         self.hub.unread.pop(self, None)
+        self.hub.digests.end_waiting(self)
         if self.session and not self.is_busy:
             self.hub.begin(self.hub.left(self))
 
@@ -171,7 +175,11 @@ class Client(asyncio.Protocol):
             self.hub.begin(self.carried_out(sort, line))
 
     async def carried_out(self, sort: Sort, line: bytes) -> None:
-        reply = await self.hub.reply(self, sort, line)
+        try:
+            reply = await self.hub.reply(self, sort, line)
+        except Ended:
+            self.transport.close()
+            raise
         self.is_busy = False
         self.send(reply)
         if self.is_gone:
@@ -202,6 +210,7 @@ class Hub:
 
     def __init__(self, program: Program, store: Store, most_a_user: int) -> None:
         self.program, self.store, self.most_a_user = program, store, most_a_user
+        self.digests = Digests(program)
         self.loop = asyncio.get_running_loop()
         self.free = list(reversed(SESSIONS))
         self.clients: dict[Client, None] = {}
@@ -275,7 +284,7 @@ class Hub:
             return await self.store.backup(line)
         if sort is Sort.CHANGE:
             return await self.store.change(client.session, line, client.user)
-        return await self.program.ask(client.session, line, client.user, alone=True)
+        return await self.digests.reply(client, line, self.store.imports)
 
     def metrics_told(self) -> bytes:
         """What METRICS is answered, which isn't made each time, so that many cost as little."""
