@@ -1,6 +1,7 @@
 """The hub's clients: connections, each of which is a session of the program."""
 
 import asyncio
+import select
 import socket
 import struct
 from collections import Counter
@@ -30,7 +31,8 @@ LAST_SECONDS, WAIT_SECONDS = 2, 0.01
 # where few sessions are left.
 IDLE_SECONDS, IDLE_SECONDS_IF_FULL = 600, 10
 FEW_SESSIONS = 100
-# How often that is looked at, and whether the store's file is still there.
+# How often that is looked at, who has left while its digest is computed, and whether the store's
+# file is still there.
 LOOK_SECONDS = 2
 # For how long what is counted is told as it was made.
 METRICS_SECONDS = 0.1
@@ -193,6 +195,14 @@ class Client(asyncio.Protocol):
         self.is_at_end, self.flying, self.waits = True, 0, False
         self.read_on()
 
+    def end_if_left(self) -> None:
+        """Ends it if nobody reads what it is answered. (One that sends no more may still read.)"""
+        if not self.is_gone:
+            seen = select.poll()
+            seen.register(self.transport.get_extra_info("socket"), 0)
+            if seen.poll(0):
+                self.transport.abort()
+
     def is_idle(self, seconds: float) -> bool:
         """Whether it has said nothing for so long, and waits for nothing."""
         works = self.flying or self.lines or self.is_busy or self.watches or self.has_unread
@@ -335,6 +345,7 @@ class Hub:
             if self.store.is_replaced():
                 log("the store's file was replaced: the hub ends")
                 return self.end(1)
+            self.digests.end_left()
             is_full = len(self.free) <= KEPT_SESSIONS + FEW_SESSIONS
             seconds = IDLE_SECONDS_IF_FULL if is_full else IDLE_SECONDS
             for client in list(self.clients):

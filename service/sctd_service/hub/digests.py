@@ -1,8 +1,8 @@
 """The digests that clients ask for.
 
 As one line a digest would keep all others waiting while the program reads each row. So the hub asks
-for pages of rows, each in its turn between the lines of others, and hashes them. Each page names the
-pin, so that no import in between is seen, and the row before it, which no merge changes.
+for pages of rows, each in its turn between the lines of others, and hashes them. Each page names
+the pin, so that no import in between is seen, and the row before it, which no merge changes.
 """
 
 import asyncio
@@ -37,6 +37,9 @@ class Waiter(Protocol):
     pin: Optional[bytes]
     is_gone: bool
 
+    def end_if_left(self) -> None:
+        """Ends its connection if nobody reads what it is answered."""
+
 
 class PageRefused(Exception):
     """What a page was answered instead of rows."""
@@ -47,18 +50,25 @@ class PageRefused(Exception):
 
 
 class Digests:
-    """Computes some digests at a time. `waiting` are the clients that have no place yet, each with
-    whether it is given one."""
+    """Computes some digests at a time, for clients of `asking`. Those of `waiting` have no place yet,
+    each with whether it is given one."""
 
     def __init__(self, program: Program) -> None:
         self.program, self.free = program, MOST_DIGESTS
+        self.asking: dict[Waiter, None] = {}
         self.waiting: "dict[Waiter, asyncio.Future[bool]]" = {}
 
     async def reply(self, client: Waiter, line: bytes, imports: int) -> bytes:
         """The reply to a DIGEST that comes after so many imports; nothing if the client leaves."""
         pin = pin_named(line) or client.pin or b"%d" % imports
-        if not await self.has_place(client):
-            return b""
+        self.asking[client] = None
+        try:
+            return await self.in_turn(client, line, pin) if await self.has_place(client) else b""
+        finally:
+            del self.asking[client]
+
+    async def in_turn(self, client: Waiter, line: bytes, pin: bytes) -> bytes:
+        """The reply for a client that has a place, which it gives back."""
         began = time.monotonic()
         try:
             return await self.computed(client, pin)
@@ -68,6 +78,11 @@ class Digests:
             self.give_place()
             if (took := time.monotonic() - began) > SLOW_SECONDS:
                 log("%.1f s for %s of %s" % (took, shown(without_cr(line)), client.user))
+
+    def end_left(self) -> None:
+        """Ends the connections of the clients that have left meanwhile."""
+        for client in list(self.asking):
+            client.end_if_left()
 
     async def has_place(self, client: Waiter) -> bool:
         """Waits for a place. There is none for a client that leaves."""
