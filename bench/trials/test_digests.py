@@ -20,6 +20,8 @@ MOST_PAGES_A_QUESTION = 10
 # wait until their clients have left.
 MOST_DIGESTS, DIGESTS, HELD = 2, 6, 5
 IN_2020, IN_2021 = ["OK " + DIGEST_IN_2020], ["OK " + DIGEST_IN_2021]
+# What examples/digest.py says of r1, r2 and r3.
+WITH_THE_THIRD = ["OK d5f88cede39c4fe2c1f12d55bb04364285d5bdfad167e9f880f5e80f262d32fb"]
 RECEIPTS = [["OK 1 6 20200131"], ["OK 2 4 20210131"]]
 # Writes down each line that comes to the program, and stops at one of the pages until it may go on.
 HOLDING = HANDING_ON % ("""
@@ -38,7 +40,9 @@ def paged(place: Place, rows: int) -> Place:
 
 def until_taken(hub: Hub) -> None:
     """Waits until the hub has taken the lines that were sent before."""
-    assert hub.asker().ask("METRICS")[-1].startswith("END ")
+    client = hub.asker()
+    assert client.ask("METRICS")[-1].startswith("END ")
+    client.leave()
 
 
 class Held:
@@ -117,7 +121,7 @@ def test_import_between(place: Place, store: Path, pin: str) -> None:
         assert client.read() == (IN_2020 if pin == "PIN 1" else IN_2021)
         until("a segment", lambda: owner.ask("STATUS") == ["OK 3 12 1 -"])
         assert client.ask("AT 2 DIGEST") == IN_2021
-        assert client.ask("AT 3 DIGEST") == [f"OK {place.digest(place.small_store())}"]
+        assert client.ask("AT 3 DIGEST") == WITH_THE_THIRD
     lines = [line.partition(" ")[2] for line in held.lines()]
     # The digest ends with the only page of members, which the store doesn't have.
     end = next(at for at, line in enumerate(lines) if " ROWS M " in line)
@@ -184,10 +188,9 @@ def test_leaving(place: Place, store: Path) -> None:
         until("they have left", lambda: connections(staying) <= 1 + MOST_DIGESTS)
         held.go_on()
         assert staying.ask("DIGEST") == IN_2021
-        until("all have left", lambda: connections(staying) == 1)
-    lines = held.lines()
-    assert sum("AT 1 ROWS" in line for line in lines) < HELD + MOST_DIGESTS
-    assert sum(line.endswith(" UNPIN") for line in lines) == DIGESTS + 1
+        until("their sessions are given back", lambda: sum(
+            line.endswith(" UNPIN") for line in held.lines()) == DIGESTS + 1)
+    assert sum("AT 1 ROWS" in line for line in held.lines()) < HELD + MOST_DIGESTS
 
 
 def test_refused_pages(place: Place, store: Path) -> None:

@@ -33,7 +33,7 @@ SCRIPTS: list[tuple[str, ...]] = [
     ("trials/by_pytest.py", "mistakes"),
     ("trials/check_syncs.py",),
     ("trials/by_pytest.py", "files", "cache"),
-    ("trials/by_pytest.py", "sessions", "crowds", "openings"),
+    ("trials/by_pytest.py", "sessions", "crowds", "digests", "openings"),
     ("trials/by_pytest.py", "duties", "copies"),
     ("trials/by_pytest.py", "readers"),
     ("trials/by_pytest.py", "operators"),

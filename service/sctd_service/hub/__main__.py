@@ -14,8 +14,9 @@ whatever isn't a question is answered `ERR hub NotAQuestion` there. Each is its 
 with `--group` the second one is that group's, too.
 
 The program answers one line after the other, and is sent the next ones meanwhile, at most 32 of a
-client. An import or a DIGEST goes alone and keeps the others waiting. `WATCH` is answered `OK` and
-the number of imports, and the client is told so again with each import, before that is answered.
+client. An import goes alone and keeps the others waiting; a DIGEST doesn't, of which the hub
+hashes pages of rows. `WATCH` is answered `OK` and the number of imports, and the client is told so
+again with each import, before that is answered.
 `METRICS` is answered with what a monitor counts, each line of Prometheus' text as a row.
 `BACKUP PATH`, on the socket of `--socket`, copies the store while questions are answered. When more
 than N segments stand (100 if not said), the hub merges in short steps between the clients' lines;
