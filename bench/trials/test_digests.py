@@ -3,6 +3,7 @@ is the program's own, at each pin, whatever goes on meanwhile."""
 
 from __future__ import annotations
 
+import signal
 from pathlib import Path
 
 import pytest
@@ -191,6 +192,19 @@ def test_leaving(place: Place, store: Path) -> None:
         until("their sessions are given back", lambda: sum(
             line.endswith(" UNPIN") for line in held.lines()) == DIGESTS + 1)
     assert sum("AT 1 ROWS" in line for line in held.lines()) < HELD + MOST_DIGESTS
+
+
+def test_stopped(place: Place, store: Path) -> None:
+    """A hub that is stopped doesn't finish a digest, and ends well: its client is told nothing."""
+    held = Held(place, 3)
+    with Hub(held.place, store) as hub:
+        client = hub.client()
+        client.send(b"DIGEST\nMETRICS\n")
+        held.wait()
+        hub.process.send_signal(signal.SIGTERM)
+        until("no other one is served", lambda: not hub.socket.exists())
+        held.go_on()
+        assert (client.line(), hub.end()) == (b"", 0)
 
 
 def test_refused_pages(place: Place, store: Path) -> None:
