@@ -50,8 +50,8 @@ class PageRefused(Exception):
 
 
 class Digests:
-    """Computes some digests at a time, for clients of `asking`. Those of `waiting` have no place yet,
-    each with whether it is given one."""
+    """Computes some digests at a time, for clients of `asking`. Those of `waiting` have no place
+    yet, each with whether it is given one."""
 
     def __init__(self, program: Program) -> None:
         self.program, self.free = program, MOST_DIGESTS
