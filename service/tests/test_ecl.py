@@ -5,17 +5,20 @@ import asyncio
 import random
 import re
 from collections import Counter
+from collections.abc import Sequence
 from typing import Any
 from urllib.parse import quote
 
 import pytest
 from sctd_service.gateway import limits
+from sctd_service.gateway.ecl import syntax as s
 from sctd_service.gateway.ecl.comparing import fits_pattern
 from sctd_service.gateway.ecl.evaluation import Evaluation
 from sctd_service.gateway.ecl.parsing import parse
 from sctd_service.gateway.ecl.spelling import spelled
 from sctd_service.gateway.ecl.terminology import Terminology
-from sctd_service.gateway.pool import Pool
+from sctd_service.gateway.hub import Reply
+from sctd_service.gateway.pool import Pool, Session
 from sctd_service.gateway.problems import Problem
 from sctd_service.gateway.store import View
 
@@ -24,6 +27,8 @@ from .house import EDITION, SCT, House, Json, issue, told, version
 from .release_files import read
 
 EXPAND, MEMBER = "ValueSet/$expand", "ValueSet/$validate-code"
+# The words of a question, with the letter of its kind.
+WORDS_OF_LINE = re.compile(r"^[A-Z]+(?: [A-Z]\b)?", re.MULTILINE)
 LATEST, BEFORE, OLD = "2022-07-31", "2020-12-31", "2019-01-31"
 BELOW = "injury limb radius carpal radius2"
 # An expression, in which `$` stands before what the demo calls a concept, a day, and the concepts.
@@ -434,6 +439,12 @@ class TestLines(Expressed):
         assert any(" ANCESTORS " in line for line in lines)
         assert not any(" DESCENDANTS " in line for line in lines), lines
 
+    def test_attributes_are_asked_for_their_sources(self) -> None:
+        words = {"url": self.url("* : $site = << $bone"), "date": "2020-11-29"}
+        lines = self.lines(EXPAND, **words)
+        assert any(" SOURCES " in line for line in lines)
+        assert not any(" PAGE " in line for line in lines), lines
+
     def test_sets_are_kept(self) -> None:
         """By the release in force and the meaning, whatever the day and the spelling."""
         words = {"url": self.url("< $root MINUS (< $disease)"), "date": "2020-10-30"}
@@ -451,6 +462,75 @@ class TestLines(Expressed):
                  for pin in (1, 2, 3, 1)]
         assert found == [self.named(names) for names in (
             "limb wrist", "limb radius carpal", "limb carpal radius2", "limb wrist")], words
+
+
+# An expression, limits, a day, the concepts that it means, and how often what is asked for them.
+PLANS: tuple[tuple[str, dict[str, int], str, str, str], ...] = (
+    # The values of attributes come first, and of `*` what they lead to.
+    ("* : $site = << $body", {}, BEFORE, "wrist radius",
+     "DESCENDANTS 1, GET C 4, SOURCES 2"),
+    ("* : $site = $bone OR $site = $body", {}, BEFORE, "wrist radius", "GET C 5, SOURCES 2"),
+    ("* : $site = << $body, $form = $fracture", {}, BEFORE, "wrist radius",
+     "ABOUT R 2, DESCENDANTS 1, GET C 6, SOURCES 1"),
+    ("* : { $site = << $body, $form = $fracture }", {}, BEFORE, "wrist radius",
+     "ABOUT R 2, DESCENDANTS 1, GET C 6, SOURCES 1"),
+    ("* : [2..2] $form = $fracture", {}, BEFORE, "", "ABOUT R 2, GET C 4, SOURCES 1"),
+    ("* : * = $body", {}, BEFORE, "wrist", "ABOUT R 2, GET C 3, SOURCES 1"),
+    ("(<< $injury {{ C definitionStatus = defined }}) : $site = $bone", {}, BEFORE, "radius",
+     "ANCESTORS 1, GET C 4, SOURCES 1"),
+    # Of many below a concept each value, of few each of them.
+    ("<< $root : $site = $body", {"ASKED_UPWARDS": 3}, BEFORE, "wrist",
+     "DESCENDANTS 1, GET C 3, SOURCES 1"),
+    ("<< $limb : $site = << $body", {}, BEFORE, "wrist radius",
+     "ABOUT R 4, ANCESTORS 2, DESCENDANTS 1, GET C 3"),
+    # A value that isn't found by a question or two is found first only where there is no room.
+    ("* : $site = (* : R $site = *)", {"EXPRESSION_LINES": 30}, BEFORE, "wrist radius",
+     "GET C 1, PAGE C 1, PAGE R 1, SOURCES 2"),
+    # Reverse attributes: from the sources, from the destinations, from all relationships.
+    ("* : R $site = << $injury", {}, BEFORE, "body bone",
+     "ABOUT R 5, DESCENDANTS 1, GET C 4"),
+    ("<< $body : R $site = << $injury", {}, BEFORE, "body bone",
+     "ANCESTORS 2, DESCENDANTS 1, GET C 3, SOURCES 2"),
+    # (The bone is below it, and might have it as a site, too.)
+    ("$body : [1..1] R * = *", {}, BEFORE, "body", "ABOUT R 1, CHILDREN 1, GET C 1, SOURCES 1"),
+    ("* : R $site = *", {"EXPRESSION_LINES": 20}, BEFORE, "body bone", "GET C 1, PAGE C 1, PAGE R 1"),
+    # A dotted attribute of many, of which only some values are asked for.
+    ("$body AND (<< $root . $site)", {}, BEFORE, "body", "ANCESTORS 1, GET C 3, SOURCES 1"),
+    # Concrete values of more concepts than there are lines.
+    ("* : $strength >= #500.1", {"EXPRESSION_LINES": 20}, LATEST, "drug",
+     "GET C 1, PAGE C 1, PAGE V 1"),
+)
+
+
+class Counted(View):
+    """A view that counts its questions by their words."""
+
+    def __init__(self, session: Session) -> None:
+        super().__init__(session)
+        self.counts = Counter[str]()
+
+    async def ask(self, lines: Sequence[str], keep: bool = True) -> list[Reply]:
+        self.counts.update(WORDS_OF_LINE.findall("\n".join(lines)))
+        return await super().ask(lines, keep)
+
+
+class TestPlans(Expressed):
+    @pytest.mark.parametrize("expression, sizes, date, names, asked", PLANS)
+    def test_what_is_asked(self, expression: str, sizes: dict[str, int], date: str, names: str,
+                           asked: str, monkeypatch: pytest.MonkeyPatch) -> None:
+        """No more than what the cheapest side asks."""
+        for name, size in sizes.items():
+            monkeypatch.setattr(limits, name, size)
+
+        async def counted() -> tuple[s.Ids, Counter[str]]:
+            async with Pool(self.house.questions).session(3) as session:
+                view = Counted(session)
+                evaluation = Evaluation(Terminology(view, date.replace("-", "")))
+                return await evaluation.meant(parse(self.text(expression))), view.counts
+
+        found, counts = asyncio.run(counted())
+        told = ", ".join("%s %d" % one for one in sorted(counts.items()))
+        assert (sorted(found, key=int), told) == (self.named(names), asked)
 
 
 @pytest.mark.parametrize("most, is_refused", ((0, True), (37, True), (38, False)))

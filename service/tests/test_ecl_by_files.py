@@ -24,10 +24,10 @@ from .drawn_releases import DAYS, RELEASES, Maker
 from .ecl_by_files import ByFiles, versions_of
 from .house import SECONDS, begun_hub, program_and_hub
 
-SEED, EXPRESSIONS, DEPTH = 1, 2_000, 3
+SEED, EXPRESSIONS, DEPTH = 1, 3_000, 3
 # The releases are drawn anew after so many of them.
 OF_ONE_STORE = 1_000
-ASKED = (*DAYS, "20200801", "20210101", "20991231")
+ASKED = (*DAYS, "20200801", "20210101", "20211231", "20991231")
 # So many are asked beside each other.
 AT_A_TIME = 25
 SIZES = {
@@ -37,7 +37,7 @@ SIZES = {
 }
 NO_FIELD = "no reference set there has a field"
 # How many of each have to be among them.
-AT_LEAST = {"some": 1000, "none": 300}
+AT_LEAST = {"some": 1500, "none": 450}
 
 
 class Drawn:
@@ -115,11 +115,11 @@ async def one_compared(
         view = View(session)
         try:
             found = await Evaluation(Terminology(view, day)).meant(read)
+            among = await Evaluation(Terminology(view, day)).meant(read, some)
         except Problem as problem:
             assert NO_FIELD in problem.text, (text, problem.text)
             counts["refused"] += 1
             return
         assert found == wanted, (text, day, pin, found - wanted, wanted - found)
-        among = await Evaluation(Terminology(view, day)).meant(read, some)
         assert among == wanted & some, (text, day, pin, some)
     counts["some" if wanted else "none"] += 1

@@ -177,6 +177,8 @@ def cost(e: Expression) -> int:
             return 0
         case Related(_, ConceptReference()) | MemberOf(ConceptReference(), "", ()):
             return 1
+        case Compound(_, parts):
+            return max(1, *map(cost, parts))
         case Refined(focus) | Filtered(focus) | Dotted(focus):
             return max(cost(focus), 3)
         case Wildcard():
