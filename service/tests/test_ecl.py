@@ -478,6 +478,8 @@ PLANS: tuple[tuple[str, dict[str, int], str, str, str], ...] = (
     ("* : * = $body", {}, BEFORE, "wrist", "ABOUT R 2, GET C 3, SOURCES 1"),
     ("(<< $injury {{ C definitionStatus = defined }}) : $site = $bone", {}, BEFORE, "radius",
      "ANCESTORS 1, GET C 4, SOURCES 1"),
+    # A reply of the most rows is followed by the next page.
+    ("* : $form = $fracture", {"QUESTION_ROWS": 1}, BEFORE, "wrist radius", "GET C 4, SOURCES 3"),
     # Of many below a concept each value, of few each of them.
     ("<< $root : $site = $body", {"ASKED_UPWARDS": 3}, BEFORE, "wrist",
      "DESCENDANTS 1, GET C 3, SOURCES 1"),
