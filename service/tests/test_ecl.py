@@ -495,7 +495,7 @@ PLANS: tuple[tuple[str, dict[str, int], str, str, str], ...] = (
      "ANCESTORS 2, DESCENDANTS 1, GET C 3, SOURCES 2"),
     # (The bone is below it, and might have it as a site, too.)
     ("$body : [1..1] R * = *", {}, BEFORE, "body", "ABOUT R 1, CHILDREN 1, GET C 1, SOURCES 1"),
-    ("* : R $site = *", {"EXPRESSION_LINES": 20}, BEFORE, "body bone",
+    ("* : R $site = *", {"EXPRESSION_LINES": 20}, LATEST, "bone",
      "GET C 1, PAGE C 1, PAGE R 1"),
     # A dotted attribute of many, of which only some values are asked for.
     ("$body AND (<< $root . $site)", {}, BEFORE, "body", "ANCESTORS 1, GET C 3, SOURCES 1"),
