@@ -64,6 +64,10 @@ class TestExpand(Asked):
         ]
         assert pages == [[one] for one in whole] + [[]]
 
+    def test_sources_of_an_attribute(self) -> None:
+        what = "=ecl/* : %s = %s" % (self.codes["site"], self.codes["bone"])
+        assert self.expanded(what, date="2021-01-31")[0] == [self.codes["radius"]]
+
     def test_count_0(self) -> None:
         found, said = self.expanded(self.isa("limb"), count=0)
         assert (found, said["total"]) == ([], 4)
