@@ -35,7 +35,7 @@ SCRIPTS: list[tuple[str, ...]] = [
     ("trials/by_pytest.py", "files", "cache"),
     ("trials/by_pytest.py", "sessions", "crowds", "digests", "openings"),
     ("trials/by_pytest.py", "duties", "copies"),
-    ("trials/by_pytest.py", "readers"),
+    ("trials/by_pytest.py", "readers", "exports"),
     ("trials/by_pytest.py", "operators"),
     ("trials/refuse_growths.py", "script"),
     ("trials/refuse_growths.py", "tasks"),
