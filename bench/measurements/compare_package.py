@@ -5,7 +5,7 @@ compare_package.py PROGRAM FOLDER [ROWS ..]
 
 PROGRAM is the built program sctd. For each number of rows (235000, if none is given) a package is
 made in FOLDER by make_release.py, if it isn't there: of all sorts of files in the proportions of an
-international edition. Both sides import the Full release, sctd into a store of version 3 of its
+international edition. Both sides import the Full release, sctd into a store of layout 3 of its
 layout and the shell into a table a sort of files, keyed by id and date, with indexes for the
 questions that it makes after the rows; then the Delta. Both are asked the same, each kind of
 question in a process of its own, and their answers have to be the same lines:
@@ -19,7 +19,7 @@ question in a process of its own, and their answers have to be the same lines:
 
 As in compare_shell.py, a table is printed: wall and processor seconds and peaks of both sides.
 Behind it stand the bytes of both files, what an open store takes in memory more than an empty one,
-and the same of a store that took only what version 2 keeps. The status is 1 where an answer is
+and the same of a store that took only what layout 2 keeps. The status is 1 where an answer is
 another one. Standard library, and the command sqlite3.
 """
 
@@ -245,8 +245,8 @@ def compare(program: str, folder: Path, count: int) -> bool:
     ask_both(table, served, shell, "values of a language, 1,000 a page", values)
     ask_both(table, served, shell, "what 10,000 concepts were called", drawn.called())
     served.end()
-    show_memory("version 3, all files", sctd, rows + rows_in(told), ground)
-    show_memory("version 2, its files", basic, rows_in(basic.take("full")[0]), ground)
+    show_memory("layout 3, all files", sctd, rows + rows_in(told), ground)
+    show_memory("layout 2, its files", basic, rows_in(basic.take("full")[0]), ground)
     print("bytes of the shell's file: %d" % os.path.getsize(shell.path))
     return table.alike
 

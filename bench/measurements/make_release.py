@@ -73,7 +73,7 @@ class Sort(NamedTuple):
     columns: str
 
 
-# The sorts of files that each version of a store's layout keeps, by the letters of their kinds.
+# The sorts of files that each layout of a store keeps, by the letters of their kinds.
 BASIC_SORTS = {
     "C": Sort("C", "Terminology/sct2_Concept_{}_INT_{}.txt", FIRST_COLUMNS + "definitionStatusId"),
     "D": Sort("D", "Terminology/sct2_Description_{}-en_INT_{}.txt", DESCRIPTION_COLUMNS),
@@ -90,7 +90,7 @@ def members(name: str, further: str = "") -> Sort:
     return Sort("M", name + "_INT_{}.txt", MEMBER_COLUMNS + further)
 
 
-# Those that version 3 keeps besides.
+# Those that layout 3 keeps besides.
 FURTHER_SORTS = {
     "TextDefinition": Sort("D", "Terminology/sct2_TextDefinition_{}-en_INT_{}.txt",
                            DESCRIPTION_COLUMNS),

@@ -5,8 +5,8 @@ measure_copy.py PROGRAM FOLDER [ROWS ..]
 
 PROGRAM is the built `sctd`. For each number of rows (235000 and 2350000, if none is given) a Full
 release is made in FOLDER by make_release.py, if it isn't there, and imported into a store of
-version 2 of the layout and into one of version 3; of the fewest rows, also dealt out at random to
-128 releases, into one of version 3. Each of `sctd status`, which is an opening, `sctd copy` and
+layout 2 and into one of layout 3; of the fewest rows, also dealt out at random to
+128 releases, into one of layout 3. Each of `sctd status`, which is an opening, `sctd copy` and
 `sctd digest` is run five times by turns, and examples/digest.py once; the least seconds of the
 processor and of wall are printed as a table, those of the processor for a million rows too, and the
 peak of memory in bytes a row. A digest that differs from that of examples/digest.py ends it. GNU
@@ -91,7 +91,7 @@ class Measured:
 
     def store(self, layout: int, names: Sequence[str]) -> Path:
         """A store into which the releases of these names were imported."""
-        store = self.place / ("version%d.store" % layout)
+        store = self.place / ("layout%d.store" % layout)
         store.unlink(missing_ok=True)
         program = str(self.program)
         self.run(program, "init", "--store", str(store), "--layout", str(layout))
@@ -119,7 +119,7 @@ class Measured:
         return names
 
     def measure(self, what: str, layout: int, names: Sequence[str], digest: str) -> None:
-        """Prints what is done with a store of a version of the layout, and some releases."""
+        """Prints what is done with a store of a layout, and some releases."""
         store, copy = self.store(layout, names), self.place / "copy"
         works = {
             "open": ["status", "--store", str(store)],
@@ -150,10 +150,10 @@ def main(words: Sequence[str]) -> int:
         measured = Measured(timed, Path(words[0]).resolve(), Path(words[1]), rows)
         by_script = measured.run(sys.executable, str(DIGEST), str(measured.release))
         for layout in LAYOUTS:
-            what = "version %d" % layout
+            what = "layout %d" % layout
             measured.measure(what, layout, ["full"], by_script.output)
         if rows == min(counts):
-            what = "version 3, %d segments" % MANY_SEGMENTS
+            what = "layout 3, %d segments" % MANY_SEGMENTS
             measured.measure(what, 3, measured.dealt_out(MANY_SEGMENTS), by_script.output)
         measured.row("-", "`examples/digest.py`", by_script)
     return 0

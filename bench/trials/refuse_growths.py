@@ -9,8 +9,8 @@ In the Nth run the Nth call of malloc, calloc or realloc gets no memory, for N =
 run makes fewer calls. Of each run is looked at what it writes, its status, and what it leaves.
 Where nothing was refused that had to be, nothing was tried, and the status is 1.
 
-**Lines.** A store is made, of version 3 where the rest of SEED divided by 3 is 2 (SEED is 2 where
-none is given) and else of version 2, and a session of LINES random lines (40 where none are given),
+**Lines.** A store is made, of layout 3 where the rest of SEED divided by 3 is 2 (SEED is 2 where
+none is given) and else of layout 2, and a session of LINES random lines (40 where none are given),
 as those of soak.py, is served again and again on a copy of it; behind them it asks for the terms of
 each first letter, the children and the replacements of each component that has any, what is above,
 below and about some components, some histories, what changed, members of each reference set, what

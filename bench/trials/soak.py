@@ -25,9 +25,9 @@ soak_model.py answers each line too. What has to hold:
 It ends by itself, prints its figures, and has the status 1 at the first reply that is another one
 and at bytes behind the last reply, and 3 where no import or no publication was cut short, or no
 MEMBERS, VALUES or CALLED was answered by a row: until all were, a run goes on for up to four times
-SECONDS, and its store is copied in layout 3 after SECONDS. The same SEED gives the same lines up to the first
-kill: the moments of the kills are those of the machine, and what comes behind one goes on from what
-it left. Standard library alone.
+SECONDS, and its store is copied in layout 3 after SECONDS. The same SEED gives the same lines up to
+the first kill: the moments of the kills are those of the machine, and what comes behind one goes on
+from what it left. Standard library alone.
 """
 
 from __future__ import annotations
@@ -69,8 +69,8 @@ RUN_SECONDS, TIMES_LONGER = 60, 4
 NOT_TRIED = 3
 PIPE_SIZE = 1 << 16
 # Where the layouts stand in the two directories of a store, and layout 1.
-VERSIONS_AT = (4111, 12303)
-VERSION_ONE = b"1"
+LAYOUTS_AT = (4111, 12303)
+LAYOUT_ONE = b"1"
 
 
 class Wrong(Exception):
@@ -681,7 +681,7 @@ class Soak:
         if made.returncode or made.stdout != b"OK\n":
             raise Wrong("init: %r, status %d" % (made.stdout, made.returncode))
         if self.seed % 3 == 1:
-            self.make_version_one()
+            self.make_layout_one()
         self.start()
         begun = time.monotonic()
         while time.monotonic() < begun + seconds * (TIMES_LONGER if self.untried() else 1):
@@ -705,13 +705,13 @@ class Soak:
         if status:
             raise Wrong("the program ended with the status %d" % status)
 
-    def make_version_one(self) -> None:
+    def make_layout_one(self) -> None:
         """Makes of the new store one of layout 1."""
         with open(self.store, "r+b") as file:
-            for at in VERSIONS_AT:
+            for at in LAYOUTS_AT:
                 file.seek(at - 7)
                 if file.read(7) == b"SCTHIST":
-                    file.write(VERSION_ONE)
+                    file.write(LAYOUT_ONE)
 
     def copy_in_layout_three(self) -> None:
         """Between two servers a copy in layout 3 takes the place of the store, perhaps after a copy

@@ -330,27 +330,27 @@ def tried(path: str, program: str, picture: Optional[str]) -> None:
         pictured(page, picture)
 
     try:
-        in_house(look)
+        with_service(look)
     finally:
         browser.close()
 
 
-def in_house(look: Callable[[Codes, str], None]) -> None:
+def with_service(look: Callable[[Codes, str], None]) -> None:
     """Looks at the pages of a gateway that listens where a browser reaches it."""
     from tests.demo_members import WORDS
-    from tests.house import Gateway, House
+    from tests.fixtures import Gateway, Service
 
-    house, gateway = House(layout=3, is_whole=True), None
+    service, gateway = Service(layout=3, is_whole=True), None
     try:
         with tempfile.TemporaryDirectory() as folder:
             with socket.create_server(("127.0.0.1", 0)) as free:
                 place = "127.0.0.1:%d" % free.getsockname()[1]
-            gateway = Gateway(house.questions, Path(folder), place, WORDS)
-            look(house.codes, "http://%s/" % place)
+            gateway = Gateway(service.questions, Path(folder), place, WORDS)
+            look(service.codes, "http://%s/" % place)
     finally:
         if gateway:
             gateway.stop()
-        house.end()
+        service.end()
 
 
 def main(words: Sequence[str]) -> int:

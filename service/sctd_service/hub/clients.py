@@ -10,7 +10,7 @@ from typing import Optional, cast
 from ..logs import log, tell
 from ..protocol import REFUSED
 from .lines import LINE_LIMIT, NOT_A_QUESTION, TOO_LONG, Lines, Sort, without_cr
-from .program import Ended, Program
+from .program import Program, ProgramEndedError
 from .store import Store
 
 # Session 0 is the hub's own. Clients that only ask leave some of the others to those that import.
@@ -261,7 +261,7 @@ class Hub:
         """Does it, and ends the hub where that fails."""
         try:
             await work
-        except Ended as ended:
+        except ProgramEndedError as ended:
             self.end(ended.status)
         except asyncio.CancelledError:
             pass  # The hub ends.
