@@ -231,7 +231,7 @@ grounds.kit_version = lambda: "kit"
 every, tree = edits.all_edits("top"), grounds.tree()
 if "write" in sys.argv:
     lines = {it.name: edits.Line(edits.checksum_of(it), tree.checksum(it)) for it in every}
-    edits.write_record("top", edits.Record("2026-11-29", "kit", None, None, lines))
+    edits.write_record("top", edits.Record("2026-11-29", "kit", lines))
 record = edits.record_of("top")
 print(*sorted(it.name for it in every if grounds.why_stale(record, it)))
 """
