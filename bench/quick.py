@@ -61,8 +61,6 @@ LINES_TOLD = 40
 # A check of the documents, as .ci/run has it: a script of bench/ and its words, and then what is
 # done where it fails.
 DOCUMENT_CHECK = re.compile(r"^python3 bench/([^|\n]+) \|\| \{", re.MULTILINE)
-# The folder that such a check may write to, as it is called there.
-WRITTEN = '"$faults/crate"'
 SOAK = "trials/soak.py"
 # A soak of so many seconds, with a seed; those of .ci/run are shorter, and two.
 LONG_SOAK = (SOAK, "20", "1")
@@ -207,7 +205,7 @@ class Tree:
         return Part(name, lambda: self.run_trial(words), is_trial=True)
 
     def part_of_check(self, text: str) -> Part:
-        words = text.replace(WRITTEN, str(self.place / "written")).split()
+        words = text.split()
         return Part("bench/" + words[0], lambda: run_script(words))
 
     def run_tests(self, folder: Path, count: int) -> Outcome:

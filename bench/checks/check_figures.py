@@ -54,7 +54,7 @@ REACH = (
     " | sed -nE 's/.*: ([0-9]+) words.*/\\1/p'"
 )
 # The calls that always_refused.py plants.
-CALLS = "grep -c '^    Call(' bench/faults/always_refused.py"
+CALLS = "grep -vc '^#' bench/faults/refused_calls.txt"
 # All functions of src/, those of traits and the tests' helpers too, less the tests themselves.
 FUNCTIONS = (
     "echo $(( $(grep -rhE '^ *(pub(\\([a-z]+\\))? )?fn ' --include=*.rt crates/*/src | wc -l)"
@@ -153,7 +153,7 @@ FIGURES = [
 TABLES = [Table("docs/internals/ARCHITECTURE.md", "python3 bench/rattle/count_reach.py"),
           Table("bench/README.md", "python3 bench/faults/always_refused.py --table"),
           Table("bench/README.md", "python3 bench/faults/gateway_faults.py --table"),
-          Table("bench/README.md", "python3 bench/faults/make_all_tests.py table")]
+          Table("bench/README.md", "python3 bench/faults/shared_faults.py --table")]
 
 # What has to be in FIGURES wherever it stands, and the rows that say what was so on a day.
 COUNTED = re.compile(
