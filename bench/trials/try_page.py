@@ -40,30 +40,6 @@ LOOKS = [(width, scheme) for width in (DESK, PHONE) for scheme in ("light", "dar
 # How wide the page of PICTURE is.
 PICTURE_WIDTH = 1000
 TEXT = "document.body.innerText"
-# How light the page is behind its texts, from 0 to 1.
-LIGHT = "(() => {%s return light(behind(document.body)); })()" % page_rules.COLOURS
-SHOWN_ROWS = (
-    "[...document.querySelectorAll('.compared tbody tr')]"
-    ".filter(one => one.checkVisibility()).length"
-)
-ALL_ROWS = "document.querySelectorAll('.compared tbody tr').length"
-# Where the cells of the first row of a table stand: the second at the side of the first or below.
-PLACES = """(() => {
-  const [one, other] = [...document.querySelectorAll(".compared tbody tr td")]
-    .map(cell => cell.getBoundingClientRect());
-  return other.top >= one.bottom && Math.abs(other.left - one.left) < 1 ? "below"
-    : other.left >= one.right && Math.abs(other.top - one.top) < 1 ? "beside" : "elsewhere";
-})()"""
-SAID_BEFORE = (
-    "(() => { const cell = document.querySelector('.compared tbody td');"
-    " const text = getComputedStyle(cell, '::before').content;"
-    " return text.replace(/^attr.*/, JSON.stringify(cell.dataset.head)); })()"
-)
-# What isn't to be on paper, as far as it is shown.
-NOT_PRINTED = (
-    "[...document.querySelectorAll('form, nav, .links, .skip')]"
-    ".filter(one => one.checkVisibility()).map(one => one.tagName)"
-)
 # The codes of the concepts of a made-up release, by their names.
 Codes = Mapping[str, str]
 
@@ -102,7 +78,7 @@ class Page:
             raise Wrong("%s: %s" % (what, one))
 
     def is_so(self, what: str, script: str, wanted: Any) -> None:
-        found = self.browser.value(script)
+        found = page_rules.asked(self.browser, script)
         if found != wanted:
             raise Wrong("%s: %r, and %r was wanted" % (what, found, wanted))
 
@@ -117,7 +93,7 @@ class Page:
         """Goes to a field, a button or a link by the tab key."""
         for _ in range(100):
             self.browser.press("Tab")
-            focus = self.browser.value(page_rules.OF_FOCUS)
+            focus = page_rules.asked(self.browser, "ofFocus()")
             if focus and focus[0] == name:
                 return
         raise Wrong("the tab key doesn't lead to %r" % name)
@@ -186,7 +162,7 @@ def lists(page: Page) -> None:
 
 
 def colours(page: Page, scheme: str) -> None:
-    light = page.browser.value(LIGHT)
+    light = page_rules.asked(page.browser, "lightOfPage()")
     if (light > 0.5) != (scheme == "light"):
         raise Wrong("%s colours, and the page is %.2f light" % (scheme, light))
 
@@ -210,19 +186,19 @@ def table(page: Page) -> None:
     for width, where in ((DESK, "beside"), (PHONE, "below")):
         page.browser.width(width, width == PHONE)
         page.open("a record", q=page.codes["wrist"], date="2018-01-01")
-        page.is_so("at %d pixels the second day" % width, PLACES, where)
+        page.is_so("at %d pixels the second day" % width, "places()", where)
         said = '"1 January 2018"' if width == PHONE else "none"
-        page.is_so("what a cell says before itself", SAID_BEFORE, said)
+        page.is_so("what a cell says before itself", "saidBefore()", said)
         roles = {page_rules.role_of(one) for one in page_rules.nodes(page.browser)}
         if not {"table", "row", "rowheader", "columnheader", "cell"} <= roles:
             raise Wrong("at %d pixels no table: %s" % (width, sorted(roles)))
-        count, shown = (page.browser.value(script) for script in (ALL_ROWS, SHOWN_ROWS))
+        count, shown = page_rules.asked(page.browser, "[allRows(), shownRows()]")
         page.is_so(
             "what differs", "document.querySelector('#only + label').textContent",
             "Only what differs: %d of %d rows" % (shown, count))
         page.tab_to("only")
         page.browser.press(" ")
-        page.is_so("all rows", SHOWN_ROWS, count)
+        page.is_so("all rows", "shownRows()", count)
         if not 0 < shown < count:
             raise Wrong("what differs: %d of %d rows" % (shown, count))
     page.open("one day", q=page.codes["wrist"])
@@ -252,11 +228,7 @@ def suggestions(page: Page) -> None:
     page.open("typing")
     page.browser.value("document.getElementById('q').focus()")
     page.browser.write("fracture of w")
-    told = page.browser.value(
-        "new Promise(done => { const look = () => { const found = [...document.querySelectorAll("
-        "'#found option')].map(one => one.value); if (found.length) done(found);"
-        " else setTimeout(look, 50); }; look(); setTimeout(() => done([]), 20000); })"
-    )
+    told = page_rules.asked(page.browser, "suggested()")
     if told != [page.codes["wrist"]]:
         raise Wrong("typing: %s are suggested" % told)
 
@@ -273,7 +245,7 @@ def uploaded(page: Page) -> None:
         page.tab_to("Judge")
         page.go("a file", "Enter", "1 record", "Right: 1.", "Synonym (en)")
     page.browser.media("print", "dark")
-    page.is_so("on paper", NOT_PRINTED, [])
+    page.is_so("on paper", "notPrinted()", [])
     page.is_so("on paper", "document.querySelector('table').checkVisibility()", True)
     colours(page, "light")
     paper = base64.b64decode(page.browser.ask("Page.printToPDF", preferCSSPageSize=True)["data"])
@@ -309,12 +281,8 @@ def pictured(page: Page, picture: Optional[str]) -> None:
 def write(picture: str, taken: bytes) -> None:
     """Writes the picture, with fewer colours where pngquant is there to choose them."""
     if shutil.which("pngquant"):
-        taken = subprocess.run(
-            ["pngquant", "--speed", "1", "--strip", "-"],
-            input=taken,
-            check=True,
-            stdout=subprocess.PIPE,
-        ).stdout
+        words = ["pngquant", "--speed", "1", "--strip", "-"]
+        taken = subprocess.run(words, input=taken, check=True, stdout=subprocess.PIPE).stdout
     with open(picture, "wb") as file:
         file.write(taken)
 
