@@ -1,4 +1,5 @@
-"""Isn't started: reads the tables of faults, the files *_faults.txt beside it."""
+"""Isn't started: reads the tables of faults, the files *_faults.txt beside it, and that of the changes
+in rattle/three_crates/."""
 
 from __future__ import annotations
 
@@ -8,7 +9,7 @@ from typing import NamedTuple
 
 
 class Fault(NamedTuple):
-    """What is wrong, the tests that are run, a file, a text in it, and what stands there instead."""
+    """What is wrong, the tests that notice it, a file, a text in it, and what stands there then."""
 
     fault: str
     tests: str
@@ -25,13 +26,12 @@ class Fault(NamedTuple):
         path.write_text(text.replace(self.old, new), encoding="utf-8")
 
 
-def faults_in(name: str) -> Iterator[Fault]:
-    """The faults of a file, behind what it says of itself. A text of several lines has several
-    lines of its field's name."""
-    blocks = Path(__file__).with_name(name).read_text("utf-8").rstrip("\n").split("\n\n")
-    for block in blocks[1:]:
-        found: dict[str, list[str]] = {field: [] for field in Fault._fields}
+def faults_in(path: Path) -> Iterator[Fault]:
+    """The faults of a file, behind what it says of itself, with their fields in this order. A text
+    of several lines has several lines of its field's name."""
+    for block in path.read_text("utf-8").rstrip("\n").split("\n\n")[1:]:
+        found: dict[str, list[str]] = {}
         for line in block.split("\n"):
             field, _, text = line.partition(":")
-            found[field].append(text.removeprefix(" "))
+            found.setdefault(field, []).append(text.removeprefix(" "))
         yield Fault(*map("\n".join, found.values()))

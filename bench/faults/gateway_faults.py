@@ -38,7 +38,7 @@ NOT_RUN = 3
 
 
 TABLES = ("gateway_faults.txt", "page_faults.txt", "expression_faults.txt", "hub_faults.txt")
-FAULTS = [fault for name in TABLES for fault in faults_in(name)]
+FAULTS = [fault for name in TABLES for fault in faults_in(Path(__file__).with_name(name))]
 
 
 def failed(root: str, python: str, program: str, tests: str) -> list[str]:

@@ -23,7 +23,7 @@ from fault_tables import Fault, faults_in
 from noticed import copy_sources
 from unproved import kit_folder  # always_refused.py looks for it.
 
-FAULTS = dict(enumerate(faults_in("shared_faults.txt"), 1))
+FAULTS = dict(enumerate(faults_in(Path(__file__).with_suffix(".txt")), 1))
 # Those from here on let the tests ask for more refusals than there are.
 FIRST_COUNTING = 3
 TESTS = "test_program"
