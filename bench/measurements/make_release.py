@@ -21,6 +21,7 @@ import os
 import random
 import sys
 import uuid
+from pathlib import Path
 from typing import Callable, Iterable, Iterator, Mapping, NamedTuple, Optional, Sequence
 
 CORE = 900000000000207008
@@ -456,6 +457,23 @@ def write(folder: str, release: str, date: str, rows: Mapping[str, Iterable[str]
     for name, sort in SORTS.items():
         if name in KINDS or name in rows:
             write_file(folder, release, date, sort, rows[name])
+
+
+def files_of(folder: str | Path, sorts: Iterable[str] = SORTS) -> Iterator[tuple[str, Path]]:
+    """The files of a release that are of these sorts, each with its sort."""
+    for sort in sorts:
+        where, _, name = SORTS[sort].name.rpartition("/")
+        front, _, back = name.partition("{}")
+        yield from ((sort, path) for path in sorted(Path(folder, where).glob(front + "*"))
+                    if back.partition("_INT_")[0] in path.name)
+
+
+def rows_of(folder: str | Path, sort: str) -> Iterator[list[str]]:
+    """The columns of the rows that a release has of a sort."""
+    for _, path in files_of(folder, [sort]):
+        with open(path, encoding="utf-8", newline="") as file:
+            next(file)
+            yield from (line.rstrip("\r\n").split("\t") for line in file)
 
 
 def versions_of(edition: Edition, sort: str, count: int) -> Iterator[str]:

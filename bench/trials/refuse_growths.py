@@ -57,6 +57,7 @@ from pathlib import Path
 import growths_lines as lines
 import growths_tasks as tasks
 from growths_harness import Program
+from harness import RELEASES
 
 IN_MEMORY = Path("/dev/shm")
 # How many random lines there are where no number is given.
@@ -69,10 +70,10 @@ def are_right(program: Path, folder: Path, words: list[str]) -> bool:
     refusing = Program(program, folder)
     if words in (["script"], ["tasks"]):
         releases = folder / "releases"
-        files = lines.samples_in(releases)
+        releases.symlink_to(RELEASES)
         if words == ["tasks"]:
             return tasks.are_right(refusing, folder)
-        runs = lines.runs_of_script(refusing, folder, releases, files)
+        runs = lines.runs_of_script(refusing, folder, releases, lines.samples())
     else:
         count = int(words[0]) if words else LINES
         seed = int(words[1]) if len(words) > 1 else lines.SEED

@@ -201,19 +201,12 @@ def some_questions(folder: Path, chance: random.Random) -> Iterator[str]:
     """What is asked of some components of a release: their versions, and of concepts what is above
     them, what was ever said of them and what they were called, and of reference sets the members
     and the values, for which many rows are read."""
-    for sort, (kind, name, _) in make_release.SORTS.items():
+    for sort, (kind, _, _) in make_release.SORTS.items():
         if sort not in make_release.UNKEPT_SORTS:
-            rows = list(rows_in(folder, name))
+            rows = list(make_release.rows_of(folder, sort))
             for row in chance.sample(rows, min(ASKED_OF_A_SORT, len(rows))):
                 yield "HISTORY %s %s" % (kind, row[0])
                 yield from questions_about(kind, row)
-
-
-def rows_in(folder: Path, name: str) -> Iterator[list[str]]:
-    """The columns of the rows in a file of a release."""
-    for path in sorted(folder.glob(name.partition("{}")[0] + "*")):
-        for row in path.read_text("utf-8").split("\n")[1:-1]:
-            yield row.split("\t")
 
 
 def questions_about(kind: str, row: Sequence[str]) -> Iterator[str]:
