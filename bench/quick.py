@@ -253,15 +253,9 @@ class Tree:
 def run_script(words: Sequence[str]) -> Outcome:
     """Runs a script of bench/ with its words."""
     try:
-        done = subprocess.run(
-            [sys.executable, str(TOP / "bench" / words[0]), *words[1:]],
-            cwd=TOP,
-            stdin=subprocess.DEVNULL,
-            stdout=subprocess.PIPE,
-            stderr=subprocess.STDOUT,
-            timeout=SCRIPT_SECONDS,
-            check=False,
-        )
+        done = subprocess.run([sys.executable, str(TOP / "bench" / words[0]), *words[1:]], cwd=TOP,
+                              stdin=subprocess.DEVNULL, stdout=subprocess.PIPE,
+                              stderr=subprocess.STDOUT, timeout=SCRIPT_SECONDS, check=False)
     except subprocess.TimeoutExpired:
         return Outcome(0, 1, 0, "it hasn't ended after %d seconds" % SCRIPT_SECONDS)
     return outcome_of(done.returncode, done.stdout, LINES_TOLD)
