@@ -206,6 +206,15 @@ def is_in_sources(calls: list[Call]) -> bool:
     return not wrong
 
 
+@contextmanager
+def copied(keep: Path | None = None) -> Iterator[Path]:
+    """A copy of this repository, which lies in a temporary folder, or in one where it stays."""
+    with tempfile.TemporaryDirectory(prefix="sctd-faults-") as folder:
+        top = keep or Path(folder)
+        shutil.copytree(TOP, top, ignore=shutil.ignore_patterns(".git", "out"), dirs_exist_ok=True)
+        yield top
+
+
 def add_switch(top: Path, users: Iterable[str]) -> None:
     """Adds the crate that says which call is refused, for these crates to use."""
     for name, text in (("src/lib.rt", SWITCH_CODE), ("c/switch.c", SWITCH_C)):
@@ -348,8 +357,8 @@ def main() -> int:
     parser = argparse.ArgumentParser(description=__doc__.strip().split("\n", maxsplit=1)[0])
     parser.add_argument("--only", default="", help="the calls with this word in crate or name")
     parser.add_argument("--tests", help="the calls that the tests of this crate are to catch")
-    parser.add_argument("--table", action="store_true", help="look at the table alone, and print it")
-    parser.add_argument("--keep", help="the folder of the copy, which stays")
+    parser.add_argument("--table", action="store_true", help="look at the table, and print it")
+    parser.add_argument("--keep", type=Path, help="the folder of the copy, which stays")
     asked = parser.parse_args()
     numbers = {call: number for number, call in enumerate(calls(), 1)
                if asked.only in call.crate + " " + call.name
@@ -358,17 +367,12 @@ def main() -> int:
     if asked.table or not is_right:
         print_rows(list(numbers))
         return 0 if numbers and is_right else 1
-    top = Path(asked.keep or tempfile.mkdtemp(prefix="sctd-refused-"))
-    try:
-        shutil.copytree(TOP, top, ignore=shutil.ignore_patterns(".git", "out"), dirs_exist_ok=True)
+    with copied(asked.keep) as top:
         plant_all(top, numbers)
         kit, missed = kit_folder(), 0
         for name in dict.fromkeys(call.tests for call in numbers):
             of_crate = {call: n for call, n in numbers.items() if call.tests == name}
             missed += try_calls(kit, top, name, of_crate)
-    finally:
-        if not asked.keep:
-            shutil.rmtree(top)
     print("%d calls, %d not caught" % (len(numbers), missed))
     return 1 if missed or not numbers else 0
 

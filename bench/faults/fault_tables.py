@@ -1,5 +1,5 @@
-"""Isn't started: reads the tables of faults, the files *_faults.txt beside it, and that of the changes
-in rattle/three_crates/."""
+"""Isn't started: reads the tables of faults, the files *_faults.txt beside it, and the changes in
+rattle/three_crates/."""
 
 from __future__ import annotations
 

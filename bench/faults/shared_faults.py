@@ -18,9 +18,8 @@ import sys
 import tempfile
 from pathlib import Path
 
-from always_refused import SWITCH, TOP, Tests, add_switch, build
+from always_refused import SWITCH, TOP, Tests, add_switch, build, copied
 from fault_tables import Fault, faults_in
-from noticed import copy_sources
 from unproved import kit_folder  # always_refused.py looks for it.
 
 FAULTS = dict(enumerate(faults_in(Path(__file__).with_suffix(".txt")), 1))
@@ -60,7 +59,6 @@ def is_seen(tests: Tests, number: int, fault: Fault) -> bool:
 
 def tried(top: Path) -> bool:
     """Whether each fault is seen by the tests that are built in a copy of the repository."""
-    copy_sources(top)
     put_all(top)
     with tempfile.TemporaryDirectory() as place:
         tests = build(kit_folder(), top, TESTS, Path(place))
@@ -73,15 +71,15 @@ def tried(top: Path) -> bool:
 def main() -> int:
     assert __doc__
     parser = argparse.ArgumentParser(description=__doc__.split("\n", maxsplit=1)[0])
-    parser.add_argument("--table", action="store_true", help="look at the table alone, and print it")
+    parser.add_argument("--table", action="store_true", help="look at the table, and print its row")
     parser.add_argument("--keep", type=Path, help="the folder of the copy, which stays")
     asked = parser.parse_args()
     wrong = lost()
     if asked.table or wrong:
         print(f"| `{TESTS}` | {FIRST_COUNTING - 1} of what the tests share | `shared_faults.py` |")
         return 1 if wrong else 0
-    with tempfile.TemporaryDirectory(prefix="sctd-shared-") as folder:
-        return 0 if tried(asked.keep or Path(folder)) else 1
+    with copied(asked.keep) as top:
+        return 0 if tried(top) else 1
 
 
 if __name__ == "__main__":

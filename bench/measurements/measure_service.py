@@ -28,20 +28,18 @@ import random
 import socket
 import ssl
 import sys
-import tempfile
-import threading
 import time
 from collections.abc import Callable
 from pathlib import Path
 
 sys.path.append(str(Path(__file__).resolve().parents[1] / "trials"))
 from measure_gateway import (  # noqa: E402
-    MS, VERSION, YEARS, Asked, Connection, HttpClient, SlowHubClient, Taken, Waits, concepts,
+    MS, VERSION, YEARS, Asked, Connection, HttpClient, SlowHubClient, Taken, concepts,
     lookup, make_store, options_of, question)
 from measure_harness import child_of  # noqa: E402
 from proxy_harness import (  # noqa: E402
-    HOST, NOT_RUN, Client, Process, Proxy, free_ports, gateway_words, hub_words, missing, ready,
-    stop)
+    HOST, NOT_RUN, Client, Clients, Process, Proxy, free_ports, gateway_words, hub_words, missing,
+    open_folder, ready, stop)
 
 GATEWAYS, CLIENTS, EXPANDING, RESTARTED = 3, 64, 3, 4
 DEFAULT_ROWS, DEFAULT_SECONDS, DEFAULT_RESTARTS = 440_000, 5, 100
@@ -149,14 +147,14 @@ class Service:
 
     def restarted(self) -> None:
         """Starts the gateways again in turn, while clients ask."""
-        asking = Restarting(self)
-        for number in range(self.options.restarts):
-            stop(self.gateways[number % GATEWAYS])
-            self.gateways[number % GATEWAYS] = self.gateway(number % GATEWAYS)
-            time.sleep(BETWEEN_SECONDS)
-        waits, wrong = asking.told()
+        with Restarting(self) as asking:
+            for number in range(self.options.restarts):
+                stop(self.gateways[number % GATEWAYS])
+                self.gateways[number % GATEWAYS] = self.gateway(number % GATEWAYS)
+                time.sleep(BETWEEN_SECONDS)
+        waits = sorted(asking.waits)
         print("%d restarts of gateways: %d requests, %d lost, p99 %.0f ms" % (
-            self.options.restarts, len(waits), wrong, waits[len(waits) * 99 // 100] * MS))
+            self.options.restarts, len(waits), asking.lost, waits[len(waits) * 99 // 100] * MS))
 
     def end(self) -> None:
         self.proxy.end()
@@ -164,20 +162,17 @@ class Service:
             stop(one)
 
 
-class Restarting:
-    """Clients of nginx, until they are to be told."""
+class Restarting(Clients):
+    """Clients of nginx, and how long each answer was waited for."""
 
     def __init__(self, service: Service) -> None:
+        super().__init__(RESTARTED, self.ask)
         self.service, self.waits, self.lost = service, list[float](), 0
-        self.is_over = threading.Event()
-        self.threads = [threading.Thread(target=self.ask) for _ in range(RESTARTED)]
-        for thread in self.threads:
-            thread.start()
 
-    def ask(self) -> None:
+    def ask(self, _seed: int) -> None:
         make, proxy = self.service.any_code(), self.service.proxy
         client = Client(proxy, proxy.user)
-        while not self.is_over.is_set():
+        while not self.is_over:
             began = time.perf_counter()
             try:
                 is_lost = client.get(make().split()[1].decode())[0] not in ANSWERED
@@ -186,12 +181,6 @@ class Restarting:
                 client.connection.close()
             self.lost += is_lost
             self.waits.append(time.perf_counter() - began)
-
-    def told(self) -> Waits:
-        self.is_over.set()
-        for thread in self.threads:
-            thread.join()
-        return sorted(self.waits), self.lost
 
 
 def tried(options: argparse.Namespace, place: Path) -> None:
@@ -216,9 +205,8 @@ def main() -> int:
     if (lacks := missing()) is not None:
         print("not run: there is no %s" % lacks)
         return NOT_RUN
-    with tempfile.TemporaryDirectory(prefix="sctd-service-") as place:
-        os.chmod(place, 0o755)
-        tried(options, Path(place))
+    with open_folder() as place:
+        tried(options, place)
     return 0
 
 

@@ -3,17 +3,13 @@
 
 check_edits.py
 
-An edit is a wrong change of a crate that the prover has to refuse, as edits.py says. CI tries the
-edits of must-fail/; those of edits/ are tried before a commit by try_edits.py, which writes the
-record edits/tried: a line for each edit that was refused, with a checksum of its file and one of
-its grounds, the texts on which that rests (grounds.py says which they are). Here a crate that has
-edits in edits/ has to have this record, with a line for each of them as it stands and of its
-grounds as they stand; and no line may name what is no edit. What isn't so is said in a line of its
-own on standard error, with the names of the edits, and the status is 1 then.
-
-How many lines were made with another version of the kit than the one on the path is said, and is no
-fault: a new kit proves the crates anew, and nobody can try all edits on that day. Nothing is built.
-Standard library alone.
+CONTRIBUTING says under "Edits" what an edit is, and what the record edits/tried of a crate has. A
+crate that has edits in edits/ has to have this record, with a line for each of them as it stands
+and of its grounds as they stand; and no line may name what is no edit. What isn't so is said in a
+line of its own on standard error, with the names of the edits, and the status is 1 then. How many
+lines were made with another version of the kit than the one on the path is said, and is no fault: a
+new kit proves the crates anew, and nobody can try all edits on that day. Nothing is built. Standard
+library alone.
 """
 
 from __future__ import annotations

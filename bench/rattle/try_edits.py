@@ -5,29 +5,21 @@ try_edits.py [--jobs N] [--must-fail] [--anew] [--logs FOLDER] CRATE[/EDIT]..
 try_edits.py [--jobs N] [--must-fail] [--anew] [--logs FOLDER] --all
 
 CRATE stands for the edits of its edits/, with --must-fail for those of its must-fail/ too, and
-CRATE/EDIT for one edit of either folder; --all stands for every crate that has edits. An edit is
-refused where the prover names a goal of the function that it changes, or of a closure of it, which isn't proved any more. That a function calls
-another one that isn't proved is no reason, nor that a statement wasn't admitted, nor that a proof
-file names what the edit took away. (Where a function has answers in proofs/, a change that means
-the same as before may be refused too, since they no longer fit.) No proof reads the body of another
-function, so a check has edits of many functions, of which none calls another one; an edit of what
-is no body, or whose check names no goal of its function, is tried by a whole check of the crate. An
-edit of no body, as of a constant, is also refused where a goal's answer rests on a lemma of proofs/
-that isn't true any more. Each check of many edits also has a statement that does nothing, planted
-in a function without an edit, which has to be proved: otherwise a refusal would say nothing, the
-control is lost, and the crate fails.
+CRATE/EDIT for one edit of either folder; --all stands for every crate that has edits. CONTRIBUTING
+says under "Edits" when one is refused, and what the record edits/tried has. (Where a function has
+answers in proofs/, a change that means the same as before may be refused too, since they no longer
+fit.) No proof reads the body of another function, so a check has edits of many functions, of which
+none calls another one; an edit of what is no body, or whose check names no goal of its function, is
+tried by a whole check of the crate. Each check of many edits also has a statement that does
+nothing, planted in a function without an edit: where that isn't proved a refusal would say nothing,
+the control is lost, and the crate fails.
 
 A line for each edit says why it was refused. The last line counts the edits and those that were
-not; the status is 1 where there are any. An edit that was refused gets a line in the crate's record
-edits/tried, which check_edits.py compares with the crate. It isn't tried again as long as it, what
-its refusal rests on (grounds.py says what that is) and the kit's version stay as they are, but with
---anew: so an edit that is new, or that comes from must-fail/, is tried alone. With --anew the lines
-of the edits that are tried go first, and where a control is lost all that the run has added.
-
-A crate has to be proved and its work kept, as `rt check` leaves it in out/. N checks go on at once,
-of whichever crates have one to make: 1 where none is given. What each check printed is written to
-FOLDER. This is for the time before a commit: `rt ci` tries the edits of must-fail/, each from
-nothing. It reads the kit's own scripts. Standard library alone.
+not; the status is 1 where there are any. With --anew the lines of the edits that are tried go
+first, and where a control is lost all that the run has added. A crate has to be proved and its work
+kept, as `rt check` leaves it in out/. N checks go on at once, of whichever crates have one to make:
+1 where none is given. What each check printed is written to FOLDER. It reads the kit's own scripts.
+Standard library alone.
 """
 
 from __future__ import annotations

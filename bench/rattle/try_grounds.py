@@ -3,8 +3,8 @@
 
 try_grounds.py
 
-A record is written of the tree three_crates/ as it is. Each change of its changes.txt puts a text in
-the place of another one, and names the edits that are stale by that record then, as grounds.py
+A record is written of the tree three_crates/ as it is. Each change of its changes.txt puts a text
+in the place of another one, and names the edits that are stale by that record then, as grounds.py
 finds. A line tells each change that isn't so. The last line counts them; the status is 1 where
 there are any. Nothing is built, and the kit isn't asked for its version. Standard library alone.
 """

@@ -10,9 +10,9 @@ from typing import NamedTuple, Optional, Sequence
 
 import soak
 from case_texts import FOLDER
-from growths_harness import (ALL_BEHIND, ALONE, OUT_OF_MEMORY, Program, Ran, Refusals, Wrong,
-                             replies_in, try_each, ways_to_be_refused)
-from harness import RELEASES
+from growths_harness import (ALL_BEHIND, ALONE, OUT_OF_MEMORY, Program, Ran, Refusals, replies_in,
+                             try_each, ways_to_be_refused)
+from harness import RELEASES, Wrong
 from soak_model import KINDS, SUBJECTS, Columns, File, Model, Reply
 
 import make_release as rf2  # soak.py looks for it.

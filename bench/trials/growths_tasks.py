@@ -7,7 +7,8 @@ from pathlib import Path
 from typing import Mapping, NamedTuple, Optional
 
 from growths_harness import (ALL_BEHIND, DISK_FAULT, OUT_OF_MEMORY, Program, Ran, Refusals,
-                             Wrong, replies_in, try_each, ways_to_be_refused)
+                             replies_in, try_each, ways_to_be_refused)
+from harness import Wrong
 
 # The files in a folder, by their names.
 Files = Mapping[str, bytes]

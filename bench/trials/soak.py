@@ -4,23 +4,9 @@
 soak.py PROGRAM [SECONDS [SEED [FOLDER]]]
 
 PROGRAM is the built `sctd` (crates/sctd/out/sctd). It serves a store in FOLDER (a fresh folder
-below the system's temporary one, where none is given) for SECONDS (60 where none are given).
-A run begins with a store of layout 2, 1 or 3, by the rest of SEED divided by 3.
-Sessions import random releases of all sorts of files, some of them faulty or contradicting, and
-some once more, ask at random dates and pins, merge in steps and trim, in batches of lines that are
-sent at once. From time to time a second `sctd import` is tried on the file, and a copy in layout 3
-takes the store's place. Some copies, some batches, and some openings, are cut short
-by `kill -9` at a random moment; then the program serves the same file again. The model in
-soak_model.py answers each line too. What has to hold:
-
-- each reply is the model's, byte for byte, as far as replies came;
-- after a kill the store is what the model is after the first so many of the lines that were sent,
-  at least those whose replies came: each import is there whole or not at all, in order;
-- the second `sctd` is refused, and the file is as it was;
-- then all that two pins show at two dates is the model's, with their days and the receipts of the
-  first and the last import that they show, and at the end each version of each component, each
-  receipt, the days that each import left, what is around some concepts, all members of each
-  reference set and all its values, and the digest.
+below the system's temporary one, where none is given) for SECONDS (60 where none are given), as
+RELIABILITY says under "The soak", and the model in soak_model.py answers each line too: each reply
+has to be the model's, and after a kill the store what the model is after the first so many lines.
 
 It ends by itself, prints its figures, and has the status 1 at the first reply that is another one
 and at bytes behind the last reply, and 3 where no import or no publication was cut short, or no
@@ -48,6 +34,7 @@ from typing import Optional
 BENCH = os.path.dirname(os.path.dirname(os.path.abspath(__file__)))
 sys.path += [os.path.join(BENCH, "measurements"), os.path.join(BENCH, "trials")]
 import make_release as rf2  # noqa: E402
+from harness import Wrong  # noqa: E402
 from soak_model import CONCEPT, DESTINATION, KINDS, REFERENCED, REFSET, SUBJECTS  # noqa: E402
 from soak_model import TARGET, TYPE  # noqa: E402
 from soak_model import Columns, Fault, File, Model, State, publications  # noqa: E402
@@ -72,10 +59,6 @@ PIPE_SIZE = 1 << 16
 # Where the layouts stand in the two directories of a store, and layout 1.
 LAYOUTS_AT = (4111, 12303)
 LAYOUT_ONE = b"1"
-
-
-class Wrong(Exception):
-    """Something was answered or kept that the model doesn't allow."""
 
 
 def odd_members(count: int) -> rf2.Sort:
@@ -105,7 +88,7 @@ SPOILED = ((None, "", "23 Columns"), (0, "0b6a0c2e5d0f4c539f6e8d9d2a7b1c01", "30
            (REFERENCED, "1000005", "28 Reference"))
 
 
-# What is asked, each form behind how often it is, and what stands for the names in them.
+# What is asked, each form behind how often it is.
 FORMS = """4 GET {kind} {id} {date}
 2 HISTORY {kind} {id}
 1 SEARCH {date} {after_D} {limit} {prefix}
@@ -128,23 +111,6 @@ FORMS = """4 GET {kind} {id} {date}
 1 ROWS {kind} {key} {limit}
 1 ADDED {import} {kind} {key} {limit}"""
 QUESTIONS = [form for line in FORMS.split("\n") for form in [line[2:]] * int(line[0])]
-PARTS: dict[str, Callable[[Soak], object]] = {
-    "kind": lambda it: it.kind, "id": lambda it: it.component(it.kind),
-    "C": lambda it: it.component("C"), "date": lambda it: it.chance.choice(DATES + [LAST_DATE]),
-    "begin": lambda it: it.chance.choice(DATES), "limit": lambda it: it.chance.choice([1, 7, 50]),
-    "few": lambda it: it.chance.choice([1, 10]), "after": lambda it: it.after(it.kind),
-    "after_C": lambda it: it.chance.choice(["-", it.after("C")]),
-    "after_D": lambda it: it.after("D"),
-    "after_M": lambda it: it.chance.choice(["-", "-", it.component("M"), rf2.ROOT]),
-    "after_value": lambda it: it.chance.choice(
-        ["-", it.told_by("M", REFERENCED), it.component("D")]),
-    "prefix": lambda it: it.chance.choice(rf2.WORDS)[: it.chance.choice([1, 2, 9])].upper(),
-    "import": lambda it: it.chance.randint(0, it.model.state.imports + 1),
-    "days": lambda it: it.chance.choice(["DATES", "DATES", "DIGEST"]),
-    "replacing": lambda it: it.told_by("A", TARGET), "subject": lambda it: it.subject(),
-    "refset": lambda it: it.refset(), "named": lambda it: it.named(), "key": lambda it: it.key(),
-    "links": lambda it: it.links(),
-}
 
 
 def place_of(sort: str) -> tuple[bool, str]:
@@ -766,6 +732,26 @@ class Soak:
         missed = ["no kill cut any %s short" % name for name in cut if not cut[name]]
         return missed + ["no %s was answered by a row" % ANSWERED[count]
                          for count in ANSWERED if not self.counts[count]]
+
+
+# What stands for a name in a form of a question.
+PARTS: dict[str, Callable[[Soak], object]] = {
+    "kind": lambda it: it.kind, "id": lambda it: it.component(it.kind),
+    "C": lambda it: it.component("C"), "date": lambda it: it.chance.choice(DATES + [LAST_DATE]),
+    "begin": lambda it: it.chance.choice(DATES), "limit": lambda it: it.chance.choice([1, 7, 50]),
+    "few": lambda it: it.chance.choice([1, 10]), "after": lambda it: it.after(it.kind),
+    "after_C": lambda it: it.chance.choice(["-", it.after("C")]),
+    "after_D": lambda it: it.after("D"),
+    "after_M": lambda it: it.chance.choice(["-", "-", it.component("M"), rf2.ROOT]),
+    "after_value": lambda it: it.chance.choice(
+        ["-", it.told_by("M", REFERENCED), it.component("D")]),
+    "prefix": lambda it: it.chance.choice(rf2.WORDS)[: it.chance.choice([1, 2, 9])].upper(),
+    "import": lambda it: it.chance.randint(0, it.model.state.imports + 1),
+    "days": lambda it: it.chance.choice(["DATES", "DATES", "DIGEST"]),
+    "replacing": lambda it: it.told_by("A", TARGET), "subject": lambda it: it.subject(),
+    "refset": lambda it: it.refset(), "named": lambda it: it.named(), "key": lambda it: it.key(),
+    "links": lambda it: it.links(),
+}
 
 
 def main(words: Sequence[str]) -> int:

@@ -34,21 +34,21 @@ import shutil
 import signal
 import subprocess
 import sys
-import tempfile
 import threading
 import time
 from collections import Counter
-from collections.abc import Iterator, Sequence
+from collections.abc import Sequence
+from contextlib import closing
 from functools import lru_cache
 from pathlib import Path
 from typing import Any, NamedTuple, Optional
 from urllib.parse import urlencode
 
 from machines_releases import CODES, TOP, days_of, rows_of, wording_of, write
-from operators_harness import Wrong, same
+from harness import Wrong, same
 from proxy_harness import (
-    HAPROXY, LOOK_SECONDS, NGINX, NOT_RUN, ROOT, SECONDS, Client, Process, Proxy, children,
-    gateway_words, hub_words, missing, ready, run, stop, wait)
+    HAPROXY, LOOK_SECONDS, NGINX, NOT_RUN, ROOT, Client, Clients, Process, Proxy, children,
+    gateway_words, hub_words, missing, open_folder, ready, run, stop, wait)
 from sctd_service.protocol import HubClient, HubFailed
 from tests.compare_releases import Comparison, Differs
 from tests.fixtures import SCT, Json, version
@@ -386,21 +386,18 @@ class Site:
         """Whether there is no more time."""
         return time.monotonic() > self.end_at
 
-    def end(self) -> None:
+    def close(self) -> None:
         self.proxy.end()
         for machine in self.machines:
             machine.end()
 
 
-class Asking:
+class Asking(Clients):
     """Clients that ask, and what came of it."""
 
     def __init__(self, site: Site) -> None:
-        self.site, self.counts = site, Counter[str]()
-        self.asked, self.faults, self.is_over = 0, list[str](), False
-        self.threads = [
-            threading.Thread(target=self.ask_all, args=(seed,))
-            for seed in range(site.size.clients)]
+        super().__init__(site.size.clients, self.ask_all)
+        self.site, self.counts, self.asked, self.faults = site, Counter[str](), 0, list[str]()
 
     def ask_all(self, seed: int) -> None:
         chance, judge = random.Random(seed), Judge()
@@ -462,16 +459,6 @@ class Asking:
             time.sleep(LOOK_SECONDS)
         if self.faults:
             raise Wrong("; ".join(self.faults[:TOLD]))
-
-    def __enter__(self) -> Asking:
-        for thread in self.threads:
-            thread.start()
-        return self
-
-    def __exit__(self, *_: object) -> None:
-        self.is_over = True
-        for thread in self.threads:
-            thread.join(SECONDS * 2)
 
 
 def disturb(site: Site) -> None:
@@ -538,23 +525,11 @@ def tried(site: Site) -> None:
         same("whether some were " + what, counts[what] > 0, True)
 
 
-@contextlib.contextmanager
-def a_site(options: argparse.Namespace) -> Iterator[Site]:
-    with tempfile.TemporaryDirectory(prefix="sctd-machines-") as place:
-        # (nginx's workers are another user's where it is started by root.)
-        os.chmod(place, 0o755)
-        site = Site(Path(place), options)
-        try:
-            site.start()
-            yield site
-        finally:
-            site.end()
-
-
 def run_trial(options: argparse.Namespace) -> int:
     """The trial, in networks that nobody else has or without."""
     try:
-        with a_site(options) as site:
+        with open_folder() as place, closing(Site(place, options)) as site:
+            site.start()
             tried(site)
             refused_copies(site)
             print("copies that aren't taken: as it has to be", flush=True)

@@ -29,6 +29,7 @@ from urllib.parse import urlencode
 
 import chromium
 import page_rules
+from harness import Wrong
 from try_gateway import ROOT, SERVICE
 
 sys.path.append(os.path.join(ROOT, "packaging"))
@@ -42,10 +43,6 @@ PICTURE_WIDTH = 1000
 TEXT = "document.body.innerText"
 # The codes of the concepts of a made-up release, by their names.
 Codes = Mapping[str, str]
-
-
-class Wrong(Exception):
-    """A page isn't as it has to be."""
 
 
 class Page:

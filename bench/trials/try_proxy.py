@@ -17,24 +17,23 @@ something isn't as it has to be. Standard library alone.
 
 from __future__ import annotations
 
-import contextlib
+import argparse
 import http.client
 import json
-import os
 import shutil
 import signal
 import sys
-import tempfile
 import threading
 import time
-from collections.abc import Callable, Iterator, Sequence
+from collections.abc import Callable, Sequence
+from contextlib import closing
 from pathlib import Path
 from typing import Optional
 
-from operators_harness import Wrong, same
+from harness import Wrong, same
 from proxy_harness import (
-    HOST, KINDS, LANGUAGE, NOT_RUN, ROOT, SECONDS, TOOLS, USER, Authority, Client, Kind, Process,
-    Proxy, free_ports, gateway_words, hub_words, missing, ready, stop)
+    HOST, KINDS, LANGUAGE, NOT_RUN, ROOT, SECONDS, TOOLS, USER, Authority, Client, Clients, Kind,
+    Process, Proxy, free_ports, gateway_words, hub_words, missing, open_folder, ready, stop)
 from sctd_service.protocol import HubClient, HubFailed
 
 HUBS, GATEWAYS = 2, 3
@@ -106,7 +105,7 @@ class Site:
         told = [json.loads(line) for line in lines if line.startswith("{")]
         return [line for line in told if "request" in line]
 
-    def end(self) -> None:
+    def close(self) -> None:
         self.proxy.end()
         for process in [*self.gateways, *self.hubs]:
             stop(process)
@@ -150,19 +149,18 @@ def long_requests(site: Site) -> None:
     same("a long batch", (status, answer.count(b'"status":"200')), (200, ENTRIES))
 
 
-class Asking:
+class Asking(Clients):
     """Clients that ask one after the other for some path until they are told to end, and keep what
     isn't as the first answer was."""
 
     def __init__(self, site: Site, path: str = LOOKUP, may_be_cut: bool = False) -> None:
+        super().__init__(CLIENTS, self.ask)
         self.site, self.path, self.wanted = site, path, site.client().get(path)
         same("the status of %s" % path, self.wanted[0], 200)
-        self.may_be_cut, self.is_over = may_be_cut, False
+        self.may_be_cut, self.lock = may_be_cut, threading.Lock()
         self.answered, self.again, self.others = 0, 0, list[object]()
-        self.lock = threading.Lock()
-        self.threads = [threading.Thread(target=self.ask) for _ in range(CLIENTS)]
 
-    def ask(self) -> None:
+    def ask(self, _seed: int) -> None:
         client, answered = self.site.client(), 0
         while not self.is_over or answered < ASKED:
             try:
@@ -182,16 +180,6 @@ class Asking:
              (len(self.others), self.others[:1]), (0, []))
         if not self.may_be_cut:
             same("connections that were made again", self.again, 0)
-
-    def __enter__(self) -> Asking:
-        for thread in self.threads:
-            thread.start()
-        return self
-
-    def __exit__(self, *_: object) -> None:
-        self.is_over = True
-        for thread in self.threads:
-            thread.join(SECONDS * 2)
 
 
 def restarts(site: Site) -> str:
@@ -256,32 +244,20 @@ TRIALS: Sequence[Callable[[Site], Optional[str]]] = (
     who_may_ask, long_requests, restarts, readings, lacking_a_pin, without_a_hub)
 
 
-@contextlib.contextmanager
-def a_site(program: str, kind: Kind, restarts: int) -> Iterator[Site]:
-    with tempfile.TemporaryDirectory(prefix="sctd-proxy-") as place:
-        # (nginx's workers are another user's where it is started by root.)
-        os.chmod(place, 0o755)
-        site = Site(program, Path(place), kind, restarts)
-        try:
-            site.start()
-            yield site
-        finally:
-            site.end()
-
-
 def tried(program: str, kind: Kind, restarts: int) -> None:
-    with a_site(program, kind, restarts) as site:
+    with open_folder() as place, closing(Site(program, place, kind, restarts)) as site:
+        site.start()
         for trial in TRIALS:
             said = trial(site) or "as it has to be"
             print("%s: %s: %s" % (kind.name, trial.__name__, said), flush=True)
 
 
-def main(words: Sequence[str]) -> int:
-    programs = [os.path.abspath(word) for word in words if not word.startswith("--")]
-    options = {word for word in words if word.startswith("--")}
-    if len(programs) != 1 or not options <= {"--long"}:
-        print((__doc__ or "").strip(), file=sys.stderr)
-        return 2
+def main() -> int:
+    parser = argparse.ArgumentParser(description="Tries gateways behind nginx and haproxy.")
+    parser.add_argument("program", type=Path, help="the built sctd")
+    parser.add_argument("--long", dest="restarts", action="store_const", const=LONG_RESTARTS,
+                        default=RESTARTS, help="more restarts")
+    asked = parser.parse_args()
     if (lacks := missing(TOOLS)) is not None:
         print("not run: there is no %s" % lacks)
         return NOT_RUN
@@ -289,7 +265,7 @@ def main(words: Sequence[str]) -> int:
     try:
         for kind in KINDS:
             if kind.name not in absent:
-                tried(programs[0], kind, LONG_RESTARTS if "--long" in options else RESTARTS)
+                tried(str(asked.program.resolve()), kind, asked.restarts)
     except (Wrong, HubFailed, OSError, http.client.HTTPException) as why:
         print("WRONG: %s" % why)
         return 1
@@ -300,4 +276,4 @@ def main(words: Sequence[str]) -> int:
 
 
 if __name__ == "__main__":
-    sys.exit(main(sys.argv[1:]))
+    sys.exit(main())
