@@ -53,7 +53,7 @@ INDEXES = (
     "CREATE INDEX named ON Language (refsetId, referencedComponentId, id) WHERE active = 1;",
 )
 # How many columns a row of a description has, by which it is told from one of a member.
-DESCRIPTION_COLUMNS = len(rf2.DESCRIPTION_COLUMNS.split(" "))
+DESCRIPTION_COLUMNS = len(rf2.SORTS["D"].columns.split(" "))
 
 
 class Question(NamedTuple):

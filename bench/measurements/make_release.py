@@ -58,32 +58,15 @@ DOMAINS, ATTRIBUTE_DOMAINS, ATTRIBUTE_RANGES, SCOPES = 723560006, 723561005, 723
 MANDATORY, ALL_CONTENT = 723597001, 723596005
 ATTRIBUTES = (363698007, 116676008, 246075003, 260686004, 405813007, 127489000, 411116001)
 
-FIRST_COLUMNS = "id effectiveTime active moduleId "
-DESCRIPTION_COLUMNS = FIRST_COLUMNS + "conceptId languageCode typeId term caseSignificanceId"
-RELATIONSHIP_COLUMNS = FIRST_COLUMNS + (
-    "sourceId destinationId relationshipGroup typeId characteristicTypeId modifierId")
-MEMBER_COLUMNS = FIRST_COLUMNS + "refsetId referencedComponentId"
+MEMBER_COLUMNS = "id effectiveTime active moduleId refsetId referencedComponentId"
 
 
 class Sort(NamedTuple):
-    """A sort of files: the letter of their rows, where a file stands and its name, with places for
-    the word of the release and its date, and the names of the columns."""
+    """A sort of files, as release_sorts.txt says."""
 
     kind: str
     name: str
     columns: str
-
-
-# The sorts of files that each layout of a store keeps, by the letters of their kinds.
-BASIC_SORTS = {
-    "C": Sort("C", "Terminology/sct2_Concept_{}_INT_{}.txt", FIRST_COLUMNS + "definitionStatusId"),
-    "D": Sort("D", "Terminology/sct2_Description_{}-en_INT_{}.txt", DESCRIPTION_COLUMNS),
-    "R": Sort("R", "Terminology/sct2_Relationship_{}_INT_{}.txt", RELATIONSHIP_COLUMNS),
-    "A": Sort("A", "Refset/Content/der2_cRefset_Association{}_INT_{}.txt",
-              MEMBER_COLUMNS + " targetComponentId"),
-    "V": Sort("V", "Terminology/sct2_RelationshipConcreteValues_{}_INT_{}.txt",
-              RELATIONSHIP_COLUMNS.replace("destinationId", "value")),
-}
 
 
 def members(name: str, further: str = "") -> Sort:
@@ -91,50 +74,15 @@ def members(name: str, further: str = "") -> Sort:
     return Sort("M", name + "_INT_{}.txt", MEMBER_COLUMNS + further)
 
 
-# Those that layout 3 keeps besides.
-FURTHER_SORTS = {
-    "TextDefinition": Sort("D", "Terminology/sct2_TextDefinition_{}-en_INT_{}.txt",
-                           DESCRIPTION_COLUMNS),
-    "OWLExpression": members("Terminology/sct2_sRefset_OWLExpression{}", " owlExpression"),
-    "Simple": members("Refset/Content/der2_Refset_Simple{}"),
-    "AttributeValue": members("Refset/Content/der2_cRefset_AttributeValue{}", " valueId"),
-    "Language": members("Refset/Language/der2_cRefset_Language{}-en", " acceptabilityId"),
-    "SimpleMap": members("Refset/Map/der2_sRefset_SimpleMap{}", " mapTarget"),
-    "ExtendedMap": members(
-        "Refset/Map/der2_iisssccRefset_ExtendedMap{}",
-        " mapGroup mapPriority mapRule mapAdvice mapTarget correlationId mapCategoryId"),
-    "RefsetDescriptor": members(
-        "Refset/Metadata/der2_cciRefset_RefsetDescriptor{}",
-        " attributeDescription attributeType attributeOrder"),
-    "DescriptionType": members(
-        "Refset/Metadata/der2_ciRefset_DescriptionType{}",
-        " descriptionFormat descriptionLength"),
-    "ModuleDependency": members(
-        "Refset/Metadata/der2_ssRefset_ModuleDependency{}",
-        " sourceEffectiveTime targetEffectiveTime"),
-    "MRCMDomain": members(
-        "Refset/Metadata/der2_sssssssRefset_MRCMDomain{}",
-        " domainConstraint parentDomain proximalPrimitiveConstraint proximalPrimitiveRefinement"
-        " domainTemplateForPrecoordination domainTemplateForPostcoordination guideURL"),
-    "MRCMAttributeDomain": members(
-        "Refset/Metadata/der2_cissccRefset_MRCMAttributeDomain{}",
-        " domainId grouped attributeCardinality attributeInGroupCardinality ruleStrengthId"
-        " contentTypeId"),
-    "MRCMAttributeRange": members(
-        "Refset/Metadata/der2_ssccRefset_MRCMAttributeRange{}",
-        " rangeConstraint attributeRule ruleStrengthId contentTypeId"),
-    "MRCMModuleScope": members(
-        "Refset/Metadata/der2_cRefset_MRCMModuleScope{}", " mrcmRuleRefsetId"),
-}
-# Those that a package has and no store keeps.
-UNKEPT_SORTS = {
-    "StatedRelationship": Sort("R", "Terminology/sct2_StatedRelationship_{}_INT_{}.txt",
-                               RELATIONSHIP_COLUMNS),
-    "Identifier": Sort(
-        "", "Terminology/sct2_Identifier_{}_INT_{}.txt",
-        "alternateIdentifier effectiveTime active moduleId identifierSchemeId"
-        " referencedComponentId"),
-}
+def sorts_in(group: str) -> dict[str, Sort]:
+    lines = (line.split(" | ") for line in group.splitlines())
+    return {name: Sort(*columns) for name, *columns in lines}
+
+
+# The sorts of files that each layout of a store keeps, by the letters of their kinds; those that
+# layout 3 keeps besides; and those that a package has and no store keeps.
+BASIC_SORTS, FURTHER_SORTS, UNKEPT_SORTS = map(
+    sorts_in, Path(__file__).with_name("release_sorts.txt").read_text("utf-8").split("\n\n")[1:])
 SORTS = {**BASIC_SORTS, **FURTHER_SORTS, **UNKEPT_SORTS}
 KINDS = "".join(BASIC_SORTS)
 
