@@ -65,7 +65,7 @@ SOAK = "trials/soak.py"
 # A soak of so many seconds, with a seed; those of .ci/run are shorter, and two.
 LONG_SOAK = (SOAK, "20", "1")
 # Trials that .ci/run doesn't make, or makes by themselves.
-OTHER_TRIALS = (("trials/try_gateway.py",), ("trials/try_failed_sync.py",))
+OTHER_TRIALS = (("trials/try_gateway.py",), ("trials/by_pytest.py", "failed_sync"))
 # What of a crate is built and run.
 TAKEN = ("src", "c", "data", "stdin", "stdout", "args", "status")
 

@@ -1,5 +1,5 @@
 """Installs a package of sctd in a container with a systemd of its own, and looks at what runs
-there. A part of try_package.py, which starts it.
+there. A part of test_package.py, which starts it.
 
 systemd-nspawn boots a container on this machine's own files; what is changed there stays in memory
 and is dropped, and the network is the container's. The package is installed there by dpkg as it

@@ -41,7 +41,7 @@ SCRIPTS: list[tuple[str, ...]] = [
     ("trials/soak.py", "12", "1"),
     ("trials/soak.py", "12", "2"),
     ("trials/try_flips.py", "5000", "100"),
-    ("trials/try_package.py",),
+    ("trials/by_pytest.py", "package"),
     ("trials/try_first_look.py",),
     ("trials/try_proxy.py",),
     ("trials/try_machines.py",),
