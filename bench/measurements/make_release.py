@@ -116,19 +116,13 @@ WORDS = (
     "inflammation infection Straße Ödem naïve bacterial viral upper lower upper-limb eye ear"
 ).split()
 
-TABLE = [
-    [0, 1, 2, 3, 4, 5, 6, 7, 8, 9], [1, 2, 3, 4, 0, 6, 7, 8, 9, 5],
-    [2, 3, 4, 0, 1, 7, 8, 9, 5, 6], [3, 4, 0, 1, 2, 8, 9, 5, 6, 7],
-    [4, 0, 1, 2, 3, 9, 5, 6, 7, 8], [5, 9, 8, 7, 6, 0, 4, 3, 2, 1],
-    [6, 5, 9, 8, 7, 1, 0, 4, 3, 2], [7, 6, 5, 9, 8, 2, 1, 0, 4, 3],
-    [8, 7, 6, 5, 9, 3, 2, 1, 0, 4], [9, 8, 7, 6, 5, 4, 3, 2, 1, 0],
-]
-PLACES = [
-    [0, 1, 2, 3, 4, 5, 6, 7, 8, 9], [1, 5, 7, 6, 2, 8, 3, 0, 9, 4],
-    [5, 8, 0, 3, 7, 9, 6, 1, 4, 2], [8, 9, 1, 6, 0, 4, 3, 5, 2, 7],
-    [9, 4, 5, 3, 1, 2, 6, 8, 7, 0], [4, 2, 8, 6, 5, 7, 3, 9, 0, 1],
-    [2, 7, 9, 3, 8, 0, 6, 4, 1, 5], [7, 0, 4, 6, 9, 1, 3, 2, 5, 8],
-]
+# Verhoeff's tables: how the turns (0 to 4) and mirrorings (5 to 9) of a pentagon are put together,
+# and what stands for a digit at each place.
+TABLE = [[(one + other) % 5 + other // 5 * 5 if one < 5 else (one - other) % 5 + 5 - other // 5 * 5
+          for other in range(10)] for one in range(10)]
+PLACES = [list(range(10))]
+while len(PLACES) < 8:
+    PLACES.append([PLACES[-1][place] for place in (1, 5, 7, 6, 2, 8, 3, 0, 9, 4)])
 INVERSE = [0, 4, 3, 2, 1, 5, 6, 7, 8, 9]
 # The digits before the check digit that say what an SCTID identifies.
 PARTITIONS = {"C": "00", "D": "01", "R": "02", "V": "02"}
