@@ -29,6 +29,7 @@ from urllib.parse import urlencode
 
 import chromium
 import page_rules
+from harness import Wrong
 from try_gateway import ROOT, SERVICE
 
 sys.path.append(os.path.join(ROOT, "packaging"))
@@ -40,36 +41,8 @@ LOOKS = [(width, scheme) for width in (DESK, PHONE) for scheme in ("light", "dar
 # How wide the page of PICTURE is.
 PICTURE_WIDTH = 1000
 TEXT = "document.body.innerText"
-# How light the page is behind its texts, from 0 to 1.
-LIGHT = "(() => {%s return light(behind(document.body)); })()" % page_rules.COLOURS
-SHOWN_ROWS = (
-    "[...document.querySelectorAll('.compared tbody tr')]"
-    ".filter(one => one.checkVisibility()).length"
-)
-ALL_ROWS = "document.querySelectorAll('.compared tbody tr').length"
-# Where the cells of the first row of a table stand: the second at the side of the first or below.
-PLACES = """(() => {
-  const [one, other] = [...document.querySelectorAll(".compared tbody tr td")]
-    .map(cell => cell.getBoundingClientRect());
-  return other.top >= one.bottom && Math.abs(other.left - one.left) < 1 ? "below"
-    : other.left >= one.right && Math.abs(other.top - one.top) < 1 ? "beside" : "elsewhere";
-})()"""
-SAID_BEFORE = (
-    "(() => { const cell = document.querySelector('.compared tbody td');"
-    " const text = getComputedStyle(cell, '::before').content;"
-    " return text.replace(/^attr.*/, JSON.stringify(cell.dataset.head)); })()"
-)
-# What isn't to be on paper, as far as it is shown.
-NOT_PRINTED = (
-    "[...document.querySelectorAll('form, nav, .links, .skip')]"
-    ".filter(one => one.checkVisibility()).map(one => one.tagName)"
-)
 # The codes of the concepts of a made-up release, by their names.
 Codes = Mapping[str, str]
-
-
-class Wrong(Exception):
-    """A page isn't as it has to be."""
 
 
 class Page:
@@ -102,7 +75,7 @@ class Page:
             raise Wrong("%s: %s" % (what, one))
 
     def is_so(self, what: str, script: str, wanted: Any) -> None:
-        found = self.browser.value(script)
+        found = page_rules.asked(self.browser, script)
         if found != wanted:
             raise Wrong("%s: %r, and %r was wanted" % (what, found, wanted))
 
@@ -117,7 +90,7 @@ class Page:
         """Goes to a field, a button or a link by the tab key."""
         for _ in range(100):
             self.browser.press("Tab")
-            focus = self.browser.value(page_rules.OF_FOCUS)
+            focus = page_rules.asked(self.browser, "ofFocus()")
             if focus and focus[0] == name:
                 return
         raise Wrong("the tab key doesn't lead to %r" % name)
@@ -186,7 +159,7 @@ def lists(page: Page) -> None:
 
 
 def colours(page: Page, scheme: str) -> None:
-    light = page.browser.value(LIGHT)
+    light = page_rules.asked(page.browser, "lightOfPage()")
     if (light > 0.5) != (scheme == "light"):
         raise Wrong("%s colours, and the page is %.2f light" % (scheme, light))
 
@@ -210,19 +183,19 @@ def table(page: Page) -> None:
     for width, where in ((DESK, "beside"), (PHONE, "below")):
         page.browser.width(width, width == PHONE)
         page.open("a record", q=page.codes["wrist"], date="2018-01-01")
-        page.is_so("at %d pixels the second day" % width, PLACES, where)
+        page.is_so("at %d pixels the second day" % width, "places()", where)
         said = '"1 January 2018"' if width == PHONE else "none"
-        page.is_so("what a cell says before itself", SAID_BEFORE, said)
+        page.is_so("what a cell says before itself", "saidBefore()", said)
         roles = {page_rules.role_of(one) for one in page_rules.nodes(page.browser)}
         if not {"table", "row", "rowheader", "columnheader", "cell"} <= roles:
             raise Wrong("at %d pixels no table: %s" % (width, sorted(roles)))
-        count, shown = (page.browser.value(script) for script in (ALL_ROWS, SHOWN_ROWS))
+        count, shown = page_rules.asked(page.browser, "[allRows(), shownRows()]")
         page.is_so(
             "what differs", "document.querySelector('#only + label').textContent",
             "Only what differs: %d of %d rows" % (shown, count))
         page.tab_to("only")
         page.browser.press(" ")
-        page.is_so("all rows", SHOWN_ROWS, count)
+        page.is_so("all rows", "shownRows()", count)
         if not 0 < shown < count:
             raise Wrong("what differs: %d of %d rows" % (shown, count))
     page.open("one day", q=page.codes["wrist"])
@@ -252,11 +225,7 @@ def suggestions(page: Page) -> None:
     page.open("typing")
     page.browser.value("document.getElementById('q').focus()")
     page.browser.write("fracture of w")
-    told = page.browser.value(
-        "new Promise(done => { const look = () => { const found = [...document.querySelectorAll("
-        "'#found option')].map(one => one.value); if (found.length) done(found);"
-        " else setTimeout(look, 50); }; look(); setTimeout(() => done([]), 20000); })"
-    )
+    told = page_rules.asked(page.browser, "suggested()")
     if told != [page.codes["wrist"]]:
         raise Wrong("typing: %s are suggested" % told)
 
@@ -273,7 +242,7 @@ def uploaded(page: Page) -> None:
         page.tab_to("Judge")
         page.go("a file", "Enter", "1 record", "Right: 1.", "Synonym (en)")
     page.browser.media("print", "dark")
-    page.is_so("on paper", NOT_PRINTED, [])
+    page.is_so("on paper", "notPrinted()", [])
     page.is_so("on paper", "document.querySelector('table').checkVisibility()", True)
     colours(page, "light")
     paper = base64.b64decode(page.browser.ask("Page.printToPDF", preferCSSPageSize=True)["data"])
@@ -309,12 +278,8 @@ def pictured(page: Page, picture: Optional[str]) -> None:
 def write(picture: str, taken: bytes) -> None:
     """Writes the picture, with fewer colours where pngquant is there to choose them."""
     if shutil.which("pngquant"):
-        taken = subprocess.run(
-            ["pngquant", "--speed", "1", "--strip", "-"],
-            input=taken,
-            check=True,
-            stdout=subprocess.PIPE,
-        ).stdout
+        words = ["pngquant", "--speed", "1", "--strip", "-"]
+        taken = subprocess.run(words, input=taken, check=True, stdout=subprocess.PIPE).stdout
     with open(picture, "wb") as file:
         file.write(taken)
 
@@ -330,27 +295,27 @@ def tried(path: str, program: str, picture: Optional[str]) -> None:
         pictured(page, picture)
 
     try:
-        in_house(look)
+        with_service(look)
     finally:
         browser.close()
 
 
-def in_house(look: Callable[[Codes, str], None]) -> None:
+def with_service(look: Callable[[Codes, str], None]) -> None:
     """Looks at the pages of a gateway that listens where a browser reaches it."""
     from tests.demo_members import WORDS
-    from tests.house import Gateway, House
+    from tests.fixtures import Gateway, Service
 
-    house, gateway = House(layout=3, is_whole=True), None
+    service, gateway = Service(layout=3, is_whole=True), None
     try:
         with tempfile.TemporaryDirectory() as folder:
             with socket.create_server(("127.0.0.1", 0)) as free:
                 place = "127.0.0.1:%d" % free.getsockname()[1]
-            gateway = Gateway(house.questions, Path(folder), place, WORDS)
-            look(house.codes, "http://%s/" % place)
+            gateway = Gateway(service.questions, Path(folder), place, WORDS)
+            look(service.codes, "http://%s/" % place)
     finally:
         if gateway:
             gateway.stop()
-        house.end()
+        service.end()
 
 
 def main(words: Sequence[str]) -> int:

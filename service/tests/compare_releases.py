@@ -21,7 +21,7 @@ from pathlib import Path
 from typing import Any
 from urllib.parse import urlencode
 
-from .house import (
+from .fixtures import (
     PROGRAM_AND_HUB,
     SCT,
     SECONDS,

@@ -23,7 +23,7 @@ from .demo_releases import (
     SIMILAR_TO,
     WAS_A,
 )
-from .house import EDITION, FHIR_JSON, SCT, House, Json, issue, parts_of, told, version
+from .fixtures import EDITION, FHIR_JSON, SCT, Json, Service, issue, parts_of, told, version
 from .release_files import Row, Rows, Snapshot, read
 
 EXPAND, MEMBER, TRANSLATE = "ValueSet/$expand", "ValueSet/$validate-code", "ConceptMap/$translate"
@@ -43,9 +43,9 @@ EQUIVALENCES = {
 }
 
 
-def snapshot(house: House, day: str) -> Snapshot:
+def snapshot(service: Service, day: str) -> Snapshot:
     """What the files of all releases say of a day."""
-    every = [read(house.releases / name) for name in RELEASES]
+    every = [read(service.releases / name) for name in RELEASES]
     kinds = {kind: list[Row]() for kind in every[0].by_kind}
     for kind, rows in kinds.items():
         for one in every:
@@ -54,10 +54,10 @@ def snapshot(house: House, day: str) -> Snapshot:
 
 
 class Whole(Asked):
-    of = "whole_house"
+    of = "whole_service"
 
     def snapshot(self, day: str = LATEST) -> Snapshot:
-        return snapshot(self.house, day)
+        return snapshot(self.service, day)
 
     def associations(self, day: str = LATEST) -> list[Row]:
         """The active ones of a day."""
@@ -431,7 +431,7 @@ class TestResources(Whole):
         assert self.gateway.fhir("CodeSystem/sct.20200131")[1]["id"] == "sct.20200131"
 
     def by_kind(self, name: str) -> list[list[Row]]:
-        return list(read(self.house.releases / name).by_kind.values())
+        return list(read(self.service.releases / name).by_kind.values())
 
     @pytest.mark.parametrize("name, day", (("sct", LATEST), ("sct.20190131", "20190131")))
     def test_operations_on_a_code_system(self, name: str, day: str) -> None:

@@ -23,7 +23,7 @@ from sctd_service.gateway.problems import Problem
 from sctd_service.gateway.store import View
 
 from .asked import Asked
-from .house import EDITION, SCT, House, Json, issue, told, version
+from .fixtures import EDITION, SCT, Json, Service, issue, told, version
 from .release_files import read
 
 EXPAND, MEMBER = "ValueSet/$expand", "ValueSet/$validate-code"
@@ -235,7 +235,7 @@ PIECES = ("", " ", "(", ")", "{", "}", "{{", "}}", "[", "|", '"', "\\", "#", "*"
 class Expressed(Asked):
     """Expressions with the names of the demo, of a store of whole packages."""
 
-    of = "whole_house"
+    of = "whole_service"
 
     def text(self, expression: str) -> str:
         words = {**self.codes, "limb-name": self.name_of_limb()}
@@ -243,7 +243,7 @@ class Expressed(Asked):
 
     def name_of_limb(self) -> str:
         """The id of a description."""
-        rows = read(self.house.releases / "d1").by_kind["D"]
+        rows = read(self.service.releases / "d1").by_kind["D"]
         return next(row[0] for row in rows if row[7].startswith("Fracture of bone of upper limb"))
 
     def url(self, expression: str, base: str = SCT) -> str:
@@ -423,14 +423,14 @@ class TestValueSets(Expressed):
 
 
 class TestLines(Expressed):
-    of = "house"
+    of = "service"
 
     def lines(self, path: str, **words: Any) -> list[str]:
         """What the hub is asked for an answer."""
-        assert self.house.recorder
-        before = len(self.house.recorder.lines)
+        assert self.service.recorder
+        before = len(self.service.recorder.lines)
         assert self.gateway.fhir(path, **words)[0] == 200, words
-        return [line.decode() for line in self.house.recorder.lines[before:]]
+        return [line.decode() for line in self.service.recorder.lines[before:]]
 
     def test_one_concept_is_tested_without_the_set(self) -> None:
         words = {"url": self.url("<< $root : $site = << $body"), "date": "2020-11-30"}
@@ -526,7 +526,7 @@ class TestPlans(Expressed):
             monkeypatch.setattr(limits, name, size)
 
         async def counted() -> tuple[s.Ids, Counter[str]]:
-            async with Pool(self.house.questions).session(3) as session:
+            async with Pool(self.service.questions).session(3) as session:
                 view = Counted(session)
                 evaluation = Evaluation(Terminology(view, date.replace("-", "")))
                 return await evaluation.meant(parse(self.text(expression))), view.counts
@@ -537,18 +537,18 @@ class TestPlans(Expressed):
 
 
 @pytest.mark.parametrize("most, is_refused", ((0, True), (37, True), (38, False)))
-def test_budget(most: int, is_refused: bool, whole_house: House,
+def test_budget(most: int, is_refused: bool, whole_service: Service,
                 monkeypatch: pytest.MonkeyPatch) -> None:
     """An expression that asks for more is refused before it is asked. (This one asks for a page of
     all concepts, and about the 37 active ones.)"""
     monkeypatch.setattr(limits, "EXPRESSION_LINES", most)
 
     async def asked() -> int:
-        async with Pool(whole_house.questions).session(3) as session:
+        async with Pool(whole_service.questions).session(3) as session:
             before = session.asked
             evaluation = Evaluation(Terminology(View(session), "20220731"))
             try:
-                await evaluation.meant(parse("* : %s = *" % whole_house.codes["site"]))
+                await evaluation.meant(parse("* : %s = *" % whole_service.codes["site"]))
             except Problem as problem:
                 assert (problem.status, problem.code) == (422, "too-costly")
                 assert "asks the store more than %d questions" % most in problem.text

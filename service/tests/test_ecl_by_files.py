@@ -22,7 +22,7 @@ from sctd_service.gateway.store import View
 from .drawn_expressions import Draw
 from .drawn_releases import DAYS, RELEASES, Maker
 from .ecl_by_files import ByFiles, versions_of
-from .house import SECONDS, begun_hub, program_and_hub
+from .fixtures import SECONDS, begun_hub, program_and_hub
 
 SEED, EXPRESSIONS, DEPTH = 1, 3_000, 3
 # The releases are drawn anew after so many of them.

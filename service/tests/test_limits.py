@@ -7,7 +7,7 @@ import pytest
 from sctd_service.gateway import limits
 
 from .asked import Asked
-from .house import until
+from .fixtures import until
 
 # How much later than its limit something may end on a busy machine.
 LATE_SECONDS = 6.0

@@ -8,7 +8,7 @@ import pytest
 from sctd_service.gateway.fhir import parameters
 
 from .asked import Asked
-from .house import FHIR_JSON, SCT, Json, issue, told, version
+from .fixtures import FHIR_JSON, SCT, Json, issue, told, version
 
 # As FHIR R4 has them.
 R4 = {

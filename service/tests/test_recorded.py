@@ -48,7 +48,7 @@ LINES = [
 
 class TestRecorded(Asked):
     def test_only_questions_were_sent(self) -> None:
-        recorder = self.house.recorder
+        recorder = self.service.recorder
         assert recorder
         lines = [line.decode() for line in recorder.lines]
         for line in lines:

@@ -2,7 +2,7 @@
 
 
 from .compare_releases import compared
-from .house import program_and_hub
+from .fixtures import program_and_hub
 
 ROWS, DAYS, SEED = 20_000, 12, 2
 SUBSUMPTIONS = 400

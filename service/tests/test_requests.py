@@ -16,7 +16,7 @@ from sctd_service.gateway.fhir.versions import Edition
 from sctd_service.gateway.pool import Pool
 
 from .asked import Asked
-from .house import EDITION, FHIR_JSON, POST, SCT, issue, told
+from .fixtures import EDITION, FHIR_JSON, POST, SCT, issue, told
 
 LOOKUP = "/fhir/CodeSystem/$lookup"
 GET = b"GET /health HTTP/1.1\r\nHost: x\r\n"
@@ -151,7 +151,7 @@ class TestTurns:
         )
         await asyncio.sleep(0.1)
         app.walks.release()
-        with pytest.raises(http.Left):
+        with pytest.raises(http.ClientLeftError):
             await left
         assert (await stays).status == 503
 

@@ -55,7 +55,7 @@ from .. import settings, sockets
 from ..logs import log, tell
 from . import opening
 from .clients import Client, Hub
-from .program import Ended, Program
+from .program import Program, ProgramEndedError
 from .store import MOST_SEGMENTS, Store
 
 # Connections that the system keeps until they are taken.
@@ -146,7 +146,7 @@ async def serve(options: argparse.Namespace) -> int:
         [options.program, "serve", "--store", options.store, "--releases", options.releases])
     try:
         status = await program.opened()
-    except Ended as ended:
+    except ProgramEndedError as ended:
         sys.stdout.buffer.write(ended.line)
         return ended.status
     try:

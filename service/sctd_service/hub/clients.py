@@ -12,7 +12,7 @@ from ..logs import log, tell
 from ..protocol import REFUSED
 from .digests import Digests
 from .lines import LINE_LIMIT, NOT_A_QUESTION, TOO_LONG, Lines, Sort, pin_after, without_cr
-from .program import Ended, Program
+from .program import Program, ProgramEndedError
 from .store import Store
 
 # Session 0 is the hub's own. Clients that only ask leave some of the others to those that import.
@@ -179,7 +179,7 @@ class Client(asyncio.Protocol):
     async def carried_out(self, sort: Sort, line: bytes) -> None:
         try:
             reply = await self.hub.reply(self, sort, line)
-        except Ended:
+        except ProgramEndedError:
             self.transport.close()
             raise
         self.is_busy = False
@@ -280,7 +280,7 @@ class Hub:
         """Does it, and ends the hub where that fails."""
         try:
             await work
-        except Ended as ended:
+        except ProgramEndedError as ended:
             self.end(ended.status)
         except asyncio.CancelledError:
             pass  # The hub ends.

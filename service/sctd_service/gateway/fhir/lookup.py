@@ -7,7 +7,7 @@ from ..problems import Json
 from ...snomed import DEFINED, IS_A, Facts, is_concept_id
 from .inputs import CodeNames
 from .outputs import concrete, dated, designations, parameter, parameters
-from .request import Request
+from .request import OperationRequest
 
 ALL, CHILD, DESIGNATION = "*", "child", "designation"
 INACTIVATION, NORMAL_FORM, TERSE = "inactivationIndicator", "normalForm", "normalFormTerse"
@@ -22,7 +22,7 @@ ALWAYS = (ALL, DESIGNATION, "url", "name", "version", "display", "code", "system
 Property = tuple[str, dict[str, Any]]
 
 
-async def lookup(request: Request) -> Json:
+async def lookup(request: OperationRequest) -> Json:
     query = request.query
     coding = query.coding(CodeNames())
     moment = request.moment(coding.version, query.text("version"))

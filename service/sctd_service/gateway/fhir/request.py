@@ -10,7 +10,7 @@ from .inputs import Query
 from .versions import Edition, Moment
 
 
-class Request(NamedTuple):
+class OperationRequest(NamedTuple):
     """An operation's parameters, the store as the request sees it, and the store's edition."""
 
     edition: Edition

@@ -9,7 +9,7 @@ from ...snomed import SIMPLE_MAP, Language, is_concept_id
 from ..problems import Json, Problem, not_found, not_supported
 from .inputs import SCT, CodeNames
 from .outputs import concrete, dated, parameter, parameters
-from .request import Request
+from .request import OperationRequest
 from .valuesets import CANONICAL, ValueSet, inside, is_of_snomed, must_be_kept, value_set_of
 from .versions import Moment
 
@@ -79,7 +79,7 @@ class Asked(NamedTuple):
         return "%s?%s%s" % (self.base, FORM, refset)
 
 
-async def translate(request: Request) -> Json:
+async def translate(request: OperationRequest) -> Json:
     query = request.query
     base, version, refset = map_of(query.text("url") or SCT + "?" + BARE)
     codings = [one for one in query.codings(CodeNames()) if one.system == SCT]
@@ -100,12 +100,12 @@ async def translate(request: Request) -> Json:
     return await replaced(request, asked)
 
 
-def systems_of(request: Request) -> dict[str, str]:
+def systems_of(request: OperationRequest) -> dict[str, str]:
     """The code systems to which maps lead."""
     return {ICD_10: ICD_10_SYSTEM, **request.edition.maps}
 
 
-def refsets_for(request: Request, refset: str) -> Sequence[str]:
+def refsets_for(request: OperationRequest, refset: str) -> Sequence[str]:
     """The maps that are asked for: one, or all that lead to a code system. The associations lead to
     SNOMED CT."""
     system = request.query.text("targetsystem") or SCT
@@ -119,7 +119,7 @@ def refsets_for(request: Request, refset: str) -> Sequence[str]:
     return found
 
 
-async def replaced(request: Request, asked: Asked) -> Json:
+async def replaced(request: OperationRequest, asked: Asked) -> Json:
     """What took the place of a code, or whose place it took, by historical associations."""
     view, day, code = request.view, asked.moment.day, asked.code
     ask = view.replaced_by if asked.is_reverse else view.associations
@@ -151,7 +151,7 @@ def why_not(asked: Asked, found: set[str]) -> str:
     return ""
 
 
-async def mapped(request: Request, asked: Asked) -> Json:
+async def mapped(request: OperationRequest, asked: Asked) -> Json:
     """What simple and extended maps have for a code. The release doesn't say of which code system
     that is, so but for ICD-10 an answer says it only where the house has said it."""
     if asked.is_reverse or asked.target:
@@ -175,7 +175,8 @@ async def mapped(request: Request, asked: Asked) -> Json:
     return translated(asked, matches, why, told)
 
 
-async def must_be_a_map(request: Request, asked: Asked, refset: str, system: str | None) -> None:
+async def must_be_a_map(request: OperationRequest, asked: Asked, refset: str,
+                        system: str | None) -> None:
     if system is None and not await request.view.is_within(refset, SIMPLE_MAP, asked.moment.day):
         raise not_a_map(asked.url(refset))
     wanted = request.query.text("targetsystem")

@@ -5,7 +5,7 @@ from ..problems import Json
 from ...snomed import is_concept_id, is_display
 from .inputs import SCT, CodeNames, Coding
 from .outputs import dated, parameter, parameters
-from .request import Request
+from .request import OperationRequest
 from .valuesets import Sort, ValueSet, inside, versions_of, wanted_value_set
 from .versions import Moment
 
@@ -15,17 +15,18 @@ OUTSIDE = {Sort.WITHIN: "%s and isn't below it", Sort.IN_REFSET: "in the referen
            Sort.EXPRESSION: "what the expression means%s", Sort.COMPOSED: "in the value set%s"}
 
 
-async def validate_code(request: Request) -> Json:
+async def validate_code(request: OperationRequest) -> Json:
     request.query.code_system("url")
     return await validated(request, CodeNames(system="url"), None)
 
 
-async def validate_member(request: Request) -> Json:
+async def validate_member(request: OperationRequest) -> Json:
     value_set = wanted_value_set(request.query)
     return await validated(request, CodeNames(version="systemVersion"), value_set)
 
 
-async def validated(request: Request, names: CodeNames, value_set: ValueSet | None) -> Json:
+async def validated(request: OperationRequest, names: CodeNames,
+                    value_set: ValueSet | None) -> Json:
     """The answer for the first code that is valid, or else for the last of SNOMED CT."""
     query = request.query
     of_set = versions_of(query, value_set) if value_set else []
@@ -46,7 +47,7 @@ async def validated(request: Request, names: CodeNames, value_set: ValueSet | No
     return answer
 
 
-async def checked(request: Request, coding: Coding, moment: Moment,
+async def checked(request: OperationRequest, coding: Coding, moment: Moment,
                   value_set: ValueSet | None) -> tuple[str, list[Json]]:
     """What is wrong with a code, or nothing, and what there is to say of it."""
     parts = [parameter("code", valueCode=coding.code), parameter("system", valueUri=SCT),

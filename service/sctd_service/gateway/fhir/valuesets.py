@@ -14,7 +14,7 @@ from ..ecl.parsing import parse
 from ..problems import Json, Problem, conflict, invalid, not_found, not_supported, too_costly
 from ...snomed import REFERENCE_SET, distinct, is_concept_id
 from .inputs import SCT, Query, not_here
-from .request import Request
+from .request import OperationRequest
 from .versions import Moment
 
 ALL, IS_A, REFSETS, REFSET = "fhir_vs", "fhir_vs=isa/", "fhir_vs=refset", "fhir_vs=refset/"
@@ -228,13 +228,13 @@ def expression_of(value_set: ValueSet) -> syntax.Expression:
     return syntax.Related(OPERATORS[value_set.sort], concept)
 
 
-async def inside(request: Request, value_set: ValueSet, codes: Collection[str],
+async def inside(request: OperationRequest, value_set: ValueSet, codes: Collection[str],
                  moment: Moment) -> set[str]:
     """Those of the concepts that are in the value set, which has to be there."""
     view, day, sort, asked = request.view, moment.day, value_set.sort, list(codes)
     if sort in (Sort.WITHIN, Sort.BELOW):
         await request.must_have(value_set.code, moment)
-        within = await view.those_within(asked, value_set.code, day)
+        within = await view.codes_within(asked, value_set.code, day)
         return within - {value_set.code} if sort is Sort.BELOW else within
     if sort is Sort.IN_REFSET:
         found = await refsets.those_in(view, value_set.code, asked, day)
@@ -261,7 +261,7 @@ async def inside(request: Request, value_set: ValueSet, codes: Collection[str],
     return set(asked).intersection(await codes_in(request, value_set, moment))
 
 
-async def inside_all(request: Request, parts: Sequence[ValueSet], codes: Collection[str],
+async def inside_all(request: OperationRequest, parts: Sequence[ValueSet], codes: Collection[str],
                      moment: Moment) -> set[str]:
     found = set(codes)
     for part in parts:
@@ -269,7 +269,7 @@ async def inside_all(request: Request, parts: Sequence[ValueSet], codes: Collect
     return found
 
 
-async def codes_in(request: Request, value_set: ValueSet, moment: Moment) -> Sequence[str]:
+async def codes_in(request: OperationRequest, value_set: ValueSet, moment: Moment) -> Sequence[str]:
     """The codes of a value set. Some may not be there on that day."""
     view, day, sort, code = request.view, moment.day, value_set.sort, value_set.code
     if sort is Sort.LISTED:
@@ -304,14 +304,14 @@ SMALLEST_FIRST = (
     Sort.WITHIN, Sort.ANY)
 
 
-async def refset_codes(request: Request, refset: str, moment: Moment) -> Sequence[str]:
+async def refset_codes(request: OperationRequest, refset: str, moment: Moment) -> Sequence[str]:
     codes = await refsets.codes_of(request.view, refset, moment.day)
     if not codes:
         await must_be_kept(request, refset, moment)
     return codes
 
 
-async def must_be_kept(request: Request, refset: str, moment: Moment) -> None:
+async def must_be_kept(request: OperationRequest, refset: str, moment: Moment) -> None:
     """Refuses a reference set of which the store has no member of any day: it isn't known to be
     empty."""
     if not await refsets.was_kept(request.view, refset):
@@ -319,19 +319,20 @@ async def must_be_kept(request: Request, refset: str, moment: Moment) -> None:
         raise not_supported("the store has no members of the reference set %s" % refset)
 
 
-async def expression_codes(request: Request, expression: syntax.Expression,
+async def expression_codes(request: OperationRequest, expression: syntax.Expression,
                            moment: Moment) -> Sequence[str]:
     await must_keep_all(request, expression, moment)
     return await ecl.codes_of(request.view, moment.day, expression)
 
 
-async def must_keep_all(request: Request, expression: syntax.Expression, moment: Moment) -> None:
+async def must_keep_all(request: OperationRequest, expression: syntax.Expression,
+                        moment: Moment) -> None:
     """Refuses an expression that names a reference set of which the store has no member."""
     for refset in distinct(syntax.named_refsets(expression)):
         await must_be_kept(request, refset, moment)
 
 
-async def refsets_there(request: Request, moment: Moment) -> list[str]:
+async def refsets_there(request: OperationRequest, moment: Moment) -> list[str]:
     found = await refsets.with_members(request.view, moment.day)
     if not found:
         raise no_refsets()

@@ -1,18 +1,10 @@
-#!/usr/bin/env python3
 """Makes the Debian package of the built program, and looks at it.
 
-try_package.py PROGRAM [TRIAL ..]
-
-PROGRAM is the built `sctd`; a TRIAL is one of the list TRIALS below, and without any all are done.
 The package has to be the same when it is made again, to have what it has to have and nothing else,
 to complete words in bash and zsh, to have manual pages without warnings, and nothing that lintian
 calls an error. Each option of the hub and of the gateway has to stand in OPERATE's chapter about
 settings, and each key of the settings has to be an option. Then it is installed in a container
-(package_container.py).
-
-Where this machine lacks what a part needs, a line that begins with `skipped` says so. The status is
-1 where something isn't as it has to be, and 3 where no package can be made here. Standard library
-alone.
+(package_container.py). What this machine lacks is skipped.
 """
 
 from __future__ import annotations
@@ -21,23 +13,23 @@ import hashlib
 import os
 import re
 import shutil
+import signal
 import subprocess
 import sys
-import tempfile
 import tomllib
-from collections.abc import Callable, Iterator, Sequence
+from collections.abc import Iterator
 from pathlib import Path
 
-import package_container
-from harness import Skipped, Wrong, same
+import pytest
 
-ROOT = Path(__file__).resolve().parents[2]
-sys.path.append(str(ROOT / "packaging"))
+import package_container
+from harness import TOP, Place
+
+sys.path.append(str(TOP / "packaging"))
 import built  # noqa: E402
 import debian  # noqa: E402
 from needs import MODULES, python_with  # noqa: E402
 
-NOT_RUN = 3
 SECONDS = 320
 TOOLS = ("dpkg-deb", "strip")
 # What a package has to have, beside the files of the service.
@@ -93,6 +85,7 @@ class Made:
     """Two packages of the program, of which the second one is an upgrade of the first."""
 
     def __init__(self, program: Path, folder: Path, python: str) -> None:
+        folder.mkdir()
         self.package = built.Built(program, built.origin_of(is_proved=False))
         self.folder, self.python = folder, python
         self.first, self.second = self.make("first", "+first"), self.make("second", "+second")
@@ -107,11 +100,20 @@ class Made:
         return self.root / name
 
 
-def same_again(made: Made) -> None:
+@pytest.fixture(scope="module")
+def made(tried: Place) -> Made:
+    lacking, python = [tool for tool in TOOLS if shutil.which(tool) is None], python_with()
+    if lacking or python is None:
+        pytest.skip(f"there is no {' '.join(lacking) or 'Python with what the gateway imports'}")
+    signal.alarm(0)  # (No trial waits for this, and each command has a limit of its own.)
+    return Made(tried.program, tried.path("package"), python)
+
+
+def test_same_again(made: Made) -> None:
     """The same sources make the same package."""
     first, again = (hashlib.sha256(path.read_bytes()).hexdigest()
                     for path in (made.first, made.make("again", "+first")))
-    same("the checksum of a package that is made again", again, first)
+    assert again == first
 
 
 def wanted_files() -> Iterator[str]:
@@ -119,29 +121,29 @@ def wanted_files() -> Iterator[str]:
     share = "./" + debian.SHARE
     yield from ("%s/%s" % (share, name) for name in MORE)
     for folder in FOLDERS:
-        for path in sorted((ROOT / folder).rglob("*")):
+        for path in sorted((TOP / folder).rglob("*")):
             if path.is_file() and "__pycache__" not in path.parts and path.name[0] != ".":
-                yield "%s/%s" % (share, path.relative_to(ROOT))
+                yield "%s/%s" % (share, path.relative_to(TOP))
 
 
-def contents(made: Made) -> None:
+def test_contents(made: Made) -> None:
     """It has the files that it has to have, which are root's, and nobody else may write."""
     _, told = run("dpkg-deb", "--contents", str(made.first), TZ="UTC")
     lines = [line.split() for line in told.strip().split("\n")]
     found = {words[5] for words in lines if words[0][0] != "d"}
-    same("files that are too many or missing", sorted(found ^ set(wanted_files())), [])
-    same("owners", {words[1] for words in lines}, {"root/root"})
-    modes = {words[0] for words in lines}
-    same("rights", modes, {"drwxr-xr-x", "-rwxr-xr-x", "-rw-r--r--", "lrwxrwxrwx"})
+    assert sorted(found ^ set(wanted_files())) == []
+    assert {words[1] for words in lines} == {"root/root"}
+    assert {words[0] for words in lines} == {
+        "drwxr-xr-x", "-rwxr-xr-x", "-rw-r--r--", "lrwxrwxrwx"}
     commands = [words[5] for words in lines if words[0] == "-rwxr-xr-x"]
-    same("scripts and programs", sorted(os.path.basename(name) for name in commands),
-         ["client.py", "digest.py", "export.py", "follow.py", "read_records.py", "sctd", "sctd",
-          "sctd-gateway", "sctd-hub", "take_copy.py"])
-    readme = made.path(debian.DOC + "/README").read_text("utf-8").count("\n")
-    same("whether the README is short", readme <= MOST_LINES_OF_README, True)
+    assert sorted(os.path.basename(name) for name in commands) == [
+        "client.py", "digest.py", "export.py", "follow.py", "read_records.py", "sctd", "sctd",
+        "sctd-gateway", "sctd-hub", "take_copy.py"]
+    readme = made.path(debian.DOC + "/README").read_text("utf-8")
+    assert readme.count("\n") <= MOST_LINES_OF_README
 
 
-def versions(made: Made) -> None:
+def test_versions(made: Made) -> None:
     """The commands say the version, the commit, and whether the program is proved."""
     text = made.path("usr/bin/sctd").read_text("utf-8")
     for name in set(re.findall(r"/usr/libexec\S*", text)):
@@ -151,57 +153,56 @@ def versions(made: Made) -> None:
     command.chmod(0o755)
     plain = run(str(made.package.program), "--version")[1]
     for option in ("--version", "-V"):
-        same("sctd " + option, run(str(command), option), (0, plain + made.package.origin + "\n"))
+        assert run(str(command), option) == (0, plain + made.package.origin + "\n")
     words = ["status", "--store", "/no/such file"]
-    same("another command", run(str(command), *words), run(str(made.package.program), *words))
+    assert run(str(command), *words) == run(str(made.package.program), *words)
     commit = built.commit_of(built.PACKAGE_PARTS)
     for name in ("sctd-hub", "sctd-gateway"):
         told = run(made.python, str(made.path(debian.SHARE + "/service/" + name)), "--version")
-        same(name, told, (0, "%s %s, %s\n" % (name, built.version(), commit)))
+        assert told == (0, "%s %s, %s\n" % (name, built.version(), commit))
 
 
 def options_of(made: Made, part: str) -> set[str]:
     """The options of the hub or of the gateway, as its help has them."""
-    help_of = debian.help_of([made.python, str(ROOT / "service" / ("sctd-" + part))], part)
+    help_of = debian.help_of([made.python, str(TOP / "service" / ("sctd-" + part))], part)
     return {option.name for option in help_of.options()} - NO_SETTINGS
 
 
-def settings(made: Made) -> None:
+def test_settings(made: Made) -> None:
     """OPERATE has each key, and the installed settings have no other one."""
-    document = (ROOT / "docs" / "OPERATE.md").read_text("utf-8")
+    document = (TOP / "docs" / "OPERATE.md").read_text("utf-8")
     text = made.path("etc/sctd/sctd.conf").read_text("utf-8")
     told = tomllib.loads(re.sub(r"^#(\w+ = )", r"\1", text, flags=re.M))
-    same("the tables of the settings", sorted(told), ["gateway", "hub"])
+    assert sorted(told) == ["gateway", "hub"]
     for part, keys in told.items():
         table = re.search(r"^\| Key of `\[%s\]`.*?\n\n" % part, document, re.M | re.S)
-        same("whether OPERATE has a table of " + part, table is not None, True)
-        in_table = set(re.findall(r"^\| `([\w-]+)`", table[0] if table else "", re.M))
-        same("the keys of %s in OPERATE" % part, sorted(in_table),
-             sorted(options_of(made, part)))
-        same("keys of %s that are no options" % part, sorted(set(keys) - in_table), [])
+        assert table, part
+        in_table = set(re.findall(r"^\| `([\w-]+)`", table[0], re.M))
+        assert in_table == options_of(made, part)
+        assert set(keys) - in_table == set(), part
 
 
-def manual_pages(made: Made) -> None:
+def test_manual_pages(made: Made) -> None:
     """The manual pages can be shown, and have what the helps have."""
     if shutil.which("man") is None:
-        raise Skipped("there is no man")
+        pytest.skip("there is no man")
     shown = {}
     for path in sorted(made.path("usr/share/man").rglob("*.gz")):
         words = ["man", "--warnings", "-E", "UTF-8", "-l", "-Tutf8", "-P", "cat", str(path)]
         done = subprocess.run(words, capture_output=True, timeout=SECONDS, check=False,
                               env=os.environ | {"MANWIDTH": "120", "GROFF_NO_SGR": "1"})
         shown[path.name] = re.sub(r".\x08", "", done.stdout.decode())
-        same("man of %s" % path.name, (done.returncode, done.stderr.decode()), (0, ""))
+        assert (done.returncode, done.stderr.decode()) == (0, ""), path.name
     texts = {"sctd.1.gz": ["sctd import --quiet", "--layout <N>", "0 CALLED 1000004"],
              "sctd-hub.8.gz": ["--connections-a-user N", "SYNOPSIS", "goes alone"],
              "sctd-gateway.8.gz": ["--languages SCTID,..", "It only reads"],
              "sctd.conf.5.gz": ["merge-above", "SCTID of the module of the edition"]}
-    same("the pages", sorted(shown), sorted(texts))
+    assert sorted(shown) == sorted(texts)
     for name, parts in texts.items():
-        same("what %s lacks" % name, [part for part in parts if part not in shown[name]], [])
+        assert [part for part in parts if part not in shown[name]] == [], name
 
 
-def completions(made: Made) -> None:
+def test_completions(made: Made) -> None:
     """What bash completes, and that zsh can read its file."""
     place = made.folder / "completing"
     (place / "a-folder").mkdir(parents=True)
@@ -210,89 +211,48 @@ def completions(made: Made) -> None:
     for line, wanted in COMPLETED:
         done = subprocess.run(["bash", "-c", COMPLETING, "bash", script, line], cwd=place,
                               capture_output=True, text=True, timeout=SECONDS, check=False)
-        same("completions of %r" % line, (done.stdout.split(), done.stderr), (wanted, ""))
+        assert (done.stdout.split(), done.stderr) == (wanted, ""), line
     if shutil.which("zsh") is None:
-        raise Skipped("there is no zsh")
+        pytest.skip("there is no zsh")
     zsh = str(made.path("usr/share/zsh/vendor-completions/_sctd"))
-    same("zsh", run("zsh", "-n", zsh), (0, ""))
+    assert run("zsh", "-n", zsh) == (0, "")
 
 
-def types(made: Made) -> None:
+def test_types(made: Made) -> None:
     """The types of what makes it are right, and a shell can read its scripts."""
-    scripts = [ROOT / "packaging" / "debian" / name for name in debian.SCRIPTS]
-    for script in [ROOT / "try", *scripts]:
-        same("sh -n %s" % script.name, run("sh", "-n", str(script)), (0, ""))
+    scripts = [TOP / "packaging" / "debian" / name for name in debian.SCRIPTS]
+    for script in [TOP / "try", *scripts]:
+        assert run("sh", "-n", str(script)) == (0, ""), script.name
     if shutil.which("mypy") is None:
-        raise Skipped("there is no mypy")
-    modules = [path.name for path in sorted((ROOT / "packaging").glob("*.py"))]
+        pytest.skip("there is no mypy")
+    modules = [path.name for path in sorted((TOP / "packaging").glob("*.py"))]
     for files in (modules, ["build"], ["deb"]):
         done = subprocess.run(
-            ["mypy", "--strict", "--cache-dir=/dev/null", *files], cwd=ROOT / "packaging",
-            env=os.environ | {"MYPYPATH": "%s/bench:%s/service" % (ROOT, ROOT)},
+            ["mypy", "--strict", "--cache-dir=/dev/null", *files], cwd=TOP / "packaging",
+            env=os.environ | {"MYPYPATH": "%s/bench:%s/service" % (TOP, TOP)},
             capture_output=True, text=True, timeout=SECONDS, check=False)
-        same("mypy of %s" % files[0], (done.returncode, done.stdout.partition(":")[0]),
-             (0, "Success"))
+        assert (done.returncode, done.stdout.partition(":")[0]) == (0, "Success"), files[0]
 
 
-def lintian(made: Made) -> None:
+def test_lintian(made: Made) -> None:
     """Lintian finds no error in it."""
     if shutil.which("lintian") is None:
-        raise Skipped("there is no lintian")
+        pytest.skip("there is no lintian")
     _, told = run("lintian", "--allow-root", str(made.first))
-    same("errors of lintian", [line for line in told.split("\n") if line.startswith("E:")], [])
+    assert [line for line in told.split("\n") if line.startswith("E:")] == []
 
 
-def container(made: Made) -> None:
+def test_container(made: Made) -> None:
     """It is installed, used, upgraded and removed by a systemd in a container."""
-    lacks = package_container.lacks()
+    lacks = package_container.lacks() or ", ".join(
+        name for name in MODULES.values() if run("dpkg", "--status", name)[0])
     if lacks:
-        raise Skipped(lacks)
-    for name in MODULES.values():
-        if run("dpkg", "--status", name)[0]:
-            raise Skipped("%s isn't installed" % name)
+        pytest.skip(lacks)
+    signal.alarm(0)  # (It has a limit of its own.)
     place = made.folder / "container"
     place.mkdir()
     status, told = run("unshare", "--mount", sys.executable, package_container.__file__, str(place),
                        str(made.first), str(made.second))
-    if status == NOT_RUN:
-        raise Skipped(told.strip())
-    print(told, end="")
-    same("the status of the container's trial", status, 0)
-
-
-TRIALS: Sequence[Callable[[Made], None]] = (
-    same_again, contents, versions, settings, manual_pages, completions, types, lintian, container)
-
-
-def tried(made: Made, trials: Sequence[Callable[[Made], None]]) -> int:
-    """Does the trials, and tells which failed or couldn't be done."""
-    wrong = 0
-    for trial in trials:
-        try:
-            trial(made)
-        except Skipped as why:
-            print("skipped: %s: %s" % (trial.__name__, why), flush=True)
-        except (Wrong, subprocess.TimeoutExpired) as why:
-            wrong += 1
-            print("WRONG: %s: %s" % (trial.__name__, why), flush=True)
-    print("trials: %d, wrong: %d" % (len(trials), wrong))
-    return 1 if wrong else 0
-
-
-def main(words: Sequence[str]) -> int:
-    named = {trial.__name__: trial for trial in TRIALS}
-    if not words or not named.keys() >= set(words[1:]):
-        print((__doc__ or "").strip(), file=sys.stderr)
-        return 2
-    missing = next((tool for tool in TOOLS if shutil.which(tool) is None), None)
-    python = python_with()
-    if missing or python is None:
-        print("not run: there is no %s" % (missing or "Python with what the gateway imports"))
-        return NOT_RUN
-    with tempfile.TemporaryDirectory(prefix="sctd-package-") as place:
-        made = Made(Path(words[0]).absolute(), Path(place), python)
-        return tried(made, [named[word] for word in words[1:]] or TRIALS)
-
-
-if __name__ == "__main__":
-    sys.exit(main(sys.argv[1:]))
+    if status == package_container.NOT_RUN:
+        pytest.skip(told.strip())
+    assert status == 0, told

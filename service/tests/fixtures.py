@@ -144,7 +144,7 @@ class Answer:
         return self.body.decode()
 
 
-class House:
+class Service:
     """A store of a layout, its hub and its gateway. What the gateway asks is recorded, and the
     releases are whole packages, if that is wanted."""
 

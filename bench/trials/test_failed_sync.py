@@ -1,29 +1,25 @@
-#!/usr/bin/env python3
 """Tries what a failed sync leaves on Linux, on a medium that refuses one block.
 
-try_failed_sync.py PROGRAM
+Linux forgets the pages of a file whose write failed: a later read gets from memory what the medium
+doesn't have. This makes a file system on a loop device, lets the last sync of an import fail,
+starts the program again as the hub does, stops the next import between two of its syncs, and looks
+at what the medium has. It fails if the import that was confirmed before isn't told both times: the
+hub has to drop what memory keeps of the file.
 
-PROGRAM is the built program sctd. Linux forgets the pages of a file whose write failed: a later
-read gets from memory what the medium doesn't have. This script makes a file system on a loop
-device, lets the last sync of an import fail, starts the program again as the hub does, stops the
-next import between two of its syncs, and looks at what the medium has. It fails if the import that
-was confirmed before isn't told both times: the hub has to drop what memory keeps of the file.
-
-It takes root, strace, e2fsprogs, util-linux and a loop device; where it lacks one of them it says
-"not run" and ends with status 3. Standard library alone.
+It takes root, strace, e2fsprogs, util-linux and a loop device; what this machine lacks is skipped.
 """
 
 from __future__ import annotations
 
-import argparse
 import os
 import shutil
 import signal
 import subprocess
 import sys
-import tempfile
 import time
 from pathlib import Path
+
+import pytest
 
 from harness import BLOCK, RELEASES, TOP, Place
 
@@ -37,18 +33,13 @@ CONTENT_SYNC = 5
 OPEN = 0xA5
 # How often it is looked if an import is stopped, and how many seconds are between.
 LOOKS, BETWEEN_LOOKS = 400, 0.05
-NOT_RUN = 3
 TOOLS = ("strace", "mkfs.ext4", "filefrag", "mount", "umount", "truncate", "fallocate", "dd")
-
-
-class NotRun(Exception):
-    """Why it can't be run here."""
 
 
 def run(*words: str | Path, check: bool = True) -> subprocess.CompletedProcess[str]:
     done = subprocess.run(words, capture_output=True, text=True, check=False)
     if check and done.returncode != 0:
-        raise NotRun(f"{words[0]}: {done.stderr.strip()}")
+        pytest.skip(f"{words[0]}: {done.stderr.strip()}")
     return done
 
 
@@ -99,7 +90,7 @@ class Medium:
             parts = line.replace(":", " ").replace("..", " ").split()
             if len(parts) > 5 and parts[0].isdigit() and int(parts[1]) <= block <= int(parts[2]):
                 return int(parts[3]) + block - int(parts[1])
-        raise NotRun("filefrag doesn't say where the store lies")
+        pytest.skip("filefrag doesn't say where the store lies")
 
     def refuse(self, block: int) -> None:
         """Lets each write of this block of the store fail."""
@@ -144,15 +135,16 @@ def wait_for_stop(trace: Path) -> int:
         for line in trace.read_text("utf-8", "replace").split("\n") if trace.exists() else ():
             if "stopped by SIGSTOP" in line:
                 return int(line.split()[0])
-    raise NotRun("strace doesn't stop the import")
+    pytest.skip("strace doesn't stop the import")
 
 
-def trial(place: Place) -> tuple[str, str]:
-    """What the server says after the restart, and what the medium has in the end."""
+@pytest.mark.skipif(os.geteuid() != 0, reason="it takes root")
+@pytest.mark.skipif(not all(map(shutil.which, TOOLS)), reason="a tool is missing")
+def test_failed_sync(place: Place) -> None:
+    """The import before it is what the server says after the restart, and what the medium has."""
     with Medium(place) as medium:
         place.done("init", "--store", medium.store)
-        if place.import_one(medium.store, RELEASES / "r1") != "OK 1 6 0":
-            raise SystemExit("the first import isn't confirmed")
+        assert place.import_one(medium.store, RELEASES / "r1") == "OK 1 6 0"
         os.sync()
         # The last sync of the import after it is that of this gate.
         older = older_gate(medium.store)
@@ -162,36 +154,10 @@ def trial(place: Place) -> tuple[str, str]:
         os.kill(stopped, signal.SIGCONT)
         reply = import_of_r2.communicate()[0].strip()
         if not reply.startswith("ERR 2 "):
-            raise NotRun(f"the medium took the block: {reply!r}")
+            pytest.skip(f"the medium took the block: {reply!r}")
         medium.accept()
         opening.drop_pages(str(medium.store))
-        restarted = status(place, medium.store)
+        assert status(place, medium.store) == "OK 1 6 1 -"
         stopped_import(place, medium, "r3", "KILL").communicate()
         medium.mount_again()
-        return restarted, status(place, medium.store)
-
-
-def main() -> int:
-    assert __doc__
-    parser = argparse.ArgumentParser(description=__doc__.split("\n", maxsplit=1)[0])
-    parser.add_argument("program", type=Path, help="the built sctd")
-    asked = parser.parse_args()
-    try:
-        missing = [tool for tool in TOOLS if shutil.which(tool) is None]
-        if os.geteuid() != 0 or missing:
-            raise NotRun("it takes root" if not missing else f"there is no {missing[0]}")
-        with tempfile.TemporaryDirectory() as folder:
-            found = trial(Place(asked.program.resolve(), Path(folder)))
-    except NotRun as why:
-        print(f"not run: {why}")
-        return NOT_RUN
-    print("after the restart %r, on the medium in the end %r" % found)
-    confirmed = "OK 1 6 1 -"
-    if found != (confirmed, confirmed):
-        print(f"{confirmed!r} was wanted both times")
-        return 1
-    return 0
-
-
-if __name__ == "__main__":
-    sys.exit(main())
+        assert status(place, medium.store) == "OK 1 6 1 -"
