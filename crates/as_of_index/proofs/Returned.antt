@@ -33,7 +33,12 @@ module _ {old now : ReaderView} (so_far : HasRead old now) where
 
   read_before : (row wanted : RowValue) → IsReadFor now row wanted → IsReadFor old row wanted
   read_before row wanted r = record {
-    segment = r.segment; at = r.at; there = r.there; wanted_is = r.wanted_is; read = r.read; row_is = r.row_is;
+    segment = r.segment;
+    at = r.at;
+    there = r.there;
+    wanted_is = r.wanted_is;
+    read = r.read;
+    row_is = r.row_is;
     stands = subst (λ lists. StandsAt lists r.segment r.at r.there) so_far.lists r.stands;
     returned = returned_before r.segment r.at r.read r.returned;
   }

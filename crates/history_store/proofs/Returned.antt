@@ -60,8 +60,14 @@ module _ (shown : ReaderView) where
     pub stored_for : (row wanted : RowValue) → IsReadFor shown row wanted → IsStoredFor view old row wanted
     stored_for row wanted r = record {
       key = ap key_of r.row_is ∙ r.returned.keyed ∙ (says 0 r.stands.rows (r.there, r.at) r.stands.there).key_is ∙ ap key_of (sym r.wanted_is);
-      stored = (r.read, r.row_is, r.segment, r.at, λ file shows.
-          subst (λ (e : List Entry). IsRecordOf e r.segment r.read r.at file) entries_are
-          (of_disk r.segment r.at r.read r.returned.may_be file
-          (subst (λ d. ShowsFile (view d).reads_as cache file) (sym lent_is) (subst (λ c. ShowsFile (view old.disk).reads_as c file) (sym cache_is) shows))));
+      stored = (
+        r.read,
+        r.row_is,
+        r.segment,
+        r.at,
+        λ file shows.
+            subst (λ (e : List Entry). IsRecordOf e r.segment r.read r.at file) entries_are
+            (of_disk r.segment r.at r.read r.returned.may_be file
+            (subst (λ d. ShowsFile (view d).reads_as cache file) (sym lent_is) (subst (λ c. ShowsFile (view old.disk).reads_as c file) (sym cache_is) shows))),
+      );
     }

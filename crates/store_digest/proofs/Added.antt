@@ -59,17 +59,17 @@ module _ {D : Type 0} (view : D → DiskView) (pin : ℕ) (after : Option Key) (
 
   pub none_added : {T : Type 0} (rows_of : T → List RowValue) (x : T) (hasher : Sha256) → IsRowsQueryBy false (Ok x) rows_of (rows_after after 1) pin view old new → rows_of x ≡ [] → IsNextAdded (Ok None) after pin hasher hasher view old new
   none_added rows_of x hasher q none = (
-    let keys = keyed_same (IsStoredFor view old) (λ x y r. r.key) (rows_of x) _ q.stored in record {
-    hashed = record {
-      read = [];
-      keys = ap (map key_of) (sym none) ∙ keys;
-      found = λ h. sym none ∙ q.found h;
-      holds = λ m holding. subst (Holds256 hasher) (sym (append-nil m)) holding;
-    };
-    key = ap (map key_of) (sym none) ∙ keys;
-    causes = λ none. tt;
-    query = answered_otherwise view old new x None q.query;
-    other_calls = q.other_calls;
-    looked_up = q.looked_up;
-    bytes_read = q.bytes_read_always;
-  })
+      let keys = keyed_same (IsStoredFor view old) (λ x y r. r.key) (rows_of x) _ q.stored in record {
+        hashed = record {
+          read = [];
+          keys = ap (map key_of) (sym none) ∙ keys;
+          found = λ h. sym none ∙ q.found h;
+          holds = λ m holding. subst (Holds256 hasher) (sym (append-nil m)) holding;
+        };
+        key = ap (map key_of) (sym none) ∙ keys;
+        causes = λ none. tt;
+        query = answered_otherwise view old new x None q.query;
+        other_calls = q.other_calls;
+        looked_up = q.looked_up;
+        bytes_read = q.bytes_read_always;
+      })

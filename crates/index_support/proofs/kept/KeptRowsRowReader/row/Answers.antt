@@ -8,12 +8,12 @@ returns-in-Some-clause-returned c = record {
   keyed = search rules;
   may_be = tt;
   exact = λ are s w.
-    let e = kept_row c.args.self.now.lists.now c.args.segment c.args.at s c.index-self-segment.result are w in
-    let up = kept_up c.args.self.now.lists.now c.args.segment c.args.at s c.index-self-segment.result are w in
-    let f = (rw c.as_slice.ensures.value at c.in-Some.ensures.first) up in
-    let g : Some c.in-Some.found.now ≡ Some s = f ∙ e in
-    let same : c.in-Some.found.now ≡ s = cc in
-    c.in_ok-try_clone.ensures ∙ same;
+      let e = kept_row c.args.self.now.lists.now c.args.segment c.args.at s c.index-self-segment.result are w in
+      let up = kept_up c.args.self.now.lists.now c.args.segment c.args.at s c.index-self-segment.result are w in
+      let f = (rw c.as_slice.ensures.value at c.in-Some.ensures.first) up in
+      let g : Some c.in-Some.found.now ≡ Some s = f ∙ e in
+      let same : c.in-Some.found.now ≡ s = cc in
+      c.in_ok-try_clone.ensures ∙ same;
 }
 
 pub returns-clause-undamaged : goal.returns-clause-undamaged
