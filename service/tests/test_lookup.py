@@ -242,6 +242,55 @@ class TestLookup(Asked):
             said = self.ask(code, property=["normalFormTerse", "inactive"])[1]
             assert list(properties(said)) == ["inactive"], code
 
+    def test_normal_form_with_terms(self) -> None:
+        said = self.ask("drug", property="normalForm", version=version("20191231"))[1]
+        codes = self.codes
+        assert properties(said)["normalForm"] == [
+            "=== %s|Medicinal product (product)|:{%s|Has active ingredient (attribute)|="
+            '%s|Paracetamol (substance)|,%s|Has strength value (attribute)|=#500,'
+            '%s|Has unit text (attribute)|="mg"}'
+            % tuple(codes[name] for name in "product ingredient substance strength unit".split())
+        ]
+        said = self.ask("root", property=["normalForm", "inactive"])[1]
+        assert list(properties(said)) == ["inactive"]
+
+    def test_names_of_properties(self) -> None:
+        """Of each code, where properties are requested; in the language that is requested."""
+        said = self.ask("radius2", property="*")[1]
+        names = {words["code"]: words.get("description") for words in parts_of(said, "property")}
+        assert names["parent"] == "Fracture of bone of upper limb (disorder)"
+        assert names["moduleId"] == "SNOMED CT core module (core metadata concept)"
+        assert names["inactive"] is names["effectiveTime"] is None
+        said = self.ask("injury", property=["child", self.codes["site"]], date="2018-01-01",
+                        displayLanguage="de")[1]
+        wrist = next(words for words in parts_of(said, "property")
+                     if words["value"] == self.codes["wrist"])
+        assert wrist == {
+            "code": "child", "value": self.codes["wrist"], "description": "Handgelenksfraktur"}
+        assert not any("description" in one for one in parts_of(self.ask("wrist")[1], "property"))
+
+    def test_role_groups(self) -> None:
+        """Only if they are requested, with the attributes of each as their parts."""
+        codes, date = self.codes, "2018-01-01"
+
+        def groups(code: str, **words: Any) -> list[list[Json]]:
+            said = self.ask(code, **words)[1]
+            parts = [one["part"] for one in said["parameter"] if one["name"] == "property"]
+            return [part[1:] for part in parts if value(part[0]) == "609096000"]
+
+        assert groups("wrist", date=date) == []
+        for name in ("609096000", "*"):
+            found = groups("wrist", date=date, property=name)
+            assert [[{one["name"]: value(one) for one in part["part"]} for part in group]
+                    for group in found] == [[
+                {"code": codes["form"], "value": codes["fracture"],
+                 "description": "Fracture (morphologic abnormality)"},
+                {"code": codes["site"], "value": codes["body"],
+                 "description": "Wrist region structure (body structure)"}]]
+        drug = groups("drug", date=date, property="609096000")[0]
+        assert [value(part["part"][1]) for part in drug] == [codes["substance"], 500, "mg"]
+        assert groups("root", property="609096000") == []
+
     def test_designations_and_language(self) -> None:
         for language in ("de", "de-CH", "DE"):
             said = self.ask("wrist", displayLanguage=language)[1]
@@ -286,7 +335,7 @@ class TestLookup(Asked):
     def test_properties_that_nobody_has(self) -> None:
         """Which are passed over and told, or refused where the client wants that."""
         target = "/fhir/%s?system=%s&code=138875005&property=inactive&property=" % (LOOKUP, SCT)
-        for name in ("ancestor", "normalForm", "inactiv"):
+        for name in ("ancestor", "normalform", "inactiv"):
             answer = self.house.gateway.send("GET", target + name)
             assert (answer.status, len(told(answer.json(), "warning"))) == (200, 1), name
             wish = {"Prefer": "handling=strict"}

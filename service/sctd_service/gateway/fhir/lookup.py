@@ -1,6 +1,6 @@
 """CodeSystem/$lookup: what a code means on a day."""
 
-from collections.abc import Iterable
+from collections.abc import Iterable, Iterator, Mapping
 from typing import Any
 
 from ..problems import Json
@@ -10,12 +10,16 @@ from .outputs import concrete, dated, designations, parameter, parameters
 from .request import Request
 
 ALL, CHILD, DESIGNATION = "*", "child", "designation"
-INACTIVATION, NORMAL_FORM = "inactivationIndicator", "normalFormTerse"
-# Those that have a name. An attribute is the property of its code.
+INACTIVATION, NORMAL_FORM, TERSE = "inactivationIndicator", "normalForm", "normalFormTerse"
+# Those that have a name. An attribute is the property of its code, and ROLE_GROUP has the attributes
+# of one group as its parts.
 PROPERTIES = ("inactive", "sufficientlyDefined", "moduleId", "effectiveTime", INACTIVATION,
-              "parent", CHILD, NORMAL_FORM)
+              "parent", CHILD, NORMAL_FORM, TERSE)
+ROLE_GROUP, NO_GROUP = "609096000", "0"
 # What else R4 calls properties, some of which each answer has.
 ALWAYS = (ALL, DESIGNATION, "url", "name", "version", "display", "code", "system")
+# A property, with its value as FHIR has it.
+Property = tuple[str, dict[str, Any]]
 
 
 async def lookup(request: Request) -> Json:
@@ -35,7 +39,18 @@ async def lookup(request: Request) -> Json:
     if is_wanted(DESIGNATION, wanted):
         found = designations(facts.descriptions, facts.called)
         parts += [designation_parts(one) for one in found]
-    return parameters(parts + properties(facts, children, wanted))
+    said = properties(facts, children, wanted)
+    groups = groups_of(facts) if wanted & {ROLE_GROUP, ALL} else []
+    codes = coded(sum(groups, said)) if wanted else []
+    if NORMAL_FORM in wanted and facts.parents:
+        codes += [code for row in facts.relationships for code in (row.type, row.target)]
+        codes += [row.type for row in facts.values]
+    names = await request.view.names(codes, moment.day, language)
+    if NORMAL_FORM in wanted and facts.parents:
+        said.append((NORMAL_FORM, {"valueString": normal_form(facts, names)}))
+    parts += [parameter("property", part=property_parts(*one, names)) for one in said]
+    parts += [parameter("property", part=group_parts(group, names)) for group in groups]
+    return parameters(parts)
 
 
 def is_wanted(name: str, wanted: set[str]) -> bool:
@@ -51,9 +66,9 @@ def designation_parts(one: Json) -> Json:
         parameter("use", valueCoding=one["use"]), parameter("value", valueString=one["value"])])
 
 
-def properties(facts: Facts, children: Iterable[str], wanted: set[str]) -> list[Json]:
+def properties(facts: Facts, children: Iterable[str], wanted: set[str]) -> list[Property]:
     """The properties that are wanted, each with its value once."""
-    found: list[tuple[str, dict[str, Any]]] = [
+    found: list[Property] = [
         ("inactive", {"valueBoolean": not facts.concept.is_active}),
         ("sufficientlyDefined", {"valueBoolean": facts.concept.definition_status == DEFINED}),
         ("moduleId", {"valueCode": facts.concept.module}),
@@ -61,24 +76,63 @@ def properties(facts: Facts, children: Iterable[str], wanted: set[str]) -> list[
     found += [(INACTIVATION, {"valueCode": code}) for code in facts.reasons]
     found += [("parent", {"valueCode": code}) for code in facts.parents]
     found += [(CHILD, {"valueCode": code}) for code in children]
-    found += [
-        (row.type, {"valueCode": row.target}) for row in facts.relationships if row.type != IS_A]
-    found += [(row.type, concrete(row.target)) for row in facts.values]
-    if NORMAL_FORM in wanted and facts.parents:
-        found.append((NORMAL_FORM, {"valueString": normal_form(facts)}))
-    unique = {(code, str(value)): (code, value) for code, value in found}
-    return [
-        parameter("property", part=[parameter("code", valueCode=code), parameter("value", **value)])
-        for code, value in unique.values() if is_wanted(code, wanted)]
+    found += attributes(facts)
+    if TERSE in wanted and facts.parents:
+        found.append((TERSE, {"valueString": normal_form(facts, {})}))
+    return [one for one in once(found) if is_wanted(one[0], wanted)]
 
 
-def normal_form(facts: Facts) -> str:
-    """The concept's inferred definition as an expression without terms, its role groups apart."""
+def attributes(facts: Facts, group: str | None = None) -> Iterator[Property]:
+    """Those of a group, or of all."""
+    for row in facts.relationships:
+        if row.type != IS_A and group in (None, row.group):
+            yield row.type, {"valueCode": row.target}
+    for row in facts.values:
+        if group in (None, row.group):
+            yield row.type, concrete(row.target)
+
+
+def groups_of(facts: Facts) -> list[list[Property]]:
+    """The attributes of each role group."""
+    numbers = {row.group for row in facts.attributes} - {NO_GROUP}
+    return [once(attributes(facts, number)) for number in sorted(numbers, key=int)]
+
+
+def once(found: Iterable[Property]) -> list[Property]:
+    return [*{(code, str(value)): (code, value) for code, value in found}.values()]
+
+
+def coded(found: Iterable[Property]) -> list[str]:
+    """The codes that are values."""
+    return [value["valueCode"] for _, value in found if "valueCode" in value]
+
+
+def property_parts(code: str, value: dict[str, Any], names: Mapping[str, str]) -> list[Json]:
+    """A property with its value and, where that is a code, what this is called, if that is known."""
+    known = value.get("valueCode", "")
+    name = names.get(known, known)
+    described = [parameter("description", valueString=name)] if name != known else []
+    return [parameter("code", valueCode=code), parameter("value", **value), *described]
+
+
+def group_parts(group: Iterable[Property], names: Mapping[str, str]) -> list[Json]:
+    parts = [parameter("subproperty", part=property_parts(*one, names)) for one in group]
+    return [parameter("code", valueCode=ROLE_GROUP), *parts]
+
+
+def normal_form(facts: Facts, names: Mapping[str, str]) -> str:
+    """The concept's inferred definition as an expression with these names as terms, its role groups
+    apart."""
+    def term(code: str) -> str:
+        name = names.get(code, code)
+        return "%s|%s|" % (code, name) if name != code and "|" not in name else code
+
     groups: dict[int, list[str]] = {}
     for row in sorted(facts.attributes, key=lambda row: (int(row.type), row.target)):
-        groups.setdefault(int(row.group), []).append("%s=%s" % (row.type, row.target))
+        one = "%s=%s" % (term(row.type), term(row.target))
+        groups.setdefault(int(row.group), []).append(one)
     ungrouped = groups.pop(0, [])
     refinements = ungrouped + ["{%s}" % ",".join(groups[group]) for group in sorted(groups)]
     kind = "===" if facts.concept.definition_status == DEFINED else "<<<"
-    focus = "%s %s" % (kind, "+".join(facts.parents))
+    focus = "%s %s" % (kind, "+".join(map(term, facts.parents)))
     return "%s:%s" % (focus, ",".join(refinements)) if refinements else focus
