@@ -37,13 +37,13 @@ import time
 from concurrent.futures import ThreadPoolExecutor
 from itertools import zip_longest
 from pathlib import Path
-from typing import Callable, Iterator, NamedTuple, Sequence
+from typing import Callable, Iterator, NamedTuple
 
 from unproved import FAST_BUILD, FAST_RUN, Builder, bytes_of, kit_folder, run_program, status_of
 
 TOP = Path(__file__).resolve().parent.parent
 sys.path.append(str(TOP / "bench" / "trials"))
-from try_program import SCRIPTS, Outcome, outcome_of  # noqa: E402
+from try_program import SCRIPTS, Outcome, run_script  # noqa: E402
 
 PROGRAM = "sctd"
 
@@ -51,23 +51,20 @@ PROGRAM_OF = "program of "
 
 # How many parts may go on at a time.
 MOST_AT_ONCE = 2
-# How long a test, a program of a crate and a script of bench/ may take.
+# How long a test and a program of a crate may take.
 TEST_SECONDS = 120
 PROGRAM_SECONDS = 120
-SCRIPT_SECONDS = 1_200
 # How much of what a part says is printed where it fails.
 LINES_TOLD = 40
 
 # A check of the documents, as .ci/run has it: a script of bench/ and its words, and then what is
 # done where it fails.
 DOCUMENT_CHECK = re.compile(r"^python3 bench/([^|\n]+) \|\| \{", re.MULTILINE)
-# The folder that such a check may write to, as it is called there.
-WRITTEN = '"$faults/crate"'
 SOAK = "trials/soak.py"
 # A soak of so many seconds, with a seed; those of .ci/run are shorter, and two.
 LONG_SOAK = (SOAK, "20", "1")
 # Trials that .ci/run doesn't make, or makes by themselves.
-OTHER_TRIALS = (("trials/try_gateway.py",), ("trials/try_failed_sync.py",))
+OTHER_TRIALS = (("trials/try_gateway.py",), ("trials/by_pytest.py", "failed_sync"))
 # What of a crate is built and run.
 TAKEN = ("src", "c", "data", "stdin", "stdout", "args", "status")
 
@@ -207,8 +204,8 @@ class Tree:
         return Part(name, lambda: self.run_trial(words), is_trial=True)
 
     def part_of_check(self, text: str) -> Part:
-        words = text.replace(WRITTEN, str(self.place / "written")).split()
-        return Part("bench/" + words[0], lambda: run_script(words))
+        words = text.split()
+        return Part("bench/" + words[0], lambda: run_script(words, LINES_TOLD))
 
     def run_tests(self, folder: Path, count: int) -> Outcome:
         """Runs the tests of a crate, which has to have so many."""
@@ -249,24 +246,7 @@ class Tree:
         self.is_built.wait()
         if not self.program.exists():
             return Outcome(0, 1, 0, "%s wasn't built" % PROGRAM)
-        return run_script([words[0], str(self.program), *words[1:]])
-
-
-def run_script(words: Sequence[str]) -> Outcome:
-    """Runs a script of bench/ with its words."""
-    try:
-        done = subprocess.run(
-            [sys.executable, str(TOP / "bench" / words[0]), *words[1:]],
-            cwd=TOP,
-            stdin=subprocess.DEVNULL,
-            stdout=subprocess.PIPE,
-            stderr=subprocess.STDOUT,
-            timeout=SCRIPT_SECONDS,
-            check=False,
-        )
-    except subprocess.TimeoutExpired:
-        return Outcome(0, 1, 0, "it hasn't ended after %d seconds" % SCRIPT_SECONDS)
-    return outcome_of(done.returncode, done.stdout, LINES_TOLD)
+        return run_script([words[0], self.program, *words[1:]], LINES_TOLD)
 
 
 def compared(program: Path, crate: Path) -> Outcome:

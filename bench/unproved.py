@@ -123,12 +123,9 @@ class Builder:
         write_script(own / "bin" / "rattle", CHECK.format(kit=kit))
         tools = own / "toolchain" / "bin"
         write_script(tools / "clang", CLANG.format(kit=kit, level=level))
-        linker = LINKER.format(
-            kit=kit,
-            stack=shlex.quote(str(compiled(kit, STACK, folder / "stack.o"))),
-            program=shlex.quote(str(self.program)),
-            status=0 if is_run else 1,
-        )
+        linker = LINKER.format(kit=kit,
+                               stack=shlex.quote(str(compiled(kit, STACK, folder / "stack.o"))),
+                               program=shlex.quote(str(self.program)), status=0 if is_run else 1)
         write_script(tools / "ld.lld", linker)
 
     def run(
@@ -139,15 +136,9 @@ class Builder:
     ) -> subprocess.CompletedProcess[bytes]:
         """Runs `rt try` with these words in a crate's folder. What the program prints is its
         standard output, and what rt says its standard error."""
-        return subprocess.run(
-            [str(self.rt), "try", *words],
-            cwd=crate,
-            env={**os.environ, **(around or {})},
-            stdin=subprocess.DEVNULL,
-            stdout=subprocess.PIPE,
-            stderr=subprocess.PIPE,
-            check=False,
-        )
+        return subprocess.run([str(self.rt), "try", *words], cwd=crate,
+                              env={**os.environ, **(around or {})}, stdin=subprocess.DEVNULL,
+                              stdout=subprocess.PIPE, stderr=subprocess.PIPE, check=False)
 
 
 def words_of(crate: Path) -> list[str]:
@@ -176,13 +167,6 @@ def run_program(program: Path, crate: Path, seconds: int) -> subprocess.Complete
         else:
             data.mkdir()
         around = {"PATH": SYSTEM_PATH, "HOME": str(data), "TMPDIR": str(data), "LANG": "C.UTF-8"}
-        return subprocess.run(
-            [str(program), *words_of(crate)],
-            cwd=data,
-            env=around,
-            input=bytes_of(crate / "stdin"),
-            stdout=subprocess.PIPE,
-            stderr=subprocess.PIPE,
-            timeout=seconds,
-            check=False,
-        )
+        return subprocess.run([str(program), *words_of(crate)], cwd=data, env=around,
+                              input=bytes_of(crate / "stdin"), stdout=subprocess.PIPE,
+                              stderr=subprocess.PIPE, timeout=seconds, check=False)

@@ -18,6 +18,7 @@ status is 1 then. PROMISES.md is checked further by check_promises.py. Nothing i
 library alone.
 """
 
+import functools
 import glob
 import os
 import re
@@ -27,7 +28,7 @@ from collections.abc import Iterator
 from documents import TOP, documents, lost_links, name_of
 
 sys.path.append(str(TOP / "bench" / "rattle"))
-from source import TOP as ROOT, read  # noqa: E402
+from source import TOP as ROOT, files_of, folder_of, read  # noqa: E402
 
 QUOTED = re.compile(r"`([^`]+)`")
 NAMED = re.compile(r"(?<![\w:])(\w+)::((?:\w+::)*)(\{[^}]*\}|\w+)")
@@ -42,14 +43,16 @@ HEADING = re.compile(r"^## (\w+)", re.M)
 EXAMPLES = ("releases/",)
 
 
+@functools.cache
+def text_of(crate: str, part: str, ending: str) -> str:
+    """All files of a folder of a crate, as one text."""
+    return "\n".join(map(read, files_of(os.path.join(folder_of(crate), part), ending)))
+
+
 def words_of(crate: str) -> set[str]:
     """The words of a crate's sources and definitions."""
-    folder = os.path.join(ROOT, "crates", crate)
-    found: set[str] = set()
-    for pattern in ("/src/**/*.rt", "/specs/**/*.antt"):
-        for path in glob.glob(folder + pattern, recursive=True):
-            found.update(re.findall(r"\w+", read(path)))
-    return found
+    both = text_of(crate, "src", ".rt") + text_of(crate, "specs", ".antt")
+    return set(re.findall(r"\w+", both))
 
 
 def is_file(path: str) -> bool:
@@ -72,31 +75,20 @@ def faults_of(text: str, words: dict[str, set[str]]) -> Iterator[str]:
 
 def named_as_crates(crates: list[str]) -> Iterator[str]:
     """The items of the sources that are named as a crate."""
-    for path in sorted(glob.glob(ROOT + "/crates/*/src/**/*.rt", recursive=True)):
+    for path in sorted(path for crate in crates
+                       for path in files_of(os.path.join(folder_of(crate), "src"), ".rt")):
         for kind, name in ITEM.findall(read(path)):
             if name in crates:
                 yield "%s: %s %s: a crate has that name" % (os.path.relpath(path, ROOT), kind, name)
 
 
-def impls_of(crate: str) -> set[str]:
-    """Each type of a crate with each trait that it has, as one word."""
-    return {kind + trait
-            for path in glob.glob(ROOT + "/crates/" + crate + "/src/**/*.rt", recursive=True)
-            for trait, kind in MEETS.findall(read(path))}
-
-
-def functions_of(crate: str) -> set[str]:
-    """The names of a crate's functions."""
-    return {name
-            for path in glob.glob(ROOT + "/crates/" + crate + "/src/**/*.rt", recursive=True)
-            for name in FUNCTION.findall(read(path))}
-
-
 def proofs_of_nothing(words: dict[str, set[str]]) -> Iterator[str]:
-    """The folders of proofs/ whose module, type or function is gone."""
+    """The folders of proofs/ whose module, type or function is gone; what a type has of a trait
+    stands under the names of both as one word."""
     for crate in sorted(words):
-        known, functions = words[crate] | impls_of(crate), functions_of(crate)
-        top = os.path.join(ROOT, "crates", crate)
+        text, top = text_of(crate, "src", ".rt"), folder_of(crate)
+        known = words[crate] | {kind + trait for trait, kind in MEETS.findall(text)}
+        functions = set(FUNCTION.findall(text))
         for path in sorted(glob.glob(top + "/proofs/*/**/", recursive=True)):
             folder = os.path.relpath(path, top)
             has_answers = os.path.exists(os.path.join(path, "Answers.antt"))

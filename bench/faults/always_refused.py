@@ -4,13 +4,14 @@
 always_refused.py [--only WORD] [--tests CRATE] [--keep FOLDER] [--table]
 
 A contract allows such a refusal at any time, so such a body could be proved: a test has to fail.
-Each call of CALLS gets a first line that gives its refusal while the call's number is in a byte of
-the built program. All of them stand in one copy of this repository; there each crate of tests is
-built once by `rt try`, which proves nothing and needs no library, and the built program is run once
-as it is and once with each call's number in the byte. A line for each call says what failed, and
-what CALLS names has to be among it: a test, or, in a crate whose program runs cases, one that isn't
-told to be `ok` as in its file `stdout`, or a case of bench/cases/, of which sctd is asked. The last
-line counts the calls, and those that were not caught: the status is 1 where there are any.
+Each call of refused_calls.txt gets a first line that gives its refusal while the call's number is
+in a byte of the built program. All of them stand in one copy of this repository; there each crate
+of tests is built once by `rt try`, which proves nothing and needs no library, and the built program
+is run once as it is and once with each call's number in the byte. A line for each call says what
+failed, and what the table names has to be among it: a test, or, in a crate whose program runs
+cases, one that isn't told to be `ok` as in its file `stdout`, or a case of bench/cases/, of which
+sctd is asked. The last line counts the calls, and those that were not caught: the status is 1 where
+there are any.
 
 WORD takes the calls with this text in their crate and name, CRATE those that its tests are to
 catch. The copy lies in a temporary folder, or in FOLDER, and then it stays. What fails as it is
@@ -29,6 +30,7 @@ import subprocess
 import sys
 import tempfile
 from collections import Counter
+from contextlib import contextmanager, suppress
 from pathlib import Path
 from typing import Iterable, Iterator, NamedTuple
 
@@ -70,9 +72,7 @@ unsigned char call_that_is_refused(void) { return mark[sizeof mark - 2]; }
 
 
 class Call(NamedTuple):
-    """A call's crate and name; the file in the crate's src/, and a text that stands in the call's
-    head there and nowhere else; the refusal that it is to give; the crate whose tests or cases are
-    run, and the one of them that must fail."""
+    """A line of the table, which says at its top what its columns are."""
 
     crate: str
     name: str
@@ -83,226 +83,10 @@ class Call(NamedTuple):
     must_fail: str
 
 
-# The refusals.
-ALLOC = "Err(AllocError)"
-SEGMENT = "Err(SegmentFault::OutOfMemory)"
-MAKE = "Err(MakeFault::OutOfMemory)"
-LOAD = "Err(LoadFault::OutOfMemory)"
-FOLDER = "Err(FolderFault::OutOfMemory)"
-READ = "Err(ReadFault::OutOfMemory)"
-STORE = "Err(Refusal::OutOfMemory)"
-BACK = "Err((Refusal::OutOfMemory, disk))"
-SOURCE = "Err(SourceFault::OutOfMemory)"
-
-CALLS = [
-    # Values and rows.
-    Call("rf2_values", "Text::of", "text.rt", "pub fn of(", ALLOC,
-         "layer_cases", "rows of columns"),
-    Call("rf2_values", "Text::try_clone", "text.rt", "pub fn try_clone(", ALLOC,
-         "layer_cases", "read and written"),
-    Call("rf2_values", "Further::of", "further.rt", "pub fn of(", ALLOC,
-         "layer_cases", "further columns are kept as they were"),
-    Call("rf2_values", "Further::try_clone", "further.rt", "pub fn try_clone(", ALLOC,
-         "history_cases", "members of a reference set, by id"),
-    Call("rf2_values", "Body::try_clone", "row.rt", "Result<Body, AllocError>", ALLOC,
-         "layer_cases", "read and written"),
-    Call("rf2_values", "Row::try_clone", "row.rt", "Result<Row, AllocError>", ALLOC,
-         "layer_cases", "read and written"),
-    Call("rf2_values", "Member::write", "member.rt", "pub fn write(", ALLOC,
-         "layer_cases", "read and written"),
-    Call("rf2_rows", "parse_line", "line.rt",
-         "pub fn parse_line(", "Err(RowFault::OutOfMemory)", "layer_cases", "faults of lines"),
-    Call("rf2_rows", "read_file", "file.rt", "pub fn read_file(", "Err(FileFault::OutOfMemory)",
-         "layer_cases", "concept files"),
-    Call("rf2_rows", "write_row", "write.rt", "pub fn write_row(", ALLOC,
-         "layer_cases", "read and written"),
-    Call("history_model", "StampedRow::try_clone", "stamped.rt", "pub fn try_clone(", ALLOC,
-         "history_cases", "receipts"),
-    Call("history_model", "GhostRows::push", "ghost_rows.rt", "pub fn push(", ALLOC,
-         "history_cases", "shown rows take rows and no memory"),
-    Call("plain_history", "snapshot", "snapshots.rt", "pub fn snapshot(", ALLOC,
-         "history_cases", "versions and snapshots"),
-    Call("plain_history", "versions", "snapshots.rt", "pub fn versions(", ALLOC,
-         "history_cases", "versions and snapshots"),
-    Call("plain_history", "page", "snapshots.rt", "pub fn page(", ALLOC,
-         "history_cases", "terms and pages"),
-    Call("plain_history", "terms", "descriptions.rt", "pub fn terms<", ALLOC,
-         "history_cases", "terms and pages"),
-    Call("plain_history", "children", "edges.rt", "pub fn children(", ALLOC,
-         "history_cases", "children and replacements"),
-    Call("plain_history", "replacements", "edges.rt", "pub fn replacements(", ALLOC,
-         "history_cases", "children and replacements"),
-    Call("plain_history", "about", "edges.rt", "pub fn about(", ALLOC,
-         "history_cases", "rows about a component"),
-    Call("plain_history", "search_terms", "descriptions.rt", "pub fn search_terms<", ALLOC,
-         "history_cases", "searches that go on"),
-    Call("plain_history", "timeline", "audit.rt", "pub fn timeline(", ALLOC,
-         "history_cases", "an audit of three releases"),
-    Call("plain_history", "replaces", "audit.rt", "pub fn replaces(", ALLOC,
-         "history_cases", "an audit of three releases"),
-    Call("plain_history", "delta", "audit.rt", "pub fn delta(", ALLOC,
-         "history_cases", "an audit of three releases"),
-    Call("plain_history", "dates", "audit.rt", "pub fn dates(", ALLOC,
-         "history_cases", "an audit of three releases"),
-    Call("plain_history", "parents", "hierarchy.rt", "pub fn parents(", ALLOC,
-         "history_cases", "an audit of three releases"),
-    Call("plain_history", "descendants", "hierarchy.rt", "pub fn descendants(", ALLOC,
-         "history_cases", "an audit of three releases"),
-    Call("plain_history", "ancestors", "hierarchy.rt", "pub fn ancestors(", ALLOC,
-         "history_cases", "an audit of three releases"),
-    Call("plain_history", "members", "membership.rt", "pub fn members(", ALLOC,
-         "history_cases", "members of a reference set, by id"),
-    Call("plain_history", "values", "membership.rt", "pub fn values(", ALLOC,
-         "history_cases", "values of a reference set, by what they refer to"),
-    Call("plain_history", "called", "membership.rt", "pub fn called(", ALLOC,
-         "history_cases", "what a concept is called in two languages"),
-    Call("plain_history", "rows_at", "releases.rt", "pub fn rows_at(", ALLOC,
-         "history_cases", "concepts at a date and a pin"),
-    Call("plain_history", "after_release", "releases.rt", "pub fn after_release(", ALLOC,
-         "history_cases", "receipts"),
-    Call("plain_history", "receipt", "releases.rt", "pub fn receipt(", ALLOC,
-         "history_cases", "receipts"),
-    # What lies on the disk.
-    Call("disk_model", "MemDisk::image", "memory.rt", "pub fn image(", ALLOC,
-         "layer_cases", "images after each call"),
-    Call("disk_model", "MemDisk::image_now", "memory.rt", "pub fn image_now(", ALLOC,
-         "layer_cases", "a fuse and a break of reads"),
-    Call("disk_model", "MemDisk::reserve", "memory.rt", "pub fn reserve(", ALLOC,
-         "layer_cases", "room is made ahead"),
-    Call("blocks", "BlockCache::new", "cache.rt", "pub fn new(", ALLOC,
-         "layer_cases", "a record is read through a cache"),
-    Call("directory", "Directory::new", "listing.rt", "pub fn new(", ALLOC,
-         "layer_cases", "entries go last and close up"),
-    Call("directory", "Directory::try_clone", "listing.rt", "pub fn try_clone(", ALLOC,
-         "store_cases", "one concept is found from its day on"),
-    Call("directory", "Directory::decode", "listing.rt",
-         "pub fn decode(", "Err(DirectoryFault::OutOfMemory)",
-         "layer_cases", "each way in which a block is bad"),
-    Call("segment", "encode", "encoding.rt", "pub fn encode(", ALLOC,
-         "layer_cases", "a record of each kind"),
-    Call("segment", "put_record", "encoding.rt", "pub fn put_record(", ALLOC,
-         "layer_cases", "a record of each kind"),
-    Call("segment", "decode", "decoding.rt", "pub fn decode(", SEGMENT,
-         "layer_cases", "rows out of order are refused"),
-    Call("segment", "record_at", "decoding.rt", "pub fn record_at(", SEGMENT,
-         "layer_cases", "a row at its place"),
-    Call("store_image", "make", "making.rt", "pub fn make<", MAKE,
-         "layer_cases", "an empty store"),
-    Call("store_image", "load", "opening.rt", "pub fn load<", LOAD,
-         "layer_cases", "an empty store"),
-    # Releases.
-    Call("samples", "sample", "releases.rt", "pub fn sample(", ALLOC,
-         "store_cases", "samples are as written"),
-    Call("import_check", "new_rows", "union.rt",
-         "pub fn new_rows<", "Err(ImportFault::OutOfMemory)",
-         "store_cases", "files that end early"),
-    Call("plain_history", "KnownRows::row", "known.rt",
-         "Result<Option<Row>, ReadFault> {", "Err(ReadFault::OutOfMemory)",
-         "store_cases", "releases in turn"),
-    Call("release_folder", "read_folder", "folder.rt", "pub fn read_folder<", FOLDER,
-         "layer_cases", "a release is read in the order of its names"),
-    Call("release_folder", "release_of", "folder.rt", "pub fn release_of(", FOLDER,
-         "layer_cases", "files of one kind come in the byte order of their names"),
-    # The index.
-    Call("merge", "MergeProgress::take", "lib.rt", "pub fn take(", ALLOC,
-         "history_cases", "the first places come in key order"),
-    Call("as_of_index", "Index::new", "index.rt", "pub fn new(", ALLOC,
-         "history_cases", "what three releases say at a date"),
-    Call("as_of_index", "Index::get", "index.rt", "pub fn get<", READ,
-         "history_cases", "what three releases say at a date"),
-    Call("as_of_index", "Index::versions", "index.rt", "pub fn versions<", READ,
-         "history_cases", "versions and pages of three releases"),
-    Call("as_of_index", "Index::page", "index.rt", "pub fn page<", READ,
-         "history_cases", "versions and pages of three releases"),
-    Call("as_of_index", "Index::delta", "index.rt", "pub fn delta<", READ,
-         "history_cases", "an audit of three releases"),
-    Call("as_of_index", "Index::dates", "index.rt", "pub fn dates(", ALLOC,
-         "history_cases", "an audit of three releases"),
-    Call("index_support", "KeptRows::row", "kept.rt", "Result<StampedRow, ReadFault> {", READ,
-         "history_cases", "what three releases say at a date"),
-    Call("as_of_index", "read_all", "chosen.rt", "pub fn read_all<", READ,
-         "history_cases", "a street is replaced once an association says so"),
-    Call("as_of_index", "PerList::new", "per_list.rt", "pub fn new(", ALLOC,
-         "test_index", "terms_of_as_many_lists_as_may_be"),
-    Call("as_of_index", "NumberTable::extend", "number_table.rt", "pub fn extend(", ALLOC,
-         "test_index", "a_table_that_grows_tells_the_same_numbers"),
-    Call("as_of_index", "reserve_left", "merging.rt", "pub fn reserve_left<", ALLOC,
-         "history_cases", "subjects that are merged in turns"),
-    Call("term_prefix", "Postings::push", "postings.rt", "pub fn push(", ALLOC,
-         "test_index", "posted_terms_grow_and_are_cut"),
-    Call("term_prefix", "Merging::advance", "merging.rt", "pub fn advance(", ALLOC,
-         "history_cases", "terms that are merged in turns"),
-    Call("term_prefix", "find", "search.rt", "pub fn find<", READ,
-         "history_cases", "streets by the beginning of their names"),
-    Call("links", "Postings::push", "postings.rt", "pub fn push(", ALLOC,
-         "history_cases", "a link is found by its own row"),
-    Call("links", "Merging::advance", "merging.rt", "pub fn advance(", ALLOC,
-         "history_cases", "subjects that are merged in turns"),
-    Call("links", "children", "hierarchy.rt", "pub fn children(", ALLOC,
-         "history_cases", "a street is a child while a relationship says so"),
-    Call("links", "replacements", "associations.rt", "pub fn replacements<", READ,
-         "history_cases", "a street is replaced once an association says so"),
-    Call("links", "about", "subjects.rt", "pub fn about<", READ,
-         "history_cases", "what is about a street"),
-    Call("links", "descendants", "reaching.rt", "pub fn descendants(", ALLOC,
-         "history_cases", "what is above a concept and what is below it"),
-    Call("links", "ancestors", "reaching.rt", "pub fn ancestors(", ALLOC,
-         "history_cases", "what is above a concept and what is below it"),
-    Call("links", "timeline", "ever_about.rt", "pub fn timeline<", READ,
-         "history_cases", "what was ever about a street"),
-    Call("links", "replaces", "associations.rt", "pub fn replaces<", READ,
-         "history_cases",
-         "what a component replaces stands by refset then referenced component then member"),
-    Call("links", "members", "member_pages.rt", "pub fn members<", READ,
-         "history_cases", "members of a reference set, by id"),
-    Call("links", "values", "value_sets.rt", "pub fn values<", READ,
-         "history_cases", "values of a reference set, by what they refer to"),
-    Call("links", "called", "languages.rt", "pub fn called<", READ,
-         "history_cases", "what a concept is called in two languages"),
-    Call("segment_index", "IndexBuilder::with_capacity", "builder.rt",
-         "pub fn with_capacity(", ALLOC, "store_cases", "one concept is found from its day on"),
-    Call("segment_index", "IndexBuilder::push", "builder.rt", "pub fn push(", ALLOC,
-         "store_cases", "one concept is found from its day on"),
-    Call("segment_index", "IndexMerge::take", "index_merge.rt", "pub fn take(", ALLOC,
-         "store_cases", "five segments become one"),
-    Call("segment_index", "StoreIndex::new", "store_index.rt", "pub fn new(", ALLOC,
-         "store_cases", "nothing is found in an empty store"),
-    Call("segment_index", "StoreIndex::of_segments", "store_index.rt", "pub fn of_segments(", ALLOC,
-         "store_cases", "a merge ends with the store"),
-    Call("index_answers", "select", "selecting.rt", "pub fn select<", READ,
-         "store_cases", "pages follow one another"),
-    Call("index_answers", "ids", "finding.rt", "pub fn ids(", ALLOC,
-         "store_cases", "what is below a concept is found step by step"),
-    # The store.
-    Call("history_store", "Store::create", "store.rt", "pub fn create(", BACK,
-         "store_cases", "nothing is found in an empty store"),
-    Call("history_store", "Store::create_in", "store.rt", "pub fn create_in(", BACK,
-         "store_cases", "a new store of layout 3 byte for byte"),
-    Call("history_store", "Store::open", "store.rt", "pub fn open(", BACK,
-         "store_cases", "a merge ends with the store"),
-    Call("history_store", "Store::import", "store.rt", "pub fn import(", STORE,
-         "store_cases", "one concept is found from its day on"),
-    Call("history_store", "Store::select", "queries.rt", "pub fn select(", STORE,
-         "store_cases", "a pin shows the imports up to it"),
-    Call("history_store", "Store::ids", "queries.rt", "pub fn ids(", STORE,
-         "store_cases", "a child is named once"),
-    Call("history_store", "Store::dates", "queries.rt", "pub fn dates(", STORE,
-         "store_cases", "the days are those that have rows of the pin"),
-    Call("history_store", "Store::merge_step", "merge_calls.rt", "pub fn merge_step(", STORE,
-         "store_cases", "a merge beside an import"),
-    # The server and the program.
-    Call("command_line", "Samples::release", "demonstration.rt",
-         "Result<Release, SourceFault> {", SOURCE, TRANSCRIPTS, "streams that fail"),
-    Call("line_server", "answer", "answering.rt",
-         "pub fn answer<", "reply_refusal(alloc, LineRefusal::Store(Refusal::OutOfMemory))",
-         TRANSCRIPTS, "questions"),
-    Call("line_server", "serve", "serving.rt", "pub fn serve<", "Err(ServeFault::OutOfMemory)",
-         "program_cases", "pieces play no part"),
-    Call("command_line", "FolderSource::release", "folder_source.rt", "fn release(", SOURCE,
-         TRANSCRIPTS, "a file keeps what was imported"),
-    Call("command_line", "run", "running.rt", "pub fn run<",
-         "(fail(ServeFault::OutOfMemory, faults), None, None)", TRANSCRIPTS, "statuses"),
-]
+def calls() -> list[Call]:
+    """The calls of refused_calls.txt, a line each."""
+    lines = Path(__file__).with_name("refused_calls.txt").read_text("utf-8").splitlines()
+    return [Call(*line.split(" | ")) for line in lines if not line.startswith("#")]
 
 
 class Sources:
@@ -422,6 +206,15 @@ def is_in_sources(calls: list[Call]) -> bool:
     return not wrong
 
 
+@contextmanager
+def copied(keep: Path | None = None) -> Iterator[Path]:
+    """A copy of this repository, which lies in a temporary folder, or in one where it stays."""
+    with tempfile.TemporaryDirectory(prefix="sctd-faults-") as folder:
+        top = keep or Path(folder)
+        shutil.copytree(TOP, top, ignore=shutil.ignore_patterns(".git", "out"), dirs_exist_ok=True)
+        yield top
+
+
 def add_switch(top: Path, users: Iterable[str]) -> None:
     """Adds the crate that says which call is refused, for these crates to use."""
     for name, text in (("src/lib.rt", SWITCH_CODE), ("c/switch.c", SWITCH_C)):
@@ -460,33 +253,37 @@ class Tests:
             return self.failed_transcripts(path)
         return self.failed_cases(path) if is_program(self.crate) else self.failed_tests(path)
 
-    def failed(self, number: int) -> list[str] | None:
-        """What fails while the call with this number is refused; None where nothing was run."""
+    @contextmanager
+    def switched(self, number: int) -> Iterator[Path]:
+        """The built program with a number in its byte."""
         at = self.code.index(MARK) + len(MARK)
         path = self.program.with_name("switched")
         path.write_bytes(self.code[:at] + bytes([number]) + self.code[at + 1 :])
         path.chmod(0o755)
         try:
-            return self.run(path)
-        except subprocess.TimeoutExpired:
-            return None
+            yield path
         finally:
             path.unlink()
 
-    def failed_tests(self, path: Path) -> list[str] | None:
-        runner = self.kit / "bin" / "rattle-test"
+    def failed(self, number: int) -> list[str] | None:
+        """What fails while the call with this number is refused; None where nothing was run."""
+        with self.switched(number) as path, suppress(subprocess.TimeoutExpired):
+            return self.run(path)
+        return None
+
+    def ends_of(self, path: Path) -> list[tuple[str, str, str]]:
+        """The name of each test, how it ended, and the lines behind that."""
+        words = [str(self.kit / "bin" / "rattle-test"), "--seconds", str(SECONDS), str(path)]
         # In a folder of its own: what an earlier run has left there would let tests fail.
         with tempfile.TemporaryDirectory() as folder:
-            done = subprocess.run(
-                [str(runner), "--seconds", str(SECONDS), str(path)],
-                cwd=folder,
-                stdout=subprocess.PIPE,
-                stderr=subprocess.STDOUT,
-                check=False,
-            )
+            done = subprocess.run(words, cwd=folder, stdout=subprocess.PIPE,
+                                  stderr=subprocess.STDOUT, check=False)
         text = done.stdout.decode(errors="replace")
-        ends = re.findall(r"^test (\S+) \.\.\. (.*)", text, re.MULTILINE)
-        return [name.split("::")[-1] for name, end in ends if end != "ok"] if ends else None
+        return re.findall(r"^test (\S+) \.\.\. (.*)((?:\n .*)*)", text, re.MULTILINE)
+
+    def failed_tests(self, path: Path) -> list[str] | None:
+        ends = self.ends_of(path)
+        return [name.split("::")[-1] for name, end, _ in ends if end != "ok"] if ends else None
 
     def failed_cases(self, path: Path) -> list[str]:
         """The cases that the program doesn't tell to be `ok` as its file `stdout` does."""
@@ -560,27 +357,22 @@ def main() -> int:
     parser = argparse.ArgumentParser(description=__doc__.strip().split("\n", maxsplit=1)[0])
     parser.add_argument("--only", default="", help="the calls with this word in crate or name")
     parser.add_argument("--tests", help="the calls that the tests of this crate are to catch")
-    parser.add_argument("--table", action="store_true", help="look at the table alone, and print it")
-    parser.add_argument("--keep", help="the folder of the copy, which stays")
+    parser.add_argument("--table", action="store_true", help="look at the table, and print it")
+    parser.add_argument("--keep", type=Path, help="the folder of the copy, which stays")
     asked = parser.parse_args()
-    numbers = {call: number for number, call in enumerate(CALLS, 1)
+    numbers = {call: number for number, call in enumerate(calls(), 1)
                if asked.only in call.crate + " " + call.name
                and asked.tests in (None, call.tests)}
     is_right = is_in_sources(list(numbers))
     if asked.table or not is_right:
         print_rows(list(numbers))
         return 0 if numbers and is_right else 1
-    top = Path(asked.keep or tempfile.mkdtemp(prefix="sctd-refused-"))
-    try:
-        shutil.copytree(TOP, top, ignore=shutil.ignore_patterns(".git", "out"), dirs_exist_ok=True)
+    with copied(asked.keep) as top:
         plant_all(top, numbers)
         kit, missed = kit_folder(), 0
         for name in dict.fromkeys(call.tests for call in numbers):
             of_crate = {call: n for call, n in numbers.items() if call.tests == name}
             missed += try_calls(kit, top, name, of_crate)
-    finally:
-        if not asked.keep:
-            shutil.rmtree(top)
     print("%d calls, %d not caught" % (len(numbers), missed))
     return 1 if missed or not numbers else 0
 

@@ -21,9 +21,10 @@ import subprocess
 import sys
 import tempfile
 from collections import Counter
-from collections.abc import Iterator, Sequence
+from collections.abc import Sequence
 from pathlib import Path
-from typing import NamedTuple
+
+from fault_tables import Fault, faults_in
 
 ROOT = os.path.dirname(os.path.dirname(os.path.dirname(os.path.abspath(__file__))))
 sys.path[:0] = [os.path.join(ROOT, "bench", "trials"), os.path.join(ROOT, "packaging")]
@@ -36,30 +37,8 @@ SECONDS = 300
 NOT_RUN = 3
 
 
-class Fault(NamedTuple):
-    """What is wrong, the tests that are run, the file as seen from sctd_service/gateway, its text,
-    and what stands there instead."""
-
-    fault: str
-    tests: str
-    file: str
-    old: str
-    new: str
-
-
-def faults_in(name: str) -> Iterator[Fault]:
-    """The faults of a file beside this one, behind what it says of itself."""
-    blocks = Path(__file__).with_name(name).read_text("utf-8").rstrip("\n").split("\n\n")
-    for block in blocks[1:]:
-        found: dict[str, list[str]] = {field: [] for field in Fault._fields}
-        for line in block.split("\n"):
-            field, _, text = line.partition(":")
-            found[field].append(text.removeprefix(" "))
-        yield Fault(*map("\n".join, found.values()))
-
-
 TABLES = ("gateway_faults.txt", "page_faults.txt", "expression_faults.txt", "hub_faults.txt")
-FAULTS = [fault for name in TABLES for fault in faults_in(name)]
+FAULTS = [fault for name in TABLES for fault in faults_in(Path(__file__).with_name(name))]
 
 
 def failed(root: str, python: str, program: str, tests: str) -> list[str]:
@@ -76,17 +55,9 @@ def failed(root: str, python: str, program: str, tests: str) -> list[str]:
             words = words_of(python, program, hub, [test])
             folder = os.path.join(root, "service")
         try:
-            done = subprocess.run(
-                words,
-                cwd=folder,
-                stdin=subprocess.DEVNULL,
-                stdout=subprocess.PIPE,
-                stderr=subprocess.STDOUT,
-                timeout=SECONDS,
-                text=True,
-                check=False,
-            )
-            said = done.stdout
+            said = subprocess.run(
+                words, cwd=folder, stdin=subprocess.DEVNULL, stdout=subprocess.PIPE,
+                stderr=subprocess.STDOUT, timeout=SECONDS, text=True, check=False).stdout
         except subprocess.TimeoutExpired:
             said = "WRONG: %s takes too long" % test
         found += re.findall(r"^(?:FAILED|ERROR) \S+::(\w+)", said, re.M)
@@ -98,22 +69,13 @@ def tried(number: int, fault: Fault, python: str, program: str) -> bool:
     """Whether a test fails with the fault."""
     with tempfile.TemporaryDirectory() as root:
         for name in ("service", "packaging", "bench", "docs", "examples"):
-            shutil.copytree(
-                os.path.join(ROOT, name),
-                os.path.join(root, name),
-                ignore=shutil.ignore_patterns("__pycache__"),
-            )
-        path = os.path.join(root, "service", "sctd_service", "gateway", fault.file)
-        with open(path, encoding="utf-8") as file:
-            text = file.read()
-        if text.count(fault.old) != 1:
-            print(
-                "%d: %s: NO FAULT: the text stands there %d times"
-                % (number, fault.fault, text.count(fault.old))
-            )
+            shutil.copytree(os.path.join(ROOT, name), os.path.join(root, name),
+                            ignore=shutil.ignore_patterns("__pycache__"))
+        try:
+            fault.put_in(Path(root, "service", "sctd_service", "gateway"), fault.new)
+        except ValueError as why:
+            print("%d: %s: NO FAULT: %s" % (number, fault.fault, why))
             return False
-        with open(path, "w", encoding="utf-8") as file:
-            file.write(text.replace(fault.old, fault.new))
         found = failed(root, python, program, fault.tests)
     print("%d: %s: %s" % (number, fault.fault, "; ".join(found) or "NOT SEEN"), flush=True)
     return bool(found)

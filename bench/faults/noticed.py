@@ -20,14 +20,13 @@ from __future__ import annotations
 
 import argparse
 import re
-import shutil
 import sys
 import tempfile
 from pathlib import Path
 
 TOP = Path(__file__).resolve().parents[2]
 sys.path += [str(TOP / "bench"), str(TOP / "bench" / "rattle")]
-from always_refused import SWITCH, Tests, add_switch, at_its_begin, build  # noqa: E402
+from always_refused import SWITCH, Tests, add_switch, at_its_begin, build, copied  # noqa: E402
 from always_refused import crate_of, is_program  # noqa: E402
 from edits import Change, Edit, all_edits  # noqa: E402
 from source import Item, function_around, parts_of_impl  # noqa: E402
@@ -146,7 +145,6 @@ def told(crate: str, failed: list[str]) -> list[str]:
 
 def seen_in(top: Path, edits: list[Edit], crates: list[str]) -> dict[Edit, list[str]]:
     """What fails with each edit that can be planted, of programs that are built once."""
-    copy_sources(top)
     planted = plant_all(top, edits)
     seen: dict[Edit, list[str]] = {edit: [] for edit in planted.values()}
     for name in crates:
@@ -178,9 +176,7 @@ def put_in(top: Path, edit: Edit) -> None:
 def failed_with(edit: Edit, name: str) -> list[str]:
     """What fails of a crate that is built with the edit."""
     kit = kit_folder()
-    with tempfile.TemporaryDirectory() as folder, tempfile.TemporaryDirectory() as place:
-        top = Path(folder)
-        copy_sources(top)
+    with copied() as top, tempfile.TemporaryDirectory() as place:
         put_in(top, edit)
         crate, builder = crate_of(top, name), Builder(kit, Path(place), is_run=False)
         builder.run(crate, [] if is_program(crate) else ["--test"])
@@ -191,17 +187,13 @@ def failed_with(edit: Edit, name: str) -> list[str]:
         return ["(nothing was run)"] if found is None else found
 
 
-def copy_sources(top: Path) -> None:
-    shutil.copytree(TOP, top, ignore=shutil.ignore_patterns(".git", "out"), dirs_exist_ok=True)
-
-
 def main() -> int:
     assert __doc__
     parser = argparse.ArgumentParser(description=__doc__.strip().split("\n", maxsplit=1)[0])
     parser.add_argument("edits", nargs="+", metavar="CRATE[/EDIT]")
     parser.add_argument("--by", default=BY, help="the crates whose tests and cases are run")
     parser.add_argument("--alone", action="store_true", help="build anew for each edit")
-    parser.add_argument("--keep", help="the folder of the copy, which stays")
+    parser.add_argument("--keep", type=Path, help="the folder of the copy, which stays")
     asked = parser.parse_args()
     edits = [edit for name in asked.edits for edit in edits_named(name)]
     by = asked.by.split(",")
@@ -211,12 +203,8 @@ def main() -> int:
         seen = {edit: [one for name in by for one in told(name, failed_with(edit, name))]
                 for edit in edits}
     else:
-        top = Path(asked.keep or tempfile.mkdtemp(prefix="sctd-noticed-"))
-        try:
+        with copied(asked.keep) as top:
             seen = seen_in(top, edits, by)
-        finally:
-            if not asked.keep:
-                shutil.rmtree(top)
     for edit, by_what in seen.items():
         print("| %s | %s |" % (edit, ", ".join(by_what[:3]) or "NOTICED BY NOTHING"))
     unseen = len(edits) - sum(bool(by_what) for by_what in seen.values())

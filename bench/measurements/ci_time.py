@@ -162,19 +162,12 @@ class Watch:
         """This run, for the table of CI's runs."""
         of = [(part, seconds) for (_, (_, part)), seconds in self.used.items()]
         library, tests, tried = (
-            round(sum(s for name, s in of if name == part) / 60) for part in PARTS[:3]
-        )
-        return Run(
-            date=time.strftime("%Y-%m-%d"),
-            crates=len(glob.glob(CRATES)),
-            edits=len(glob.glob(EDITS)),
-            library=library,
-            tests=tests,
-            tried=tried,
-            all=round(sum(seconds for _, seconds in of) / 60),
-            cores=len(os.sched_getaffinity(0)),
-            wall=round((time.monotonic() - self.begun) / 60),
-        )
+            round(sum(s for name, s in of if name == part) / 60) for part in PARTS[:3])
+        return Run(date=time.strftime("%Y-%m-%d"), crates=len(glob.glob(CRATES)),
+                   edits=len(glob.glob(EDITS)), library=library, tests=tests, tried=tried,
+                   all=round(sum(seconds for _, seconds in of) / 60),
+                   cores=len(os.sched_getaffinity(0)),
+                   wall=round((time.monotonic() - self.begun) / 60))
 
     def table(self) -> Iterator[str]:
         """The lines of the table, the most expensive crate first."""

@@ -26,12 +26,13 @@ import subprocess
 import sys
 import threading
 import time
-from collections.abc import Iterator, Sequence
+from collections.abc import Callable, Iterator, Sequence
+from pathlib import Path
 from typing import Optional, Union
 
-from measure_harness import Cost, made_release, ran, seconds_used
+import make_release as rf2
+from measure_harness import ROWS, Cost, asked_for, made_release, ran, seconds_used
 
-DEFAULT_ROWS = 235_000
 SEED = 11
 IS_A = 116680003
 LAST = "\U0010ffff"
@@ -51,13 +52,6 @@ TABLES = {"C": "concept", "D": "description", "R": "relationship", "A": "associa
 # The column that says what a row is about, of the kinds that questions ask.
 SUBJECTS = {"D": "concept", "R": "source"}
 TEXTS = ("language", "term", "value")
-BEGINNINGS = {
-    "C": "sct2_Concept_",
-    "D": "sct2_Description_",
-    "R": "sct2_Relationship_",
-    "A": "der2_cRefset_Association",
-    "V": "sct2_RelationshipConcreteValues_",
-}
 INDEXES = (
     "CREATE INDEX terms ON description (folded) WHERE active = 1",
     "CREATE INDEX children ON relationship (destination, source)"
@@ -86,22 +80,9 @@ class Clock:
         return Cost(time.monotonic() - self.start, time.process_time() - self.used)
 
 
-def files_of(folder: str) -> Iterator[tuple[str, str]]:
-    """The files of a release, each with its kind."""
-    for part in ("Terminology", os.path.join("Refset", "Content")):
-        for name in sorted(os.listdir(os.path.join(folder, part))):
-            kind = next(kind for kind in BEGINNINGS if name.startswith(BEGINNINGS[kind]))
-            yield kind, os.path.join(folder, part, name)
-
-
 def release_rows(folder: str) -> Rows:
     """The rows of a release."""
-    rows: Rows = {}
-    for kind, path in files_of(folder):
-        with open(path, encoding="utf-8", newline="") as file:
-            lines = file.read().split("\r\n")[1:-1]
-        rows.setdefault(kind, []).extend(line.split("\t") for line in lines)
-    return rows
+    return {kind: list(rf2.rows_of(folder, kind)) for kind in COLUMNS}
 
 
 def queries_of(kind: str, table: str) -> dict[str, str]:
@@ -226,8 +207,7 @@ class Sctd:
     def __init__(self, program: str, place: str, name: str = STORE, layout: int = 2) -> None:
         self.program, self.place = program, place
         self.path = os.path.join(place, name)
-        if os.path.exists(self.path):
-            os.remove(self.path)
+        Path(self.path).unlink(missing_ok=True)
         self.run("init", "--layout", str(layout))
 
     def run(self, command: str, *words: str) -> tuple[bytes, Cost]:
@@ -246,8 +226,7 @@ class Served:
         start = time.monotonic()
         self.child = subprocess.Popen(
             [sctd.program, "serve", "--store", sctd.path, "--releases", sctd.place],
-            stdin=subprocess.PIPE, stdout=subprocess.PIPE,
-        )
+            stdin=subprocess.PIPE, stdout=subprocess.PIPE)
         assert self.child.stdin and self.child.stdout
         self.input, self.output = self.child.stdin, self.child.stdout
         self.replies(["0 STATUS"])
@@ -259,8 +238,8 @@ class Served:
 
     def held(self) -> int:
         """How many bytes it holds in memory."""
-        with open("/proc/%d/statm" % self.child.pid, encoding="ascii") as file:
-            return int(file.read().split()[1]) * os.sysconf("SC_PAGE_SIZE")
+        words = Path("/proc/%d/statm" % self.child.pid).read_text("ascii").split()
+        return int(words[1]) * os.sysconf("SC_PAGE_SIZE")
 
     def replies(self, lines: Sequence[str]) -> bytes:
         """What it writes for lines. They are sent beside the reading, since it answers at once."""
@@ -294,8 +273,8 @@ class Served:
             raise SystemExit("sctd serve: status %d" % self.child.returncode)
 
 
-class Questions:
-    """Questions on the components of a release, drawn by chance."""
+class Drawn:
+    """The rows of which questions are drawn by chance, and parts of these."""
 
     def __init__(self, rows: Rows, chance: random.Random) -> None:
         self.rows, self.chance = rows, chance
@@ -306,45 +285,34 @@ class Questions:
     def column(self, kind: str, place: int) -> str:
         return self.chance.choice(self.rows[kind])[place]
 
-    def lookup(self) -> str:
-        kind = self.chance.choice("CDVRA")
-        return "GET %s %s %s" % (kind, self.column(kind, 0), self.date())
 
-    def history(self) -> str:
-        kind = self.chance.choice("CDVRA")
-        return "HISTORY %s %s" % (kind, self.column(kind, 0))
+class Questions(Drawn):
+    """Questions on the components of a release."""
 
-    def page(self) -> str:
-        return "PAGE C %s %s 100" % (self.date(), self.column("C", 0))
+    def of_any_kind(self, form: str) -> str:
+        kind = self.chance.choice("CDVRA")
+        return form % (kind, self.column(kind, 0))
 
     def terms(self) -> str:
         words = self.column("D", 7).split(" ")[: self.chance.choice([2, 3])]
         return "TERMS %s 10 %s" % (self.date(), " ".join(words).upper())
 
-    def children(self) -> str:
-        return "CHILDREN %s %s" % (self.column("R", 5), self.date())
-
-    def replacements(self) -> str:
-        return "REPLACED %s %s" % (self.column("A", 5), self.date())
-
-    def descriptions(self) -> str:
-        return "ABOUT D %s %s" % (self.column("D", 4), self.date())
-
-    def relationships(self) -> str:
-        return "ABOUT R %s %s" % (self.column("R", 4), self.date())
+    def of_column(self, form: str, kind: str, place: int) -> str:
+        return form % (self.column(kind, place), self.date())
 
     def drawn(self) -> Iterator[tuple[str, list[str]]]:
         """Lists of lines, each with its title. Every other line is of session 1."""
-        for title, count, make in (
-            ("lookups", 10000, self.lookup),
-            ("histories", 10000, self.history),
-            ("pages of 100", 1000, self.page),
+        makers: list[tuple[str, int, Callable[[], str]]] = [
+            ("lookups", 10000, lambda: self.of_any_kind("GET %s %s ") + self.date()),
+            ("histories", 10000, lambda: self.of_any_kind("HISTORY %s %s")),
+            ("pages of 100", 1000,
+             lambda: "PAGE C %s %s 100" % (self.date(), self.column("C", 0))),
             ("searches of terms", 1000, self.terms),
-            ("questions for children", 1000, self.children),
-            ("questions for replacements", 1000, self.replacements),
-            ("questions for descriptions", 10000, self.descriptions),
-            ("questions for relationships", 10000, self.relationships),
-        ):
+            ("questions for children", 1000, lambda: self.of_column("CHILDREN %s %s", "R", 5)),
+            ("questions for replacements", 1000, lambda: self.of_column("REPLACED %s %s", "A", 5)),
+            ("questions for descriptions", 10000, lambda: self.of_column("ABOUT D %s %s", "D", 4)),
+            ("questions for relationships", 10000, lambda: self.of_column("ABOUT R %s %s", "R", 4))]
+        for title, count, make in makers:
             lines = ["%d %s" % (number % 2, make()) for number in range(count)]
             yield "%d %s" % (count, title), lines
 
@@ -354,8 +322,7 @@ def compare(program: str, folder: str, rows: int) -> bool:
     place = os.path.join(folder, str(rows))
     made_release(place, rows)
     base = os.path.join(place, "compared.sqlite")
-    if os.path.exists(base):
-        os.remove(base)
+    Path(base).unlink(missing_ok=True)
     ours, theirs = Sctd(program, place), Sqlite(base)
     table = Table(rows)
     releases: dict[str, Rows] = {}
@@ -403,17 +370,14 @@ class Table:
         print("| %d | %s | %s | %s |" % (self.rows, title, " | ".join(shown), answers), flush=True)
 
 
-def main(words: Sequence[str]) -> int:
-    if len(words) < 2:
-        print((__doc__ or "").strip(), file=sys.stderr)
-        return 2
+def main() -> int:
+    asked = asked_for(__doc__, (ROWS,))
     print("| Rows | Work | sctd, wall | sctd, processor | SQLite, wall | SQLite, processor"
           " | Answers |")
     print("|---|---|---|---|---|---|---|")
-    sizes = [int(word) for word in words[2:]] or [DEFAULT_ROWS]
-    alike = [compare(os.path.abspath(words[0]), words[1], rows) for rows in sizes]
+    alike = [compare(asked.program, asked.folder, rows) for rows in asked.rows]
     return 0 if all(alike) else 1
 
 
 if __name__ == "__main__":
-    sys.exit(main(sys.argv[1:]))
+    sys.exit(main())

@@ -5,10 +5,10 @@ compare_package.py PROGRAM FOLDER [ROWS ..]
 
 PROGRAM is the built program sctd. For each number of rows (235000, if none is given) a package is
 made in FOLDER by make_release.py, if it isn't there: of all sorts of files in the proportions of an
-international edition. Both sides import the Full release, sctd into a store of version 3 of its
-layout and the shell into a table a sort of files, keyed by id and date, with indexes for the
-questions that it makes after the rows; then the Delta. Both are asked the same, each kind of
-question in a process of its own, and their answers have to be the same lines:
+international edition. Both sides import the Full release, sctd into a store of layout 3 and the
+shell into a table a sort of files, keyed by id and date, with indexes for the questions that it
+makes after the rows; then the Delta. Both are asked the same, each kind of question in a process of
+its own, and their answers have to be the same lines:
 
 - members of all reference sets by their ids (GET M);
 - 100,000 members of a language reference set, active or not, in pages of 1,000 (MEMBERS), or all
@@ -19,7 +19,7 @@ question in a process of its own, and their answers have to be the same lines:
 
 As in compare_shell.py, a table is printed: wall and processor seconds and peaks of both sides.
 Behind it stand the bytes of both files, what an open store takes in memory more than an empty one,
-and the same of a store that took only what version 2 keeps. The status is 1 where an answer is
+and the same of a store that took only what layout 2 keeps. The status is 1 where an answer is
 another one. Standard library, and the command sqlite3.
 """
 
@@ -27,15 +27,14 @@ from __future__ import annotations
 
 import os
 import random
-import subprocess
 import sys
 from pathlib import Path
-from typing import Iterable, Iterator, NamedTuple, Sequence
+from typing import Iterable, NamedTuple, Sequence
 
 import make_release as rf2
-from compare import DAYS, DEFAULT_ROWS, Sctd, Served
+from compare import DAYS, Sctd, Served
 from compare_shell import HEAD, Shell, Table, rows_alone
-from measure_harness import made_release
+from measure_harness import ROWS, asked_for, by_itself, made_release
 
 KEPT_SORTS = {**rf2.BASIC_SORTS, **rf2.FURTHER_SORTS}
 # The columns that the shell keeps as numbers, beside those of SCTIDs.
@@ -54,7 +53,7 @@ INDEXES = (
     "CREATE INDEX named ON Language (refsetId, referencedComponentId, id) WHERE active = 1;",
 )
 # How many columns a row of a description has, by which it is told from one of a member.
-DESCRIPTION_COLUMNS = len(rf2.DESCRIPTION_COLUMNS.split(" "))
+DESCRIPTION_COLUMNS = len(rf2.SORTS["D"].columns.split(" "))
 
 
 class Question(NamedTuple):
@@ -62,24 +61,6 @@ class Question(NamedTuple):
 
     line: str
     query: str
-
-
-def files_of(folder: Path) -> Iterator[tuple[str, Path]]:
-    """The files of a release that are kept, each with its sort."""
-    for sort, (_, name, _) in KEPT_SORTS.items():
-        where, _, file = name.rpartition("/")
-        front, _, back = file.partition("{}")
-        yield from ((sort, path) for path in (folder / where).glob(front + "*")
-                    if back.partition("_INT_")[0] in path.name)
-
-
-def rows_of(folder: Path, sort: str) -> Iterator[list[str]]:
-    """The columns of the rows of a sort of files."""
-    for one, path in files_of(folder):
-        if one == sort:
-            with open(path, encoding="utf-8", newline="") as file:
-                next(file)
-                yield from (line.rstrip("\r\n").split("\t") for line in file)
 
 
 def columns_of(sort: str) -> list[str]:
@@ -106,22 +87,17 @@ def snapshot(rows: Iterable[list[str]], date: str) -> dict[str, list[str]]:
     return found
 
 
-def query_of_members(refset: str, date: str, after: str) -> Question:
-    newest = NEWEST.format("x", date, "Language")
-    least = "" if after == "-" else " AND x.id > '%s'" % after
+def query_of_page(command: str, refset: str, after: str) -> Question:
+    """A page of the members of a language (MEMBERS), or of its values (VALUES)."""
+    is_values = command == "VALUES"
+    column, other = ("referencedComponentId", "%s") if is_values else ("id", "'%s'")
+    least = "" if after == "-" else " AND x.%s > %s" % (column, other % after)
     return Question(
-        "0 MEMBERS %s %s %s %d" % (refset, date, after, LIMIT),
-        "SELECT x.* FROM Language x WHERE x.refsetId = %s%s%s ORDER BY x.id LIMIT %d;"
-        % (refset, least, newest, LIMIT))
-
-
-def query_of_values(refset: str, date: str, after: str) -> Question:
-    newest = NEWEST.format("x", date, "Language")
-    least = "" if after == "-" else " AND x.referencedComponentId > %s" % after
-    return Question(
-        "0 VALUES %s %s %s %d" % (refset, date, after, LIMIT),
-        "SELECT x.* FROM Language x WHERE x.active = 1 AND x.refsetId = %s%s%s"
-        " ORDER BY x.referencedComponentId, x.id LIMIT %d;" % (refset, least, newest, LIMIT))
+        "0 %s %s %s %s %d" % (command, refset, LAST_DAY, after, LIMIT),
+        "SELECT x.* FROM Language x WHERE %sx.refsetId = %s%s%s ORDER BY x.%s LIMIT %d;" % (
+            "x.active = 1 AND " * is_values, refset, least,
+            NEWEST.format("x", LAST_DAY, "Language"),
+            column + ", x.id" * is_values, LIMIT))
 
 
 def query_of_called(concept: str, date: str, refset: str) -> Question:
@@ -154,22 +130,22 @@ class Questions:
 
     def lookups(self) -> list[Question]:
         ids = [(sort, row[0]) for sort in rf2.FURTHER_SORTS if KEPT_SORTS[sort].kind == "M"
-               for row in rows_of(self.full, sort)]
+               for row in rf2.rows_of(self.full, sort)]
         return [query_of_lookup(*self.chance.choice(ids), self.chance.choice(DAYS))
                 for _ in range(LOOKUPS)]
 
     def of_language(self) -> tuple[list[Question], list[Question]]:
         """Pages of the members of a language reference set, and of its values."""
         refset = str(rf2.US_ENGLISH)
-        members = [row for row in rows_of(self.full, "Language") if row[4] == refset]
+        members = [row for row in rf2.rows_of(self.full, "Language") if row[4] == refset]
         shown = snapshot(members, LAST_DAY).values()
         ids = sorted(row[0] for row in shown)
         components = sorted((row[5] for row in shown if row[2] == "1"), key=int)
-        return ([query_of_members(refset, LAST_DAY, after) for after in pages(ids)],
-                [query_of_values(refset, LAST_DAY, after) for after in pages(components)])
+        return ([query_of_page("MEMBERS", refset, after) for after in pages(ids)],
+                [query_of_page("VALUES", refset, after) for after in pages(components)])
 
     def called(self) -> list[Question]:
-        concepts = [row[4] for row in rows_of(self.full, "D")]
+        concepts = [row[4] for row in rf2.rows_of(self.full, "D")]
         return [query_of_called(self.chance.choice(concepts), self.chance.choice(DAYS),
                                 str(self.chance.choice(rf2.LANGUAGES))) for _ in range(CALLED)]
 
@@ -230,11 +206,11 @@ def compare(program: str, folder: Path, count: int) -> bool:
                    for layout in (2, 3))
     ground = held_by(sctd)
     told, ours = sctd.take("full")
-    theirs = shell.take(files_of(full), INDEXES)
+    theirs = shell.take(rf2.files_of(full, KEPT_SORTS), INDEXES)
     table.show("import the Full release, with its indexes", ours, theirs)
     rows = rows_in(told)
     told, ours = sctd.take("delta")
-    table.show("import a Delta of 100 rows", ours, shell.take(files_of(delta)))
+    table.show("import a Delta of 100 rows", ours, shell.take(rf2.files_of(delta, KEPT_SORTS)))
     served = Served(sctd)
     table.show("open", served.opening, None)
     shell.kept = served.held()
@@ -245,24 +221,19 @@ def compare(program: str, folder: Path, count: int) -> bool:
     ask_both(table, served, shell, "values of a language, 1,000 a page", values)
     ask_both(table, served, shell, "what 10,000 concepts were called", drawn.called())
     served.end()
-    show_memory("version 3, all files", sctd, rows + rows_in(told), ground)
-    show_memory("version 2, its files", basic, rows_in(basic.take("full")[0]), ground)
+    show_memory("layout 3, all files", sctd, rows + rows_in(told), ground)
+    show_memory("layout 2, its files", basic, rows_in(basic.take("full")[0]), ground)
     print("bytes of the shell's file: %d" % os.path.getsize(shell.path))
     return table.alike
 
 
-def main(words: Sequence[str]) -> int:
-    assert __doc__
-    if len(words) < 2:
-        print(__doc__.strip(), file=sys.stderr)
-        return 2
-    sizes = [int(word) for word in words[2:]] or [DEFAULT_ROWS]
-    if len(sizes) > 1:
-        script = [sys.executable, os.path.abspath(__file__), *words[:2]]
-        return max(subprocess.call([*script, str(size)]) for size in sizes)
+def main() -> int:
+    asked = asked_for(__doc__, (ROWS,))
+    if len(asked.rows) > 1:
+        return by_itself(__file__, asked)
     print(HEAD)
-    return 0 if compare(os.path.abspath(words[0]), Path(words[1]).resolve(), sizes[0]) else 1
+    return 0 if compare(asked.program, Path(asked.folder).resolve(), asked.rows[0]) else 1
 
 
 if __name__ == "__main__":
-    sys.exit(main(sys.argv[1:]))
+    sys.exit(main())

@@ -28,24 +28,21 @@ from __future__ import annotations
 import itertools
 import os
 import random
-import subprocess
 import sys
 import time
 from collections.abc import Callable, Iterable, Iterator, Mapping, Sequence
+from pathlib import Path
 from typing import Optional
 
 import make_release as rf2
-from compare import COLUMNS, DAYS, DEFAULT_ROWS, IS_A, SUBJECTS, TABLES, TEXTS, Rows, Sctd, Served
-from compare import files_of
-from measure_harness import Cost, made_release, ran
+from compare import COLUMNS, IS_A, SUBJECTS, TABLES, TEXTS, Drawn, Rows, Sctd, Served
+from measure_harness import ROWS, Cost, asked_for, by_itself, made_release, ran
 
 # So many rows of a kind are held at most, of which the questions are drawn.
 MOST_DRAWN = 100000
 
-NEWEST = (
-    " AND x.time <= {date} AND NOT EXISTS (SELECT 1 FROM {table} y"
-    " WHERE y.id = x.id AND y.time > x.time AND y.time <= {date})"
-)
+NEWEST = (" AND x.time <= {date} AND NOT EXISTS (SELECT 1 FROM {table} y"
+          " WHERE y.id = x.id AND y.time > x.time AND y.time <= {date})")
 INDEXES = (
     "CREATE INDEX terms ON description (term COLLATE NOCASE) WHERE active = 1;",
     "CREATE INDEX children ON relationship (destination, source)"
@@ -83,15 +80,12 @@ def draw_rows(folder: str, chance: random.Random) -> tuple[int, Rows]:
     likely."""
     counts: dict[str, int] = {}
     drawn: Rows = {}
-    for kind, path in files_of(folder):
+    for kind in TABLES:
         kept = drawn.setdefault(kind, [])
-        with open(path, encoding="utf-8", newline="") as file:
-            next(file)
-            for line in file:
-                counts[kind] = counts.get(kind, 0) + 1
-                place = len(kept) if len(kept) < MOST_DRAWN else chance.randrange(counts[kind])
-                if place < MOST_DRAWN:
-                    kept[place:place + 1] = [line.rstrip("\r\n").split("\t")]
+        for counts[kind], row in enumerate(rf2.rows_of(folder, kind), 1):
+            place = len(kept) if len(kept) < MOST_DRAWN else chance.randrange(counts[kind])
+            if place < MOST_DRAWN:
+                kept[place:place + 1] = [row]
     return sum(counts.values()), drawn
 
 
@@ -101,8 +95,7 @@ class Shell:
     def __init__(self, place: str, name: str, tables: Iterable[str]) -> None:
         self.place, self.path = place, os.path.join(place, name)
         for end in ("", "-wal", "-shm"):
-            if os.path.exists(self.path + end):
-                os.remove(self.path + end)
+            Path(self.path + end).unlink(missing_ok=True)
         self.kept = 0
         self.run([*SETTINGS, *tables])
 
@@ -131,15 +124,15 @@ def table_of(kind: str) -> str:
     return "CREATE TABLE %s (%s) WITHOUT ROWID;" % (TABLES[kind], ", ".join(columns))
 
 
-def tables_and_files(folder: str) -> Iterator[tuple[str, str]]:
+def tables_and_files(folder: str) -> Iterator[tuple[str, Path]]:
     """The files of a release, each with the table of its kind."""
-    yield from ((TABLES[kind], path) for kind, path in files_of(folder))
+    yield from ((TABLES[kind], path) for kind, path in rf2.files_of(folder, TABLES))
 
 
 def take_again(shell: Shell, folder: str) -> Cost:
     """Imports the files of a release, of which what is known is passed over."""
     lines = [".mode tabs", "PRAGMA temp_store = MEMORY;", "BEGIN;"]
-    for kind, path in files_of(folder):
+    for kind, path in rf2.files_of(folder, TABLES):
         table, columns = TABLES[kind], ", ".join(COLUMNS[kind])
         lines += ["CREATE TABLE temp.staged_%s (%s);" % (table, columns),
                   '.import --skip 1 --schema temp "%s" staged_%s' % (path, table),
@@ -238,17 +231,8 @@ def is_plain(term: str) -> bool:
     return term.isascii() and "%" not in term and "_" not in term
 
 
-class Drawn:
-    """The rows of which questions are drawn."""
-
-    def __init__(self, rows: Rows, chance: random.Random) -> None:
-        self.rows, self.chance = rows, chance
-
-    def date(self) -> str:
-        return self.chance.choice(DAYS)
-
-    def column(self, kind: str, place: int) -> str:
-        return self.chance.choice(self.rows[kind])[place]
+class Questions(Drawn):
+    """The questions that both sides are asked."""
 
     def questions(self) -> Iterator[Asked]:
         """Lists of lines, each with its title."""
@@ -291,26 +275,17 @@ class Drawn:
             "0 ANCESTORS %s 20261231" % self.column("C", 0) for _ in range(10000)]
 
 
-def rows_of(folder: str, kind: str) -> Iterator[list[str]]:
-    """The columns of each row of a kind, in the order of its file."""
-    with open(next(path for one, path in files_of(folder) if one == kind),
-              encoding="utf-8", newline="") as file:
-        next(file)
-        for line in file:
-            yield line.rstrip("\r\n").split("\t")
-
-
 def make_tree(place: str) -> None:
     """Writes a release that withdraws each "is a", and gives each concept but the root one parent
     or two that were made before it: few have many children, and most are some ten steps down."""
     chance, full = random.Random(SEED_OF_TREE), os.path.join(place, "full")
     rows: dict[str, list[str]] = {kind: [] for kind in rf2.KINDS}
     # The versions of a component stand together, the last one last.
-    for _, versions in itertools.groupby(rows_of(full, "R"), key=lambda columns: columns[0]):
+    for _, versions in itertools.groupby(rf2.rows_of(full, "R"), key=lambda columns: columns[0]):
         columns = list(versions)[-1]
         if columns[2] == "1" and columns[7] == str(IS_A):
             rows["R"].append("\t".join([columns[0], TREE_DAY, "0", *columns[3:]]))
-    every = itertools.groupby(columns[0] for columns in rows_of(full, "C"))
+    every = itertools.groupby(columns[0] for columns in rf2.rows_of(full, "C"))
     concepts = [str(rf2.ROOT), *(name for name, _ in every)]
     made = 500_000_000
     for number, name in enumerate(concepts[1:], 1):
@@ -431,7 +406,7 @@ def compare(program: str, folder: str, count: int) -> bool:
     of_full, rows = draw_rows(os.path.join(place, "full"), chance)
     of_delta, _ = draw_rows(os.path.join(place, "delta"), chance)
     table.check_imports(told, of_full, of_delta)
-    served, drawn = Served(sctd), Drawn(rows, chance)
+    served, drawn = Served(sctd), Questions(rows, chance)
     table.show("open", served.opening, None)
     shell.kept = served.held()
     ask_both(table, served, shell, drawn.questions())
@@ -445,17 +420,13 @@ def compare(program: str, folder: str, count: int) -> bool:
     return table.alike
 
 
-def main(words: Sequence[str]) -> int:
-    if len(words) < 2:
-        print((__doc__ or "").strip(), file=sys.stderr)
-        return 2
-    sizes = [int(word) for word in words[2:]] or [DEFAULT_ROWS]
-    if len(sizes) > 1:
-        script = [sys.executable, os.path.abspath(__file__), *words[:2]]
-        return max(subprocess.call([*script, str(size)]) for size in sizes)
+def main() -> int:
+    asked = asked_for(__doc__, (ROWS,))
+    if len(asked.rows) > 1:
+        return by_itself(__file__, asked)
     print(HEAD)
-    return 0 if compare(os.path.abspath(words[0]), words[1], sizes[0]) else 1
+    return 0 if compare(asked.program, asked.folder, asked.rows[0]) else 1
 
 
 if __name__ == "__main__":
-    sys.exit(main(sys.argv[1:]))
+    sys.exit(main())

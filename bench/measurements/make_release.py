@@ -21,6 +21,7 @@ import os
 import random
 import sys
 import uuid
+from pathlib import Path
 from typing import Callable, Iterable, Iterator, Mapping, NamedTuple, Optional, Sequence
 
 CORE = 900000000000207008
@@ -57,32 +58,15 @@ DOMAINS, ATTRIBUTE_DOMAINS, ATTRIBUTE_RANGES, SCOPES = 723560006, 723561005, 723
 MANDATORY, ALL_CONTENT = 723597001, 723596005
 ATTRIBUTES = (363698007, 116676008, 246075003, 260686004, 405813007, 127489000, 411116001)
 
-FIRST_COLUMNS = "id effectiveTime active moduleId "
-DESCRIPTION_COLUMNS = FIRST_COLUMNS + "conceptId languageCode typeId term caseSignificanceId"
-RELATIONSHIP_COLUMNS = FIRST_COLUMNS + (
-    "sourceId destinationId relationshipGroup typeId characteristicTypeId modifierId")
-MEMBER_COLUMNS = FIRST_COLUMNS + "refsetId referencedComponentId"
+MEMBER_COLUMNS = "id effectiveTime active moduleId refsetId referencedComponentId"
 
 
 class Sort(NamedTuple):
-    """A sort of files: the letter of their rows, where a file stands and its name, with places for
-    the word of the release and its date, and the names of the columns."""
+    """A sort of files, as release_sorts.txt says."""
 
     kind: str
     name: str
     columns: str
-
-
-# The sorts of files that each version of a store's layout keeps, by the letters of their kinds.
-BASIC_SORTS = {
-    "C": Sort("C", "Terminology/sct2_Concept_{}_INT_{}.txt", FIRST_COLUMNS + "definitionStatusId"),
-    "D": Sort("D", "Terminology/sct2_Description_{}-en_INT_{}.txt", DESCRIPTION_COLUMNS),
-    "R": Sort("R", "Terminology/sct2_Relationship_{}_INT_{}.txt", RELATIONSHIP_COLUMNS),
-    "A": Sort("A", "Refset/Content/der2_cRefset_Association{}_INT_{}.txt",
-              MEMBER_COLUMNS + " targetComponentId"),
-    "V": Sort("V", "Terminology/sct2_RelationshipConcreteValues_{}_INT_{}.txt",
-              RELATIONSHIP_COLUMNS.replace("destinationId", "value")),
-}
 
 
 def members(name: str, further: str = "") -> Sort:
@@ -90,50 +74,15 @@ def members(name: str, further: str = "") -> Sort:
     return Sort("M", name + "_INT_{}.txt", MEMBER_COLUMNS + further)
 
 
-# Those that version 3 keeps besides.
-FURTHER_SORTS = {
-    "TextDefinition": Sort("D", "Terminology/sct2_TextDefinition_{}-en_INT_{}.txt",
-                           DESCRIPTION_COLUMNS),
-    "OWLExpression": members("Terminology/sct2_sRefset_OWLExpression{}", " owlExpression"),
-    "Simple": members("Refset/Content/der2_Refset_Simple{}"),
-    "AttributeValue": members("Refset/Content/der2_cRefset_AttributeValue{}", " valueId"),
-    "Language": members("Refset/Language/der2_cRefset_Language{}-en", " acceptabilityId"),
-    "SimpleMap": members("Refset/Map/der2_sRefset_SimpleMap{}", " mapTarget"),
-    "ExtendedMap": members(
-        "Refset/Map/der2_iisssccRefset_ExtendedMap{}",
-        " mapGroup mapPriority mapRule mapAdvice mapTarget correlationId mapCategoryId"),
-    "RefsetDescriptor": members(
-        "Refset/Metadata/der2_cciRefset_RefsetDescriptor{}",
-        " attributeDescription attributeType attributeOrder"),
-    "DescriptionType": members(
-        "Refset/Metadata/der2_ciRefset_DescriptionType{}",
-        " descriptionFormat descriptionLength"),
-    "ModuleDependency": members(
-        "Refset/Metadata/der2_ssRefset_ModuleDependency{}",
-        " sourceEffectiveTime targetEffectiveTime"),
-    "MRCMDomain": members(
-        "Refset/Metadata/der2_sssssssRefset_MRCMDomain{}",
-        " domainConstraint parentDomain proximalPrimitiveConstraint proximalPrimitiveRefinement"
-        " domainTemplateForPrecoordination domainTemplateForPostcoordination guideURL"),
-    "MRCMAttributeDomain": members(
-        "Refset/Metadata/der2_cissccRefset_MRCMAttributeDomain{}",
-        " domainId grouped attributeCardinality attributeInGroupCardinality ruleStrengthId"
-        " contentTypeId"),
-    "MRCMAttributeRange": members(
-        "Refset/Metadata/der2_ssccRefset_MRCMAttributeRange{}",
-        " rangeConstraint attributeRule ruleStrengthId contentTypeId"),
-    "MRCMModuleScope": members(
-        "Refset/Metadata/der2_cRefset_MRCMModuleScope{}", " mrcmRuleRefsetId"),
-}
-# Those that a package has and no store keeps.
-UNKEPT_SORTS = {
-    "StatedRelationship": Sort("R", "Terminology/sct2_StatedRelationship_{}_INT_{}.txt",
-                               RELATIONSHIP_COLUMNS),
-    "Identifier": Sort(
-        "", "Terminology/sct2_Identifier_{}_INT_{}.txt",
-        "alternateIdentifier effectiveTime active moduleId identifierSchemeId"
-        " referencedComponentId"),
-}
+def sorts_in(group: str) -> dict[str, Sort]:
+    lines = (line.split(" | ") for line in group.splitlines())
+    return {name: Sort(*columns) for name, *columns in lines}
+
+
+# The sorts of files that each layout of a store keeps, by the letters of their kinds; those that
+# layout 3 keeps besides; and those that a package has and no store keeps.
+BASIC_SORTS, FURTHER_SORTS, UNKEPT_SORTS = map(
+    sorts_in, Path(__file__).with_name("release_sorts.txt").read_text("utf-8").split("\n\n")[1:])
 SORTS = {**BASIC_SORTS, **FURTHER_SORTS, **UNKEPT_SORTS}
 KINDS = "".join(BASIC_SORTS)
 
@@ -167,19 +116,13 @@ WORDS = (
     "inflammation infection Straße Ödem naïve bacterial viral upper lower upper-limb eye ear"
 ).split()
 
-TABLE = [
-    [0, 1, 2, 3, 4, 5, 6, 7, 8, 9], [1, 2, 3, 4, 0, 6, 7, 8, 9, 5],
-    [2, 3, 4, 0, 1, 7, 8, 9, 5, 6], [3, 4, 0, 1, 2, 8, 9, 5, 6, 7],
-    [4, 0, 1, 2, 3, 9, 5, 6, 7, 8], [5, 9, 8, 7, 6, 0, 4, 3, 2, 1],
-    [6, 5, 9, 8, 7, 1, 0, 4, 3, 2], [7, 6, 5, 9, 8, 2, 1, 0, 4, 3],
-    [8, 7, 6, 5, 9, 3, 2, 1, 0, 4], [9, 8, 7, 6, 5, 4, 3, 2, 1, 0],
-]
-PLACES = [
-    [0, 1, 2, 3, 4, 5, 6, 7, 8, 9], [1, 5, 7, 6, 2, 8, 3, 0, 9, 4],
-    [5, 8, 0, 3, 7, 9, 6, 1, 4, 2], [8, 9, 1, 6, 0, 4, 3, 5, 2, 7],
-    [9, 4, 5, 3, 1, 2, 6, 8, 7, 0], [4, 2, 8, 6, 5, 7, 3, 9, 0, 1],
-    [2, 7, 9, 3, 8, 0, 6, 4, 1, 5], [7, 0, 4, 6, 9, 1, 3, 2, 5, 8],
-]
+# Verhoeff's tables: how the turns (0 to 4) and mirrorings (5 to 9) of a pentagon are put together,
+# and what stands for a digit at each place.
+TABLE = [[(one + other) % 5 + other // 5 * 5 if one < 5 else (one - other) % 5 + 5 - other // 5 * 5
+          for other in range(10)] for one in range(10)]
+PLACES = [list(range(10))]
+while len(PLACES) < 8:
+    PLACES.append([PLACES[-1][place] for place in (1, 5, 7, 6, 2, 8, 3, 0, 9, 4)])
 INVERSE = [0, 4, 3, 2, 1, 5, 6, 7, 8, 9]
 # The digits before the check digit that say what an SCTID identifies.
 PARTITIONS = {"C": "00", "D": "01", "R": "02", "V": "02"}
@@ -456,6 +399,23 @@ def write(folder: str, release: str, date: str, rows: Mapping[str, Iterable[str]
     for name, sort in SORTS.items():
         if name in KINDS or name in rows:
             write_file(folder, release, date, sort, rows[name])
+
+
+def files_of(folder: str | Path, sorts: Iterable[str] = SORTS) -> Iterator[tuple[str, Path]]:
+    """The files of a release that are of these sorts, each with its sort."""
+    for sort in sorts:
+        where, _, name = SORTS[sort].name.rpartition("/")
+        front, _, back = name.partition("{}")
+        yield from ((sort, path) for path in sorted(Path(folder, where).glob(front + "*"))
+                    if back.partition("_INT_")[0] in path.name)
+
+
+def rows_of(folder: str | Path, sort: str) -> Iterator[list[str]]:
+    """The columns of the rows that a release has of a sort."""
+    for _, path in files_of(folder, [sort]):
+        with open(path, encoding="utf-8", newline="") as file:
+            next(file)
+            yield from (line.rstrip("\r\n").split("\t") for line in file)
 
 
 def versions_of(edition: Edition, sort: str, count: int) -> Iterator[str]:

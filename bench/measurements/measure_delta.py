@@ -18,17 +18,16 @@ import subprocess
 import sys
 import time
 from collections.abc import Sequence
+from pathlib import Path
 
-from measure_harness import made_release
+from measure_harness import MANY_ROWS, ROWS, asked_for, made_release
 
-DEFAULT_ROWS = (235_000, 2_350_000)
 TRIES = 10
 
 
 def processor(pid: int) -> float:
     """Seconds of the processor that a process has taken, as the scheduler counts them."""
-    with open("/proc/%d/schedstat" % pid, encoding="ascii") as file:
-        return int(file.read().split()[0]) / 1e9
+    return int(Path("/proc/%d/schedstat" % pid).read_text("ascii").split()[0]) / 1e9
 
 
 def ask(served: subprocess.Popen[bytes], line: bytes) -> bytes:
@@ -57,8 +56,7 @@ def delta(program: str, store: str, place: str) -> tuple[float, float]:
 def served_store(program: str, place: str) -> str:
     """A store that has the Full release."""
     store = os.path.join(place, "served.store")
-    if os.path.exists(store):
-        os.remove(store)
+    Path(store).unlink(missing_ok=True)
     importing = ["import", "--store", store, "--releases", place, "full"]
     for words in (["init", "--store", store], importing):
         subprocess.run([program, *words], stdout=subprocess.DEVNULL, check=True)
@@ -70,23 +68,20 @@ def shown(numbers: Sequence[float]) -> str:
     return "%.1f to %.1f" % (min(numbers) * 1000, max(numbers) * 1000)
 
 
-def main(words: Sequence[str]) -> int:
-    if len(words) < 2:
-        print((__doc__ or "").strip(), file=sys.stderr)
-        return 2
-    program, folder = os.path.abspath(words[0]), words[1]
+def main() -> int:
+    asked = asked_for(__doc__, (ROWS, MANY_ROWS))
     print("| Rows | Milliseconds of processor, least and most"
           " | Milliseconds of wall, least and most |")
     print("|---|---|---|")
-    for rows in [int(word) for word in words[2:]] or DEFAULT_ROWS:
-        place = os.path.join(folder, str(rows))
+    for rows in asked.rows:
+        place = os.path.join(asked.folder, str(rows))
         made_release(place, rows)
-        store = served_store(program, place)
-        walls, busies = zip(*(delta(program, store, place) for _ in range(TRIES)))
+        store = served_store(asked.program, place)
+        walls, busies = zip(*(delta(asked.program, store, place) for _ in range(TRIES)))
         print("| %d | %s | %s |" % (rows, shown(busies), shown(walls)), flush=True)
         os.remove(store)
     return 0
 
 
 if __name__ == "__main__":
-    sys.exit(main(sys.argv[1:]))
+    sys.exit(main())

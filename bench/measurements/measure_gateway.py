@@ -8,8 +8,8 @@ Then $lookup is asked by 1 and by 16 clients, of random codes on random days, an
 one day, whose replies are remembered; and the hub alone is asked the questions of a $lookup by 8
 clients, one by one and four in one write. Each takes some seconds (5 if not said). It prints a
 table: how many a second, the median, and the microseconds of the processor a request in gateway,
-hub and program. --hub takes another hub than service/sctd-hub. Clients are two processes, which need
-a processor of their own.
+hub and program. --hub takes another hub than service/sctd-hub. Clients are two processes, which
+need a processor of their own.
 
 With --package the release is a whole package in a store of layout 3, and the gateway has a
 language, so $lookup asks for preferred terms and members too. Then the reference set that has each
@@ -37,12 +37,13 @@ from collections.abc import Callable, Sequence
 from multiprocessing.queues import Queue
 from typing import Any
 
-from measure_harness import absolute, made_release, seconds_used
+import make_release as rf2
+from measure_harness import absolute, child_of, made_release, seconds_used
 
 BENCH = os.path.dirname(os.path.dirname(os.path.abspath(__file__)))
 sys.path += [os.path.join(BENCH, "trials"), os.path.join(os.path.dirname(BENCH), "packaging")]
 from needs import python_with  # noqa: E402
-from try_gateway import ROOT, SERVICE  # noqa: E402
+from try_gateway import SERVICE  # noqa: E402
 
 PROCESSES = 2
 FEW_CODES = 200
@@ -54,6 +55,8 @@ US_ENGLISH, MAP_OF_ALL = "900000000000509007", "900000000000497000"
 PAGE = 1_000
 # What is measured where nothing else is said: rows, and seconds a line of the table.
 DEFAULT_ROWS, DEFAULT_SECONDS = 2_350_000, 5
+HUB = os.path.join(SERVICE, "sctd-hub")
+MS, US = 1e3, 1e6
 NOT_RUN = 3
 LAST_LINES = (b"OK", b"END", b"ERR")
 # The ends of an HTTP head, and what says how long its body is.
@@ -132,19 +135,13 @@ class SlowHubClient(HubClient):
 def lookup(codes: Sequence[str], days: Sequence[str]) -> bytes:
     code, day = random.choice(codes), random.choice(days)
     target = "/fhir/CodeSystem/$lookup?system=http://snomed.info/sct&code=%s&version=%s%s" % (
-        code,
-        VERSION,
-        day,
-    )
+        code, VERSION, day)
     return b"GET %s HTTP/1.1\r\nHost: x\r\nAccept: application/fhir+json\r\n\r\n" % target.encode()
 
 
 def questions(codes: Sequence[str], days: Sequence[str]) -> bytes:
     code, day = random.choice(codes), random.choice(days)
-    return "".join(
-        "%s %s %s\n" % (question, code, day)
-        for question in QUESTIONS
-    ).encode()
+    return "".join("%s %s %s\n" % (question, code, day) for question in QUESTIONS).encode()
 
 
 def question(codes: Sequence[str], days: Sequence[str]) -> bytes:
@@ -152,15 +149,8 @@ def question(codes: Sequence[str], days: Sequence[str]) -> bytes:
     return ("%s %s %s\n" % (line, random.choice(codes), random.choice(days))).encode()
 
 
-def run(
-    client: type[Connection],
-    path: str,
-    make: Callable[[], bytes],
-    clients: int,
-    seconds: int,
-    seed: int,
-    out: Queue[Waits],
-) -> None:
+def run(client: type[Connection], path: str, make: Callable[[], bytes], clients: int, seconds: int,
+        seed: int, out: Queue[Waits]) -> None:
     """One process of clients. It puts the waits of all of them, and how many were refused."""
     random.seed(seed)
     connections: dict[socket.socket, Connection] = {}
@@ -177,34 +167,49 @@ def run(
     out.put(([wait for one in every for wait in one.waits], sum(one.wrong for one in every)))
 
 
-def measured(
-    name: str,
-    pids: Sequence[int],
-    client: type[Connection],
-    path: str,
-    make: Callable[[], bytes],
-    clients: int,
-    seconds: int,
-) -> None:
+class Asked:
+    """Clients that ask in processes of their own from now on, for some seconds."""
+
+    def __init__(self, client: type[Connection], path: str, make: Callable[[], bytes], clients: int,
+                 seconds: int) -> None:
+        self.out: Queue[Waits] = multiprocessing.Queue()
+        processes = min(PROCESSES, clients)
+        words = (client, path, make, clients // processes, seconds)
+        self.runs = [multiprocessing.Process(target=run, args=(*words, seed, self.out))
+                     for seed in range(processes)]
+        for one in self.runs:
+            one.start()
+
+    def told(self) -> Waits:
+        """The waits of all in their order, and how many were refused."""
+        told = [self.out.get() for _ in self.runs]
+        for one in self.runs:
+            one.join()
+        return sorted(wait for waits, _ in told for wait in waits), sum(count for _, count in told)
+
+
+class Taken:
+    """What answers took: how many came a second, the median and the 99th of 100 waits in
+    milliseconds, the microseconds of each process an answer, and how many were refused."""
+
+    def __init__(self, pids: Sequence[int], client: type[Connection], path: str,
+                 make: Callable[[], bytes], clients: int, seconds: int) -> None:
+        before = [seconds_used(pid) for pid in pids]
+        waits, wrong = Asked(client, path, make, clients, seconds).told()
+        used = [seconds_used(pid) - first for pid, first in zip(pids, before)]
+        self.rate, self.median = len(waits) / seconds, statistics.median(waits) * MS
+        self.p99 = waits[len(waits) * 99 // 100] * MS
+        self.spent = [one / len(waits) * US for one in used]
+        self.refused = " %d refused" % wrong if wrong else ""
+
+
+def measured(name: str, pids: Sequence[int], client: type[Connection], path: str,
+             make: Callable[[], bytes], clients: int, seconds: int) -> None:
     """Asks for some seconds, and prints a line of the table."""
-    out: Queue[Waits] = multiprocessing.Queue()
-    processes = min(PROCESSES, clients)
-    before = [seconds_used(pid) for pid in pids]
-    runs = []
-    for seed in range(processes):
-        words = (client, path, make, clients // processes, seconds, seed, out)
-        runs.append(multiprocessing.Process(target=run, args=words))
-        runs[-1].start()
-    told = [out.get() for _ in runs]
-    for one in runs:
-        one.join()
-    waits, wrong = [wait for one, _ in told for wait in one], sum(count for _, count in told)
-    used = [seconds_used(pid) - first for pid, first in zip(pids, before)]
-    spent = " / ".join("%.0f" % (seconds_used / len(waits) * 1e6) for seconds_used in used)
-    median = statistics.median(waits) * 1e3
-    refused = " %d refused" % wrong if wrong else ""
-    line = "| %s | %d | %.0f | %.2f | %s |%s"
-    print(line % (name, clients, len(waits) / seconds, median, spent, refused), flush=True)
+    taken = Taken(pids, client, path, make, clients, seconds)
+    spent = " / ".join("%.0f" % one for one in taken.spent)
+    print("| %s | %d | %.0f | %.2f | %s |%s" % (
+        name, clients, taken.rate, taken.median, spent, taken.refused), flush=True)
 
 
 class UnixHttp(http.client.HTTPConnection):
@@ -256,32 +261,20 @@ def begun(words: Sequence[str], **more: Any) -> Process:
     return process
 
 
-def child_of(pid: int) -> int:
-    with open("/proc/%d/task/%d/children" % (pid, pid), encoding="ascii") as file:
-        return int(file.read().split()[0])
-
-
 def concepts(folder: str) -> list[str]:
-    path = os.path.join(folder, "full", "Terminology", "sct2_Concept_Full_INT_20250731.txt")
-    with open(path, encoding="ascii") as file:
-        next(file)
-        return sorted({line.split("\t", 1)[0] for line in file})
+    return sorted({row[0] for row in rf2.rows_of(os.path.join(folder, "full"), "C")})
 
 
 def make_store(options: argparse.Namespace, folder: str, store: str) -> None:
     """A store with a made release."""
     made_release(folder, options.rows, is_package=options.package)
     release = os.path.join(folder, "full")
-    for words in (
-        [options.program, "init", "--store", store],
-        [options.program, "import", "--quiet", "--store", store, release],
-    ):
-        subprocess.run(words, check=True, stdout=subprocess.DEVNULL)
+    for words in (["init", "--store", store], ["import", "--quiet", "--store", store, release]):
+        subprocess.run([options.program, *words], check=True, stdout=subprocess.DEVNULL)
 
 
-def begin_hub(
-    options: argparse.Namespace, folder: str, store: str, python: str, path: str
-) -> Process:
+def begin_hub(options: argparse.Namespace, folder: str, store: str, python: str,
+              path: str) -> Process:
     words = ["--program", options.program, "--store", store, "--releases", folder]
     return begun([python, options.hub, *words, "--socket", path])
 
@@ -322,14 +315,19 @@ def tried(options: argparse.Namespace, folder: str, python: str) -> None:
             process.wait()
 
 
+def options_of(doc: str | None, **numbers: int) -> argparse.ArgumentParser:
+    """The words of a measurement: the program, and numbers with their usual values."""
+    parser = argparse.ArgumentParser(description=(doc or "").partition("\n")[0])
+    parser.add_argument("program", type=absolute)
+    for name, usual in numbers.items():
+        parser.add_argument("--" + name, type=int, default=usual)
+    parser.set_defaults(package=False)
+    return parser
+
+
 def main() -> int:
-    words = argparse.ArgumentParser(description="Measures the gateway, the hub and the program.")
-    words.add_argument("program", type=absolute)
-    words.add_argument("--rows", type=int, default=DEFAULT_ROWS)
-    words.add_argument("--seconds", type=int, default=DEFAULT_SECONDS)
-    words.add_argument(
-        "--hub", type=absolute, default=os.path.join(SERVICE, "sctd-hub")
-    )
+    words = options_of(__doc__, rows=DEFAULT_ROWS, seconds=DEFAULT_SECONDS)
+    words.add_argument("--hub", type=absolute, default=HUB)
     words.add_argument("--raw-only", action="store_true")
     words.add_argument("--package", action="store_true")
     options = words.parse_args()

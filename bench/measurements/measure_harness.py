@@ -1,33 +1,62 @@
-"""What the measurements share: releases that are made once, and what processes take."""
+"""What measurements share: their words, releases that are made once, and what processes take."""
 
 from __future__ import annotations
 
+import argparse
 import os
+import shutil
 import subprocess
 import sys
+import tempfile
 import time
 from collections.abc import Sequence
 from dataclasses import dataclass
-from typing import Optional
+from pathlib import Path
+from typing import BinaryIO, Optional
 
 MAKER = os.path.join(os.path.dirname(os.path.abspath(__file__)), "make_release.py")
 KILOBYTE = 1024
 # How much of what a process wrote is told where it fails.
 TOLD = 200
+# How many rows are measured where none are given.
+ROWS, MANY_ROWS = 235_000, 2_350_000
+# How many seconds are between looks if a pipe was opened.
+BETWEEN_LOOKS = 0.0005
+GNU_TIME = shutil.which("time")
 
 
 @dataclass
 class Cost:
-    """Wall and processor seconds, and the greatest resident size in bytes, where that is known."""
+    """Wall and processor seconds, the greatest resident size in bytes, where that is known, and
+    what was printed, if it is told."""
 
     wall: float
     used: float
     peak: Optional[int] = None
+    text: str = ""
+
+
+def least(costs: Sequence[Cost]) -> Cost:
+    """The least of each, and what the last one printed."""
+    return Cost(min(cost.wall for cost in costs), min(cost.used for cost in costs),
+                min(cost.peak or 0 for cost in costs), costs[-1].text)
 
 
 def absolute(path: str) -> str:
     """A path that is given to a script, for processes that run in other folders."""
     return os.path.abspath(path)
+
+
+def asked_for(doc: str | None, usual: Sequence[int], needs_time: bool = False
+              ) -> argparse.Namespace:
+    """The words of a measurement: a program, a folder and how many rows there are."""
+    parser = argparse.ArgumentParser(description=(doc or "").partition("\n")[0])
+    parser.add_argument("program", type=absolute)
+    parser.add_argument("folder")
+    parser.add_argument("rows", type=int, nargs="*", default=usual)
+    if needs_time and GNU_TIME is None:
+        parser.error("there is no GNU time")
+    return parser.parse_args()
 
 
 def made_release(place: str, rows: int, seed: int = 1, is_package: bool = False) -> None:
@@ -38,26 +67,74 @@ def made_release(place: str, rows: int, seed: int = 1, is_package: bool = False)
         subprocess.run([sys.executable, MAKER, *words], stdout=subprocess.DEVNULL, check=True)
 
 
+def by_itself(script: str, asked: argparse.Namespace) -> int:
+    """Runs a script once for each number of rows, so that a peak is that of one; the worst
+    status."""
+    words = [sys.executable, os.path.abspath(script), asked.program, asked.folder]
+    return max(subprocess.call([*words, str(rows)]) for rows in asked.rows)
+
+
 def ran(words: Sequence[str], given: bytes, place: str) -> tuple[bytes, Cost]:
     """What a process writes for its input, and what it cost. Its streams are files of a folder."""
     given_to, written_to = (os.path.join(place, name) for name in ("given", "written"))
-    with open(given_to, "wb") as file:
-        file.write(given)
+    Path(given_to).write_bytes(given)
     start = time.monotonic()
     with open(given_to, "rb") as lines, open(written_to, "wb") as written:
         child = subprocess.Popen(words, stdin=lines, stdout=written)
         _, status, usage = os.wait4(child.pid, 0)
         child.returncode = status
-    wall = time.monotonic() - start
-    with open(written_to, "rb") as told:
-        output = told.read()
+    wall, output = time.monotonic() - start, Path(written_to).read_bytes()
     if status != 0:
         raise SystemExit("%s: status %d: %r" % (" ".join(words[:2]), status, output[:TOLD]))
     return output, Cost(wall, usage.ru_utime + usage.ru_stime, usage.ru_maxrss * KILOBYTE)
 
 
+def timed(words: Sequence[str], asked: Optional[str] = None) -> Cost:
+    """What a process cost, which GNU time starts: a process counts what its starter held at that
+    moment as its own, and GNU time holds little. Where it is asked what a file has, by a pipe, the
+    seconds are those from the end of its opening on."""
+    with tempfile.TemporaryDirectory() as place:
+        peak, pipe = os.path.join(place, "peak"), os.path.join(place, "pipe")
+        os.mkfifo(pipe)
+        start, used = time.monotonic(), 0.0
+        started = [GNU_TIME or "time", "-f", "%M", "-o", peak, *words, *([pipe] if asked else [])]
+        child = subprocess.Popen(started, stdin=subprocess.DEVNULL, stdout=subprocess.PIPE,
+                                 stderr=subprocess.DEVNULL)
+        assert child.stdout
+        if asked:
+            questions = Path(asked).read_bytes()
+            with opened(pipe, child) as file:
+                start, used = time.monotonic(), seconds_used(child_of(child.pid))
+                file.write(questions)
+        text = child.stdout.read().decode().strip()
+        _, status, usage = os.wait4(child.pid, 0)
+        wall = time.monotonic() - start
+        child.returncode = os.waitstatus_to_exitcode(status)
+        if status != 0:
+            raise SystemExit("failed: %s: %s" % (" ".join(words), text[:TOLD]))
+        kilobytes = int(Path(peak).read_text(encoding="ascii"))
+        return Cost(wall, usage.ru_utime + usage.ru_stime - used, kilobytes * KILOBYTE, text)
+
+
+def opened(pipe: str, child: subprocess.Popen[bytes]) -> BinaryIO:
+    """The pipe, once the program has opened it to read."""
+    while child.poll() is None:
+        try:
+            place = os.open(pipe, os.O_WRONLY | os.O_NONBLOCK)
+        except OSError:
+            time.sleep(BETWEEN_LOOKS)
+            continue
+        os.set_blocking(place, True)
+        return os.fdopen(place, "wb")
+    raise SystemExit("the program ended before it asked for its questions")
+
+
+def child_of(pid: int) -> int:
+    """The process that a process has started."""
+    return int(Path("/proc/%d/task/%d/children" % (pid, pid)).read_text("ascii").split()[0])
+
+
 def seconds_used(pid: int) -> float:
     """The seconds of the processor that a process has used, which the system says in hundredths."""
-    with open("/proc/%d/stat" % pid, encoding="ascii") as file:
-        words = file.read().rpartition(")")[2].split()
+    words = Path("/proc/%d/stat" % pid).read_text("ascii").rpartition(")")[2].split()
     return (int(words[11]) + int(words[12])) / os.sysconf("SC_CLK_TCK")

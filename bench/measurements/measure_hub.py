@@ -14,21 +14,16 @@ standard library alone.
 
 from __future__ import annotations
 
-import argparse
 import functools
-import multiprocessing
 import os
-import statistics
 import sys
 import tempfile
 from collections.abc import Callable
-from multiprocessing.queues import Queue
 
 from measure_gateway import (
-    DEFAULT_ROWS, PROCESSES, YEARS, SlowHubClient, Waits, begin_hub, child_of, concepts,
-    make_store, question, run)
-from measure_harness import absolute, seconds_used
-from try_gateway import SERVICE
+    DEFAULT_ROWS, HUB, YEARS, SlowHubClient, Taken, begin_hub, concepts, make_store, options_of,
+    question)
+from measure_harness import absolute, child_of
 
 CLIENTS = (1, 8, 64)
 DEFAULT_SECONDS, DEFAULT_ROUNDS = 3, 2
@@ -36,44 +31,20 @@ HEAD = """| Hub | Clients | a second | median ms | p99 ms | processor us: hub / 
 |---|---|---|---|---|---|"""
 
 
-def waits_of(path: str, make: Callable[[], bytes], clients: int, seconds: int) -> list[float]:
-    """How long each question was waited for."""
-    out: Queue[Waits] = multiprocessing.Queue()
-    processes = min(PROCESSES, clients)
-    runs = [
-        multiprocessing.Process(
-            target=run, args=(SlowHubClient, path, make, clients // processes, seconds, seed, out))
-        for seed in range(processes)]
-    for one in runs:
-        one.start()
-    told = [out.get() for _ in runs]
-    for one in runs:
-        one.join()
-    return sorted(wait for waits, _ in told for wait in waits)
-
-
 def measured(name: str, path: str, pids: list[int], make: Callable[[], bytes], clients: int,
              seconds: int) -> None:
     """Prints a line of the table."""
-    before = [seconds_used(pid) for pid in pids]
-    waits = waits_of(path, make, clients, seconds)
-    used = [seconds_used(pid) - first for pid, first in zip(pids, before)]
-    spent = " / ".join("%.0f" % (each / len(waits) * 1e6) for each in used)
-    shown = (statistics.median(waits) * 1e3, waits[len(waits) * 99 // 100] * 1e3, spent)
+    taken = Taken(pids, SlowHubClient, path, make, clients, seconds)
+    spent = " / ".join("%.0f" % one for one in taken.spent)
     print("| %s | %d | %.0f | %.2f | %.2f | %s |"
-          % (name, clients, len(waits) / seconds, *shown), flush=True)
+          % (name, clients, taken.rate, taken.median, taken.p99, spent), flush=True)
 
 
 def main() -> int:
-    words = argparse.ArgumentParser(description="Measures a hub, or several in turn.")
-    words.add_argument("program", type=absolute)
+    words = options_of(__doc__, rows=DEFAULT_ROWS, seconds=DEFAULT_SECONDS, rounds=DEFAULT_ROUNDS)
     words.add_argument("--hub", type=absolute, action="append")
-    words.add_argument("--rows", type=int, default=DEFAULT_ROWS)
-    words.add_argument("--seconds", type=int, default=DEFAULT_SECONDS)
-    words.add_argument("--rounds", type=int, default=DEFAULT_ROUNDS)
     options = words.parse_args()
-    options.package = False
-    hubs = options.hub or [os.path.join(SERVICE, "sctd-hub")]
+    hubs = options.hub or [HUB]
     with tempfile.TemporaryDirectory() as folder:
         store, path = os.path.join(folder, "store"), os.path.join(folder, "hub")
         make_store(options, folder, store)

@@ -23,10 +23,11 @@ import re
 import shutil
 import statistics
 import sys
-from collections.abc import Callable, Sequence
+from collections.abc import Callable
+from pathlib import Path
 
-from measure import SEED, Work, first_column, write_lines
-from measure_harness import made_release
+from measure import SEED, drawn, make, write_lines
+from measure_harness import Cost, asked_for, least, made_release, timed
 
 DEFAULT_ROWS, DEFAULT_TIMES = 100_000, 5
 STEP = 1000
@@ -52,30 +53,18 @@ def made(place: str, rows: int) -> str:
         for seed in SEEDS:
             release = os.path.join(place, str(seed))
             made_release(release, rows, seed)
-            folder = os.path.join(release, "full", "Terminology")
-            name = [name for name in os.listdir(folder) if name.startswith("sct2_Concept_")][0]
-            concepts += first_column(os.path.join(folder, name), count, chance)
+            concepts += drawn(os.path.join(release, "full"), "C", count, chance)
         chance.shuffle(concepts)
-        write_lines(ids, [columns[0] for columns in concepts])
+        write_lines(ids, (columns[0] for columns in concepts))
     return ids
 
 
-class Least:
-    """The least that several runs cost, and what the last one printed."""
-
-    def __init__(self, times: int, run: Callable[[], Work]) -> None:
-        runs = [run() for _ in range(times)]
-        self.processor = min(work.processor for work in runs)
-        self.wall = min(work.wall for work in runs)
-        self.text = runs[-1].text
-
-
-def show(title: str, work: Least, less: Least) -> None:
-    row = (title, work.processor - less.processor, work.wall - less.wall, work.text)
+def show(title: str, cost: Cost, less: Cost) -> None:
+    row = (title, cost.used - less.used, cost.wall - less.wall, cost.text)
     print("| %s | %.3f | %.3f | %s |" % row, flush=True)
 
 
-def show_lookups(times: int, groups: int, run: Callable[[str], Work]) -> None:
+def show_lookups(times: int, groups: int, run: Callable[[str], Cost]) -> None:
     """Microseconds of a lookup and of what goes before a group, by the program's own clock."""
     print("%d groups of %d lookups" % (groups, GROUP))
     print("| Lookups | Microseconds each: median, least, most"
@@ -96,43 +85,39 @@ def measure(program: str, folder: str, rows: int, times: int) -> None:
     place = os.path.join(folder, "merge-%d" % rows)
     ids = made(place, rows)
     before, store, copy = (os.path.join(place, name) for name in ("before", "store", "copy"))
-    if os.path.exists(before):
-        os.remove(before)
-    Work([program, "make", before])
+    make(program, before)
     for seed in SEEDS:
-        Work([program, "import", before, os.path.join(place, str(seed)), "full"])
+        timed([program, "import", before, os.path.join(place, str(seed)), "full"])
     size = os.path.getsize(before) - FIRST_ROW
     print("%d rows in %d bytes, %d a step" % (2 * rows, size, STEP))
     print("| Work | Processor seconds | Wall seconds | Count |")
     print("|---|---|---|---|")
 
-    def run(what: str, *words: str) -> Work:
+    def run(what: str, *words: str) -> Cost:
         shutil.copyfile(before, store)
-        return Work([program, what, store, *words])
+        return timed([program, what, store, *words])
 
-    def write() -> Work:
-        if os.path.exists(copy):
-            os.remove(copy)
-        return Work([program, "write", before, copy, str(-(-size * STEP // (2 * rows)))])
+    def write() -> Cost:
+        Path(copy).unlink(missing_ok=True)
+        return timed([program, "write", before, copy, str(-(-size * STEP // (2 * rows)))])
 
-    nothing = Least(times, lambda: Work([program, "nothing"]))
-    opening = Least(times, lambda: run("open"))
-    merging = Least(times, lambda: run("merge"))
+    nothing = least([timed([program, "nothing"]) for _ in range(times)])
+    opening = least([run("open") for _ in range(times)])
+    merging = least([run("merge") for _ in range(times)])
+    writing = least([write() for _ in range(times)])
     show("open", opening, nothing)
     show("merge, in all", merging, opening)
-    show("read the file, and write as many bytes in as many writes", Least(times, write), nothing)
+    show("read the file, and write as many bytes in as many writes", writing, nothing)
     show_lookups(times, 2 * rows // STEP, lambda way: run("groups", ids, way))
 
 
-def main(words: Sequence[str]) -> int:
-    if len(words) not in (2, 3, 4):
-        print((__doc__ or "").strip(), file=sys.stderr)
-        return 2
-    given = [int(word) for word in words[2:]]
+def main() -> int:
+    asked = asked_for(__doc__, (), needs_time=True)
+    given: list[int] = list(asked.rows)
     rows, times = given + [DEFAULT_ROWS, DEFAULT_TIMES][len(given) :]
-    measure(os.path.abspath(words[0]), words[1], rows, times)
+    measure(asked.program, asked.folder, rows, times)
     return 0
 
 
 if __name__ == "__main__":
-    sys.exit(main(sys.argv[1:]))
+    sys.exit(main())

@@ -24,14 +24,15 @@ from collections.abc import Sequence
 from typing import Optional
 
 import make_release as rf2
+from measure import SEED, make
+from measure_harness import asked_for, timed
 
 COUNTS = (128, 250)
 ROWS = 40
 LOOKUPS, PAGES = 10000, 1000
 TURNS = 5
 # How often a process opens a store where that isn't given.
-DEFAULT_TIMES = "20"
-SEED = 7
+DEFAULT_TIMES = 20
 TOOK = re.compile(r"^(\w+): (\d+) us, (\d+) us of the processor$", re.M)
 
 
@@ -44,12 +45,9 @@ def write(place: str, name: str, rows: Sequence[tuple[str, str]]) -> None:
 def make_store(program: str, place: str, name: str, releases: Sequence[str]) -> str:
     """A store that has imported these releases, one after the other."""
     store = os.path.join(place, name)
-    if os.path.exists(store):
-        os.remove(store)
-    subprocess.check_call([program, "make", store], stdout=subprocess.DEVNULL)
+    make(program, store)
     for release in releases:
-        words = [program, "import", store, place, release]
-        subprocess.check_call(words, stdout=subprocess.DEVNULL)
+        timed([program, "import", store, place, release])
     return store
 
 
@@ -99,12 +97,9 @@ def show(rows: int, segments: int, least: Least) -> None:
     print("| %d | %d | %.2f / %.2f | %.2f | %.1f |" % (rows, segments, *opening, lookup, page))
 
 
-def main(words: Sequence[str]) -> int:
-    if len(words) not in (2, 3):
-        print((__doc__ or "").strip(), file=sys.stderr)
-        return 2
-    program, place = os.path.abspath(words[0]), words[1]
-    times = words[2] if len(words) > 2 else DEFAULT_TIMES
+def main() -> int:
+    asked = asked_for(__doc__, (DEFAULT_TIMES,), needs_time=True)
+    program, place, times = asked.program, asked.folder, str(asked.rows[0])
     stores, ids = prepare(program, place)
     taken = {key: Least() for key in stores}
     for _ in range(TURNS):
@@ -124,4 +119,4 @@ def main(words: Sequence[str]) -> int:
 
 
 if __name__ == "__main__":
-    sys.exit(main(sys.argv[1:]))
+    sys.exit(main())

@@ -23,26 +23,23 @@ from __future__ import annotations
 import argparse
 import functools
 import http.client
-import multiprocessing
 import os
 import random
 import socket
 import ssl
 import sys
-import tempfile
-import threading
 import time
-from collections.abc import Callable, Sequence
-from multiprocessing.queues import Queue
+from collections.abc import Callable
 from pathlib import Path
 
 sys.path.append(str(Path(__file__).resolve().parents[1] / "trials"))
 from measure_gateway import (  # noqa: E402
-    PROCESSES, READ_BYTES, VERSION, YEARS, Connection, HttpClient, SlowHubClient, Waits, child_of,
-    concepts, lookup, make_store, question, run)
-from measure_harness import absolute, seconds_used  # noqa: E402
+    MS, VERSION, YEARS, Asked, Connection, HttpClient, SlowHubClient, Taken, concepts,
+    lookup, make_store, options_of, question)
+from measure_harness import child_of  # noqa: E402
 from proxy_harness import (  # noqa: E402
-    HOST, NOT_RUN, Client, Process, Proxy, free_ports, gateway_words, hub_words, missing, ready, stop)
+    HOST, NOT_RUN, Client, Clients, Process, Proxy, free_ports, gateway_words, hub_words, missing,
+    open_folder, ready, stop)
 
 GATEWAYS, CLIENTS, EXPANDING, RESTARTED = 3, 64, 3, 4
 DEFAULT_ROWS, DEFAULT_SECONDS, DEFAULT_RESTARTS = 440_000, 5, 100
@@ -52,7 +49,6 @@ PAGE = 1_000
 BETWEEN_SECONDS = 0.05
 # How a question for any code on any day is answered.
 ANSWERED = (200, 404)
-MS, US = 1e3, 1e6
 HEAD = """| Asked | a second | median ms | p99 ms | processor us |
 |---|---|---|---|---|"""
 
@@ -89,27 +85,6 @@ def expansion(day: str) -> bytes:
     target = "/fhir/ValueSet/$expand?url=%s%s?fhir_vs&count=%d&offset=%d&includeDesignations=true"
     offset = random.randrange(10) * PAGE
     return b"GET %s HTTP/1.1\r\nHost: x\r\n\r\n" % (target % (VERSION, day, PAGE, offset)).encode()
-
-
-class Asked:
-    """Clients that ask in processes of their own from now on, for some seconds."""
-
-    def __init__(self, client: type[Connection], path: str, make: Callable[[], bytes], clients: int,
-                 seconds: int) -> None:
-        self.out: Queue[Waits] = multiprocessing.Queue()
-        processes = min(PROCESSES, clients)
-        words = (client, path, make, clients // processes, seconds)
-        self.runs = [multiprocessing.Process(target=run, args=(*words, seed, self.out))
-                     for seed in range(processes)]
-        for one in self.runs:
-            one.start()
-
-    def told(self) -> Waits:
-        """The waits of all in their order, and how many were refused."""
-        told = [self.out.get() for _ in self.runs]
-        for one in self.runs:
-            one.join()
-        return sorted(wait for waits, _ in told for wait in waits), sum(count for _, count in told)
 
 
 class Service:
@@ -154,15 +129,10 @@ class Service:
                  clients: int) -> None:
         """Prints a line of the table."""
         pids = self.processes()
-        before = {one: seconds_used(pid) for one, pid in pids.items()}
-        waits, wrong = Asked(client, path, make, clients, self.options.seconds).told()
-        used = {one: seconds_used(pid) - before[one] for one, pid in pids.items()}
-        spent = ", ".join(
-            "%s %.0f" % (one, took / len(waits) * US) for one, took in used.items() if took)
+        taken = Taken(list(pids.values()), client, path, make, clients, self.options.seconds)
+        spent = ", ".join("%s %.0f" % pair for pair in zip(pids, taken.spent) if pair[1])
         print("| %s | %.0f | %.1f | %.1f | %s |%s" % (
-            name, len(waits) / self.options.seconds, waits[len(waits) // 2] * MS,
-            waits[len(waits) * 99 // 100] * MS, spent, " %d refused" % wrong if wrong else ""),
-            flush=True)
+            name, taken.rate, taken.median, taken.p99, spent, taken.refused), flush=True)
 
     def beside(self) -> None:
         """A client of one gateway, alone and beside large expansions."""
@@ -177,14 +147,14 @@ class Service:
 
     def restarted(self) -> None:
         """Starts the gateways again in turn, while clients ask."""
-        asking = Restarting(self)
-        for number in range(self.options.restarts):
-            stop(self.gateways[number % GATEWAYS])
-            self.gateways[number % GATEWAYS] = self.gateway(number % GATEWAYS)
-            time.sleep(BETWEEN_SECONDS)
-        waits, wrong = asking.told()
+        with Restarting(self) as asking:
+            for number in range(self.options.restarts):
+                stop(self.gateways[number % GATEWAYS])
+                self.gateways[number % GATEWAYS] = self.gateway(number % GATEWAYS)
+                time.sleep(BETWEEN_SECONDS)
+        waits = sorted(asking.waits)
         print("%d restarts of gateways: %d requests, %d lost, p99 %.0f ms" % (
-            self.options.restarts, len(waits), wrong, waits[len(waits) * 99 // 100] * MS))
+            self.options.restarts, len(waits), asking.lost, waits[len(waits) * 99 // 100] * MS))
 
     def end(self) -> None:
         self.proxy.end()
@@ -192,20 +162,17 @@ class Service:
             stop(one)
 
 
-class Restarting:
-    """Clients of nginx, until they are to be told."""
+class Restarting(Clients):
+    """Clients of nginx, and how long each answer was waited for."""
 
     def __init__(self, service: Service) -> None:
+        super().__init__(RESTARTED, self.ask)
         self.service, self.waits, self.lost = service, list[float](), 0
-        self.is_over = threading.Event()
-        self.threads = [threading.Thread(target=self.ask) for _ in range(RESTARTED)]
-        for thread in self.threads:
-            thread.start()
 
-    def ask(self) -> None:
+    def ask(self, _seed: int) -> None:
         make, proxy = self.service.any_code(), self.service.proxy
         client = Client(proxy, proxy.user)
-        while not self.is_over.is_set():
+        while not self.is_over:
             began = time.perf_counter()
             try:
                 is_lost = client.get(make().split()[1].decode())[0] not in ANSWERED
@@ -214,12 +181,6 @@ class Restarting:
                 client.connection.close()
             self.lost += is_lost
             self.waits.append(time.perf_counter() - began)
-
-    def told(self) -> Waits:
-        self.is_over.set()
-        for thread in self.threads:
-            thread.join()
-        return sorted(self.waits), self.lost
 
 
 def tried(options: argparse.Namespace, place: Path) -> None:
@@ -238,22 +199,16 @@ def tried(options: argparse.Namespace, place: Path) -> None:
         service.end()
 
 
-def main(words: Sequence[str]) -> int:
-    parser = argparse.ArgumentParser(description="Measures a hub and three gateways behind nginx.")
-    parser.add_argument("program", type=absolute)
-    parser.add_argument("--rows", type=int, default=DEFAULT_ROWS)
-    parser.add_argument("--seconds", type=int, default=DEFAULT_SECONDS)
-    parser.add_argument("--restarts", type=int, default=DEFAULT_RESTARTS)
-    options = parser.parse_args(words)
-    options.package = False
+def main() -> int:
+    options = options_of(__doc__, rows=DEFAULT_ROWS, seconds=DEFAULT_SECONDS,
+                         restarts=DEFAULT_RESTARTS).parse_args()
     if (lacks := missing()) is not None:
         print("not run: there is no %s" % lacks)
         return NOT_RUN
-    with tempfile.TemporaryDirectory(prefix="sctd-service-") as place:
-        os.chmod(place, 0o755)
-        tried(options, Path(place))
+    with open_folder() as place:
+        tried(options, place)
     return 0
 
 
 if __name__ == "__main__":
-    sys.exit(main(sys.argv[1:]))
+    sys.exit(main())

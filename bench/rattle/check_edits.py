@@ -3,19 +3,13 @@
 
 check_edits.py
 
-An edit is a wrong change of a crate that the prover has to refuse, as edits.py says. CI tries the
-edits of must-fail/; those of edits/ are tried before a commit by try_edits.py, which writes the
-record edits/tried: a line for each edit that was refused, with a checksum of its file and one of
-its grounds, the texts on which that rests (grounds.py says which they are). Here a crate that has
-edits in edits/ has to have this record, with a line for each of them as it stands and of its
-grounds as they stand; and no line may name what is no edit. What isn't so is said in a line of its
-own on standard error, with the names of the edits, and the status is 1 then.
-
-How many lines were made with another version of the kit than the one on the path is said, and is no
-fault: a new kit proves the crates anew, and nobody can try all edits on that day. (Lines from
-before 2026-11-29 say nothing of the grounds. They count as long as their crate's own sources stay,
-and where the record has a checksum of the crates below, as long as that stays; how many there are
-is said.) Nothing is built. Standard library alone.
+CONTRIBUTING says under "Edits" what an edit is, and what the record edits/tried of a crate has. A
+crate that has edits in edits/ has to have this record, with a line for each of them as it stands
+and of its grounds as they stand; and no line may name what is no edit. What isn't so is said in a
+line of its own on standard error, with the names of the edits, and the status is 1 then. How many
+lines were made with another version of the kit than the one on the path is said, and is no fault: a
+new kit proves the crates anew, and nobody can try all edits on that day. Nothing is built. Standard
+library alone.
 """
 
 from __future__ import annotations
@@ -78,16 +72,9 @@ def faults_of_record(crate: str, edits: list[Edit]) -> Iterator[str]:
         yield f"{RECORD} has a line for {name}, which is no edit"
 
 
-def count_old(record: Record | None) -> int:
-    """How many lines of a record say nothing of the grounds of their edits."""
-    return sum(not line.grounds for line in record.lines.values()) if record else 0
-
-
 def count_of_other_kit(record: Record | None) -> int:
     """How many lines of a record were made with another version of the kit."""
-    if record is None or record.kit in (None, kit_version()):
-        return 0
-    return sum(bool(line.grounds) for line in record.lines.values())
+    return len(record.lines) if record and record.kit not in (None, kit_version()) else 0
 
 
 def count_of_unknown_kit(record: Record | None) -> int:
@@ -99,7 +86,7 @@ def main(words: list[str]) -> int:
     if words:
         print((__doc__ or "").strip(), file=sys.stderr)
         return 2
-    count, wrong, older, other, unknown = 0, 0, 0, 0, 0
+    count, wrong, other, unknown = 0, 0, 0, 0
     for crate in sorted(os.listdir(os.path.join(TOP, "crates"))):
         edits = all_edits(crate)
         stale = [f"{fault}: run python3 bench/rattle/try_edits.py {crate}"
@@ -108,10 +95,8 @@ def main(words: list[str]) -> int:
             wrong += 1
             print(f"{crate}: {fault}", file=sys.stderr)
         count += len(edits)
-        older += count_old(record_of(crate))
         other += count_of_other_kit(record_of(crate))
         unknown += count_of_unknown_kit(record_of(crate))
-    print(f"{older} lines say nothing of the grounds of their edits", file=sys.stderr)
     print(f"{other} lines are of another version of the kit", file=sys.stderr)
     print(f"{unknown} lines don't say with which version of the kit", file=sys.stderr)
     print(f"{count} edits, {wrong} not so", file=sys.stderr)

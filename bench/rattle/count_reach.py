@@ -161,19 +161,13 @@ def rows() -> Iterator[tuple[str, Any]]:
     functions = list(clauses_of(project))
     clauses = [clause for function in functions for clause in function]
     yield "clauses that are meters, and clauses in all", (
-        sum(1 for clause in clauses if is_meter(*clause)),
-        len(clauses),
-    )
+        sum(1 for clause in clauses if is_meter(*clause)), len(clauses))
     most = max(
-        sum(1 for head, _ in function if head.startswith("ensures")) for function in functions
-    )
+        sum(1 for head, _ in function if head.startswith("ensures")) for function in functions)
     yield "what `Store::import` ensures, and the function with most", (
-        ensured_by("history_store::Store::import"),
-        most,
-    )
+        ensured_by("history_store::Store::import"), most)
     yield "lines of the store's questions in `%s`" % STORE, sum(
-        read(os.path.join(folder_of(STORE), name)).count("\n") for name in QUESTIONS
-    )
+        read(os.path.join(folder_of(STORE), name)).count("\n") for name in QUESTIONS)
     yield "lines of src/ in product crates", lines_in("src", product_crates())
     yield "lines of proofs/", lines_in("proofs", every_crate)
 

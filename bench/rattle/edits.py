@@ -5,11 +5,8 @@ a line `file: PATH`, and behind it pairs of lines `old: TEXT` and `new: TEXT`. A
 stand just once in its file.
 
 A crate's record is the file edits/tried: the day on which an edit was last tried, the version of
-the kit that tried it, and a line for each edit that was refused, with a checksum of its file and
-one of its grounds, as grounds.py says. A line from before 2026-11-29 has no second checksum. It
-goes by the checksums above the lines: of the crate's src/, specs/ and proofs/ without their
-comments, and of specs/ and the files that declare a trait in the crates below it, which the oldest
-records don't have. Standard library alone.
+the kit that tried it, if it is known for all lines, and a line for each edit that was refused, with
+a checksum of its file and one of its grounds, as grounds.py says. Standard library alone.
 """
 
 from __future__ import annotations
@@ -64,36 +61,26 @@ class Misfit(Exception):
 
 
 class Line(NamedTuple):
-    """What a record says of an edit: the checksum of its file, and that of its grounds, if that is
-    known."""
+    """What a record says of an edit: the checksum of its file, and that of its grounds."""
 
     edit: str
-    grounds: str | None
+    grounds: str
 
 
 @dataclass(frozen=True)
 class Record:
-    """Which edits were refused: the day of the last of them, the version of the kit, the checksum
-    of the crate's sources and that of what they rest on below it, and a line for each edit by its
-    name. The version is for the lines with grounds, and both checksums are for the others."""
+    """Which edits were refused: the day of the last of them, the version of the kit, and a line for
+    each edit by its name."""
 
     day: str
     kit: str | None
-    sources: str | None
-    below: str | None
     lines: dict[str, Line]
 
     def text(self) -> str:
-        is_old = any(not line.grounds for line in self.lines.values())
-        head = {"date": self.day, "kit": self.kit}
-        if all(not line.grounds for line in self.lines.values()):
-            del head["kit"]
-        if is_old:
-            head |= {"sources": self.sources, "below": self.below}
-        lines = [f"{name}: {said}" for name, said in head.items() if said]
-        lines += [" ".join([f"edit {name}:", *filter(None, line)])
-                  for name, line in sorted(self.lines.items())]
-        return "\n".join(lines) + "\n"
+        kit = f"kit: {self.kit}\n" if self.kit else ""
+        lines = (f"edit {name}: {line.edit} {line.grounds}\n"
+                 for name, line in sorted(self.lines.items()))
+        return f"date: {self.day}\n{kit}{''.join(lines)}"
 
 
 def changes_in(text: str) -> Iterator[Change]:
@@ -196,12 +183,10 @@ def remove_record(crate: str) -> None:
 
 def record_in(text: str) -> Record | None:
     """What the text of a record says; None where it is none."""
-    line = r"edit (\w+): ([0-9a-f]{64})(?: ([0-9a-f]{64}))?\n"
-    head = (r"date: (\d{4}-\d\d-\d\d)\n(?:kit: (.+)\n)?"
-            r"(?:sources: ([0-9a-f]{64})\n)?(?:below: ([0-9a-f]{64})\n)?")
-    found = re.fullmatch(f"{head}(?:{line})*", text)
-    lines = {name: Line(own, grounds or None) for name, own, grounds in re.findall(line, text)}
-    return Record(found[1], found[2], found[3], found[4], lines) if found else None
+    line = r"edit (\w+): ([0-9a-f]{64}) ([0-9a-f]{64})\n"
+    found = re.fullmatch(rf"date: (\d{{4}}-\d\d-\d\d)\n(?:kit: (.+)\n)?(?:{line})*", text)
+    lines = {name: Line(own, grounds) for name, own, grounds in re.findall(line, text)}
+    return Record(found[1], found[2], lines) if found else None
 
 
 def record_of(crate: str) -> Record | None:

@@ -44,7 +44,7 @@ from collections.abc import Iterable, Iterator
 from typing import NamedTuple, Union
 
 import edits
-from edits import Edit, Line, Record
+from edits import Edit, Record
 from source import RUST_PATH, TOP, Item, Key, Node, OfType, Project, Reader, RustModule, folder_of
 from source import names_in, parts_of_impl, read
 
@@ -304,7 +304,6 @@ class Stale(enum.Enum):
     CHANGED = "changed since it was tried"
     OTHER_KIT = "tried with another version of the kit"
     OTHER_GROUNDS = "what its refusal rests on has changed since it was tried"
-    OTHER_CRATE = "its crate or specs/ or a trait below have changed since it was tried"
 
 
 def why_stale(record: Record, edit: Edit) -> Stale | None:
@@ -314,10 +313,6 @@ def why_stale(record: Record, edit: Edit) -> Stale | None:
         return Stale.NO_LINE
     if line.edit != edits.checksum_of(edit):
         return Stale.CHANGED
-    if line.grounds is None:
-        sources, below = whole(edit.crate)
-        stands = record.sources == sources and record.below in (None, below)
-        return None if stands else Stale.OTHER_CRATE
     if line.grounds != tree().checksum(edit):
         return Stale.OTHER_GROUNDS
     return None if record.kit in (None, kit_version()) else Stale.OTHER_KIT
@@ -357,38 +352,6 @@ def sums_at(commit: str) -> dict[str, Sums]:
 
 def output(*words: str) -> bytes:
     return subprocess.run(words, stdout=subprocess.PIPE, check=True).stdout
-
-
-def commit_of(crate: str, edit: str, record: Record) -> str | None:
-    """The first commit in which a record of these sources has its line for this edit."""
-    path = f"crates/{crate}/{edits.RECORD}"
-    found = None
-    for commit in output("git", "-C", TOP, "log", "--format=%H", "--", path).decode().split():
-        before = record_at(commit, path)
-        same = before and before.sources == record.sources and before.below == record.below
-        if before and same and before.lines.get(edit) == record.lines[edit]:
-            found = commit
-        elif found:
-            break
-    return found
-
-
-@functools.lru_cache(maxsize=None)
-def record_at(commit: str, path: str) -> Record | None:
-    """The record at a path in a commit."""
-    run = subprocess.run(["git", "-C", TOP, "show", f"{commit}:{path}"],
-                         capture_output=True, text=True, check=False)
-    return edits.record_in(run.stdout)
-
-
-def regrouped(record: Record, edit: Edit) -> Line:
-    """An edit's line with a checksum of its grounds, if they are now what they were in the commit
-    that has the line, and otherwise as it is."""
-    line = record.lines[edit.name]
-    commit = None if line.grounds else commit_of(edit.crate, edit.name, record)
-    before = sums_at(commit).get(str(edit)) if commit else None
-    now = tree().checksum(edit)
-    return Line(line.edit, now) if before and before[:2] == (line.edit, now) else line
 
 
 # ---- what is printed

@@ -3,36 +3,23 @@
 
 try_edits.py [--jobs N] [--must-fail] [--anew] [--logs FOLDER] CRATE[/EDIT]..
 try_edits.py [--jobs N] [--must-fail] [--anew] [--logs FOLDER] --all
-try_edits.py --regroup CRATE..|--all
 
 CRATE stands for the edits of its edits/, with --must-fail for those of its must-fail/ too, and
-CRATE/EDIT for one edit of either folder; --all stands for every crate that has edits. An edit is
-refused where the prover names a goal of the function that it changes, or of a closure of it, which isn't proved any more. That a function calls
-another one that isn't proved is no reason, nor that a statement wasn't admitted, nor that a proof
-file names what the edit took away. (Where a function has answers in proofs/, a change that means
-the same as before may be refused too, since they no longer fit.) No proof reads the body of another
-function, so a check has edits of many functions, of which none calls another one; an edit of what
-is no body, or whose check names no goal of its function, is tried by a whole check of the crate. An
-edit of no body, as of a constant, is also refused where a goal's answer rests on a lemma of proofs/
-that isn't true any more. Each check of many edits also has a statement that does nothing, planted
-in a function without an edit, which has to be proved: otherwise a refusal would say nothing, the
-control is lost, and the crate fails.
+CRATE/EDIT for one edit of either folder; --all stands for every crate that has edits. CONTRIBUTING
+says under "Edits" when one is refused, and what the record edits/tried has. (Where a function has
+answers in proofs/, a change that means the same as before may be refused too, since they no longer
+fit.) No proof reads the body of another function, so a check has edits of many functions, of which
+none calls another one; an edit of what is no body, or whose check names no goal of its function, is
+tried by a whole check of the crate. Each check of many edits also has a statement that does
+nothing, planted in a function without an edit: where that isn't proved a refusal would say nothing,
+the control is lost, and the crate fails.
 
 A line for each edit says why it was refused. The last line counts the edits and those that were
-not; the status is 1 where there are any. An edit that was refused gets a line in the crate's record
-edits/tried, which check_edits.py compares with the crate. It isn't tried again as long as it, what
-its refusal rests on (grounds.py says what that is) and the kit's version stay as they are, but with
---anew: so an edit that is new, or that comes from must-fail/, is tried alone. With --anew the lines
-of the edits that are tried go first, and where a control is lost all that the run has added.
-
-With --regroup nothing is tried. A line from before 2026-11-29, which says nothing of what its edit
-rests on, is completed where that is the same now as in the commit that first had the line; how many
-are left is printed for each crate.
-
-A crate has to be proved and its work kept, as `rt check` leaves it in out/. N checks go on at once,
-of whichever crates have one to make: 1 where none is given. What each check printed is written to
-FOLDER. This is for the time before a commit: `rt ci` tries the edits of must-fail/, each from
-nothing. It reads the kit's own scripts. Standard library alone.
+not; the status is 1 where there are any. With --anew the lines of the edits that are tried go
+first, and where a control is lost all that the run has added. A crate has to be proved and its work
+kept, as `rt check` leaves it in out/. N checks go on at once, of whichever crates have one to make:
+1 where none is given. What each check printed is written to FOLDER. It reads the kit's own scripts.
+Standard library alone.
 """
 
 from __future__ import annotations
@@ -551,8 +538,7 @@ class Refusals:
     def __init__(self, crate: str, forgotten: list[Edit]) -> None:
         self.crate, self.edits = crate, {edit.name: edit for edit in editing.all_edits(crate)}
         self.has_folder = any(edit.folder == EDITS for edit in self.edits.values())
-        nothing = Record("", grounds.kit_version(), *grounds.whole(crate), {})
-        self.record = editing.record_of(crate) or nothing
+        self.record = editing.record_of(crate) or Record("", grounds.kit_version(), {})
         names = self.edits.keys() - {edit.name for edit in forgotten}
         self.added: dict[str, Line] = {}
         self.found = {name: line for name, line in self.record.lines.items() if name in names
@@ -560,9 +546,8 @@ class Refusals:
         self.write()
 
     def has(self, edit: Edit) -> bool:
-        """Whether an edit was refused, on what is below it too."""
-        line = self.found.get(edit.name)
-        return line is not None and bool(line.grounds or self.record.below)
+        """Whether an edit was refused."""
+        return edit.name in self.found
 
     def add(self, edit: Edit) -> None:
         self.added[edit.name] = line_of(edit)
@@ -580,23 +565,13 @@ class Refusals:
         forget_sources()
         return before == (grounds.whole(self.crate), [line_of(edit) for edit in edits])
 
-    def regroup(self) -> int:
-        """Gives the lines that have none a checksum of their grounds, if these are known, and
-        returns how many are left without."""
-        for name in self.found:
-            self.found[name] = grounds.regrouped(self.record, self.edits[name])
-        self.write()
-        return sum(not line.grounds for line in self.found.values())
-
     def write(self) -> None:
         """Writes the record, or removes it where it has no line, or the crate no edits/."""
         day = datetime.date.today().isoformat() if self.added else self.record.day
         lines = self.found | self.added
-        old = (self.record.sources, self.record.below)
         kit = self.record.kit if self.found else grounds.kit_version()
         if lines and self.has_folder:
-            record = Record(day, kit, *old, lines)
-            editing.write_record(self.crate, record)
+            editing.write_record(self.crate, Record(day, kit, lines))
         else:
             editing.remove_record(self.crate)
 
@@ -678,7 +653,6 @@ def arguments() -> argparse.Namespace:
     asked.add_argument("--must-fail", action="store_true", help=f"those of {MUST_FAIL}/ too")
     asked.add_argument("--anew", action="store_true", help="those that were refused before too")
     asked.add_argument("--logs", metavar="FOLDER")
-    asked.add_argument("--regroup", action="store_true", help="only find what records rest on")
     asked.add_argument("--all", action="store_true", help="every crate that has edits")
     asked.add_argument("names", nargs="*", metavar="CRATE[/EDIT]")
     given = asked.parse_args()
@@ -701,20 +675,9 @@ def asked_for(given: argparse.Namespace, crates: Iterable[str]) -> dict[str, lis
     return {name: edits for name, edits in found.items() if edits}
 
 
-def regroup(crates: list[str]) -> int:
-    """Gives the lines of these crates' records the checksums of their grounds, and says how many
-    are left without."""
-    left = {crate: Refusals(crate, []).regroup() for crate in crates}
-    for crate, count in left.items():
-        print(f"{crate}: {count} lines without grounds")
-    return 0
-
-
 def main() -> int:
     given = arguments()
     os.chdir(TOP)
-    if given.regroup:
-        return regroup(list(asked_for(given, grounds.tree().crates)))
     rt = kit()
     rt.rtlib.guarded()
     crates = crates_of(rt)

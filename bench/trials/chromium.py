@@ -13,17 +13,9 @@ from typing import Any, Optional
 
 NAMES = ("chromium", "chromium-browser", "google-chrome", "chrome")
 # As root Chromium has no sandbox; the pages are those of the gateway alone.
-FLAGS = [
-    "--headless=new",
-    "--no-sandbox",
-    "--disable-gpu",
-    "--disable-dev-shm-usage",
-    "--hide-scrollbars",
-    "--no-first-run",
-    "--disable-background-networking",
-    "--lang=en-GB",
-    "--remote-debugging-pipe",
-]
+FLAGS = ["--headless=new", "--no-sandbox", "--disable-gpu", "--disable-dev-shm-usage",
+         "--hide-scrollbars", "--no-first-run", "--disable-background-networking", "--lang=en-GB",
+         "--remote-debugging-pipe"]
 # (A machine that does much else takes a while to begin.)
 SECONDS = 90
 READ_BYTES = 1 << 16
@@ -51,21 +43,10 @@ class Browser:
         to_browser, self.to = os.pipe()
         self.come, from_browser = os.pipe()
         self.process = subprocess.Popen(
-            [
-                "sh",
-                "-c",
-                'exec "$@" 3<&%d 4>&%d' % (to_browser, from_browser),
-                "sh",
-                path,
-                *FLAGS,
-                "--user-data-dir=" + self.folder.name,
-                "about:blank",
-            ],
-            pass_fds=(to_browser, from_browser),
-            stdin=subprocess.DEVNULL,
-            stdout=subprocess.DEVNULL,
-            stderr=subprocess.DEVNULL,
-        )
+            ["sh", "-c", 'exec "$@" 3<&%d 4>&%d' % (to_browser, from_browser), "sh", path, *FLAGS,
+             "--user-data-dir=" + self.folder.name, "about:blank"],
+            pass_fds=(to_browser, from_browser), stdin=subprocess.DEVNULL,
+            stdout=subprocess.DEVNULL, stderr=subprocess.DEVNULL)
         os.close(to_browser)
         os.close(from_browser)
         self.rest, self.number = b"", 0
@@ -133,10 +114,9 @@ class Browser:
     def value(self, script: str) -> Any:
         """What an expression of JavaScript is in the page."""
         found = self.ask(
-            "Runtime.evaluate", expression=script, returnByValue=True, awaitPromise=True
-        )
+            "Runtime.evaluate", expression=script, returnByValue=True, awaitPromise=True)
         if "exceptionDetails" in found:
-            raise Failed("%s: %s" % (script[:60], found["exceptionDetails"].get("text")))
+            raise Failed("%s: %s" % (script[-60:], found["exceptionDetails"].get("text")))
         return found["result"].get("value")
 
     def press(self, key: str) -> None:
@@ -156,10 +136,5 @@ class Browser:
         self.ask("Emulation.setEmulatedMedia", media=kind, features=wanted)
 
     def width(self, pixels: int, is_phone: bool = False) -> None:
-        self.ask(
-            "Emulation.setDeviceMetricsOverride",
-            width=pixels,
-            height=900,
-            deviceScaleFactor=1,
-            mobile=is_phone,
-        )
+        self.ask("Emulation.setDeviceMetricsOverride", width=pixels, height=900,
+                 deviceScaleFactor=1, mobile=is_phone)

@@ -11,6 +11,7 @@ from concurrent.futures import ThreadPoolExecutor
 from pathlib import Path
 from typing import Callable, Iterator, NamedTuple, Optional, Sequence
 
+from harness import Wrong
 from moments import compiled
 
 # How long a run may take, and how many go on at a time.
@@ -21,9 +22,6 @@ ALONE, ALL_BEHIND = 1, -1
 
 OUT_OF_MEMORY = b"ERR 1 OutOfMemory\n"
 DISK_FAULT = b"ERR 2 DiskFault\n"
-
-class Wrong(Exception):
-    """Something was answered or left that mustn't be."""
 
 
 class Ran(NamedTuple):

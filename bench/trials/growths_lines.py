@@ -3,15 +3,16 @@
 from __future__ import annotations
 
 import hashlib
-import os
 import re
 import shutil
 from pathlib import Path
 from typing import NamedTuple, Optional, Sequence
 
 import soak
-from growths_harness import (ALL_BEHIND, ALONE, OUT_OF_MEMORY, Program, Ran, Refusals, Wrong,
-                             replies_in, try_each, ways_to_be_refused)
+from case_texts import FOLDER
+from growths_harness import (ALL_BEHIND, ALONE, OUT_OF_MEMORY, Program, Ran, Refusals, replies_in,
+                             try_each, ways_to_be_refused)
+from harness import RELEASES, Wrong
 from soak_model import KINDS, SUBJECTS, Columns, File, Model, Reply
 
 import make_release as rf2  # soak.py looks for it.
@@ -237,63 +238,14 @@ class Runs:
         return came == {False, True} or not are_there
 
 
-# The rows of the releases that the demonstration imports: their columns, without those that are the
-# same in each row of a kind.
-CORE = "900000000000207008"
-CONCEPT = CORE + " 900000000000074008"
-LINK = CORE + " 1000004 138875005 0 116680003 900000000000011006 900000000000451002"
-TERM = CORE + " 1000004 de 900000000000013009 %s 900000000000448009"
-SAMPLES = {
-    "r1": [
-        ("C", "138875005 20200131 1 " + CONCEPT),
-        ("C", "1000004 20200131 1 " + CONCEPT),
-        ("C", "2000001 20200131 1 " + CONCEPT),
-        ("D", "1000015 20200131 1 " + TERM % "Straße"),
-        ("R", "1000027 20200131 1 " + LINK),
-        ("R", "2000029 20200131 1 " + LINK),
-    ],
-    "r2": [
-        ("C", "1000004 20210131 0 " + CONCEPT),
-        ("D", "1000015 20210131 1 " + TERM % "Weg"),
-        ("R", "2000029 20210131 0 " + LINK),
-        (
-            "A",
-            "0b6a0c2e-5d0f-4c53-9f6e-8d9d2a7b1c01 20210131 1 "
-            + CORE
-            + " 900000000000527005 1000004 2000001",
-        ),
-    ],
-    "r3": [
-        ("C", "138875005 20200131 1 " + CONCEPT),
-        ("C", "1000004 20200731 0 " + CONCEPT),
-        ("C", "3000005 20200131 1 " + CONCEPT),
-    ],
-}
-# The lines of the demonstration that change the store, and a second step, of more than one row: a
-# step that is refused behind it gives back its own rows alone.
-CHANGES = """0 STATUS
-0 GET C 138875005 20230131
-0 IMPORT r1
-1 PIN
-0 IMPORT r2
-0 MERGE
-0 STEP 1
-0 STEP 2
-1 IMPORT r3
-0 STEP 100
-0 PUBLISH""".split("\n")
-# What it asks the store then, lines that are refused, and further questions.
-QUESTIONS = """0 STATUS
-0 GET C 1000004 20200831
-1 GET C 1000004 20200831
-0 HISTORY C 1000004
-0 CHILDREN 138875005 20210131
-0 TERMS 20200131 10 STRASS
-0 TERMS 20210131 10 STRASS
-0 REPLACED 1000004 20210131
-1 PIN 9
-0 IMPORT r9
-1 UNPIN
+# The lines of the demonstration: those that change the store, with a second step, of more than one
+# row, since a step that is refused behind it gives back its own rows alone; and what it asks then.
+SAID = [line[2:] for line in (FOLDER / "demonstration.txt").read_text("utf-8").splitlines()
+        if line.startswith("> ")]
+CHANGES = SAID[: SAID.index("0 PUBLISH") + 1]
+CHANGES.insert(CHANGES.index("0 STEP 1") + 1, "0 STEP 2")
+# Lines that are refused, and further questions.
+MORE = """1 UNPIN
 1024 STATUS
 0 STATU
 0 STEP 0
@@ -312,18 +264,15 @@ QUESTIONS = """0 STATUS
 0 DATES
 0 AT 1 DATES
 0 CHECK r2
-0 DIGEST""".split("\n")
+0 DIGEST"""
+QUESTIONS = SAID[SAID.index("0 PUBLISH") + 1 :] + MORE.split("\n")
 
 
-def samples_in(releases: Path) -> dict[str, list[File]]:
-    """Writes the samples as folders; the files of each, as the model takes them."""
-    files = {}
-    for name, rows in SAMPLES.items():
-        of = {kind: [row.split() for k, row in rows if k == kind] for kind in rf2.KINDS}
-        texts = {kind: ["\t".join(columns) for columns in of[kind]] for kind in of}
-        rf2.write(os.path.join(releases, name), "Delta", "20200131", texts)
-        files[name] = [File(kind, True, of[kind]) for kind in sorted(of, key=soak.place_of)]
-    return files
+def samples() -> dict[str, list[File]]:
+    """The files of each release that the demonstration imports, as the model takes them."""
+    return {folder.name: [
+        File(kind, True, list(rf2.rows_of(folder, kind)))
+        for kind in sorted(rf2.KINDS, key=soak.place_of)] for folder in RELEASES.iterdir()}
 
 
 def runs_of_script(program: Program, folder: Path, releases: Path,

@@ -7,7 +7,8 @@ from pathlib import Path
 from typing import Mapping, NamedTuple, Optional
 
 from growths_harness import (ALL_BEHIND, DISK_FAULT, OUT_OF_MEMORY, Program, Ran, Refusals,
-                             Wrong, replies_in, try_each, ways_to_be_refused)
+                             replies_in, try_each, ways_to_be_refused)
+from harness import Wrong
 
 # The files in a folder, by their names.
 Files = Mapping[str, bytes]
@@ -92,7 +93,7 @@ def is_extra(line: bytes) -> bool:
     return line == UNCOMPARED or line.startswith(PASSED_OVER) and line[-1:] in (b" ", b"/")
 
 
-def told_of(faults: bytes) -> list[bytes]:
+def certain_faults(faults: bytes) -> list[bytes]:
     return [line for line in faults.split(b"\n")[:-1] if not is_extra(line)]
 
 
@@ -133,7 +134,7 @@ class Trial:
         return was_refused
 
     def check_done(self, ran: Ran, left: Files) -> None:
-        if told_of(ran.faults) != told_of(self.whole.faults):
+        if certain_faults(ran.faults) != certain_faults(self.whole.faults):
             raise Wrong("done, but %s" % ran.told())
         if left != self.after:
             raise Wrong("done, and other files afterwards")
@@ -141,7 +142,7 @@ class Trial:
     def check_refused(self, ran: Ran, left: Files, folder: Path) -> None:
         """Looks if it is refused as it has to be, and what it leaves."""
         first, last = ran.faults[:-1].rpartition(b"\n")[::2]
-        begun = told_of(first + b"\n") if first else []
+        begun = certain_faults(first + b"\n") if first else []
         way = (ran.output, last + b"\n")
         if ran.status != 1 or way not in self.ways() or begun != self.begun(len(begun)):
             raise Wrong(ran.told())
@@ -154,7 +155,7 @@ class Trial:
 
     def begun(self, count: int) -> list[bytes]:
         """The first so many lines of faults with all memory."""
-        return told_of(self.whole.faults)[:count]
+        return certain_faults(self.whole.faults)[:count]
 
     def may_leave(self, way: tuple[bytes, bytes], begun: list[bytes], left: Files,
                   folder: Path) -> bool:

@@ -1,5 +1,5 @@
 """Lets chosen system calls of a program fail, or does something just before them, by a library for
-LD_PRELOAD, moments.c, which needs a C compiler (`cc`). A part of test_files.py; check_syncs.py and
+LD_PRELOAD, moments.c, which needs a C compiler (`cc`). A part of test_files.py; test_syncs.py and
 growths_harness.py compile theirs by it."""
 
 from __future__ import annotations

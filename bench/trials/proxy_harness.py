@@ -13,12 +13,14 @@ import socket
 import ssl
 import subprocess
 import sys
+import tempfile
+import threading
 import time
-from collections.abc import Callable, Mapping, Sequence
+from collections.abc import Callable, Iterator, Mapping, Sequence
 from pathlib import Path
-from typing import NamedTuple, Optional
+from typing import NamedTuple, Optional, Self
 
-from operators_harness import Wrong, same
+from harness import Wrong, same
 
 ROOT = Path(__file__).resolve().parents[2]
 SERVICE = ROOT / "service"
@@ -228,6 +230,34 @@ class Client:
         answer = self.connection.getresponse()
         headers = {name.lower(): value for name, value in answer.getheaders()}
         return answer.status, headers, answer.read()
+
+
+class Clients:
+    """Clients that ask in threads of their own within a `with` block: each makes its calls of `ask`
+    until it is over."""
+
+    def __init__(self, count: int, ask: Callable[[int], None]) -> None:
+        self.is_over = False
+        self.threads = [threading.Thread(target=ask, args=(seed,)) for seed in range(count)]
+
+    def __enter__(self) -> Self:
+        for thread in self.threads:
+            thread.start()
+        return self
+
+    def __exit__(self, *_: object) -> None:
+        self.is_over = True
+        for thread in self.threads:
+            thread.join(SECONDS * 2)
+
+
+@contextlib.contextmanager
+def open_folder() -> Iterator[Path]:
+    """A new folder that everybody may go into: nginx's workers are another user's where it is
+    started by root."""
+    with tempfile.TemporaryDirectory(prefix="sctd-proxy-") as place:
+        os.chmod(place, 0o755)
+        yield Path(place)
 
 
 def ready(words: Sequence[str], log: Path) -> Process:

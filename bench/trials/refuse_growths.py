@@ -6,41 +6,19 @@ refuse_growths.py PROGRAM script
 refuse_growths.py PROGRAM tasks
 
 In the Nth run the Nth call of malloc, calloc or realloc gets no memory, for N = 1, 2, .. until a
-run makes fewer calls. Of each run is looked at what it writes, its status, and what it leaves.
-Where nothing was refused that had to be, nothing was tried, and the status is 1.
+run makes fewer calls. RELIABILITY says what has to hold of each run, under "Memory runs out". Where
+nothing was refused that had to be, nothing was tried, and the status is 1.
 
-**Lines.** A store is made, of version 3 where the rest of SEED divided by 3 is 2 (SEED is 2 where
-none is given) and else of version 2, and a session of LINES random lines (40 where none are given),
-as those of soak.py, is served again and again on a copy of it; behind them it asks for the terms of
-each first letter, the children and the replacements of each component that has any, what is above,
-below and about some components, some histories, what changed, members of each reference set, what
-some concepts were called, each receipt and the days that each import left, so that what a refusal
-made the program forget shows. With `script` the lines are those of the demonstration, with
-a second step of its merge, and with further questions, a check and a digest behind them, and its
-releases: all of them on a store without rows, and then its questions on the store that they leave.
-
-What has to hold: the program refuses to start with `ERR 1 OutOfMemory` (on standard error as long
-as its words aren't read, and then as its reply, with a line that names the store), or with `ERR 2
-DiskFault` and a line that says so where the file's name was to be kept while the file was opened,
-and the file is as it was; or each line is answered as the model of soak_model.py answers it, but
-for lines that say `ERR 1 OutOfMemory` and change nothing, of which there is at most one; and
-afterwards the store is opened with what the model then holds. A line that takes no memory is never
-refused, nor one that is refused for what it says. In each tenth run the line that is refused
-comes a second time: then it is answered. Further runs are as if memory had run out for a while:
-from each seventh call on 40 in a row are refused, and from each tenth on all; any number of lines
-may be refused in these, and in some it has to be five, or all imports, or not all.
-
-**Tasks.** Each task of the command line is done so, on stores that were made before, and so are
-words that are none, and helps. From each tenth call on all are refused besides. What has to hold:
-the status is 1, the reply and the last line of standard error say one of the above (words that are
-no task say `ERR 1` on standard error alone), and the files are as they were, byte for byte. But
-`init` may leave a file without a byte, and makes a store of it then; `merge` may have published
-merges, with the same digest, and ends as without the library when it comes again; and `copy` may
-leave a file without a byte where that couldn't be opened for want of memory. Else the task is done,
-and shows and leaves what it does without the library, but for what it tells on standard error of
-folders that couldn't be listed and of dates that couldn't be compared. `demo`, whose disk is in
-memory, and fails where that runs out, gives each line a reply, and the usual one up to the first
-that is refused.
+LINES random lines (40 where none are given), as those of soak.py, are served again and again on a
+copy of a store, of layout 3 where the rest of SEED divided by 3 is 2 (SEED is 2 where none is
+given) and else of layout 2; behind them it asks for all that a refusal might have made the program
+forget. With `script` the lines are those of the demonstration, with a second step of its merge and
+further questions: all of them on a store without rows, and then its questions on the store that
+they leave. In each tenth run the line that is refused comes a second time: then it is answered. In
+further runs from each seventh call on 40 in a row are refused, and from each tenth on all. With
+`tasks` each task of the command line is done so, on stores that were made before, and so are words
+that are none, and helps; `demo`, whose disk is in memory, and fails where that runs out, gives each
+line a reply.
 
 It needs Linux, glibc and a C compiler (`cc`; without one the status is 3), builds a library of a
 few lines for LD_PRELOAD, and ends by itself. Where there is /dev/shm its files lie there, since
@@ -57,6 +35,7 @@ from pathlib import Path
 import growths_lines as lines
 import growths_tasks as tasks
 from growths_harness import Program
+from harness import RELEASES
 
 IN_MEMORY = Path("/dev/shm")
 # How many random lines there are where no number is given.
@@ -69,10 +48,10 @@ def are_right(program: Path, folder: Path, words: list[str]) -> bool:
     refusing = Program(program, folder)
     if words in (["script"], ["tasks"]):
         releases = folder / "releases"
-        files = lines.samples_in(releases)
+        releases.symlink_to(RELEASES)
         if words == ["tasks"]:
             return tasks.are_right(refusing, folder)
-        runs = lines.runs_of_script(refusing, folder, releases, files)
+        runs = lines.runs_of_script(refusing, folder, releases, lines.samples())
     else:
         count = int(words[0]) if words else LINES
         seed = int(words[1]) if len(words) > 1 else lines.SEED

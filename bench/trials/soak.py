@@ -4,36 +4,23 @@
 soak.py PROGRAM [SECONDS [SEED [FOLDER]]]
 
 PROGRAM is the built `sctd` (crates/sctd/out/sctd). It serves a store in FOLDER (a fresh folder
-below the system's temporary one, where none is given) for SECONDS (60 where none are given).
-A run begins with a store of layout 2, 1 or 3, by the rest of SEED divided by 3.
-Sessions import random releases of all sorts of files, some of them faulty or contradicting, and
-some once more, ask at random dates and pins, merge in steps and trim, in batches of lines that are
-sent at once. From time to time a second `sctd import` is tried on the file, and a copy in layout 3
-takes the store's place. Some copies, some batches, and some openings, are cut short
-by `kill -9` at a random moment; then the program serves the same file again. The model in
-soak_model.py answers each line too. What has to hold:
-
-- each reply is the model's, byte for byte, as far as replies came;
-- after a kill the store is what the model is after the first so many of the lines that were sent,
-  at least those whose replies came: each import is there whole or not at all, in order;
-- the second `sctd` is refused, and the file is as it was;
-- then all that two pins show at two dates is the model's, with their days and the receipts of the
-  first and the last import that they show, and at the end each version of each component, each
-  receipt, the days that each import left, what is around some concepts, all members of each
-  reference set and all its values, and the digest.
+below the system's temporary one, where none is given) for SECONDS (60 where none are given), as
+RELIABILITY says under "The soak", and the model in soak_model.py answers each line too: each reply
+has to be the model's, and after a kill the store what the model is after the first so many lines.
 
 It ends by itself, prints its figures, and has the status 1 at the first reply that is another one
 and at bytes behind the last reply, and 3 where no import or no publication was cut short, or no
 MEMBERS, VALUES or CALLED was answered by a row: until all were, a run goes on for up to four times
-SECONDS, and its store is copied in layout 3 after SECONDS. The same SEED gives the same lines up to the first
-kill: the moments of the kills are those of the machine, and what comes behind one goes on from what
-it left. Standard library alone.
+SECONDS, and its store is copied in layout 3 after SECONDS. The same SEED gives the same lines up to
+the first kill: the moments of the kills are those of the machine, and what comes behind one goes on
+from what it left. Standard library alone.
 """
 
 from __future__ import annotations
 
 import os
 import random
+import re
 import select
 import shutil
 import subprocess
@@ -41,13 +28,15 @@ import sys
 import tempfile
 import time
 import uuid
-from collections.abc import Sequence
+from collections.abc import Callable, Sequence
 from typing import Optional
 
 BENCH = os.path.dirname(os.path.dirname(os.path.abspath(__file__)))
 sys.path += [os.path.join(BENCH, "measurements"), os.path.join(BENCH, "trials")]
 import make_release as rf2  # noqa: E402
-from soak_model import CONCEPT, KINDS, REFERENCED, REFSET, SUBJECTS, TARGET  # noqa: E402
+from harness import Wrong  # noqa: E402
+from soak_model import CONCEPT, DESTINATION, KINDS, REFERENCED, REFSET, SUBJECTS  # noqa: E402
+from soak_model import TARGET, TYPE  # noqa: E402
 from soak_model import Columns, Fault, File, Model, State, publications  # noqa: E402
 
 DATES = ["%d%s31" % (year, month) for year in range(2015, 2026) for month in ("01", "07")]
@@ -68,12 +57,8 @@ RUN_SECONDS, TIMES_LONGER = 60, 4
 NOT_TRIED = 3
 PIPE_SIZE = 1 << 16
 # Where the layouts stand in the two directories of a store, and layout 1.
-VERSIONS_AT = (4111, 12303)
-VERSION_ONE = b"1"
-
-
-class Wrong(Exception):
-    """Something was answered or kept that the model doesn't allow."""
+LAYOUTS_AT = (4111, 12303)
+LAYOUT_ONE = b"1"
 
 
 def odd_members(count: int) -> rf2.Sort:
@@ -101,6 +86,31 @@ ODD_TEXTS = ("", "", "0", "x", "Straße", "a b ", "#5", "\r", "\ufeff", "TRUE | 
 SPOILED = ((None, "", "23 Columns"), (0, "0b6a0c2e5d0f4c539f6e8d9d2a7b1c01", "30 MemberId"),
            (1, "20201301", "26 Time"), (2, "2", "27 Active"), (REFSET, "1000015", "28 Reference"),
            (REFERENCED, "1000005", "28 Reference"))
+
+
+# What is asked, each form behind how often it is.
+FORMS = """4 GET {kind} {id} {date}
+2 HISTORY {kind} {id}
+1 SEARCH {date} {after_D} {limit} {prefix}
+1 PAGE {kind} {date} {after} {limit}
+2 DELTA {kind} {begin} {date} {after} {limit}
+1 TERMS {date} {few} {prefix}
+1 CHILDREN {C} {date}
+1 ANCESTORS {C} {date}
+1 DESCENDANTS {C} {date}
+1 REPLACED {C} {date}
+1 REPLACES {replacing} {date}
+3 ABOUT {kind} {subject} {date}
+2 TIMELINE {kind} {subject}
+2 MEMBERS {refset} {date} {after_M} {limit}
+2 VALUES {refset} {date} {after_value} {limit}
+2 CALLED {named}
+1 {days}
+1 RECEIPT {import}
+2 SOURCES {links} {date} {after_C} {limit}
+1 ROWS {kind} {key} {limit}
+1 ADDED {import} {kind} {key} {limit}"""
+QUESTIONS = [form for line in FORMS.split("\n") for form in [line[2:]] * int(line[0])]
 
 
 def place_of(sort: str) -> tuple[bool, str]:
@@ -328,7 +338,7 @@ class Soak:
 
     def __init__(self, program: str, seed: int, folder: str) -> None:
         self.program, self.folder, self.seed = program, folder, seed
-        self.chance = random.Random(seed)
+        self.chance, self.kind = random.Random(seed), "C"
         self.releases = Releases(self.chance, os.path.join(folder, "releases"))
         self.model = Model(self.releases.files, keeps_all=self.is_of_layout_three())
         self.store = os.path.join(folder, "store")
@@ -371,90 +381,58 @@ class Soak:
 
     def question(self, session: int) -> str:
         """A question, now and then of an import that the session isn't pinned to."""
-        at = ""
-        if self.chance.random() < 0.2:
-            at = "AT %d " % self.chance.randint(0, self.model.state.imports + 1)
-        return "%d %s%s" % (session, at, self.asked())
+        return "%d %s%s" % (session, self.filled("AT {import} ") if self.is_so(0.2) else "",
+                            self.asked())
+
+    def is_so(self, likelihood: float) -> bool:
+        return self.chance.random() < likelihood
 
     def asked(self) -> str:
-        chance = self.chance
-        date = chance.choice(DATES + [LAST_DATE])
-        kind = chance.choice(KINDS)
-        what = chance.randrange(29)
-        if what < 4:
-            return "GET %s %s %s" % (kind, self.component(kind), date)
-        if what < 6:
-            return "HISTORY %s %s" % (kind, self.component(kind))
-        if what < 10:
-            return self.page(what, kind, date)
-        if what == 10:
-            return "TERMS %s %d %s" % (date, chance.choice([1, 10]), self.prefix())
-        if what < 14:
-            word = chance.choice(["CHILDREN", "ANCESTORS", "DESCENDANTS"])
-            return "%s %s %s" % (word, self.component("C"), date)
-        if what < 16:
-            return self.replacements(what, date)
-        if what < 19:
-            return "ABOUT %s %s %s" % (kind, self.subject(kind), date)
-        if what < 21:
-            return "TIMELINE %s %s" % (kind, self.subject(kind))
-        if what < 27:
-            return self.of_reference_sets(what, date)
-        if what == 27:
-            return chance.choice(["DATES", "DATES", "DIGEST"])
-        return "RECEIPT %d" % chance.randint(0, self.model.state.imports + 1)
+        self.kind = self.chance.choice(KINDS)
+        return self.filled(self.chance.choice(QUESTIONS))
 
-    def of_reference_sets(self, what: int, date: str) -> str:
-        """The members of a reference set, its values, or what a concept was called."""
-        chance, limit = self.chance, self.chance.choice([1, 7, 50])
-        if what < 23:
-            after = chance.choice(["-", "-", self.component("M"), str(rf2.ROOT)])
-            return "MEMBERS %s %s %s %d" % (self.refset(), date, after, limit)
-        if what < 25:
-            member = self.releases.row_of("M")
-            after = chance.choice(["-", member[REFERENCED] if member else "-", self.component("D")])
-            return "VALUES %s %s %s %d" % (self.refset(), date, after, limit)
+    def filled(self, form: str) -> str:
+        """A form of a question, in which something drawn by chance stands for each name."""
+        return re.sub(r"\{(\w+)\}", lambda found: str(PARTS[found[1]](self)), form)
+
+    def after(self, kind: str) -> str:
+        """What a page comes after: nothing, or a component of a kind."""
+        return self.chance.choice(["-", self.component(kind)])
+
+    def key(self) -> str:
+        """The key of a row of the kind, as a rule, or none, or one that has no name."""
+        found = self.releases.row_of(self.kind)
+        key = "%s %s" % (found[0], found[1]) if found and self.is_so(0.7) else "- -"
+        return self.chance.choice([key, key, key, "- %s" % DATES[0]])
+
+    def links(self) -> str:
+        """A type of relationships or none, and a concept, as a rule one that is a destination."""
+        found = self.releases.row_of("R") if self.is_so(0.7) else None
+        to, kind = (found[DESTINATION], found[TYPE]) if found else (
+            self.component("C"), self.component("C"))
+        return "%s %s" % (self.chance.choice(["-", kind, str(rf2.ROOT)]), to)
+
+    def named(self) -> str:
+        """A concept, a date and a language in which it has a name, as a rule."""
         concept, refset = self.releases.named() or (self.component("C"), self.refset())
-        return "CALLED %s %s %s" % (concept, chance.choice([date, LAST_DATE]), refset)
+        return "%s %s %s" % (concept, self.chance.choice(DATES + [LAST_DATE] * len(DATES)), refset)
 
     def refset(self) -> str:
         """A reference set that has members, as a rule; now and then what is none."""
         member = self.releases.row_of("M")
-        if self.chance.random() < 0.1 or member is None:
+        if member is None or self.is_so(0.1):
             return self.chance.choice([self.component("C"), self.component("D")])
-        if self.chance.random() < 0.4:
-            return str(self.chance.choice(rf2.LANGUAGES))
-        return member[REFSET]
+        return str(self.chance.choice(rf2.LANGUAGES)) if self.is_so(0.4) else member[REFSET]
 
-    def page(self, what: int, kind: str, date: str) -> str:
-        """A page of a kind, of what changed in it, or of descriptions."""
-        limit = self.chance.choice([1, 7, 50])
-        after = self.chance.choice(["-", self.component("D" if what == 6 else kind)])
-        if what == 6:
-            return "SEARCH %s %s %d %s" % (date, after, limit, self.prefix())
-        if what == 7:
-            return "PAGE %s %s %s %d" % (kind, date, after, limit)
-        return "DELTA %s %s %s %s %d" % (kind, self.chance.choice(DATES), date, after, limit)
-
-    def replacements(self, what: int, date: str) -> str:
-        """What stands in the place of a component, or what it stands in the place of."""
-        if what == 14:
-            return "REPLACED %s %s" % (self.component("C"), date)
-        association = self.releases.row_of("A")
-        if association and self.chance.random() < 0.7:
-            return "REPLACES %s %s" % (association[TARGET], date)
-        return "REPLACES %s %s" % (self.component("C"), date)
-
-    def prefix(self) -> str:
-        """The beginning of a term, in capitals."""
-        return self.chance.choice(rf2.WORDS)[: self.chance.choice([1, 2, 9])].upper()
-
-    def subject(self, kind: str) -> str:
-        """What a row of a kind is about, as a rule, or a concept that there is."""
+    def told_by(self, kind: str, column: int) -> str:
+        """What a column of a row of a kind has, as a rule, or a concept that there is."""
         found = self.releases.row_of(kind)
-        if kind in SUBJECTS and found and self.chance.random() < 0.7:
-            return found[SUBJECTS[kind]]
-        return self.component("C")
+        return found[column] if found and self.is_so(0.7) else self.component("C")
+
+    def subject(self) -> str:
+        """What a row of the kind is about, as a rule, or a concept that there is."""
+        kind = self.kind
+        return self.told_by(kind, SUBJECTS[kind]) if kind in SUBJECTS else self.component("C")
 
     def line(self) -> str:
         """One line of one session."""
@@ -659,7 +637,7 @@ class Soak:
         if made.returncode or made.stdout != b"OK\n":
             raise Wrong("init: %r, status %d" % (made.stdout, made.returncode))
         if self.seed % 3 == 1:
-            self.make_version_one()
+            self.make_layout_one()
         self.start()
         begun = time.monotonic()
         while time.monotonic() < begun + seconds * (TIMES_LONGER if self.untried() else 1):
@@ -683,13 +661,13 @@ class Soak:
         if status:
             raise Wrong("the program ended with the status %d" % status)
 
-    def make_version_one(self) -> None:
+    def make_layout_one(self) -> None:
         """Makes of the new store one of layout 1."""
         with open(self.store, "r+b") as file:
-            for at in VERSIONS_AT:
+            for at in LAYOUTS_AT:
                 file.seek(at - 7)
                 if file.read(7) == b"SCTHIST":
-                    file.write(VERSION_ONE)
+                    file.write(LAYOUT_ONE)
 
     def copy_in_layout_three(self) -> None:
         """Between two servers a copy in layout 3 takes the place of the store, perhaps after a copy
@@ -754,6 +732,26 @@ class Soak:
         missed = ["no kill cut any %s short" % name for name in cut if not cut[name]]
         return missed + ["no %s was answered by a row" % ANSWERED[count]
                          for count in ANSWERED if not self.counts[count]]
+
+
+# What stands for a name in a form of a question.
+PARTS: dict[str, Callable[[Soak], object]] = {
+    "kind": lambda it: it.kind, "id": lambda it: it.component(it.kind),
+    "C": lambda it: it.component("C"), "date": lambda it: it.chance.choice(DATES + [LAST_DATE]),
+    "begin": lambda it: it.chance.choice(DATES), "limit": lambda it: it.chance.choice([1, 7, 50]),
+    "few": lambda it: it.chance.choice([1, 10]), "after": lambda it: it.after(it.kind),
+    "after_C": lambda it: it.chance.choice(["-", it.after("C")]),
+    "after_D": lambda it: it.after("D"),
+    "after_M": lambda it: it.chance.choice(["-", "-", it.component("M"), rf2.ROOT]),
+    "after_value": lambda it: it.chance.choice(
+        ["-", it.told_by("M", REFERENCED), it.component("D")]),
+    "prefix": lambda it: it.chance.choice(rf2.WORDS)[: it.chance.choice([1, 2, 9])].upper(),
+    "import": lambda it: it.chance.randint(0, it.model.state.imports + 1),
+    "days": lambda it: it.chance.choice(["DATES", "DATES", "DIGEST"]),
+    "replacing": lambda it: it.told_by("A", TARGET), "subject": lambda it: it.subject(),
+    "refset": lambda it: it.refset(), "named": lambda it: it.named(), "key": lambda it: it.key(),
+    "links": lambda it: it.links(),
+}
 
 
 def main(words: Sequence[str]) -> int:

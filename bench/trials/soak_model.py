@@ -5,6 +5,7 @@ from __future__ import annotations
 
 import bisect
 import hashlib
+import inspect
 from typing import Callable, Iterable, Iterator, Mapping, NamedTuple, Optional, Sequence
 
 Columns = list[str]
@@ -25,15 +26,10 @@ OF_CONCEPTS = ("00", "10")
 OF_COMPONENTS = (*OF_CONCEPTS, "01", "11", "02", "12")
 MOST_SEGMENTS = 250
 LINE_LIMIT = 4096
-# What may stand behind AT.
-QUESTIONS = frozenset(
-    "GET HISTORY CHILDREN ANCESTORS DESCENDANTS TERMS SEARCH REPLACED REPLACES ABOUT TIMELINE PAGE "
-    "DELTA DATES DIGEST RECEIPT MEMBERS VALUES CALLED".split()
-)
 NO_ARGUMENTS, NO_SUCH_IMPORT = ["ERR 43 Arguments"], ["ERR 44 PinRange"]
 # What needs members is refused with below layout 3: these, and questions with the letter M.
 LATER_LAYOUT = ["ERR 14 LaterVersion"]
-OF_MEMBERS = frozenset("MEMBERS VALUES CALLED".split())
+OF_MEMBERS = ("members", "values", "called")
 
 
 class Fault(NamedTuple):
@@ -172,7 +168,7 @@ class Model:
         self.releases, self.keeps_all = releases, keeps_all
         self.kinds = {kind: Versions() for kind in KINDS}
         self.state = State()
-        self.pins: dict[Optional[int], int] = {}
+        self.pins: dict[int, int] = {}
 
     def reply(self, line: str) -> Reply:
         """The lines of the reply."""
@@ -182,34 +178,31 @@ class Model:
         command, _, words = rest.partition(" ")
         if not session.isdigit() or int(session) > 1023:
             return ["ERR 41 Session"]
-        call = self.call_of(command)
-        if call is None or not command.isupper():
-            return ["ERR 42 Command"]
-        return self.asked(command, call(int(session), words), words)
+        number, name = int(session), command.lower() if command.isupper() else ""
+        if hasattr(self, "ask_" + name):
+            return self.answer(name, self.pins.get(number, self.state.imports), words)
+        do: Optional[Callable[[int, str], Reply]] = getattr(self, "do_" + name, None)
+        return do(number, words) if do else ["ERR 42 Command"]
 
-    def asked(self, command: str, said: Reply, words: str) -> Reply:
-        """What a command is answered: below layout 3 nothing that needs members, unless its
+    def answer(self, name: str, pin: int, words: str) -> Reply:
+        """What a question is answered at a pin: a method takes the words that follow as what it
+        takes behind the pin. Below layout 3 nothing is answered that needs members, unless the
         arguments are none."""
-        needs = command in OF_MEMBERS or command in QUESTIONS and words.startswith("M ")
+        ask: Callable[..., Reply] = getattr(self, "ask_" + name)
+        count = len(inspect.signature(ask).parameters) - 1
+        given = words.split(" ", count - 1) if count else []
+        said = ask(pin, *given)
+        needs = name in OF_MEMBERS or given[name == "added" :][:1] == ["M"]
         return LATER_LAYOUT if needs and not self.keeps_all and said != NO_ARGUMENTS else said
 
-    def call_of(self, command: str) -> Optional[Callable[[Optional[int], str], Reply]]:
-        """What answers a command."""
-        return getattr(self, "do_" + command.lower(), None)
-
-    def pin(self, session: Optional[int]) -> int:
-        return self.pins.get(session, self.state.imports)
-
-    def do_get(self, session: Optional[int], words: str) -> Reply:
-        kind, name, date = words.split(" ")
-        found = self.kinds[kind].at(name_of(kind, name), date, self.pin(session))
+    def ask_get(self, pin: int, kind: str, name: str, date: str) -> Reply:
+        found = self.kinds[kind].at(name_of(kind, name), date, pin)
         return rows_and_end([found] if found else [])
 
-    def do_history(self, session: Optional[int], words: str) -> Reply:
-        kind, name = words.split(" ")
-        return rows_and_end(self.kinds[kind].all_of(name_of(kind, name), self.pin(session)))
+    def ask_history(self, pin: int, kind: str, name: str) -> Reply:
+        return rows_and_end(self.kinds[kind].all_of(name_of(kind, name), pin))
 
-    def page(self, session: Optional[int], kind: str, date: str, after: str, limit: str,
+    def page(self, pin: int, kind: str, date: str, after: str, limit: str,
              is_wanted: Callable[[Columns], bool]) -> Reply:
         """The first so many rows that are wanted, of components after an identifier."""
         table, found = self.kinds[kind], list[Columns]()
@@ -217,43 +210,39 @@ class Model:
         for name in table.ids[start:]:
             if len(found) == int(limit):
                 break
-            shown = table.at(name, date, self.pin(session))
+            shown = table.at(name, date, pin)
             if shown and is_wanted(shown):
                 found.append(shown)
         return rows_and_end(found)
 
-    def do_page(self, session: Optional[int], words: str) -> Reply:
-        kind, date, after, limit = words.split(" ")
-        return self.page(session, kind, date, after, limit, lambda columns: True)
+    def ask_page(self, pin: int, kind: str, date: str, after: str, limit: str) -> Reply:
+        return self.page(pin, kind, date, after, limit, lambda columns: True)
 
-    def do_delta(self, session: Optional[int], words: str) -> Reply:
-        kind, begin, date, after, limit = words.split(" ")
-        return self.page(session, kind, date, after, limit, lambda columns: columns[1] > begin)
+    def ask_delta(self, pin: int, kind: str, begin: str, date: str, after: str,
+                  limit: str) -> Reply:
+        return self.page(pin, kind, date, after, limit, lambda columns: columns[1] > begin)
 
-    def do_members(self, session: Optional[int], words: str) -> Reply:
-        refset, date, after, limit = words.split(" ")
+    def ask_members(self, pin: int, refset: str, date: str, after: str, limit: str) -> Reply:
         if not is_sctid_of(OF_CONCEPTS, refset) or is_sctid_of(OF_COMPONENTS, after):
             return NO_ARGUMENTS
-        return self.page(
-            session, "M", date, after, limit, lambda columns: columns[REFSET] == refset)
+        return self.page(pin, "M", date, after, limit, lambda columns: columns[REFSET] == refset)
 
-    def active(self, session: Optional[int], kind: str, date: str) -> Iterator[Columns]:
+    def active(self, pin: int, kind: str, date: str) -> Iterator[Columns]:
         """The active rows of a kind at a date, ascending."""
         table = self.kinds[kind]
-        shown = (table.at(name, date, self.pin(session)) for name in table.ids)
+        shown = (table.at(name, date, pin) for name in table.ids)
         return (columns for columns in shown if columns and columns[2] == "1")
 
-    def active_members(self, session: Optional[int], refset: str, date: str) -> list[Columns]:
-        return [c for c in self.active(session, "M", date) if c[REFSET] == refset]
+    def active_members(self, pin: int, refset: str, date: str) -> list[Columns]:
+        return [c for c in self.active(pin, "M", date) if c[REFSET] == refset]
 
-    def do_values(self, session: Optional[int], words: str) -> Reply:
-        refset, date, after, limit = words.split(" ")
+    def ask_values(self, pin: int, refset: str, date: str, after: str, limit: str) -> Reply:
         if not is_sctid_of(OF_CONCEPTS, refset):
             return NO_ARGUMENTS
         if after != "-" and not is_sctid_of(OF_COMPONENTS, after):
             return NO_ARGUMENTS
         least = 0 if after == "-" else int(after)
-        members = self.active_members(session, refset, date)
+        members = self.active_members(pin, refset, date)
         found = [c for c in members if int(c[REFERENCED]) > least]
         found.sort(key=lambda c: (int(c[REFERENCED]), name_of("M", c[0])))
         # A row is answered if fewer than the limit refer to a component before its own.
@@ -261,130 +250,141 @@ class Model:
         return rows_and_end([c for c, component in zip(found, components)
                              if bisect.bisect_left(components, component) < int(limit)])
 
-    def do_called(self, session: Optional[int], words: str) -> Reply:
-        concept, date, refset = words.split(" ")
+    def ask_called(self, pin: int, concept: str, date: str, refset: str) -> Reply:
         if not all(is_sctid_of(OF_CONCEPTS, text) for text in (concept, refset)):
             return NO_ARGUMENTS
-        found, members = [], self.active_members(session, refset, date)
-        for description in self.active(session, "D", date):
+        found, members = [], self.active_members(pin, refset, date)
+        for description in self.active(pin, "D", date):
             if description[CONCEPT] == concept:
                 its = [c for c in members if c[REFERENCED] == description[0]]
                 found += [description, *its] if its else []
         return rows_and_end(found)
 
-    def do_terms(self, session: Optional[int], words: str) -> Reply:
-        date, limit, prefix = words.split(" ", 2)
-        return self.do_search(session, "%s - %s %s" % (date, limit, prefix))
+    def ask_terms(self, pin: int, date: str, limit: str, prefix: str) -> Reply:
+        return self.ask_search(pin, date, "-", limit, prefix)
 
-    def do_search(self, session: Optional[int], words: str) -> Reply:
-        date, after, limit, prefix = words.split(" ", 3)
+    def ask_search(self, pin: int, date: str, after: str, limit: str, prefix: str) -> Reply:
         folded = prefix.casefold()
-        found = [c for c in self.active(session, "D", date)
+        found = [c for c in self.active(pin, "D", date)
                  if c[TERM].casefold().startswith(folded)]
         if after != "-":
             found = [c for c in found if int(c[0]) > int(after)]
         return rows_and_end(found[: int(limit)])
 
-    def do_about(self, session: Optional[int], words: str) -> Reply:
-        kind, name, date = words.split(" ")
+    def ask_about(self, pin: int, kind: str, name: str, date: str) -> Reply:
         if kind not in SUBJECTS:
             return NO_ARGUMENTS
         place = SUBJECTS[kind]
-        return rows_and_end([c for c in self.active(session, kind, date) if c[place] == name])
+        return rows_and_end([c for c in self.active(pin, kind, date) if c[place] == name])
 
-    def do_timeline(self, session: Optional[int], words: str) -> Reply:
-        kind, name = words.split(" ")
+    def ask_timeline(self, pin: int, kind: str, name: str) -> Reply:
         if kind not in SUBJECTS:
             return NO_ARGUMENTS
         place, found = SUBJECTS[kind], []
         for component in self.kinds[kind].ids:
-            versions = self.kinds[kind].all_of(component, self.pin(session))
+            versions = self.kinds[kind].all_of(component, pin)
             if any(c[2] == "1" and c[place] == name for c in versions):
                 found += versions
         return rows_and_end(found)
 
-    def do_dates(self, session: Optional[int], _words: str) -> Reply:
-        pin, found = self.pin(session), set()
-        for kind in KINDS:
-            found |= self.kinds[kind].dates_up_to(pin)
+    def ask_dates(self, pin: int) -> Reply:
+        found = set().union(*(self.kinds[kind].dates_up_to(pin) for kind in KINDS))
         return ["DATE " + date for date in sorted(found)] + ["END %d" % len(found)]
 
-    def do_digest(self, session: Optional[int], _words: str) -> Reply:
+    def ask_digest(self, pin: int) -> Reply:
         digest = hashlib.sha256()
         for kind in KINDS:
             for name in self.kinds[kind].ids:
-                for columns in self.kinds[kind].all_of(name, self.pin(session)):
+                for columns in self.kinds[kind].all_of(name, pin):
                     digest.update(("%s %s\n" % (kind, "\t".join(columns))).encode())
         return ["OK " + digest.hexdigest()]
 
-    def do_receipt(self, session: Optional[int], words: str) -> Reply:
+    def rows_after(self, kind: str, name: str, date: str, limit: str,
+                   is_wanted: Callable[[int], bool]) -> Reply:
+        """The first rows of a kind after a key, of those imports whose numbers are wanted."""
+        if (name == "-") != (date == "-"):
+            return NO_ARGUMENTS
+        after = (-1, "") if name == "-" else (name_of(kind, name), date)
+        table = self.kinds[kind].of
+        keys = sorted((own, day) for own in table for day in table[own] if (own, day) > after)
+        found = [table[own][day] for own, day in keys]
+        return rows_and_end([c for number, c in found if is_wanted(number)][: int(limit)])
+
+    def ask_rows(self, pin: int, kind: str, name: str, date: str, limit: str) -> Reply:
+        return self.rows_after(kind, name, date, limit, lambda number: number <= pin)
+
+    def ask_added(self, pin: int, number: str, kind: str, name: str, date: str,
+                  limit: str) -> Reply:
+        said = self.rows_after(kind, name, date, limit, lambda other: other == int(number))
+        is_seen = 1 <= int(number) <= pin
+        return said if is_seen or said == NO_ARGUMENTS else NO_SUCH_IMPORT
+
+    def ask_receipt(self, pin: int, words: str) -> Reply:
         number = int(words)
         if number == 0:
             return NO_ARGUMENTS
-        if number > self.pin(session):
+        if number > pin:
             return NO_SUCH_IMPORT
         dates = [date for kind in KINDS for date in self.kinds[kind].dates_of(number)]
         return ["OK %d %d %s" % (number, len(dates), max(dates, default="-"))]
 
-    def links(self, session: Optional[int], date: str) -> list[tuple[int, int]]:
+    def links(self, pin: int, date: str) -> list[tuple[int, int]]:
         """Each active "is a" at a date: a child and its parent."""
-        found = self.active(session, "R", date)
+        found = self.active(pin, "R", date)
         return [(int(c[SOURCE]), int(c[DESTINATION])) for c in found if c[TYPE] == IS_A]
 
-    def do_children(self, session: Optional[int], words: str) -> Reply:
-        concept, date = words.split(" ")
-        links = self.links(session, date)
+    def ask_children(self, pin: int, concept: str, date: str) -> Reply:
+        links = self.links(pin, date)
         return ids_and_end({child for child, parent in links if parent == int(concept)})
 
-    def do_ancestors(self, session: Optional[int], words: str) -> Reply:
-        concept, date = words.split(" ")
-        return ids_and_end(reached(int(concept), self.links(session, date)))
+    def ask_sources(self, pin: int, type_id: str, destination: str, date: str, after: str,
+                    limit: str) -> Reply:
+        found = {int(c[SOURCE]) for c in self.active(pin, "R", date)
+                 if c[DESTINATION] == destination and type_id in ("-", c[TYPE])}
+        least = 0 if after == "-" else int(after)
+        return ids_and_end(sorted(name for name in found if name > least)[: int(limit)])
 
-    def do_descendants(self, session: Optional[int], words: str) -> Reply:
-        concept, date = words.split(" ")
-        links = [(parent, child) for child, parent in self.links(session, date)]
+    def ask_ancestors(self, pin: int, concept: str, date: str) -> Reply:
+        return ids_and_end(reached(int(concept), self.links(pin, date)))
+
+    def ask_descendants(self, pin: int, concept: str, date: str) -> Reply:
+        links = [(parent, child) for child, parent in self.links(pin, date)]
         return ids_and_end(reached(int(concept), links))
 
-    def associations(self, session: Optional[int], date: str, place: int, name: str,
-                     other: int) -> Reply:
+    def associations(self, pin: int, date: str, place: int, name: str, other: int) -> Reply:
         """The active ones with a component in one column, by refset, the other column, member."""
-        found = [c for c in self.active(session, "A", date) if c[place] == name]
+        found = [c for c in self.active(pin, "A", date) if c[place] == name]
         found.sort(key=lambda c: (int(c[REFSET]), int(c[other]), name_of("A", c[0])))
         return rows_and_end(found)
 
-    def do_replaced(self, session: Optional[int], words: str) -> Reply:
-        name, date = words.split(" ")
-        return self.associations(session, date, REFERENCED, name, TARGET)
+    def ask_replaced(self, pin: int, name: str, date: str) -> Reply:
+        return self.associations(pin, date, REFERENCED, name, TARGET)
 
-    def do_replaces(self, session: Optional[int], words: str) -> Reply:
-        name, date = words.split(" ")
-        return self.associations(session, date, TARGET, name, REFERENCED)
+    def ask_replaces(self, pin: int, name: str, date: str) -> Reply:
+        return self.associations(pin, date, TARGET, name, REFERENCED)
 
-    def do_at(self, _session: Optional[int], words: str) -> Reply:
-        """What a session is answered that is pinned so: one without a number, for this line."""
+    def do_at(self, _session: int, words: str) -> Reply:
+        """What a session is answered that is pinned so."""
         number, _, question = words.partition(" ")
         command, _, rest = question.partition(" ")
-        call = self.call_of(command)
-        if command not in QUESTIONS or call is None:
+        if not command.isupper() or not hasattr(self, "ask_" + command.lower()):
             return NO_ARGUMENTS
-        self.pins[None] = int(number)
-        said = self.asked(command, call(None, rest), rest)
-        del self.pins[None]
+        said = self.answer(command.lower(), int(number), rest)
         # A question that is none is refused before its number is looked at.
         return NO_SUCH_IMPORT if int(number) > self.state.imports and said != NO_ARGUMENTS else said
 
-    def do_pin(self, session: Optional[int], words: str) -> Reply:
+    def do_pin(self, session: int, words: str) -> Reply:
         number = self.state.imports if words == "" else int(words)
         if number > self.state.imports:
             return NO_SUCH_IMPORT
         self.pins[session] = number
         return ["OK %d" % number]
 
-    def do_unpin(self, session: Optional[int], _words: str) -> Reply:
+    def do_unpin(self, session: int, _words: str) -> Reply:
         self.pins.pop(session, None)
         return ["OK"]
 
-    def do_status(self, _session: Optional[int], _words: str) -> Reply:
+    def do_status(self, _session: int, _words: str) -> Reply:
         return [self.state.status()]
 
     def new_rows(self, files: Sequence[File]) -> dict[tuple[str, int, str], Columns]:
@@ -420,10 +420,10 @@ class Model:
         lines = sum(len(file.rows) for file in files)
         return ["OK %d %d %d" % (self.state.imports + 1, len(new), lines - len(new))], new
 
-    def do_check(self, _session: Optional[int], name: str) -> Reply:
+    def do_check(self, _session: int, name: str) -> Reply:
         return self.judged(name)[0]
 
-    def do_import(self, _session: Optional[int], name: str) -> Reply:
+    def do_import(self, _session: int, name: str) -> Reply:
         said, new = self.judged(name)
         if said[0].startswith("ERR "):
             return said
@@ -435,7 +435,7 @@ class Model:
         self.state = State(number, old.rows + len(new), segments, old.merge)
         return said
 
-    def do_merge(self, _session: Optional[int], _words: str) -> Reply:
+    def do_merge(self, _session: int, _words: str) -> Reply:
         old = self.state
         if old.merge is not None:
             return ["ERR 10 MergeBusy"]
@@ -447,7 +447,7 @@ class Model:
         self.state = State(old.imports, old.rows, old.segments, Merge(i, j, left, left))
         return ["OK %d" % left]
 
-    def do_step(self, _session: Optional[int], words: str) -> Reply:
+    def do_step(self, _session: int, words: str) -> Reply:
         old = self.state
         if int(words) == 0:
             return NO_ARGUMENTS
@@ -457,7 +457,7 @@ class Model:
         self.state = State(old.imports, old.rows, old.segments, old.merge._replace(left=left))
         return ["OK %d" % left]
 
-    def do_publish(self, _session: Optional[int], _words: str) -> Reply:
+    def do_publish(self, _session: int, _words: str) -> Reply:
         old = self.state
         if old.merge is None:
             return ["ERR 11 NoMerge"]
@@ -469,14 +469,14 @@ class Model:
         self.state = State(old.imports, old.rows, tuple(segments))
         return ["OK"]
 
-    def do_abandon(self, _session: Optional[int], _words: str) -> Reply:
+    def do_abandon(self, _session: int, _words: str) -> Reply:
         old = self.state
         if old.merge is None:
             return ["ERR 11 NoMerge"]
         self.state = State(old.imports, old.rows, old.segments)
         return ["OK"]
 
-    def do_trim(self, _session: Optional[int], _words: str) -> Reply:
+    def do_trim(self, _session: int, _words: str) -> Reply:
         return ["OK"]
 
     def go_back(self, state: State) -> None:

@@ -1,4 +1,4 @@
-/* Takes down the calls that write, cut and sync. A part of check_syncs.py. */
+/* Takes down the calls that write, cut and sync. A part of test_syncs.py. */
 #define _GNU_SOURCE
 #include <dlfcn.h>
 #include <fcntl.h>

@@ -9,6 +9,7 @@ from __future__ import annotations
 
 import collections
 import hashlib
+import itertools
 import os
 import random
 import re
@@ -86,11 +87,10 @@ def write_package(folder: Path) -> tuple[Path, Path]:
 
 def basic_files(release: Path, to: Path) -> Path:
     """A copy of a release that has only the files which each store keeps."""
-    for sort in rf2.BASIC_SORTS.values():
-        folder, _, name = sort.name.partition("{}")[0].rpartition("/")
-        (to / folder).mkdir(parents=True, exist_ok=True)
-        for path in (release / folder).glob(name + "*"):
-            shutil.copy(path, to / folder)
+    for _, path in rf2.files_of(release, rf2.BASIC_SORTS):
+        copy = to / path.relative_to(release)
+        copy.parent.mkdir(parents=True, exist_ok=True)
+        shutil.copy(path, copy)
     return to
 
 
@@ -503,11 +503,8 @@ def test_digest_refused(place: Place) -> None:
 
 def of_members(full: Path) -> Iterator[str]:
     """Lines that ask for members, and what some concepts of a release were called."""
-    path = full / rf2.SORTS["C"].name.format("Full", rf2.FULL_DATE)
-    rows = path.read_text(encoding="utf-8").splitlines()[1 : ASKED_NAMES + 1]
     yield from OF_MEMBERS
-    for row in rows:
-        code = row.partition("\t")[0]
+    for code, *_ in itertools.islice(rf2.rows_of(full, "C"), ASKED_NAMES):
         yield from (f"CALLED {code} {LATE} {language}" for language in rf2.LANGUAGES)
 
 

@@ -1,6 +1,6 @@
 """Tries the hub with the built program: clients, openings, sockets, lines in turns, damage, and
-ends. Its other trials are in test_duties.py, test_crowds.py, test_copies.py and test_openings.py,
-and those of the clients in examples/ in test_readers.py."""
+ends. Its other trials are in test_duties.py, test_crowds.py, test_digests.py, test_copies.py and
+test_openings.py, and those of the clients in examples/ in test_readers.py."""
 
 from __future__ import annotations
 
@@ -139,7 +139,8 @@ def test_kept_sessions(place: Place, store: Path) -> None:
 
 def test_turns(place: Place, store: Path) -> None:
     """The lines of a client that have come already go to the program together, 32 at most, but each
-    DIGEST alone; the replies come in their order, and a refusal of the hub's own among them."""
+    page of a DIGEST alone; the replies come in their order, and a refusal of the hub's own among
+    them."""
     recording = place.wrapped(RECORDER)
     with Hub(recording, store) as hub:
         client = hub.client()
@@ -160,10 +161,12 @@ def test_turns(place: Place, store: Path) -> None:
     assert max(counts) == LINES_A_CLIENT
     lines = iter(recording.path("lines").read_bytes().splitlines())
     asked_together = [[next(lines) for _ in range(count)] for count in counts]
-    digests = [part for part in asked_together if any(b"DIGEST" in line for line in part)]
-    assert [len(part) for part in digests] == [1] * (2 * DIGESTS)
+    # A page of each kind of rows.
+    pages = [part for part in asked_together if any(b" ROWS " in line for line in part)]
+    assert [len(part) for part in pages] == [1] * (6 * 2 * DIGESTS)
+    assert not any(b"DIGEST" in line for part in asked_together for line in part)
     # Of the 100 lines, and some of the hub's and of the client's.
-    assert len(counts) <= 20 + 3 * DIGESTS
+    assert len(counts) - len(pages) <= 20 + DIGESTS
 
 
 def test_openings(place: Place, store: Path) -> None:

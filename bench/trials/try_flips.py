@@ -1,9 +1,9 @@
 #!/usr/bin/env python3
-"""Turns over single bits of a store of version 3, and looks at what the built program answers.
+"""Turns over single bits of a store of layout 3, and looks at what the built program answers.
 
 try_flips.py PROGRAM [ROWS [BITS [SEED]]]
 
-PROGRAM is the built `sctd`. It makes a store of version 3 of a whole package, a Full release of
+PROGRAM is the built `sctd`. It makes a store of layout 3 of a whole package, a Full release of
 ROWS rows (20,000 where none are given) of all sorts of files, and of a Delta. Each bit of the
 directory's epoch is turned over by itself, and each of some random bits of both directories and of
 BITS random ones of the file (200 where none are given): the program is asked, and the bit is turned
@@ -62,7 +62,7 @@ class Store:
         self.older = min(DIRECTORIES, key=lambda place: number(self.data, place, 8))
         for place in DIRECTORIES:
             if self.data[place + 8 : place + 16] != b"SCTSTOR3":
-                raise Wrong("no directory of version 3")
+                raise Wrong("no directory of layout 3")
         self.segments: list[tuple[int, int]] = []
         for place in range(at + 32, at + 32 + 16 * number(self.data, at + 20, 4), 16):
             first, length, _, checksum = (number(self.data, place + 4 * k, 4) for k in range(4))
@@ -201,19 +201,12 @@ def some_questions(folder: Path, chance: random.Random) -> Iterator[str]:
     """What is asked of some components of a release: their versions, and of concepts what is above
     them, what was ever said of them and what they were called, and of reference sets the members
     and the values, for which many rows are read."""
-    for sort, (kind, name, _) in make_release.SORTS.items():
+    for sort, (kind, _, _) in make_release.SORTS.items():
         if sort not in make_release.UNKEPT_SORTS:
-            rows = list(rows_in(folder, name))
+            rows = list(make_release.rows_of(folder, sort))
             for row in chance.sample(rows, min(ASKED_OF_A_SORT, len(rows))):
                 yield "HISTORY %s %s" % (kind, row[0])
                 yield from questions_about(kind, row)
-
-
-def rows_in(folder: Path, name: str) -> Iterator[list[str]]:
-    """The columns of the rows in a file of a release."""
-    for path in sorted(folder.glob(name.partition("{}")[0] + "*")):
-        for row in path.read_text("utf-8").split("\n")[1:-1]:
-            yield row.split("\t")
 
 
 def questions_about(kind: str, row: Sequence[str]) -> Iterator[str]:

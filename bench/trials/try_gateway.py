@@ -33,15 +33,9 @@ MYPY = ("mypy", "--strict")
 SECONDS = 400
 NOT_RUN = 3
 # Modules that run beside each other. All others are one more run.
-APART = (
-    ("test_waits",),
-    ("test_silent_hub", "test_limits"),
-    ("test_hub", "test_large_answers", "test_metrics"),
-    ("test_releases", "test_delivery"),
-    ("test_members",),
-    ("test_ecl",),
-    ("test_ecl_by_files",),
-)
+APART = (("test_waits",), ("test_silent_hub", "test_limits"),
+         ("test_hub", "test_large_answers", "test_metrics"), ("test_releases", "test_delivery"),
+         ("test_members",), ("test_ecl",), ("test_ecl_by_files",))
 COUNT = re.compile(r"(\d+) (passed|failed|errors?)\b")
 
 
@@ -59,14 +53,8 @@ def words_of(python: str, program: str, hub: str, modules: Iterable[str]) -> lis
 
 
 def begun(words: Sequence[str]) -> subprocess.Popen[bytes]:
-    return subprocess.Popen(
-        words,
-        cwd=SERVICE,
-        stdin=subprocess.DEVNULL,
-        stdout=subprocess.PIPE,
-        stderr=subprocess.STDOUT,
-        start_new_session=True,
-    )
+    return subprocess.Popen(words, cwd=SERVICE, stdin=subprocess.DEVNULL, stdout=subprocess.PIPE,
+                            stderr=subprocess.STDOUT, start_new_session=True)
 
 
 def ended(run: subprocess.Popen[bytes], modules: Sequence[str]) -> tuple[int, int]:
@@ -91,12 +79,8 @@ def types(python: str) -> tuple[int, int, int]:
         print("mypy isn't installed: the types weren't checked")
         return 0, 0, 1
     done = subprocess.run(
-        [*MYPY, "--python-executable", python, "-p", "sctd_service", "-p", "tests"],
-        cwd=SERVICE,
-        text=True,
-        capture_output=True,
-        check=False,
-    )
+        [*MYPY, "--python-executable", python, "-p", "sctd_service", "-p", "tests"], cwd=SERVICE,
+        text=True, capture_output=True, check=False)
     if done.returncode:
         print(done.stdout + done.stderr)
     return (0, 1, 0) if done.returncode else (1, 0, 0)
@@ -106,18 +90,11 @@ def page(program: str) -> tuple[int, int, int]:
     """The same of the page, which has to be as it should."""
     done = subprocess.run(
         [sys.executable, os.path.join(ROOT, "bench", "trials", "try_page.py"), program],
-        stdin=subprocess.DEVNULL,
-        capture_output=True,
-        text=True,
-        check=False,
-    )
+        stdin=subprocess.DEVNULL, capture_output=True, text=True, check=False)
     if done.returncode:
         print("try_page.py: " + (done.stdout + done.stderr).rstrip("\n"))
-    return (
-        int(done.returncode == 0),
-        int(done.returncode not in (0, NOT_RUN)),
-        int(done.returncode == NOT_RUN),
-    )
+    return (int(done.returncode == 0), int(done.returncode not in (0, NOT_RUN)),
+            int(done.returncode == NOT_RUN))
 
 
 def main(words: Sequence[str]) -> int:

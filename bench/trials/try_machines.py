@@ -34,24 +34,24 @@ import shutil
 import signal
 import subprocess
 import sys
-import tempfile
 import threading
 import time
 from collections import Counter
-from collections.abc import Iterator, Sequence
+from collections.abc import Sequence
+from contextlib import closing
 from functools import lru_cache
 from pathlib import Path
 from typing import Any, NamedTuple, Optional
 from urllib.parse import urlencode
 
 from machines_releases import CODES, TOP, days_of, rows_of, wording_of, write
-from operators_harness import Wrong, same
+from harness import Wrong, same
 from proxy_harness import (
-    HAPROXY, LOOK_SECONDS, NGINX, NOT_RUN, ROOT, SECONDS, Client, Process, Proxy, children,
-    gateway_words, hub_words, missing, ready, run, stop, wait)
+    HAPROXY, LOOK_SECONDS, NGINX, NOT_RUN, ROOT, Client, Clients, Process, Proxy, children,
+    gateway_words, hub_words, missing, open_folder, ready, run, stop, wait)
 from sctd_service.protocol import HubClient, HubFailed
 from tests.compare_releases import Comparison, Differs
-from tests.house import SCT, Json, version
+from tests.fixtures import SCT, Json, version
 from tests.release_files import Rows, Snapshot
 
 
@@ -290,7 +290,7 @@ def make_bridge() -> None:
         run("ip", "link", "set", name, "up")
 
 
-class House:
+class Site:
     """The machines, the proxy, and what is known of them."""
 
     def __init__(self, place: Path, options: argparse.Namespace) -> None:
@@ -386,25 +386,22 @@ class House:
         """Whether there is no more time."""
         return time.monotonic() > self.end_at
 
-    def end(self) -> None:
+    def close(self) -> None:
         self.proxy.end()
         for machine in self.machines:
             machine.end()
 
 
-class Asking:
+class Asking(Clients):
     """Clients that ask, and what came of it."""
 
-    def __init__(self, house: House) -> None:
-        self.house, self.counts = house, Counter[str]()
-        self.asked, self.faults, self.is_over = 0, list[str](), False
-        self.threads = [
-            threading.Thread(target=self.ask_all, args=(seed,))
-            for seed in range(house.size.clients)]
+    def __init__(self, site: Site) -> None:
+        super().__init__(site.size.clients, self.ask_all)
+        self.site, self.counts, self.asked, self.faults = site, Counter[str](), 0, list[str]()
 
     def ask_all(self, seed: int) -> None:
         chance, judge = random.Random(seed), Judge()
-        client = Client(self.house.proxy, self.house.proxy.user)
+        client = Client(self.site.proxy, self.site.proxy.user)
         while not self.is_over:
             try:
                 self.ask(client, judge, self.question(chance))
@@ -415,7 +412,7 @@ class Asking:
             time.sleep(BETWEEN_SECONDS)
 
     def question(self, chance: random.Random) -> Question:
-        latest = self.house.imports
+        latest = self.site.imports
         asked = latest if chance.random() < LATEST else chance.randint(1, latest)
         # (A day that a pin doesn't show is refused.)
         days = days_of(asked)
@@ -447,116 +444,94 @@ class Asking:
 
     def newest(self) -> int:
         """How many imports there may be, with the one that is made."""
-        return self.house.imports + 1
+        return self.site.imports + 1
 
     def refused(self, question: Question, began: float, why: str) -> None:
         self.counts["refused"] += 1
         self.counts["refused: " + why] += 1
-        if not self.house.may_refuse(question.pin, began, time.monotonic()):
+        if not self.site.may_refuse(question.pin, began, time.monotonic()):
             self.counts["refused without need"] += 1
             self.faults.append("%s: refused without need: %s" % (question.path, why))
 
     def wait_for(self, count: int) -> None:
         """Waits until so many are asked, or there is no more time."""
-        while self.asked < count and not self.faults and not self.house.is_late():
+        while self.asked < count and not self.faults and not self.site.is_late():
             time.sleep(LOOK_SECONDS)
         if self.faults:
             raise Wrong("; ".join(self.faults[:TOLD]))
 
-    def __enter__(self) -> Asking:
-        for thread in self.threads:
-            thread.start()
-        return self
 
-    def __exit__(self, *_: object) -> None:
-        self.is_over = True
-        for thread in self.threads:
-            thread.join(SECONDS * 2)
-
-
-def disturb(house: House) -> None:
+def disturb(site: Site) -> None:
     """The next import, and what happens beside it."""
-    turn = (house.imports + 1) % ROUND
+    turn = (site.imports + 1) % ROUND
     if turn == KILL_WRITER:
-        house.kill_in_an_import()
+        site.kill_in_an_import()
     else:
-        house.import_next()
+        site.import_next()
     if turn == START_BALANCER:
-        house.start_proxy_again()
+        site.start_proxy_again()
     elif turn == KILL_READER:
-        house.near.kill()
+        site.near.kill()
     elif turn == START_READER:
-        house.back(house.near)
-    if house.imports % FED_EVERY == 0:
-        house.feed([house.near] if turn in BEHIND else [house.near, house.far])
+        site.back(site.near)
+    if site.imports % FED_EVERY == 0:
+        site.feed([site.near] if turn in BEHIND else [site.near, site.far])
 
 
-def refused_copies(house: House) -> None:
+def refused_copies(site: Site) -> None:
     """A copy that is cut short, one that is behind and one of other imports aren't taken."""
-    near, copies = house.near, house.near.place / "copies"
+    near, copies = site.near, site.near.place / "copies"
     whole = copies / "whole"
-    house.writer.asked("BACKUP %s" % whole, house.writer.own)
+    site.writer.asked("BACKUP %s" % whole, site.writer.own)
     short, behind, other = (copies / name for name in ("short", "behind", "other"))
     short.write_bytes(whole.read_bytes()[:-1])
-    run(house.program, "copy", "--imports", "1", "--store", str(whole), "--to", str(behind))
-    run(house.program, "init", "--store", str(other))
-    for number in [2, 1, *range(3, house.imports + 1)]:
-        run(house.program, "import", "--quiet", "--store", str(other),
-            str(house.place / "releases" / ("r%d" % number)))
+    run(site.program, "copy", "--imports", "1", "--store", str(whole), "--to", str(behind))
+    run(site.program, "init", "--store", str(other))
+    for number in [2, 1, *range(3, site.imports + 1)]:
+        run(site.program, "import", "--quiet", "--store", str(other),
+            str(site.place / "releases" / ("r%d" % number)))
     before = near.store.read_bytes()
     for copy, why in ((short, "status"), (behind, "it has 1 imports"), (other, "has an import")):
-        done = subprocess.run(house.taking(near, copy), capture_output=True, check=False)
+        done = subprocess.run(site.taking(near, copy), capture_output=True, check=False)
         said = done.stderr.decode()
         same("%s: status, why" % copy.name, (done.returncode, why in said), (1, True))
         same("the store, the copy", (near.store.read_bytes() == before, copy.exists()),
              (True, True))
-    same("the imports", near.imports(), house.imports)
+    same("the imports", near.imports(), site.imports)
 
 
-def tried(house: House) -> None:
-    size = house.size
-    house.import_next()
-    house.feed([house.near, house.far])
+def tried(site: Site) -> None:
+    size = site.size
+    site.import_next()
+    site.feed([site.near, site.far])
     began = time.monotonic()
-    with Asking(house) as asking:
-        while house.imports < size.imports and not house.is_late():
-            asking.wait_for(size.requests * house.imports // size.imports)
-            disturb(house)
+    with Asking(site) as asking:
+        while site.imports < size.imports and not site.is_late():
+            asking.wait_for(size.requests * site.imports // size.imports)
+            disturb(site)
         asking.wait_for(size.requests)
     counts = asking.counts
     if asking.faults:
         raise Wrong("; ".join(asking.faults[:TOLD]))
-    if house.near.is_off:
-        house.back(house.near)
-    house.feed([house.near, house.far])
-    digests = {one.asked("DIGEST") for one in house.machines}
+    if site.near.is_off:
+        site.back(site.near)
+    site.feed([site.near, site.far])
+    digests = {one.asked("DIGEST") for one in site.machines}
     same("how many digests the machines have", len(digests), 1)
     shown = ", ".join("%s: %d" % one for one in sorted(counts.items()))
     print("%d imports, %d requests in %.0f s: 0 wrong, 0 mixed; %s" % (
-        house.imports, asking.asked, time.monotonic() - began, shown), flush=True)
+        site.imports, asking.asked, time.monotonic() - began, shown), flush=True)
     for what in ("answered at a pin", "answered without a pin"):
         same("whether some were " + what, counts[what] > 0, True)
-
-
-@contextlib.contextmanager
-def a_house(options: argparse.Namespace) -> Iterator[House]:
-    with tempfile.TemporaryDirectory(prefix="sctd-machines-") as place:
-        # (nginx's workers are another user's where it is started by root.)
-        os.chmod(place, 0o755)
-        house = House(Path(place), options)
-        try:
-            house.start()
-            yield house
-        finally:
-            house.end()
 
 
 def run_trial(options: argparse.Namespace) -> int:
     """The trial, in networks that nobody else has or without."""
     try:
-        with a_house(options) as house:
-            tried(house)
-            refused_copies(house)
+        with open_folder() as place, closing(Site(place, options)) as site:
+            site.start()
+            tried(site)
+            refused_copies(site)
             print("copies that aren't taken: as it has to be", flush=True)
     except (Wrong, HubFailed, OSError, http.client.HTTPException) as why:
         print("WRONG: %s" % why)

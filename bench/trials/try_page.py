@@ -5,12 +5,12 @@ try_page.py PROGRAM [PICTURE]
 
 PROGRAM is the built `sctd`. Records, a retired concept, hostile terms, a search, refusals, what
 changed between two days and a list of records are opened at 390 and at 1,280 pixels, in light and
-in dark colours. The rules of page_rules.py hold of each: contrast, names, labels, headings, widths,
-a console that says nothing. Records, changes and lists are also gone through by the keyboard alone.
-Forms are filled in by it, a file is chosen, a list is printed, and a record is read without the
-page's script. PICTURE is written with the page of a record. Where there is no Chromium, or
-something that the gateway imports is missing, that is said and the status is 3; it is 1 where
-something is wrong.
+in dark colours, and at 320 pixels. The rules of page_rules.py hold of each: contrast, names,
+labels, headings, sizes, a console that says nothing. Most are also gone through by the keyboard
+alone. Forms are filled in by it, a file is chosen, a record, changes and a list are printed, and a
+record is read without the page's script. PICTURE is written with the page of a record. Where there
+is no Chromium, or something that the gateway imports is missing, that is said and the status is 3;
+it is 1 where something is wrong.
 """
 
 from __future__ import annotations
@@ -29,47 +29,22 @@ from urllib.parse import urlencode
 
 import chromium
 import page_rules
+from harness import Wrong
 from try_gateway import ROOT, SERVICE
 
 sys.path.append(os.path.join(ROOT, "packaging"))
 from needs import python_with  # noqa: E402
 
 NOT_RUN = 3
-DESK, PHONE = 1280, 390
+# The last one is a window of 1,280 pixels that is enlarged four times.
+DESK, PHONE, ENLARGED = 1280, 390, 320
 LOOKS = [(width, scheme) for width in (DESK, PHONE) for scheme in ("light", "dark")]
+LOOKS.append((ENLARGED, "light"))
 # How wide the page of PICTURE is.
 PICTURE_WIDTH = 1000
 TEXT = "document.body.innerText"
-# How light the page is behind its texts, from 0 to 1.
-LIGHT = "(() => {%s return light(behind(document.body)); })()" % page_rules.COLOURS
-SHOWN_ROWS = (
-    "[...document.querySelectorAll('.compared tbody tr')]"
-    ".filter(one => one.checkVisibility()).length"
-)
-ALL_ROWS = "document.querySelectorAll('.compared tbody tr').length"
-# Where the cells of the first row of a table stand: the second at the side of the first or below.
-PLACES = """(() => {
-  const [one, other] = [...document.querySelectorAll(".compared tbody tr td")]
-    .map(cell => cell.getBoundingClientRect());
-  return other.top >= one.bottom && Math.abs(other.left - one.left) < 1 ? "below"
-    : other.left >= one.right && Math.abs(other.top - one.top) < 1 ? "beside" : "elsewhere";
-})()"""
-SAID_BEFORE = (
-    "(() => { const cell = document.querySelector('.compared tbody td');"
-    " const text = getComputedStyle(cell, '::before').content;"
-    " return text.replace(/^attr.*/, JSON.stringify(cell.dataset.head)); })()"
-)
-# What isn't to be on paper, as far as it is shown.
-NOT_PRINTED = (
-    "[...document.querySelectorAll('form, nav, .links, .skip')]"
-    ".filter(one => one.checkVisibility()).map(one => one.tagName)"
-)
 # The codes of the concepts of a made-up release, by their names.
 Codes = Mapping[str, str]
-
-
-class Wrong(Exception):
-    """A page isn't as it has to be."""
 
 
 class Page:
@@ -102,7 +77,7 @@ class Page:
             raise Wrong("%s: %s" % (what, one))
 
     def is_so(self, what: str, script: str, wanted: Any) -> None:
-        found = self.browser.value(script)
+        found = page_rules.asked(self.browser, script)
         if found != wanted:
             raise Wrong("%s: %r, and %r was wanted" % (what, found, wanted))
 
@@ -117,7 +92,7 @@ class Page:
         """Goes to a field, a button or a link by the tab key."""
         for _ in range(100):
             self.browser.press("Tab")
-            focus = self.browser.value(page_rules.OF_FOCUS)
+            focus = page_rules.asked(self.browser, "ofFocus()")
             if focus and focus[0] == name:
                 return
         raise Wrong("the tab key doesn't lead to %r" % name)
@@ -135,6 +110,7 @@ def records(page: Page) -> None:
     page.open(
         "what was below a concept", "", "Children", "Target of the house Y1",
         "Advice <b>bold</b> ask <i>them</i>", q=codes["limb"], date="2020-12-31")
+    page.walk("what was below a concept")
     page.open(
         "a retired concept", "", "was inactive", "Took the place of", "Same as",
         "Fracture of distal radius (disorder)", q=codes["radius"])
@@ -148,6 +124,7 @@ def records(page: Page) -> None:
 def searches(page: Page) -> None:
     page.open("no word", "", "Type a code")
     page.open("a search", "", "1 term begins", "</textarea><script>", q="Hostile")
+    page.walk("a search")
     page.open("a hostile search", "", "No term begins", q="<img src=x onerror=alert(1)>")
 
 
@@ -157,6 +134,7 @@ def refusal(page: Page) -> None:
     page.browser.events = []
     page.holds("a refusal", "Refused: a date is a day of the calendar")
     page.is_so("the form of a refusal", "document.getElementById('q').value", "7<b>")
+    page.walk("a refusal")
 
 
 def changes(page: Page) -> None:
@@ -186,7 +164,7 @@ def lists(page: Page) -> None:
 
 
 def colours(page: Page, scheme: str) -> None:
-    light = page.browser.value(LIGHT)
+    light = page_rules.asked(page.browser, "lightOfPage()")
     if (light > 0.5) != (scheme == "light"):
         raise Wrong("%s colours, and the page is %.2f light" % (scheme, light))
 
@@ -194,7 +172,7 @@ def colours(page: Page, scheme: str) -> None:
 def looks(page: Page) -> None:
     """All pages at each width, in light and in dark colours."""
     for width, scheme in LOOKS:
-        page.browser.width(width, width == PHONE)
+        page.browser.width(width, width != DESK)
         page.browser.media(scheme=scheme)
         try:
             for look in (records, searches, refusal, changes, lists):
@@ -207,22 +185,25 @@ def looks(page: Page) -> None:
 def table(page: Page) -> None:
     """The days of a record stand beside each other, and on a phone below each other; a screen
     reader is told of a table all the same. What differs alone is shown until the switch is off."""
-    for width, where in ((DESK, "beside"), (PHONE, "below")):
-        page.browser.width(width, width == PHONE)
+    for width, scheme in LOOKS:
+        where = "beside" if width == DESK else "below"
+        page.browser.width(width, width != DESK)
+        page.browser.media(scheme=scheme)
         page.open("a record", q=page.codes["wrist"], date="2018-01-01")
-        page.is_so("at %d pixels the second day" % width, PLACES, where)
-        said = '"1 January 2018"' if width == PHONE else "none"
-        page.is_so("what a cell says before itself", SAID_BEFORE, said)
+        page.is_so("at %d pixels the second day" % width, "places()", where)
+        said = '"1 January 2018"' if width != DESK else "none"
+        page.is_so("what a cell says before itself", "saidBefore()", said)
         roles = {page_rules.role_of(one) for one in page_rules.nodes(page.browser)}
         if not {"table", "row", "rowheader", "columnheader", "cell"} <= roles:
             raise Wrong("at %d pixels no table: %s" % (width, sorted(roles)))
-        count, shown = (page.browser.value(script) for script in (ALL_ROWS, SHOWN_ROWS))
+        count, shown = page_rules.asked(page.browser, "[allRows(), shownRows()]")
         page.is_so(
             "what differs", "document.querySelector('#only + label').textContent",
             "Only what differs: %d of %d rows" % (shown, count))
         page.tab_to("only")
         page.browser.press(" ")
-        page.is_so("all rows", SHOWN_ROWS, count)
+        page.is_so("all rows", "shownRows()", count)
+        page.holds("all rows")
         if not 0 < shown < count:
             raise Wrong("what differs: %d of %d rows" % (shown, count))
     page.open("one day", q=page.codes["wrist"])
@@ -247,16 +228,27 @@ def keyboard(page: Page) -> None:
         raise Wrong("a record: no button that copies the line")
 
 
+def keyboard_for_changes(page: Page) -> None:
+    """What changed is asked for, and a file of it."""
+    page.open("no changes yet", "changes")
+    page.tab_to("concept")
+    page.browser.write(page.codes["finding"])
+    page.browser.press("Tab")
+    # (Whether the month or the day comes first is decided by the machine.)
+    for digit in "02022019":
+        page.browser.press(digit)
+    page.go("changes by the keyboard", "Enter", "4 concepts changed", "Parent withdrawn")
+    page.is_so("the day that was typed", "document.getElementById('from').value", "2019-02-02")
+    page.tab_to("As CSV")
+    page.is_so("what asks for a file", "document.activeElement.value", "csv")
+
+
 def suggestions(page: Page) -> None:
     """What the script adds: terms while typing."""
     page.open("typing")
     page.browser.value("document.getElementById('q').focus()")
     page.browser.write("fracture of w")
-    told = page.browser.value(
-        "new Promise(done => { const look = () => { const found = [...document.querySelectorAll("
-        "'#found option')].map(one => one.value); if (found.length) done(found);"
-        " else setTimeout(look, 50); }; look(); setTimeout(() => done([]), 20000); })"
-    )
+    told = page_rules.asked(page.browser, "suggested()")
     if told != [page.codes["wrist"]]:
         raise Wrong("typing: %s are suggested" % told)
 
@@ -272,15 +264,37 @@ def uploaded(page: Page) -> None:
         page.browser.ask("DOM.setFileInputFiles", nodeId=field, files=[file.name])
         page.tab_to("Judge")
         page.go("a file", "Enter", "1 record", "Right: 1.", "Synonym (en)")
-    page.browser.media("print", "dark")
-    page.is_so("on paper", NOT_PRINTED, [])
-    page.is_so("on paper", "document.querySelector('table').checkVisibility()", True)
-    colours(page, "light")
+    on_paper(page, "a list")
     paper = base64.b64decode(page.browser.ask("Page.printToPDF", preferCSSPageSize=True)["data"])
     # (A4 in landscape is 842 points wide.)
     if b"/MediaBox [0 0 84" not in paper:
         raise Wrong("on paper a list isn't in landscape")
     page.browser.media()
+
+
+def on_paper(page: Page, what: str) -> None:
+    """A page as it is printed, also by who has dark colours."""
+    page.browser.media("print", "dark")
+    page.is_so(what + " on paper", "notPrinted()", [])
+    page.is_so(what + " on paper", "document.querySelector('table').checkVisibility()", True)
+    colours(page, "light")
+
+
+def printed(page: Page) -> None:
+    """What changed, and a record, of which paper says how many rows are left out."""
+    page.open("what changed", "changes", concept=page.codes["finding"], from_="2019-01-31")
+    on_paper(page, "what changed")
+    page.browser.media()
+    for is_switched in (False, True):
+        page.open("a record", q=page.codes["wrist"], date="2018-01-01")
+        if is_switched:
+            page.tab_to("only")
+            page.browser.press(" ")
+        on_paper(page, "a record")
+        page.is_so(
+            "on paper that rows are left out",
+            "document.querySelector('#only + label').checkVisibility()", not is_switched)
+        page.browser.media()
 
 
 def without_script(page: Page) -> None:
@@ -309,12 +323,8 @@ def pictured(page: Page, picture: Optional[str]) -> None:
 def write(picture: str, taken: bytes) -> None:
     """Writes the picture, with fewer colours where pngquant is there to choose them."""
     if shutil.which("pngquant"):
-        taken = subprocess.run(
-            ["pngquant", "--speed", "1", "--strip", "-"],
-            input=taken,
-            check=True,
-            stdout=subprocess.PIPE,
-        ).stdout
+        words = ["pngquant", "--speed", "1", "--strip", "-"]
+        taken = subprocess.run(words, input=taken, check=True, stdout=subprocess.PIPE).stdout
     with open(picture, "wb") as file:
         file.write(taken)
 
@@ -325,32 +335,33 @@ def tried(path: str, program: str, picture: Optional[str]) -> None:
 
     def look(codes: Codes, base: str) -> None:
         page = Page(browser, base, codes)
-        for one in (looks, table, keyboard, suggestions, uploaded, without_script):
+        for one in (looks, table, keyboard, keyboard_for_changes, suggestions, uploaded, printed,
+                    without_script):
             one(page)
         pictured(page, picture)
 
     try:
-        in_house(look)
+        with_service(look)
     finally:
         browser.close()
 
 
-def in_house(look: Callable[[Codes, str], None]) -> None:
+def with_service(look: Callable[[Codes, str], None]) -> None:
     """Looks at the pages of a gateway that listens where a browser reaches it."""
     from tests.demo_members import WORDS
-    from tests.house import Gateway, House
+    from tests.fixtures import Gateway, Service
 
-    house, gateway = House(layout=3, is_whole=True), None
+    service, gateway = Service(layout=3, is_whole=True), None
     try:
         with tempfile.TemporaryDirectory() as folder:
             with socket.create_server(("127.0.0.1", 0)) as free:
                 place = "127.0.0.1:%d" % free.getsockname()[1]
-            gateway = Gateway(house.questions, Path(folder), place, WORDS)
-            look(house.codes, "http://%s/" % place)
+            gateway = Gateway(service.questions, Path(folder), place, WORDS)
+            look(service.codes, "http://%s/" % place)
     finally:
         if gateway:
             gateway.stop()
-        house.end()
+        service.end()
 
 
 def main(words: Sequence[str]) -> int:

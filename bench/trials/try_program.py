@@ -31,18 +31,17 @@ SCRIPTS: list[tuple[str, ...]] = [
     ("trials/try_cases.py",),
     ("trials/try_cases.py", "--wrong"),
     ("trials/by_pytest.py", "mistakes"),
-    ("trials/check_syncs.py",),
-    ("trials/by_pytest.py", "files", "cache"),
-    ("trials/by_pytest.py", "sessions", "crowds", "openings"),
+    ("trials/by_pytest.py", "files", "cache", "syncs"),
+    ("trials/by_pytest.py", "sessions", "crowds", "digests", "openings"),
     ("trials/by_pytest.py", "duties", "copies"),
-    ("trials/by_pytest.py", "readers"),
+    ("trials/by_pytest.py", "readers", "exports"),
     ("trials/by_pytest.py", "operators"),
     ("trials/refuse_growths.py", "script"),
     ("trials/refuse_growths.py", "tasks"),
     ("trials/soak.py", "12", "1"),
     ("trials/soak.py", "12", "2"),
     ("trials/try_flips.py", "5000", "100"),
-    ("trials/try_package.py",),
+    ("trials/by_pytest.py", "package"),
     ("trials/try_first_look.py",),
     ("trials/try_proxy.py",),
     ("trials/try_machines.py",),
@@ -79,15 +78,16 @@ def outcome_of(status: int, printed: bytes, most_lines: int = LINES_TOLD) -> Out
     return Outcome(passed if found else 0, max(failed, 1), skipped, told)
 
 
-def tried(program: Path, script: str, words: Sequence[str]) -> Outcome:
-    """What came of a script with the program."""
+def run_script(words: Sequence[str | Path], most_lines: int = LINES_TOLD) -> Outcome:
+    """What came of a script of bench/ with its words."""
     try:
         done = subprocess.run(
-            [sys.executable, os.path.join(BENCH, script), program, *words], timeout=LONGEST,
-            stdin=subprocess.DEVNULL, stdout=subprocess.PIPE, stderr=subprocess.STDOUT, check=False)
+            [sys.executable, os.path.join(BENCH, words[0]), *words[1:]], timeout=LONGEST,
+            cwd=os.path.dirname(BENCH), stdin=subprocess.DEVNULL, stdout=subprocess.PIPE,
+            stderr=subprocess.STDOUT, check=False)
     except subprocess.TimeoutExpired as late:
-        return outcome_of(1, (late.stdout or b"") + b"\nit takes too long")
-    return outcome_of(done.returncode, done.stdout)
+        return outcome_of(1, (late.stdout or b"") + b"\nit takes too long", most_lines)
+    return outcome_of(done.returncode, done.stdout, most_lines)
 
 
 def main() -> int:
@@ -100,7 +100,7 @@ def main() -> int:
     passed, failed = asked.passed, asked.failed
     for script, *more in SCRIPTS:
         begun = time.monotonic()
-        outcome = tried(asked.program.resolve(), script, more)
+        outcome = run_script([script, asked.program.resolve(), *more])
         took = time.monotonic() - begun
         print(f"bench/{' '.join([script, *more])}: {outcome} ({took:.0f} s)", flush=True)
         if outcome.told:

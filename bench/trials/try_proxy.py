@@ -17,24 +17,23 @@ something isn't as it has to be. Standard library alone.
 
 from __future__ import annotations
 
-import contextlib
+import argparse
 import http.client
 import json
-import os
 import shutil
 import signal
 import sys
-import tempfile
 import threading
 import time
-from collections.abc import Callable, Iterator, Sequence
+from collections.abc import Callable, Sequence
+from contextlib import closing
 from pathlib import Path
 from typing import Optional
 
-from operators_harness import Wrong, same
+from harness import Wrong, same
 from proxy_harness import (
-    HOST, KINDS, LANGUAGE, NOT_RUN, ROOT, SECONDS, TOOLS, USER, Authority, Client, Kind, Process,
-    Proxy, free_ports, gateway_words, hub_words, missing, ready, stop)
+    HOST, KINDS, LANGUAGE, NOT_RUN, ROOT, SECONDS, TOOLS, USER, Authority, Client, Clients, Kind,
+    Process, Proxy, free_ports, gateway_words, hub_words, missing, open_folder, ready, stop)
 from sctd_service.protocol import HubClient, HubFailed
 
 HUBS, GATEWAYS = 2, 3
@@ -53,7 +52,7 @@ UNMONITORED = (
     "/metrics", "//metrics", "/x/../metrics", "/%6detrics", "/pin/1/metrics", "/metrics?a=1")
 
 
-class House:
+class Site:
     """The hubs, the gateways and a proxy, in a folder."""
 
     def __init__(self, program: str, place: Path, kind: Kind, restarts: int) -> None:
@@ -106,16 +105,16 @@ class House:
         told = [json.loads(line) for line in lines if line.startswith("{")]
         return [line for line in told if "request" in line]
 
-    def end(self) -> None:
+    def close(self) -> None:
         self.proxy.end()
         for process in [*self.gateways, *self.hubs]:
             stop(process)
 
 
-def is_let_in(house: House, certificate: Optional[Path]) -> bool:
+def is_let_in(site: Site, certificate: Optional[Path]) -> bool:
     """Whether a client is answered. (nginx says 400, and haproxy ends the handshake.)"""
     try:
-        return Client(house.proxy, certificate).get(LOOKUP)[0] == 200
+        return Client(site.proxy, certificate).get(LOOKUP)[0] == 200
     except (OSError, http.client.HTTPException):
         return False
 
@@ -125,45 +124,44 @@ def was_sent_again(line: dict[str, object]) -> bool:
     return ", " in str(line["gateway"]) or line.get("sent_again", "0") != "0"
 
 
-def who_may_ask(house: House) -> None:
+def who_may_ask(site: Site) -> None:
     """Who has a certificate of the authority is answered, and nobody else; the log has the name."""
-    status, answer = house.client().get(LOOKUP)
+    status, answer = site.client().get(LOOKUP)
     same("with a certificate", (status, b'"valueString":"Path"' in answer), (200, True))
-    same("without one", is_let_in(house, None), False)
-    same("with one of another authority", is_let_in(house, house.stranger), False)
+    same("without one", is_let_in(site, None), False)
+    same("with one of another authority", is_let_in(site, site.stranger), False)
     for path in UNMONITORED:
-        status, answer = house.client().get(path)
+        status, answer = site.client().get(path)
         same("%s, and whether it is the metrics" % path, (status, b"sctd_" in answer), (404, False))
-    line = next(one for one in house.log() if one["status"] == 200)
-    same("the gateway that is logged", line["gateway"] in house.addresses, True)
-    wanted = {"user": house.kind.user, "method": "GET", "request": LOOKUP, "pin": "1"}
+    line = next(one for one in site.log() if one["status"] == 200)
+    same("the gateway that is logged", line["gateway"] in site.addresses, True)
+    wanted = {"user": site.kind.user, "method": "GET", "request": LOOKUP, "pin": "1"}
     same("what is logged", {name: line[name] for name in wanted}, wanted)
 
 
-def long_requests(house: House) -> None:
+def long_requests(site: Site) -> None:
     """What a gateway takes isn't too long for the proxy."""
     request = {"method": "GET", "url": LOOKUP.removeprefix("/fhir/")}
     entry = {"request": request, "id": "x" * FILLING}
     batch = {"resourceType": "Bundle", "type": "batch", "entry": [entry] * ENTRIES}
-    status, _, answer = house.client().asked(
+    status, _, answer = site.client().asked(
         "POST", BATCH, json.dumps(batch).encode(), **{"Content-Type": "application/fhir+json"})
     same("a long batch", (status, answer.count(b'"status":"200')), (200, ENTRIES))
 
 
-class Asking:
+class Asking(Clients):
     """Clients that ask one after the other for some path until they are told to end, and keep what
     isn't as the first answer was."""
 
-    def __init__(self, house: House, path: str = LOOKUP, may_be_cut: bool = False) -> None:
-        self.house, self.path, self.wanted = house, path, house.client().get(path)
+    def __init__(self, site: Site, path: str = LOOKUP, may_be_cut: bool = False) -> None:
+        super().__init__(CLIENTS, self.ask)
+        self.site, self.path, self.wanted = site, path, site.client().get(path)
         same("the status of %s" % path, self.wanted[0], 200)
-        self.may_be_cut, self.is_over = may_be_cut, False
+        self.may_be_cut, self.lock = may_be_cut, threading.Lock()
         self.answered, self.again, self.others = 0, 0, list[object]()
-        self.lock = threading.Lock()
-        self.threads = [threading.Thread(target=self.ask) for _ in range(CLIENTS)]
 
-    def ask(self) -> None:
-        client, answered = self.house.client(), 0
+    def ask(self, _seed: int) -> None:
+        client, answered = self.site.client(), 0
         while not self.is_over or answered < ASKED:
             try:
                 found: object = client.get(self.path)
@@ -183,105 +181,83 @@ class Asking:
         if not self.may_be_cut:
             same("connections that were made again", self.again, 0)
 
-    def __enter__(self) -> Asking:
-        for thread in self.threads:
-            thread.start()
-        return self
 
-    def __exit__(self, *_: object) -> None:
-        self.is_over = True
-        for thread in self.threads:
-            thread.join(SECONDS * 2)
-
-
-def restarts(house: House) -> str:
+def restarts(site: Site) -> str:
     """Gateways are ended and started again while clients ask: none of them notices."""
-    with Asking(house) as asking:
-        for count in range(house.restarts):
+    with Asking(site) as asking:
+        for count in range(site.restarts):
             number = count % GATEWAYS
-            house.gateways[number].send_signal(signal.SIGTERM)
-            same("the end of a gateway", house.gateways[number].wait(SECONDS), 0)
-            house.gateways[number] = house.start_gateway(number)
+            site.gateways[number].send_signal(signal.SIGTERM)
+            same("the end of a gateway", site.gateways[number].wait(SECONDS), 0)
+            site.gateways[number] = site.start_gateway(number)
     asking.look()
-    used = {one for line in house.log() for one in str(line["gateway"]).split(", ")}
-    same("whether each gateway was asked", set(house.addresses) <= used, True)
-    return "%d restarts, %d requests, 0 lost" % (house.restarts, asking.answered)
+    used = {one for line in site.log() for one in str(line["gateway"]).split(", ")}
+    same("whether each gateway was asked", set(site.addresses) <= used, True)
+    return "%d restarts, %d requests, 0 lost" % (site.restarts, asking.answered)
 
 
-def readings(house: House) -> str:
+def readings(site: Site) -> str:
     """The proxy reads its configuration while clients ask, whose connections it may end."""
-    with Asking(house, may_be_cut=True) as asking:
+    with Asking(site, may_be_cut=True) as asking:
         for _ in range(READINGS):
-            house.proxy.read_anew()
+            site.proxy.read_anew()
     asking.look()
     return "%d readings, %d requests, 0 lost, %d connections made again" % (
         READINGS, asking.answered, asking.again)
 
 
-def lacking_a_pin(house: House) -> str:
+def lacking_a_pin(site: Site) -> str:
     """Two of the gateways lack the imports of a pin, and are passed over."""
-    house.import_to(1)
-    before, pin = len(house.log()), house.imports[1]
-    with Asking(house, "/pin/%d%s" % (pin, LOOKUP)) as asking:
+    site.import_to(1)
+    before, pin = len(site.log()), site.imports[1]
+    with Asking(site, "/pin/%d%s" % (pin, LOOKUP)) as asking:
         pass
     asking.look()
-    asked = house.log()[before:]
+    asked = site.log()[before:]
     last = {str(line["gateway"]).split(", ")[-1] for line in asked}
-    same("who answered", last, {house.addresses[HUB_OF.index(1)]})
+    same("who answered", last, {site.addresses[HUB_OF.index(1)]})
     passed_over = sum(map(was_sent_again, asked))
     same("whether others were passed over", passed_over > 0, True)
-    status, headers, _ = house.client().told("/pin/%d%s" % (pin + 1, LOOKUP))
+    status, headers, _ = site.client().told("/pin/%d%s" % (pin + 1, LOOKUP))
     same("a pin that nobody has", (status, "retry-after" in headers), (503, True))
-    house.import_to(0)
+    site.import_to(0)
     return "%d requests, of which %d were sent again, 0 lost" % (asking.answered, passed_over)
 
 
-def without_a_hub(house: House) -> str:
+def without_a_hub(site: Site) -> str:
     """A gateway whose hub has ended is passed over; without any hub the answer is 503."""
-    before = len(house.log())
-    with Asking(house) as asking:
-        house.hubs[1].send_signal(signal.SIGTERM)
-        same("the end of a hub", house.hubs[1].wait(SECONDS), 0)
+    before = len(site.log())
+    with Asking(site) as asking:
+        site.hubs[1].send_signal(signal.SIGTERM)
+        same("the end of a hub", site.hubs[1].wait(SECONDS), 0)
     asking.look()
-    same("whether its gateway was passed over", any(map(was_sent_again, house.log()[before:])),
+    same("whether its gateway was passed over", any(map(was_sent_again, site.log()[before:])),
          True)
-    house.hubs[0].send_signal(signal.SIGTERM)
-    same("the end of the other hub", house.hubs[0].wait(SECONDS), 0)
-    status, headers, _ = house.client().told("/health")
+    site.hubs[0].send_signal(signal.SIGTERM)
+    same("the end of the other hub", site.hubs[0].wait(SECONDS), 0)
+    status, headers, _ = site.client().told("/health")
     same("without a hub", (status, "retry-after" in headers), (503, True))
     return "%d requests, 0 lost" % asking.answered
 
 
-TRIALS: Sequence[Callable[[House], Optional[str]]] = (
+TRIALS: Sequence[Callable[[Site], Optional[str]]] = (
     who_may_ask, long_requests, restarts, readings, lacking_a_pin, without_a_hub)
 
 
-@contextlib.contextmanager
-def a_house(program: str, kind: Kind, restarts: int) -> Iterator[House]:
-    with tempfile.TemporaryDirectory(prefix="sctd-proxy-") as place:
-        # (nginx's workers are another user's where it is started by root.)
-        os.chmod(place, 0o755)
-        house = House(program, Path(place), kind, restarts)
-        try:
-            house.start()
-            yield house
-        finally:
-            house.end()
-
-
 def tried(program: str, kind: Kind, restarts: int) -> None:
-    with a_house(program, kind, restarts) as house:
+    with open_folder() as place, closing(Site(program, place, kind, restarts)) as site:
+        site.start()
         for trial in TRIALS:
-            said = trial(house) or "as it has to be"
+            said = trial(site) or "as it has to be"
             print("%s: %s: %s" % (kind.name, trial.__name__, said), flush=True)
 
 
-def main(words: Sequence[str]) -> int:
-    programs = [os.path.abspath(word) for word in words if not word.startswith("--")]
-    options = {word for word in words if word.startswith("--")}
-    if len(programs) != 1 or not options <= {"--long"}:
-        print((__doc__ or "").strip(), file=sys.stderr)
-        return 2
+def main() -> int:
+    parser = argparse.ArgumentParser(description="Tries gateways behind nginx and haproxy.")
+    parser.add_argument("program", type=Path, help="the built sctd")
+    parser.add_argument("--long", dest="restarts", action="store_const", const=LONG_RESTARTS,
+                        default=RESTARTS, help="more restarts")
+    asked = parser.parse_args()
     if (lacks := missing(TOOLS)) is not None:
         print("not run: there is no %s" % lacks)
         return NOT_RUN
@@ -289,7 +265,7 @@ def main(words: Sequence[str]) -> int:
     try:
         for kind in KINDS:
             if kind.name not in absent:
-                tried(programs[0], kind, LONG_RESTARTS if "--long" in options else RESTARTS)
+                tried(str(asked.program.resolve()), kind, asked.restarts)
     except (Wrong, HubFailed, OSError, http.client.HTTPException) as why:
         print("WRONG: %s" % why)
         return 1
@@ -300,4 +276,4 @@ def main(words: Sequence[str]) -> int:
 
 
 if __name__ == "__main__":
-    sys.exit(main(sys.argv[1:]))
+    sys.exit(main())

@@ -11,7 +11,8 @@ from collections.abc import Iterable, Iterator
 QUESTIONS = frozenset((
     b"GET", b"HISTORY", b"ABOUT", b"TIMELINE", b"CHILDREN", b"ANCESTORS", b"DESCENDANTS", b"SEARCH",
     b"TERMS", b"REPLACED", b"REPLACES", b"PAGE", b"DELTA", b"MEMBERS", b"VALUES", b"CALLED",
-    b"DATES", b"RECEIPT", b"DIGEST", b"AT", b"STATUS", b"PIN", b"UNPIN"))
+    b"SOURCES", b"ROWS", b"ADDED", b"DATES", b"RECEIPT", b"DIGEST", b"AT", b"STATUS", b"PIN",
+    b"UNPIN"))
 # Those that may change the store.
 CHANGES = frozenset((b"IMPORT", b"CHECK", b"MERGE", b"STEP", b"PUBLISH", b"ABANDON", b"TRIM"))
 # The last line of a reply, and a line that stands in none.
@@ -22,7 +23,11 @@ REFUSED = b"ERR "
 # The refusals after which the program has to be started again, and which says that the store is
 # damaged.
 DISK_FAULT, DAMAGED = b"ERR 2 ", b"ERR 8 "
+# The refusal of what a store of an earlier layout doesn't keep.
+LATER_LAYOUT = b"ERR 14 "
 READ_BYTES = 1 << 16
+# The kinds of rows in the order of a digest, and what ROWS and ADDED begin after.
+KINDS, FIRST_KEY = "CDRAVM", "- -"
 
 
 class NotAReply(Exception):
@@ -59,8 +64,16 @@ class HubFailed(Exception):
     """Why the hub doesn't answer."""
 
 
+class LineRefused(HubFailed):
+    """A line that was answered `ERR`."""
+
+    def __init__(self, line: str, reply: bytes) -> None:
+        super().__init__("%s was answered %s" % (line, reply.decode()))
+        self.reply = reply
+
+
 class HubClient:
-    """A connection to the hub that waits for what it is told."""
+    """A connection to the hub that waits for what it is told. As a context it ends with that."""
 
     def __init__(self, path: str) -> None:
         self.connection = socket.socket(socket.AF_UNIX)
@@ -70,6 +83,12 @@ class HubClient:
         except OSError as why:
             self.connection.close()
             raise HubFailed("%s: %s" % (path, why.strerror or why)) from None
+
+    def __enter__(self) -> "HubClient":
+        return self
+
+    def __exit__(self, *_: object) -> None:
+        self.close()
 
     def close(self) -> None:
         self.connection.close()
@@ -94,3 +113,31 @@ class HubClient:
             if not data:
                 raise HubFailed("the hub has ended")
         return self.whole.pop(0)
+
+    def ask(self, line: str) -> list[bytes]:
+        """The lines of the reply to one line, without their ends."""
+        self.send([line.encode()])
+        reply = self.reply().split(b"\n")[:-1]
+        if reply[-1].startswith(REFUSED):
+            raise LineRefused(line, reply[-1])
+        return reply
+
+    def pages(self, question: str, limit: int) -> Iterator[list[bytes]]:
+        """All rows of a question with a key, such as `ROWS C`, at most so many at a time."""
+        key = FIRST_KEY
+        while key:
+            rows = [row.removeprefix(b"ROW ") for row in self.ask(
+                "%s %s %d" % (question, key, limit))[:-1]]
+            yield rows
+            key = b" ".join(rows[-1].split(b"\t")[:2]).decode() if len(rows) >= limit else ""
+
+    def pages_of_all(self, question: str, limit: int) -> Iterator[tuple[str, list[bytes]]]:
+        """The rows of all kinds, page by page with their kind. A store below layout 3 has none of
+        the last one."""
+        try:
+            for kind in KINDS:
+                for page in self.pages("%s %s" % (question, kind), limit):
+                    yield kind, page
+        except LineRefused as refused:
+            if not refused.reply.startswith(LATER_LAYOUT):
+                raise

@@ -2,15 +2,15 @@
 
 import pytest
 
-from .house import House
+from .fixtures import Service
 
 
 class Asked:
-    """Tests that ask a house: the one that all share, if a class names no other fixture."""
+    """Tests that ask a service: the one that all share, if a class names no other fixture."""
 
-    of = "house"
+    of = "service"
 
     @pytest.fixture(autouse=True)
     def begin(self, request: pytest.FixtureRequest) -> None:
-        self.house: House = request.getfixturevalue(self.of)
-        self.gateway, self.codes = self.house.gateway, self.house.codes
+        self.service: Service = request.getfixturevalue(self.of)
+        self.gateway, self.codes = self.service.gateway, self.service.codes

@@ -1,28 +1,24 @@
-"""Compares the gateway's answers with what a reading of a release's own files says.
+"""Compares the gateway's answers with what a reading of a release's own files says, one drawn day
+after the other. bench/trials/try_answers.py does it too."""
 
-    python3 -m tests.compare_releases [--package] PROGRAM HUB [ROWS [DAYS [SEED]]]
-
-A Full release of about ROWS rows is made and imported (20,000 if not said). Of each of DAYS days
-(12) 240 $lookup are compared, 36 $subsumes, 18 expansions, as many with a filter, and 28
-$translate. With --package it is a whole package in a store of layout 3, and the gateway has two
-languages and a map: preferred terms, reasons, two reference sets and 28 $translate by the map are
-compared too. It ends with the number of each, or at the first that differs with status 1.
-"""
-
+import datetime
 import http.client
 import json
-import os
 import random
 import subprocess
 import sys
 import tempfile
 from collections import Counter
+from collections.abc import Mapping
 from pathlib import Path
 from typing import Any
 from urllib.parse import urlencode
 
-from .house import (
-    PROGRAM_AND_HUB,
+from sctd_service.gateway import limits
+
+from .fixtures import (
+    EDITION,
+    FHIR_JSON,
     SCT,
     SECONDS,
     Gateway,
@@ -30,7 +26,6 @@ from .house import (
     begun_hub,
     parts_of,
     told,
-    version,
     with_hyphens,
 )
 from .release_files import (
@@ -39,15 +34,16 @@ from .release_files import (
     FURTHER,
     IS_A,
     REFSET,
+    Row,
     Rows,
     Snapshot,
     read,
 )
 
-ROWS, DAYS, SEED = 20_000, 12, 1
 # Of each day.
-LOOKUPS, SUBSUMPTIONS, EXPANSIONS, TRANSLATIONS = 240, 36, 18, 28
+LOOKUPS, VALIDATIONS, SUBSUMPTIONS, EXPANSIONS, TRANSLATIONS = 240, 60, 36, 18, 28
 LARGEST_EXPANSION = 900
+CASE_INSENSITIVE, INITIAL_CASE_INSENSITIVE = "900000000000448009", "900000000000020002"
 SAME_AS, REPLACED_BY = "900000000000527005", "900000000000526001"
 # Of a package: the languages in their order, the sets, the map and its code system.
 LANGUAGES = GB, US = "900000000000508004", "900000000000509007"
@@ -55,6 +51,11 @@ INDICATORS = "900000000000489007"
 VALUE_SETS = ("723264001", "733990004")
 MAP, MAP_SYSTEM = "900000000000497000", "urn:of:the:map"
 PACKAGE_WORDS = ("--languages", ",".join(LANGUAGES), "--map", "%s=%s" % (MAP, MAP_SYSTEM))
+# What is asked for by displayLanguage, and which of its languages that is. (It has no other terms
+# than English ones.)
+TAGS = {
+    "en-US": (US,), "en-GB": (GB,), "en": LANGUAGES, "de": (), "fr-CH": (), "*": LANGUAGES,
+    "sv, en-US;q=0.5": (US,)}
 ASKED = "sctd-date"
 CONTEXT_PARTS = ("context", "role", "type")
 # How long the release may take to be made or imported.
@@ -66,19 +67,32 @@ class Differs(Exception):
 
 
 class Comparison:
-    """One gateway, one release, and how many answers of each operation were alike."""
+    """One gateway, one edition's releases, and how many answers of each operation were alike."""
+
+    edition = EDITION
+    tags: Mapping[str, tuple[str, ...]] = {}
 
     def __init__(
-        self, gateway: Gateway, rows: Rows, seed: int, languages: tuple[str, ...]
+        self, connection: http.client.HTTPConnection, base: str, rows: Rows, seed: int,
+        languages: tuple[str, ...], with_sets: bool = False,
     ) -> None:
+        self.connection, self.base = connection, base
         self.rows, self.chance, self.counts = rows, random.Random(seed), Counter[str]()
-        self.languages = languages
-        self.connection = http.client.HTTPConnection("x", timeout=SECONDS)
-        self.connection.sock = gateway.connect()
+        self.languages, self.with_sets = languages, with_sets
         self.concepts, self.days = rows.concepts(), rows.days()
 
     def ask(self, path: str, **words: Any) -> tuple[int, Json]:
-        self.connection.request("GET", "/fhir/%s?%s" % (path, urlencode(words)))
+        return self.asked_by("GET", "%s?%s" % (path, urlencode(words)))
+
+    def post(self, path: str, parts: list[Json]) -> tuple[int, Json]:
+        body = json.dumps({"resourceType": "Parameters", "parameter": parts}).encode()
+        return self.asked_by("POST", path, body, {"Content-Type": FHIR_JSON})
+
+    def asked_by(
+        self, method: str, target: str, body: bytes | None = None,
+        headers: dict[str, str] | None = None,
+    ) -> tuple[int, Json]:
+        self.connection.request(method, "%s/fhir/%s" % (self.base, target), body, headers or {})
         answer = self.connection.getresponse()
         # A number keeps the digits that it is written with.
         found: Json = json.loads(answer.read(), parse_float=str, parse_int=str)
@@ -88,17 +102,28 @@ class Comparison:
         if found != wanted:
             raise Differs("%s %s: %r, not %r" % (what, about, found, wanted))
 
+    def version(self, day: str) -> str:
+        return "%s/%s/version/%s" % (SCT, self.edition, day)
+
     def day(self) -> str:
         """A day of the later releases, or the one before it."""
         day = self.chance.choice(self.days[len(self.days) // 2 :])
-        # All releases are of the 31st of a month.
-        return self.chance.choice([day, str(int(day) - 1)])
+        before = datetime.datetime.strptime(day, "%Y%m%d") - datetime.timedelta(days=1)
+        # (Of days before the first one nothing is known.)
+        return self.chance.choice([day, max(before.strftime("%Y%m%d"), self.days[0])])
+
+    def run(self, answers: int) -> None:
+        """Compares day by day until so many answers were alike."""
+        while self.counts.total() < answers:
+            self.compare(self.day())
 
     def compare(self, day: str) -> None:
         snapshot = Snapshot(self.rows, day)
         for _ in range(LOOKUPS):
             self.lookup(snapshot, self.chance.choice(self.concepts))
         known = sorted(snapshot.concepts)
+        for number in range(VALIDATIONS if known else 0):
+            self.validate(snapshot, known, number)
         for number in range(SUBSUMPTIONS if known else 0):
             first = self.chance.choice(known)
             near = sorted(snapshot.above[first] & snapshot.concepts.keys() - {first})
@@ -111,16 +136,18 @@ class Comparison:
         retired = sorted(snapshot.about["A"].keys() & snapshot.concepts.keys())
         for number, code in enumerate(self.chance.sample(retired, min(TRANSLATIONS, len(retired)))):
             self.translate(snapshot, code, (SAME_AS, REPLACED_BY)[number % 2])
-        if self.languages:
+        if self.with_sets:
             for refset in VALUE_SETS:
                 self.expand_refset(snapshot, refset)
             for code in self.chance.sample(known, min(TRANSLATIONS, len(known))):
                 self.translate_by_the_map(snapshot, code)
 
-    def display(self, snapshot: Snapshot, code: str) -> str:
+    def display(
+        self, snapshot: Snapshot, code: str, languages: tuple[str, ...] | None = None
+    ) -> str:
         """The first preferred term, or the fully specified name of the least id, or else the
         synonym of the least id, or the code."""
-        for refset in self.languages:
+        for refset in self.languages if languages is None else languages:
             if preferred := snapshot.preferred(code, refset):
                 return preferred[0]
         names = snapshot.names(code)
@@ -128,10 +155,13 @@ class Comparison:
         return names[0][7] if names else code
 
     def lookup(self, snapshot: Snapshot, code: str) -> None:
-        status, said = self.ask(
-            "CodeSystem/$lookup", system=SCT, code=code, version=version(snapshot.day)
-        )
-        where = (code, snapshot.day)
+        tag, languages = "", self.languages
+        if self.tags and self.chance.random() < 0.5:
+            tag, languages = self.chance.choice([*self.tags.items()])
+        words = {"system": SCT, "code": code, "version": self.version(snapshot.day)}
+        words |= {"displayLanguage": tag} if tag else {}
+        status, said = self.ask("CodeSystem/$lookup", **words)
+        where = (code, snapshot.day, tag)
         if code not in snapshot.concepts:
             self.alike("$lookup", status, 404, *where)
             self.counts["$lookup of what isn't there"] += 1
@@ -139,7 +169,7 @@ class Comparison:
         self.alike("$lookup", status, 200, *where)
         # A version is that of the greatest day of a row up to the one that was asked for.
         release = max(day for day in self.days if day <= snapshot.day)
-        self.alike("version", told(said, "version"), [version(release)], *where)
+        self.alike("version", told(said, "version"), [self.version(release)], *where)
         self.alike("date", told(said, ASKED), self.asked(snapshot), *where)
         terms = [
             (one["value"], one["language"], one["use"]["code"])
@@ -151,27 +181,61 @@ class Comparison:
             sorted((row[7], row[5], row[6]) for row in snapshot.terms(code)),
             *where,
         )
-        self.alike("display", told(said, "display"), [self.display(snapshot, code)], *where)
-        self.alike("contexts", contexts(said), self.contexts(snapshot, code), *where)
+        shown = self.display(snapshot, code, languages)
+        self.alike("display", told(said, "display"), [shown], *where)
+        self.alike("contexts", contexts(said), self.contexts(snapshot, code, languages), *where)
         found: dict[str, set[str]] = {}
         for words in parts_of(said, "property"):
             found.setdefault(words["code"], set()).add(str(words["value"]))
         self.alike("property", found, properties(snapshot, code), *where)
-        self.counts["$lookup"] += 1
+        self.counts["$lookup in a language" if tag else "$lookup"] += 1
 
     def asked(self, snapshot: Snapshot) -> list[str]:
         """The days that an answer says were asked for."""
         return [with_hyphens(snapshot.day)]
 
-    def contexts(self, snapshot: Snapshot, code: str) -> list[tuple[str, ...]]:
+    def contexts(
+        self, snapshot: Snapshot, code: str, languages: tuple[str, ...]
+    ) -> list[tuple[str, ...]]:
         """Each term with each of the languages that have it, how, and as what."""
         found = []
         for row in snapshot.terms(code):
-            for refset in self.languages:
+            for refset in languages:
                 # Two members may say the same.
                 said = {member[FURTHER] for member in snapshot.members(refset, row[0])}
                 found += [(row[7], refset, how, row[6]) for how in said]
         return sorted(found)
+
+    def validate(self, snapshot: Snapshot, known: list[str], number: int) -> None:
+        """Whether a code was there, or in the value set of one above it or another one, with a term
+        of its own or of another concept. Every second one is asked by POST."""
+        code = self.chance.choice(self.concepts if number % 4 == 0 else known)
+        terms = [row[7] for row in snapshot.names(self.chance.choice([code, code, known[0]]))]
+        display = self.chance.choice([*terms, *(term.upper() for term in terms), ""])
+        is_valid = code in snapshot.concepts and (
+            not display or any(is_name(row, display) for row in snapshot.names(code)))
+        what, top = "CodeSystem/$validate-code", ""
+        words = {"url": SCT, "version": self.version(snapshot.day)}
+        if number % 3 == 0:
+            what = "ValueSet/$validate-code"
+            above = sorted(snapshot.above.get(code, set()) & snapshot.concepts.keys())
+            top = self.chance.choice([*above, self.chance.choice(known)])
+            is_valid = is_valid and code in snapshot.within(top)
+            words = {"url": "%s?fhir_vs=isa/%s" % (words["version"], top)}
+        if number % 2:
+            coding = {"system": SCT, "code": code} | ({"display": display} if display else {})
+            uris = [{"name": name, "valueString": value} for name, value in words.items()]
+            status, said = self.post(what, [*uris, {"name": "coding", "valueCoding": coding}])
+        else:
+            words |= {"code": code} | ({"display": display} if display else {})
+            words |= {"system": SCT} if top else {}
+            status, said = self.ask(what, **words)
+        where = (code, display, top, snapshot.day)
+        self.alike(what, (status, told(said, "result")), (200, [is_valid]), *where)
+        self.alike("message", bool(told(said, "message")), not is_valid, *where)
+        shown = [self.display(snapshot, code)] if code in snapshot.concepts else []
+        self.alike("display", told(said, "display"), shown, *where)
+        self.counts["%s %s" % (what, is_valid)] += 1
 
     def subsumes(self, snapshot: Snapshot, first: str, second: str) -> None:
         is_above, is_below = first in snapshot.above[second], second in snapshot.above[first]
@@ -184,15 +248,14 @@ class Comparison:
             system=SCT,
             codeA=first,
             codeB=second,
-            version=version(snapshot.day),
+            version=self.version(snapshot.day),
         )[1]
         self.alike("$subsumes", told(said, "outcome"), [wanted], first, second, snapshot.day)
         self.counts["$subsumes " + wanted] += 1
 
     def expand(self, snapshot: Snapshot, top: str) -> None:
-        said = self.ask("ValueSet/$expand", url="%s?fhir_vs=isa/%s" % (version(snapshot.day), top))[
-            1
-        ]["expansion"]
+        url = "%s?fhir_vs=isa/%s" % (self.version(snapshot.day), top)
+        said = self.ask("ValueSet/$expand", url=url)[1]["expansion"]
         found = {one["code"]: one for one in said["contains"]}
         members = snapshot.within(top) & snapshot.concepts.keys()
         where = (top, snapshot.day)
@@ -221,9 +284,12 @@ class Comparison:
             "ValueSet/$expand",
             filter=text,
             count=1000,
-            url="%s?fhir_vs=isa/%s" % (version(snapshot.day), top),
+            url="%s?fhir_vs=isa/%s" % (self.version(snapshot.day), top),
         )
         if status == 422:
+            every = (row for code in snapshot.concepts for row in snapshot.names(code))
+            count = sum(row[7].casefold().startswith(text.casefold()) for row in every)
+            self.alike("$expand refused", count > limits.FILTER_TERMS, True, text, snapshot.day)
             self.counts["$expand refused, too many terms"] += 1
             return
         self.alike(
@@ -242,7 +308,7 @@ class Comparison:
             url="%s?fhir_cm=%s" % (SCT, refset),
             system=SCT,
             code=code,
-            version=version(snapshot.day),
+            version=self.version(snapshot.day),
         )[1]
         self.alike(
             "$translate",
@@ -255,7 +321,7 @@ class Comparison:
 
     def expand_refset(self, snapshot: Snapshot, refset: str) -> None:
         """A reference set page by page, and one concept of it and one of all."""
-        url = "%s?fhir_vs=refset/%s" % (version(snapshot.day), refset)
+        url = "%s?fhir_vs=refset/%s" % (self.version(snapshot.day), refset)
         wanted = snapshot.referred(refset)
         is_kept = any(row[REFSET] == refset for row in self.rows.by_kind["M"])
         found: list[Json] = []
@@ -284,7 +350,7 @@ class Comparison:
 
     def translate_by_the_map(self, snapshot: Snapshot, code: str) -> None:
         url = "%s?fhir_cm=%s" % (SCT, MAP)
-        words = {"url": url, "system": SCT, "code": code, "version": version(snapshot.day)}
+        words = {"url": url, "system": SCT, "code": code, "version": self.version(snapshot.day)}
         said = self.ask("ConceptMap/$translate", **words)[1]
         targets = dict.fromkeys(row[FURTHER] for row in snapshot.members(MAP, code))
         self.alike(
@@ -295,6 +361,15 @@ class Comparison:
             snapshot.day,
         )
         self.counts["$translate by a map"] += 1
+
+
+def is_name(row: Row, text: str) -> bool:
+    """Whether a text is a description's term, with the case that the description allows."""
+    term, case = row[7], row[8]
+    if case == CASE_INSENSITIVE:
+        return term.casefold() == text.casefold()
+    same = slice(1 if case == INITIAL_CASE_INSENSITIVE else 0, None)
+    return term.casefold() == text.casefold() and term[same] == text[same]
 
 
 def contexts(said: Json) -> list[tuple[str, ...]]:
@@ -326,9 +401,10 @@ def properties(snapshot: Snapshot, code: str) -> dict[str, set[str]]:
 
 
 def compared(
-    program: str, hub: str, rows: int, days: int, seed: int, is_package: bool = False
+    program: str, hub: str, rows: int, answers: int, seed: int, is_package: bool = False
 ) -> Counter[str]:
-    """How many answers were alike, of a made release on so many days."""
+    """How many answers of each operation were alike, so many in all, of a made release. Of a
+    package preferred terms, reasons, two reference sets and a map are compared too."""
     words = ["--package"] if is_package else []
     make = Path(__file__).resolve().parents[2] / "bench" / "measurements" / "make_release.py"
     with tempfile.TemporaryDirectory() as folder:
@@ -341,10 +417,12 @@ def compared(
         gateway: Gateway | None = None
         try:
             gateway = Gateway(questions, root, words=PACKAGE_WORDS if is_package else ())
-            languages = LANGUAGES if is_package else ()
-            comparison = Comparison(gateway, read(root / "full"), seed, languages)
-            for _ in range(days):
-                comparison.compare(comparison.day())
+            connection = http.client.HTTPConnection("x", timeout=SECONDS)
+            connection.sock = gateway.connect()
+            languages, every = LANGUAGES if is_package else (), read(root / "full")
+            comparison = Comparison(connection, "", every, seed, languages, is_package)
+            comparison.tags = TAGS if is_package else {}
+            comparison.run(answers)
             return comparison.counts
         finally:
             if gateway:
@@ -355,24 +433,3 @@ def compared(
 
 def run(*words: str) -> None:
     subprocess.run(words, check=True, capture_output=True, timeout=RUN_SECONDS)
-
-
-def main(words: list[str]) -> int:
-    is_package = words[:1] == ["--package"]
-    words = words[is_package:]
-    if not 2 <= len(words) <= 5:
-        print((__doc__ or "").strip(), file=sys.stderr)
-        return 2
-    os.environ.update(zip(PROGRAM_AND_HUB, words))
-    rows, days, seed = [int(word) for word in words[2:]] + [ROWS, DAYS, SEED][len(words) - 2 :]
-    try:
-        counts = compared(words[0], words[1], rows, days, seed, is_package)
-    except Differs as differs:
-        print("DIFFERS: %s" % differs)
-        return 1
-    print(", ".join("%s: %d" % one for one in sorted(counts.items())) + "; 0 differ")
-    return 0
-
-
-if __name__ == "__main__":
-    sys.exit(main(sys.argv[1:]))

@@ -12,7 +12,7 @@ from pathlib import Path
 import pytest
 
 from .demo_members import WORDS
-from .house import PROGRAM_AND_HUB, SERVICE, House
+from .fixtures import PROGRAM_AND_HUB, SERVICE, Service
 
 # It looks at what all others have sent.
 LAST = "test_recorded.py"
@@ -38,27 +38,27 @@ def pytest_collection_modifyitems(items: list[pytest.Item]) -> None:
     items.sort(key=lambda item: item.path.name == LAST)
 
 
-def until_left(house: House) -> Iterator[House]:
+def until_left(service: Service) -> Iterator[Service]:
     try:
-        yield house
+        yield service
     finally:
-        house.end()
+        service.end()
 
 
 @pytest.fixture(scope="session")
-def house() -> Iterator[House]:
+def service() -> Iterator[Service]:
     """A store whose releases have no members, which tests leave as it is. What its gateway asks is
     recorded."""
-    yield from until_left(House(is_recorded=True))
+    yield from until_left(Service(is_recorded=True))
 
 
 @pytest.fixture(scope="session")
-def whole_house() -> Iterator[House]:
+def whole_service() -> Iterator[Service]:
     """A store of whole packages, which tests leave as it is."""
-    yield from until_left(House(is_whole=True, words=WORDS))
+    yield from until_left(Service(is_whole=True, words=WORDS))
 
 
 @pytest.fixture(scope="module")
-def own_house(request: pytest.FixtureRequest) -> Iterator[House]:
+def own_service(request: pytest.FixtureRequest) -> Iterator[Service]:
     """One that the tests of a module may change, and whose gateway has its words."""
-    yield from until_left(House(words=getattr(request.module, "GATEWAY_WORDS", ())))
+    yield from until_left(Service(words=getattr(request.module, "GATEWAY_WORDS", ())))

@@ -173,7 +173,11 @@ class Draw:
             return self.common_filter()
         found = self.one_of("dialectId", (GB,), (US,), (GB, US))
         hows: tuple[tuple[str, ...], ...] = (), (PREFERRED,), (ACCEPTABLE,), (PREFERRED, ACCEPTABLE)
-        return s.Filter(found.name, found.comparison, found.value, self.chance.choice(hows))
+        how, own = self.chance.choice(hows), tuple[tuple[str, ...], ...]()
+        if isinstance(found.value, tuple) and self.chance.random() < 0.5:
+            own = tuple(self.chance.choice(hows) for _ in found.value)
+        own = own if any(own) else ()
+        return s.Filter(found.name, found.comparison, found.value, how, own)
 
     def member_filter(self) -> s.Filter:
         what, comparison = self.chance.randrange(6), self.chance.choice(EQUALITIES)

@@ -7,6 +7,7 @@ import functools
 import unicodedata
 from collections import defaultdict
 from collections.abc import Iterable, Iterator
+from dataclasses import is_dataclass
 from decimal import Decimal
 from pathlib import Path
 
@@ -159,6 +160,21 @@ class ByFiles:
             for row in self.all["A"] + self.all["M"]
         )
 
+    def asks_no_column(self, tree: object) -> bool:
+        """Whether a part asks for a column of members that none of its reference sets has."""
+        if isinstance(tree, s.MemberOf) and self.lacks_column(tree):
+            return True
+        if isinstance(tree, tuple):
+            return any(map(self.asks_no_column, tree))
+        return is_dataclass(tree) and any(map(self.asks_no_column, vars(tree).values()))
+
+    def lacks_column(self, e: s.MemberOf) -> bool:
+        names = {f.name for f in e.filters} | {e.field or "referencedComponentId"}
+        rows = [row for row in self.all["A"] + self.all["M"]
+                if (row["active"] == "1" or "active" in names)
+                and self.is_named(row["refsetId"], e.refsets)]
+        return bool(rows) and any(all(name not in row for row in rows) for name in names)
+
     def is_named(self, refset: str, e: s.Expression) -> bool:
         """A reference set that is named by its id needs no row."""
         return e == s.ConceptReference(refset) or self.is_any(refset, e)
@@ -247,10 +263,18 @@ class ByFiles:
             return self.says(row[f.name], f)
         return (f.comparison == "=") == any(
             member["referencedComponentId"] == row["id"]
-            and self.is_one(member["refsetId"], f)
-            and (not f.acceptabilities or member.get("acceptabilityId") in f.acceptabilities)
+            and self.is_in_dialect(member, f)
             for member in self.active("M")
         )
+
+    def is_in_dialect(self, member: Row, f: s.Filter) -> bool:
+        """A dialect of a list counts with its own acceptabilities, or else with those of all."""
+        refset, how = member["refsetId"], member.get("acceptabilityId")
+        if not f.own:
+            return self.is_one(refset, f) and (not f.acceptabilities or how in f.acceptabilities)
+        assert isinstance(f.value, tuple)
+        every = [own or f.acceptabilities for one, own in zip(f.value, f.own) if one == refset]
+        return any(not some or how in some for some in every)
 
     def is_one(self, said: str, f: s.Filter) -> bool:
         if isinstance(f.value, tuple):

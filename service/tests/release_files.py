@@ -110,10 +110,12 @@ def latest(rows: Iterable[Row], day: str) -> dict[str, Row]:
     return found
 
 
-def read(folder: Path) -> Rows:
+def read(*folders: Path) -> Rows:
+    """The rows of all releases in these folders, each of which has Terminology and Refset."""
     found: dict[str, list[Row]] = {kind: [] for kind in FILES}
-    for kind, patterns in FILES.items():
-        for path in sorted(path for pattern in patterns for path in folder.glob(pattern)):
+    every = [(kind, one, pattern) for kind in FILES for one in folders for pattern in FILES[kind]]
+    for kind, folder, pattern in every:
+        for path in sorted(folder.glob(pattern)):
             if kind == "M" and "der2_cRefset_Association" in path.name:
                 continue
             lines = path.read_bytes().decode().split("\n")[1:]

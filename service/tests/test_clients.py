@@ -23,7 +23,7 @@ from .demo_releases import (
     SIMILAR_TO,
     WAS_A,
 )
-from .house import EDITION, FHIR_JSON, SCT, House, Json, issue, parts_of, told, version
+from .fixtures import EDITION, FHIR_JSON, SCT, Json, Service, issue, parts_of, told, version
 from .release_files import Row, Rows, Snapshot, read
 
 EXPAND, MEMBER, TRANSLATE = "ValueSet/$expand", "ValueSet/$validate-code", "ConceptMap/$translate"
@@ -43,9 +43,9 @@ EQUIVALENCES = {
 }
 
 
-def snapshot(house: House, day: str) -> Snapshot:
+def snapshot(service: Service, day: str) -> Snapshot:
     """What the files of all releases say of a day."""
-    every = [read(house.releases / name) for name in RELEASES]
+    every = [read(service.releases / name) for name in RELEASES]
     kinds = {kind: list[Row]() for kind in every[0].by_kind}
     for kind, rows in kinds.items():
         for one in every:
@@ -54,10 +54,10 @@ def snapshot(house: House, day: str) -> Snapshot:
 
 
 class Whole(Asked):
-    of = "whole_house"
+    of = "whole_service"
 
     def snapshot(self, day: str = LATEST) -> Snapshot:
-        return snapshot(self.house, day)
+        return snapshot(self.service, day)
 
     def associations(self, day: str = LATEST) -> list[Row]:
         """The active ones of a day."""
@@ -142,6 +142,22 @@ class TestComposed(Whole):
         count = {"name": "count", "valueInteger": 3}
         said = self.gateway.posted(EXPAND, self.define([{"system": SCT}]), count)[1]
         assert len(said["expansion"]["contains"]) == 3
+
+    def test_a_body_that_is_one(self) -> None:
+        """The only resource of an operation may be sent by itself, and the rest in the address."""
+        resource = self.define([self.part("is-a", "limb")])["resource"]
+        headers = {"Content-Type": FHIR_JSON}
+        body = json.dumps(resource).encode()
+        wanted = sorted(self.snapshot("20190131").within(self.codes["limb"]), key=int)
+        target = "/fhir/%s?date=2019-01-31&count=1&offset=1" % EXPAND
+        said = self.gateway.send("POST", target, body, headers).json()["expansion"]
+        assert [one["code"] for one in said["contains"]] == wanted[1:2]
+        assert said["total"] == len(wanted)
+        asked = "/fhir/%s?system=%s&code=%s&date=2019-01-31" % (MEMBER, SCT, self.codes["wrist"])
+        said = self.gateway.send("POST", asked, body, headers).json()
+        assert told(said, "result") == [True]
+        for path in (LOOKUP, EXPAND + "?url=%s?fhir_vs" % SCT, "ValueSet/sct/$expand"):
+            assert self.gateway.send("POST", "/fhir/" + path, body, headers).status == 400, path
 
     def test_version_of_a_part(self) -> None:
         old = self.part("is-a", "limb", version=version("20190131"))
@@ -426,12 +442,26 @@ class TestResources(Whole):
                 one = self.found("CodeSystem", **{"url": SCT, **words})
                 assert [each["version"] for each in one] == [version(day)]
                 assert self.gateway.fhir("CodeSystem/" + one[0]["id"])[1] == one[0]
-        for words in ({"url": "http://loinc.org"}, {"version": version("20200101")}):
+        for words in (
+            {"url": "http://loinc.org"},
+            {"version": version("20200101")},
+            {"url": "http://loinc.org,http://snomed.info/xsct"},
+            {"url": SCT, "system": "http://loinc.org"},
+            {"url": SCT + "|" + version(days[0]), "version": version(days[-1])},
+        ):
             assert self.found("CodeSystem", **words) == []
+        both = {version(days[0]), version(days[-1])}
+        for words in (
+            {"version": ",".join(both)},
+            {"url": ",".join([*(SCT + "|" + one for one in both), "http://loinc.org"])},
+        ):
+            assert {one["version"] for one in self.found("CodeSystem", **words)} == both
+        found = self.found("CodeSystem", url="http://snomed.info/xsct," + SCT)
+        assert len(found) == len(days)
         assert self.gateway.fhir("CodeSystem/sct.20200131")[1]["id"] == "sct.20200131"
 
     def by_kind(self, name: str) -> list[list[Row]]:
-        return list(read(self.house.releases / name).by_kind.values())
+        return list(read(self.service.releases / name).by_kind.values())
 
     @pytest.mark.parametrize("name, day", (("sct", LATEST), ("sct.20190131", "20190131")))
     def test_operations_on_a_code_system(self, name: str, day: str) -> None:
@@ -523,7 +553,7 @@ class TestBatches(Whole):
             (b'{"resourceType":"Bundle","type":"batch","entry":7}', 400),
             (b'{"resourceType":"Bundle","type":"batch","entry":[7]}', 400),
             (b'{"resourceType":"Bundle","type":"batch","entry":[{"request":{}}]}', 400),
-            (b" " * (limits.BATCH_BYTES + 1), 413),
+            (b" " * (limits.FHIR_BODY_BYTES + 1), 413),
         ),
     )
     def test_what_is_none(self, body: bytes, status: int) -> None:

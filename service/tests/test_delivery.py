@@ -12,7 +12,7 @@ from sctd_service.gateway import limits
 from sctd_service.gateway.fhir.outputs import dumped, written
 
 from .asked import Asked
-from .house import POST, SCT, SECONDS, Gateway, House, close_all
+from .fixtures import POST, SCT, SECONDS, Gateway, Service, close_all
 
 GATEWAY_WORDS = ("--cors", "https://forms.example.org")
 METADATA = "/fhir/metadata"
@@ -22,7 +22,7 @@ READ_SECONDS = 0.5
 
 
 class TestDelivery(Asked):
-    of = "own_house"
+    of = "own_service"
 
     def test_compressed(self) -> None:
         plain = self.gateway.send("GET", METADATA)
@@ -70,7 +70,7 @@ class TestDelivery(Asked):
             assert answer.headers["cache-control"] == "private, no-store", target
             assert "etag" not in answer.headers, target
 
-    def test_pages_of_other_sites(self, house: House) -> None:
+    def test_pages_of_other_sites(self, service: Service) -> None:
         asks = {"Origin": SITE, "Access-Control-Request-Method": "POST"}
         preflight = self.gateway.send("OPTIONS", METADATA, headers=asks)
         assert (preflight.status, preflight.body) == (204, b"")
@@ -84,7 +84,7 @@ class TestDelivery(Asked):
             answer = self.gateway.send("GET", METADATA, headers={"Origin": origin})
             assert "access-control-allow-origin" not in answer.headers, origin
             assert answer.headers["cross-origin-resource-policy"] == "same-origin"
-        alone = house.gateway.send("GET", METADATA, headers={"Origin": SITE})
+        alone = service.gateway.send("GET", METADATA, headers={"Origin": SITE})
         assert "access-control-allow-origin" not in alone.headers
 
     def test_slow_bodies_make_room(self) -> None:
@@ -103,12 +103,12 @@ class TestDelivery(Asked):
     def test_end_while_a_request_is_answered(self) -> None:
         """What has come is answered, and nothing comes any more."""
         with TemporaryDirectory() as folder:
-            gateway = Gateway(self.house.questions, Path(folder))
+            gateway = Gateway(self.service.questions, Path(folder))
             assert gateway.send("GET", METADATA).status == 200
             client, idle = gateway.connect(), gateway.connect()
-            code = self.house.codes["wrist"]
+            code = self.service.codes["wrist"]
             target = "/fhir/CodeSystem/$lookup?system=%s&code=%s" % (SCT, code)
-            with self.house.stopped_program():
+            with self.service.stopped_program():
                 client.sendall(b"GET %s HTTP/1.1\r\nHost: x\r\n\r\n" % target.encode())
                 time.sleep(READ_SECONDS)
                 gateway.process.terminate()

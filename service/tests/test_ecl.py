@@ -5,25 +5,30 @@ import asyncio
 import random
 import re
 from collections import Counter
+from collections.abc import Sequence
 from typing import Any
 from urllib.parse import quote
 
 import pytest
 from sctd_service.gateway import limits
+from sctd_service.gateway.ecl import syntax as s
 from sctd_service.gateway.ecl.comparing import fits_pattern
 from sctd_service.gateway.ecl.evaluation import Evaluation
 from sctd_service.gateway.ecl.parsing import parse
 from sctd_service.gateway.ecl.spelling import spelled
 from sctd_service.gateway.ecl.terminology import Terminology
-from sctd_service.gateway.pool import Pool
+from sctd_service.gateway.hub import Reply
+from sctd_service.gateway.pool import Pool, Session
 from sctd_service.gateway.problems import Problem
 from sctd_service.gateway.store import View
 
 from .asked import Asked
-from .house import EDITION, SCT, House, Json, issue, told, version
+from .fixtures import EDITION, SCT, Json, Service, issue, told, version
 from .release_files import read
 
 EXPAND, MEMBER = "ValueSet/$expand", "ValueSet/$validate-code"
+# The words of a question, with the letter of its kind.
+WORDS_OF_LINE = re.compile(r"^[A-Z]+(?: [A-Z]\b)?", re.MULTILINE)
 LATEST, BEFORE, OLD = "2022-07-31", "2020-12-31", "2019-01-31"
 BELOW = "injury limb radius carpal radius2"
 # An expression, in which `$` stands before what the demo calls a concept, a day, and the concepts.
@@ -108,6 +113,14 @@ TABLE = (
     ("<< $finding {{ D dialect = en-gb (prefer) }}", LATEST, "anaemia"),
     ("$anaemia {{ D dialect = en-us (accept) }}", LATEST, ""),
     ("$wrist {{ D dialect = en-us (accept) }}", "2018-07-10", "wrist"),
+    # (Until 2019 GB English accepted what it prefers another spelling to.)
+    ("$anaemia {{ D dialect = (en-gb (accept)) }}", "2018-12-31", "anaemia"),
+    ("$anaemia {{ D dialect = (en-gb (accept)) }}", OLD, ""),
+    ("$anaemia {{ D dialect = (en-gb (accept) en-us (prefer)) }}", OLD, "anaemia"),
+    ("$anaemia {{ D dialect = (en-gb (accept) en-us) (accept) }}", OLD, ""),
+    ("$anaemia {{ D dialectId = (900000000000508004 (prefer accept)) }}", OLD, "anaemia"),
+    ("$anaemia {{ D dialect != (en-gb (prefer) en-us (prefer)), language = en }}", OLD, ""),
+    ("$anaemia {{ D dialect != (en-gb (prefer) en-us (accept)), language = en }}", OLD, "anaemia"),
     ("$anaemia {{ D dialectId != 900000000000508004, language = en }}", LATEST, "anaemia"),
     ("* {{ D type = def }}", LATEST, ""),
     ("$wrist {{ D type = def, dialectId = 900000000000509007 (prefer) }}", LATEST, "wrist"),
@@ -140,6 +153,8 @@ MISSPELT = (
     ("* {{ D type = name }}", 8),
     ("* {{ D dialect = en-gb (best) }}", 25),
     ("* {{ C active = 1 (prefer) }}", 19),
+    ("* {{ D type = (fsn (prefer)) }}", 8),
+    ("* {{ C moduleId = (900000000000207008 (prefer)) }}", 8),
     ("* {{ + HISTORY-SOME }}", 8),
     ("* {{ + HISTORY-MIN (*) }}", 8),
     ("(" * (limits.EXPRESSION_DEPTH + 1), limits.EXPRESSION_DEPTH + 1),
@@ -198,6 +213,7 @@ EXAMPLES = """
 < 56265001 {{ D language = es }}
 < 56265001 {{ D type = syn }} {{ D dialect = en-nhs-clinical (prefer) }}
 < 56265001 {{ dialectId = (900000000000508004 |GB| 900000000000509007 |US|) (preferred) }}
+< 56265001 {{ D dialect = ( en-nhs-clinical (accept) en-gb (prefer) ) , type = syn }}
 < 56265001 {{ C definitionStatus = primitive }}
 < 195967001 {{ C definitionStatusId = 900000000000074008 , active = 1 }}
 < 195967001 {{ C effectiveTime >= "20190731" , moduleId = << 900000000000207008 }}
@@ -206,6 +222,22 @@ EXAMPLES = """
 << 195967001 {{+ history_mod }}
 << 195967001 {{ + HISTORY ( < 900000000000522004 |Historical association| ) }}
 ^ 447562003 {{ M mapTarget = "J45.9" }}
+^ 447562003 {{ M mapTarget = ("J45.9" "J46") }}
+^ 447562003 {{ M mapPriority > #1, effectiveTime > "20200101" }}
+^ 447562003 {{ M mapGroup = #1 }} {{ M mapPriority = #1 }}
+^ ( < 900000000000455006 |Reference set| ) {{ C active = 0 }}
+< 404684003: (363698007 |Finding site| OR 405813007) = << 39057004
+< 404684003: (363698007 = << 39057004 OR 116676008 = << 415582006), 363698007 = *
+< 404684003: { 363698007 = << 39057004 } OR { 116676008 = << 415582006 }
+< 404684003: [0..1] { [3..*] 363698007 = < 91723000 |Anatomical structure| }
+< 404684003: 363698007 = * , { 116676008 = * }
+(<< 17636008 |Specimen collection|: 363704007 = *) . 363704007 |Procedure site|
+< 373873005: 1142135004 |Strength| != #-5.5
+< 56265001 {{ d TYPE = (FSN SYN) , LANGUAGE = (en es) }}
+< 56265001 {{ D typeId = (900000000000003001 |FSN| 900000000000013009 |Synonym|) }}
+< 56265001 {{ D active = false }} {{ C definitionStatus = (primitive defined) }}
+<< 195967001 {{ + HISTORY ( 900000000000527005 |SAME AS| OR 900000000000526001 ) }}
+(<< 195967001 {{ + HISTORY-MIN }}) {{ C active = 0 }}
 ^ 447562003 {{ m mapGroup = #2 , mapPriority = #1 , active = true , mapTarget = wild:"J45.*" }}
 ^ [ referencedComponentId ] 900000000000497000 {{ M mapTarget = "XUPhG" }}
 ^ [targetComponentId] 900000000000527005 {{ M referencedComponentId = 67415000 }}
@@ -230,7 +262,7 @@ PIECES = ("", " ", "(", ")", "{", "}", "{{", "}}", "[", "|", '"', "\\", "#", "*"
 class Expressed(Asked):
     """Expressions with the names of the demo, of a store of whole packages."""
 
-    of = "whole_house"
+    of = "whole_service"
 
     def text(self, expression: str) -> str:
         words = {**self.codes, "limb-name": self.name_of_limb()}
@@ -238,7 +270,7 @@ class Expressed(Asked):
 
     def name_of_limb(self) -> str:
         """The id of a description."""
-        rows = read(self.house.releases / "d1").by_kind["D"]
+        rows = read(self.service.releases / "d1").by_kind["D"]
         return next(row[0] for row in rows if row[7].startswith("Fracture of bone of upper limb"))
 
     def url(self, expression: str, base: str = SCT) -> str:
@@ -418,14 +450,14 @@ class TestValueSets(Expressed):
 
 
 class TestLines(Expressed):
-    of = "house"
+    of = "service"
 
     def lines(self, path: str, **words: Any) -> list[str]:
         """What the hub is asked for an answer."""
-        assert self.house.recorder
-        before = len(self.house.recorder.lines)
+        assert self.service.recorder
+        before = len(self.service.recorder.lines)
         assert self.gateway.fhir(path, **words)[0] == 200, words
-        return [line.decode() for line in self.house.recorder.lines[before:]]
+        return [line.decode() for line in self.service.recorder.lines[before:]]
 
     def test_one_concept_is_tested_without_the_set(self) -> None:
         words = {"url": self.url("<< $root : $site = << $body"), "date": "2020-11-30"}
@@ -433,6 +465,12 @@ class TestLines(Expressed):
         lines = self.lines(MEMBER, **words, **code)
         assert any(" ANCESTORS " in line for line in lines)
         assert not any(" DESCENDANTS " in line for line in lines), lines
+
+    def test_attributes_are_asked_for_their_sources(self) -> None:
+        words = {"url": self.url("* : $site = << $bone"), "date": "2020-11-29"}
+        lines = self.lines(EXPAND, **words)
+        assert any(" SOURCES " in line for line in lines)
+        assert not any(" PAGE " in line for line in lines), lines
 
     def test_sets_are_kept(self) -> None:
         """By the release in force and the meaning, whatever the day and the spelling."""
@@ -453,19 +491,91 @@ class TestLines(Expressed):
             "limb wrist", "limb radius carpal", "limb carpal radius2", "limb wrist")], words
 
 
+# An expression, limits, a day, the concepts that it means, and how often what is asked for them.
+PLANS: tuple[tuple[str, dict[str, int], str, str, str], ...] = (
+    # The values of attributes come first, and of `*` what they lead to.
+    ("* : $site = << $body", {}, BEFORE, "wrist radius",
+     "DESCENDANTS 1, GET C 4, SOURCES 2"),
+    ("* : $site = $bone OR $site = $body", {}, BEFORE, "wrist radius", "GET C 5, SOURCES 2"),
+    ("* : $site = << $body, $form = $fracture", {}, BEFORE, "wrist radius",
+     "ABOUT R 2, DESCENDANTS 1, GET C 6, SOURCES 1"),
+    ("* : { $site = << $body, $form = $fracture }", {}, BEFORE, "wrist radius",
+     "ABOUT R 2, DESCENDANTS 1, GET C 6, SOURCES 1"),
+    ("* : [2..2] $form = $fracture", {}, BEFORE, "", "ABOUT R 2, GET C 4, SOURCES 1"),
+    ("* : * = $body", {}, BEFORE, "wrist", "ABOUT R 2, GET C 3, SOURCES 1"),
+    ("(<< $injury {{ C definitionStatus = defined }}) : $site = $bone", {}, BEFORE, "radius",
+     "ANCESTORS 1, GET C 4, SOURCES 1"),
+    # A reply of the most rows is followed by the next page.
+    ("* : $form = $fracture", {"QUESTION_ROWS": 1}, BEFORE, "wrist radius", "GET C 4, SOURCES 3"),
+    # Of many below a concept each value, of few each of them.
+    ("<< $root : $site = $body", {"ASKED_UPWARDS": 3}, BEFORE, "wrist",
+     "DESCENDANTS 1, GET C 3, SOURCES 1"),
+    ("<< $limb : $site = << $body", {}, BEFORE, "wrist radius",
+     "ABOUT R 4, ANCESTORS 2, DESCENDANTS 1, GET C 3"),
+    # A value that isn't found by a question or two is found first only where there is no room.
+    ("* : $site = (* : R $site = *)", {"EXPRESSION_LINES": 30}, BEFORE, "wrist radius",
+     "GET C 1, PAGE C 1, PAGE R 1, SOURCES 2"),
+    # Reverse attributes: from the sources, from the destinations, from all relationships.
+    ("* : R $site = << $injury", {}, BEFORE, "body bone",
+     "ABOUT R 5, DESCENDANTS 1, GET C 4"),
+    ("<< $body : R $site = << $injury", {}, BEFORE, "body bone",
+     "ANCESTORS 2, DESCENDANTS 1, GET C 3, SOURCES 2"),
+    # (The bone is below it, and might have it as a site, too.)
+    ("$body : [1..1] R * = *", {}, BEFORE, "body", "ABOUT R 1, CHILDREN 1, GET C 1, SOURCES 1"),
+    ("* : R $site = *", {"EXPRESSION_LINES": 20}, LATEST, "bone",
+     "GET C 1, PAGE C 1, PAGE R 1"),
+    # A dotted attribute of many, of which only some values are asked for.
+    ("$body AND (<< $root . $site)", {}, BEFORE, "body", "ANCESTORS 1, GET C 3, SOURCES 1"),
+    # Concrete values of more concepts than there are lines.
+    ("* : $strength >= #500.1", {"EXPRESSION_LINES": 20}, LATEST, "drug",
+     "GET C 1, PAGE C 1, PAGE V 1"),
+)
+
+
+class Counted(View):
+    """A view that counts its questions by their words."""
+
+    def __init__(self, session: Session) -> None:
+        super().__init__(session)
+        self.counts = Counter[str]()
+
+    async def ask(self, lines: Sequence[str], keep: bool = True) -> list[Reply]:
+        self.counts.update(WORDS_OF_LINE.findall("\n".join(lines)))
+        return await super().ask(lines, keep)
+
+
+class TestPlans(Expressed):
+    @pytest.mark.parametrize("expression, sizes, date, names, asked", PLANS)
+    def test_what_is_asked(self, expression: str, sizes: dict[str, int], date: str, names: str,
+                           asked: str, monkeypatch: pytest.MonkeyPatch) -> None:
+        """No more than what the cheapest side asks."""
+        for name, size in sizes.items():
+            monkeypatch.setattr(limits, name, size)
+
+        async def counted() -> tuple[s.Ids, Counter[str]]:
+            async with Pool(self.service.questions).session(3) as session:
+                view = Counted(session)
+                evaluation = Evaluation(Terminology(view, date.replace("-", "")))
+                return await evaluation.meant(parse(self.text(expression))), view.counts
+
+        found, counts = asyncio.run(counted())
+        told = ", ".join("%s %d" % one for one in sorted(counts.items()))
+        assert (sorted(found, key=int), told) == (self.named(names), asked)
+
+
 @pytest.mark.parametrize("most, is_refused", ((0, True), (37, True), (38, False)))
-def test_budget(most: int, is_refused: bool, whole_house: House,
+def test_budget(most: int, is_refused: bool, whole_service: Service,
                 monkeypatch: pytest.MonkeyPatch) -> None:
     """An expression that asks for more is refused before it is asked. (This one asks for a page of
     all concepts, and about the 37 active ones.)"""
     monkeypatch.setattr(limits, "EXPRESSION_LINES", most)
 
     async def asked() -> int:
-        async with Pool(whole_house.questions).session(3) as session:
+        async with Pool(whole_service.questions).session(3) as session:
             before = session.asked
             evaluation = Evaluation(Terminology(View(session), "20220731"))
             try:
-                await evaluation.meant(parse("* : %s = *" % whole_house.codes["site"]))
+                await evaluation.meant(parse("* : %s = *" % whole_service.codes["site"]))
             except Problem as problem:
                 assert (problem.status, problem.code) == (422, "too-costly")
                 assert "asks the store more than %d questions" % most in problem.text

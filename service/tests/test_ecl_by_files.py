@@ -22,12 +22,12 @@ from sctd_service.gateway.store import View
 from .drawn_expressions import Draw
 from .drawn_releases import DAYS, RELEASES, Maker
 from .ecl_by_files import ByFiles, versions_of
-from .house import SECONDS, begun_hub, program_and_hub
+from .fixtures import SECONDS, begun_hub, program_and_hub
 
-SEED, EXPRESSIONS, DEPTH = 1, 2_000, 3
+SEED, EXPRESSIONS, DEPTH = 1, 3_000, 3
 # The releases are drawn anew after so many of them.
 OF_ONE_STORE = 1_000
-ASKED = (*DAYS, "20200801", "20210101", "20991231")
+ASKED = (*DAYS, "20200801", "20210101", "20211231", "20991231")
 # So many are asked beside each other.
 AT_A_TIME = 25
 SIZES = {
@@ -37,7 +37,7 @@ SIZES = {
 }
 NO_FIELD = "no reference set there has a field"
 # How many of each have to be among them.
-AT_LEAST = {"some": 1000, "none": 300}
+AT_LEAST = {"some": 1500, "none": 450}
 
 
 class Drawn:
@@ -110,16 +110,27 @@ async def one_compared(
     text = spelled(tree)
     read = parse(text)
     assert read == tree, text
-    wanted = drawn.files(pin, day).answer(tree)
+    files = drawn.files(pin, day)
+    wanted = files.answer(tree)
     async with pool.session(pin) as session:
-        view = View(session)
-        try:
-            found = await Evaluation(Terminology(view, day)).meant(read)
-        except Problem as problem:
-            assert NO_FIELD in problem.text, (text, problem.text)
-            counts["refused"] += 1
-            return
-        assert found == wanted, (text, day, pin, found - wanted, wanted - found)
-        among = await Evaluation(Terminology(view, day)).meant(read, some)
-        assert among == wanted & some, (text, day, pin, some)
-    counts["some" if wanted else "none"] += 1
+        found = await answered(View(session), day, read, None)
+        among = await answered(View(session), day, read, some)
+    assert found in (None, wanted), (text, day, pin, found, wanted)
+    assert among in (None, wanted & some), (text, day, pin, some, among)
+    if None in (found, among):
+        # What is asked first decides whether such a part is asked at all.
+        assert files.asks_no_column(tree), (text, day, pin)
+        counts["refused"] += 1
+    else:
+        counts["some" if wanted else "none"] += 1
+
+
+async def answered(
+    view: View, day: str, expression: s.Expression, among: s.Ids | None
+) -> s.Ids | None:
+    """What the gateway says, or None where it refuses a column."""
+    try:
+        return await Evaluation(Terminology(view, day)).meant(expression, among)
+    except Problem as problem:
+        assert NO_FIELD in problem.text, (expression, problem.text)
+        return None

@@ -4,7 +4,7 @@ them alike. h11 alone takes more of them, in its own way."""
 import asyncio
 import random
 
-from sctd_service.gateway.http import Bad, Client, Left, Request
+from sctd_service.gateway.http import BadRequestError, Client, ClientLeftError, Request
 
 from .strict_heads import CHUNKS, Head, strictly_read
 
@@ -89,7 +89,7 @@ async def read(head: bytes, length: int) -> tuple[Request, bool] | None:
     try:
         await client.wait()
         request = await client.request(await client.head())
-    except (Bad, Left):
+    except (BadRequestError, ClientLeftError):
         return None
     rest = client.rest + await reader.read()
     assert rest == b"NEXT", (head, rest)

@@ -18,30 +18,30 @@ from sctd_service.gateway.store import View
 
 from .asked import Asked
 from .demo_releases import RELEASES
-from .house import SCT, SECONDS, SERVICE, Gateway, House, issue, told, version
+from .fixtures import SCT, SECONDS, SERVICE, Gateway, Service, issue, told, version
 
 LOOKUP = "CodeSystem/$lookup"
 MEMORY_KB = 200_000
 
 
 class TestHub(Asked):
-    of = "own_house"
+    of = "own_service"
 
     @property
     def wrist(self) -> dict[str, str]:
         return {"system": SCT, "code": self.codes["wrist"]}
 
     def another_store(self, *releases: str) -> None:
-        self.house.stop_hub()
-        os.unlink(self.house.store)
-        self.house.make_store(*releases)
-        self.house.start_hub()
+        self.service.stop_hub()
+        os.unlink(self.service.store)
+        self.service.make_store(*releases)
+        self.service.start_hub()
 
     def send(self, *lines: str) -> list[str]:
         """The last line of each reply on the hub's own socket."""
         with socket.socket(socket.AF_UNIX) as hub:
             hub.settimeout(SECONDS)
-            hub.connect(self.house.socket)
+            hub.connect(self.service.socket)
             with hub.makefile("rw") as stream:
                 found = []
                 for line in lines:
@@ -52,34 +52,35 @@ class TestHub(Asked):
 
     def test_1_hub_that_is_started_again(self) -> None:
         assert self.gateway.fhir("metadata")[0] == 200
-        self.house.stop_hub()
+        self.service.stop_hub()
         answer = self.gateway.send("GET", "/fhir/metadata")
         assert (answer.status, answer.headers["retry-after"], issue(answer.json())) == (
             503,
             "5",
             "transient",
         )
-        assert self.house.folder.name not in answer.text
+        assert self.service.folder.name not in answer.text
         assert self.gateway.send("GET", "/health").status == 503
-        self.house.start_hub()
+        self.service.start_hub()
         assert self.gateway.fhir("metadata")[0] == 200
-        self.house.stop_hub()
-        self.house.start_hub()  # The gateway's connections are of the hub before.
+        self.service.stop_hub()
+        self.service.start_hub()  # The gateway's connections are of the hub before.
         assert self.gateway.fhir("metadata")[0] == 200
 
     def test_2_program_that_is_killed(self) -> None:
-        assert self.house.hub
-        with open("/proc/%d/task/%d/children" % (self.house.hub.pid, self.house.hub.pid)) as file:
+        hub = self.service.hub
+        assert hub
+        with open("/proc/%d/task/%d/children" % (hub.pid, hub.pid)) as file:
             os.kill(int(file.read().split()[0]), signal.SIGKILL)
-        assert self.house.hub.wait(SECONDS) == 1
+        assert hub.wait(SECONDS) == 1
         assert self.gateway.send("GET", "/fhir/metadata").status == 503
-        self.house.stop_hub()
-        self.house.start_hub()
+        self.service.stop_hub()
+        self.service.start_hub()
         assert self.gateway.fhir("metadata")[0] == 200
 
     def test_3_another_store(self) -> None:
         words = {**self.wrist, "version": version("20180101")}
-        top = "%s?fhir_vs=isa/%s" % (SCT, self.house.codes["finding"])
+        top = "%s?fhir_vs=isa/%s" % (SCT, self.service.codes["finding"])
         assert self.gateway.fhir(LOOKUP, "/pin/1/fhir/", **words)[0] == 200
         assert self.gateway.fhir("ValueSet/$expand", url=top)[0] == 200
         # Its first import is another one: nothing that is remembered holds.
@@ -97,7 +98,7 @@ class TestHub(Asked):
         assert self.gateway.send("GET", "/?q=1105007").status == 200
 
     def test_4_subtree_of_another_store(self) -> None:
-        url = "%s?fhir_vs=isa/%s" % (version("20210131"), self.house.codes["limb"])
+        url = "%s?fhir_vs=isa/%s" % (version("20210131"), self.service.codes["limb"])
         for releases, names in (
             (("d1", "d2"), ("limb", "radius", "carpal")),
             (("d1", "d3"), ("limb", "wrist")),
@@ -105,7 +106,7 @@ class TestHub(Asked):
             self.another_store(*releases)
             said = self.gateway.fhir("ValueSet/$expand", "/pin/2/fhir/", url=url)[1]["expansion"]
             found = {one["code"] for one in said["contains"]}
-            assert found == {self.house.codes[name] for name in names}, releases
+            assert found == {self.service.codes[name] for name in names}, releases
         self.another_store()
 
     def test_5_imports_while_it_runs(self) -> None:
@@ -127,7 +128,7 @@ class TestHub(Asked):
     def test_6_refusal_that_an_import_ends(self) -> None:
         """A code that isn't there yet is there at once when its release is imported."""
         self.another_store("d1")
-        carpal = {"system": SCT, "code": self.house.codes["carpal"]}
+        carpal = {"system": SCT, "code": self.service.codes["carpal"]}
         assert self.gateway.fhir(LOOKUP, **carpal)[0] == 404
         assert self.send("IMPORT d2") == ["OK 2 18 0"]
         assert self.gateway.fhir(LOOKUP, **carpal)[0] == 200
@@ -139,11 +140,11 @@ class TestHub(Asked):
         assert found == [True, False]
 
     async def of_two_stores(self) -> list[bool]:
-        pool, found = Pool(self.house.questions), []
+        pool, found = Pool(self.service.questions), []
         for releases in (("d1", "d2"), ("d2", "d1")):
             self.another_store(*releases)
             async with pool.session(1) as session:
-                found.append(await View(session).has(self.house.codes["wrist"], "20180101"))
+                found.append(await View(session).has(self.service.codes["wrist"], "20180101"))
             pool.idle.clear()
         return found
 
@@ -211,13 +212,13 @@ class TestStart:
             done = self.start(*whole, *words)
             assert (done.returncode, done.stdout) == (2, ""), words
 
-    def test_edition_that_is_not_in_the_store(self, house: House) -> None:
+    def test_edition_that_is_not_in_the_store(self, service: Service) -> None:
         """An answer never claims an edition of which the store has nothing."""
         for module in ("138875005", "731000124108"):
             with tempfile.TemporaryDirectory() as folder:
                 listen = folder + "/socket"
                 done = self.start(
-                    "--socket", house.questions, "--edition", module, "--listen", listen
+                    "--socket", service.questions, "--edition", module, "--listen", listen
                 )
                 assert (done.returncode, done.stdout) == (1, "")
                 assert "the store has no concept of the module %s: " % module in done.stderr

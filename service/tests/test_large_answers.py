@@ -9,7 +9,7 @@ from sctd_service.gateway import limits
 
 from .asked import Asked
 from .demo_releases import Maker
-from .house import SCT, House, close_all, issue, until
+from .fixtures import SCT, Service, close_all, issue, until
 
 DAY = "20220731"
 TERM_LETTERS = 60_000
@@ -22,9 +22,9 @@ LATE_SECONDS = 6.0
 
 
 @pytest.fixture(scope="module")
-def large_house(own_house: House) -> House:
-    """A house with a release of long terms and many concepts, whose codes it has."""
-    house = own_house
+def large_service(own_service: Service) -> Service:
+    """A service with a release of long terms and many concepts, whose codes it has."""
+    service = own_service
     maker = Maker()
     # Other identifiers than those of the releases before.
     maker.items = {kind: 10_000_000 for kind in maker.items}
@@ -44,33 +44,33 @@ def large_house(own_house: House) -> House:
     maker.concept("walk", DAY, "Walk of concepts")
     for number in range(limits.WALK_CONCEPTS):
         maker.concept("of walk %d" % number, DAY, "Of the walk %d" % number, parents=("walk",))
-    maker.write(house.releases / "large")
-    house.codes = maker.codes
-    house.stop_hub()
-    house.run(
+    maker.write(service.releases / "large")
+    service.codes = maker.codes
+    service.stop_hub()
+    service.run(
         "import",
         "--quiet",
         "--store",
-        house.store,
-        str(house.releases / "large" / "d3"),
+        service.store,
+        str(service.releases / "large" / "d3"),
     )
-    house.start_hub()
-    return house
+    service.start_hub()
+    return service
 
 
 class TestLargeAnswers(Asked):
-    of = "large_house"
+    of = "large_service"
 
     def lookup(self, name: str) -> tuple[int, dict[str, Any]]:
-        return self.house.gateway.fhir("CodeSystem/$lookup", system=SCT, code=self.codes[name])
+        return self.service.gateway.fhir("CodeSystem/$lookup", system=SCT, code=self.codes[name])
 
     def expand(self, name: str, **words: Any) -> tuple[int, dict[str, Any]]:
         url = "%s?fhir_vs%s" % (SCT, "=isa/" + self.codes[name] if name else "")
-        return self.house.gateway.fhir("ValueSet/$expand", url=url, **words)
+        return self.service.gateway.fhir("ValueSet/$expand", url=url, **words)
 
     def is_throttled(self, target: str) -> bool:
         """Whether an answer is refused since too many wait to be taken."""
-        answer = self.house.gateway.send("GET", target)
+        answer = self.service.gateway.send("GET", target)
         return answer.status == 503 and issue(answer.json()) == "throttled"
 
     def test_answer_above_the_limit(self) -> None:
@@ -78,7 +78,7 @@ class TestLargeAnswers(Asked):
         status, said = self.lookup("too large")
         assert (status, issue(said)) == (422, "too-costly")
         target = "/fhir/CodeSystem/$lookup?system=%s&code=%s" % (SCT, self.codes["too large"])
-        assert self.house.gateway.send("GET", target).headers.get("x-sctd-pin") == "4"
+        assert self.service.gateway.send("GET", target).headers.get("x-sctd-pin") == "4"
 
     def test_more_concepts_than_a_page(self) -> None:
         status, said = self.expand("page")
@@ -106,7 +106,7 @@ class TestLargeAnswers(Asked):
         """Many answers that wait to be taken are refused from some number on, small ones never.
         Their replies are remembered: where `sctd` is slow, they would be refused for another
         reason."""
-        gateway = self.house.gateway
+        gateway = self.service.gateway
         target = "/fhir/CodeSystem/$lookup?system=%s&code=%s" % (SCT, self.codes["quotes"])
         places = limits.UNTAKEN_BYTES // len(gateway.send("GET", target).body)
         clients, began = [], time.monotonic()

@@ -7,7 +7,7 @@ import pytest
 from sctd_service.gateway import limits
 
 from .asked import Asked
-from .house import until
+from .fixtures import until
 
 # How much later than its limit something may end on a busy machine.
 LATE_SECONDS = 6.0
@@ -43,6 +43,7 @@ LISTED = {
     "RECORD_CHARACTERS": 5_000,
     "RECORDS_BYTES": 256 << 10,
     "RECORDS_BODY_BYTES": 1 << 20,
+    "FHIR_BODY_BYTES": 256 << 10,
     "RECORDS_QUESTIONS": 20_000,
 }
 
@@ -60,7 +61,7 @@ class TestLimits(Asked):
                 GET + b"A: " + b"b" * (room + more) + b"\r\nConnection: close\r\n\r\n"
             )
             assert got.split(b" ")[1] == b"%d" % status
-        for length, status in ((limits.BODY_BYTES, 400), (limits.BODY_BYTES + 1, 413)):
+        for length, status in ((limits.FHIR_BODY_BYTES, 400), (limits.FHIR_BODY_BYTES + 1, 413)):
             answer = gateway.send(
                 "POST",
                 "/fhir/CodeSystem/$lookup",

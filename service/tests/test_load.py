@@ -7,7 +7,7 @@ from contextlib import suppress
 from sctd_service.gateway import limits
 
 from .asked import Asked
-from .house import SCT, Answer, Json, close_all, issue, told, together, until, version
+from .fixtures import SCT, Answer, Json, close_all, issue, together, told, until, version
 
 CLIENTS = 200
 # More than the gateway takes.
@@ -70,7 +70,7 @@ class TestLoad(Asked):
                 many.append(self.busy())
             return answers[-1].status == 503
 
-        with self.house.stopped_program():
+        with self.service.stopped_program():
             assert until(is_refused, limits.SCTD_SECONDS - 2)
         assert issue(answers[-1].json()) == "throttled"
         assert "retry-after" in answers[-1].headers

@@ -6,7 +6,7 @@ from urllib.parse import urlencode
 import pytest
 
 from .asked import Asked
-from .house import (
+from .fixtures import (
     EDITION,
     SCT,
     Json,
@@ -40,7 +40,7 @@ RELEASES_IN_FORCE = (
 class TestLookup(Asked):
     def ask(self, code: str, **words: Any) -> tuple[int, Json]:
         code = self.codes.get(code, code)
-        return self.house.gateway.fhir(LOOKUP, system=SCT, code=code, **words)
+        return self.service.gateway.fhir(LOOKUP, system=SCT, code=code, **words)
 
     def test_then(self) -> None:
         status, said = self.ask("wrist", version=version("20180101"))
@@ -103,7 +103,7 @@ class TestLookup(Asked):
                 "url": SCT + "?fhir_cm=900000000000527005", "system": SCT, "code": code,
                 "date": with_hyphens(day)}),
         ):
-            status, said = self.house.gateway.fhir(path, **words)
+            status, said = self.service.gateway.fhir(path, **words)
             assert (status, issue(said)) == (404, "not-found"), path
             why = "the store knows nothing of the day %s: its first is 20150131" % day
             assert said["issue"][0]["diagnostics"] == why
@@ -199,7 +199,7 @@ class TestLookup(Asked):
         assert self.ask("radius", version=version("20200731"))[0] == 200
 
     def test_no_code_and_no_system(self) -> None:
-        fhir = self.house.gateway.fhir
+        fhir = self.service.gateway.fhir
         assert issue(fhir(LOOKUP, system=SCT)[1]) == "required"
         assert issue(fhir(LOOKUP, code="138875005")[1]) == "required"
         assert fhir(LOOKUP, code="", system=SCT)[0] == 400
@@ -207,7 +207,7 @@ class TestLookup(Asked):
 
     def test_concrete_values_keep_their_digits(self) -> None:
         target = "/fhir/CodeSystem/$lookup?system=%s&code=%s" % (SCT, self.codes["drug"])
-        assert b'"valueDecimal":500.10}' in self.house.gateway.send("GET", target).body
+        assert b'"valueDecimal":500.10}' in self.service.gateway.send("GET", target).body
         said = self.ask("drug", version=version("20191231"))[1]
         assert properties(said)[self.codes["strength"]] == [500]
         assert properties(said)[self.codes["unit"]] == ["mg"]
@@ -317,9 +317,9 @@ class TestLookup(Asked):
         words = {"system": SCT, "code": self.codes["wrist"], "displayLanguage": languages}
         for prefer in ("", "handling=strict"):
             target = "/fhir/%s?%s" % (LOOKUP, urlencode(words))
-            answer = self.house.gateway.send("GET", target, headers={"Prefer": prefer})
+            answer = self.service.gateway.send("GET", target, headers={"Prefer": prefer})
             assert (answer.status, told(answer.json(), "display")) == (200, [display]), languages
-        said = self.house.gateway.fhir(
+        said = self.service.gateway.fhir(
             "ValueSet/$expand",
             url="%s?fhir_vs=isa/%s" % (SCT, self.codes["wrist"]),
             displayLanguage=languages,
@@ -336,17 +336,18 @@ class TestLookup(Asked):
         """Which are passed over and told, or refused where the client wants that."""
         target = "/fhir/%s?system=%s&code=138875005&property=inactive&property=" % (LOOKUP, SCT)
         for name in ("ancestor", "normalform", "inactiv"):
-            answer = self.house.gateway.send("GET", target + name)
+            answer = self.service.gateway.send("GET", target + name)
             assert (answer.status, len(told(answer.json(), "warning"))) == (200, 1), name
             wish = {"Prefer": "handling=strict"}
-            assert self.house.gateway.send("GET", target + name, headers=wish).status == 400
+            assert self.service.gateway.send("GET", target + name, headers=wish).status == 400
         for name in ("*", "designation", "display", self.codes["site"]):
-            answer = self.house.gateway.send("GET", target + name)
+            answer = self.service.gateway.send("GET", target + name)
             assert told(answer.json(), "warning") == [], name
 
     def test_post_with_a_coding(self) -> None:
         coding = {"system": SCT, "code": self.codes["wrist"], "version": version("20180101")}
-        status, said = self.house.gateway.posted(LOOKUP, {"name": "coding", "valueCoding": coding})
+        posted = {"name": "coding", "valueCoding": coding}
+        status, said = self.service.gateway.posted(LOOKUP, posted)
         assert (status, told(said, "display")) == (200, ["Fracture of wrist (disorder)"])
 
     def test_version_beside_a_coding(self) -> None:
@@ -355,14 +356,14 @@ class TestLookup(Asked):
             ("20180101", "20170731", "Fracture of wrist (disorder)"),
             ("20190101", "20180731", "Fracture of wrist joint region (disorder)"),
         ):
-            said = self.house.gateway.posted(
+            said = self.service.gateway.posted(
                 LOOKUP, coding, {"name": "version", "valueString": version(day)}
             )[1]
             assert (told(said, "version"), told(said, "display")) == ([version(release)], [name])
 
     def test_two_ways_to_name_the_code(self) -> None:
         coding = {"system": SCT, "code": self.codes["wrist"]}
-        status, said = self.house.gateway.posted(
+        status, said = self.service.gateway.posted(
             LOOKUP,
             {"name": "coding", "valueCoding": coding},
             {"name": "code", "valueCode": self.codes["limb"]},
@@ -383,10 +384,10 @@ class TestLookup(Asked):
     )
     def test_bad_codings(self, coding: Any, status: int) -> None:
         part = {"name": "coding", "valueCoding": coding}
-        assert self.house.gateway.posted(LOOKUP, part)[0] == status, coding
+        assert self.service.gateway.posted(LOOKUP, part)[0] == status, coding
 
     def test_pin(self) -> None:
-        gateway, wrist = self.house.gateway, self.codes["wrist"]
+        gateway, wrist = self.service.gateway, self.codes["wrist"]
         said = gateway.fhir(LOOKUP, "/pin/1/fhir/", system=SCT, code=wrist)[1]
         assert told(said, "version") == [version("20190131")]
         assert gateway.fhir(LOOKUP, "/pin/0/fhir/", system=SCT, code=wrist)[0] == 404
@@ -399,9 +400,9 @@ class TestLookup(Asked):
     def test_answers_and_refusals_are_of_a_pin(self) -> None:
         for code in (self.codes["wrist"], "138875005", "999999"):
             target = "/fhir/CodeSystem/$lookup?system=%s&code=%s" % (SCT, code)
-            answer = self.house.gateway.send("GET", target)
+            answer = self.service.gateway.send("GET", target)
             assert answer.headers["x-sctd-pin"] == "3", code
-            again = self.house.gateway.send("GET", "/pin/3" + target)
+            again = self.service.gateway.send("GET", "/pin/3" + target)
             assert (again.status, again.body) == (answer.status, answer.body)
             assert again.headers["x-sctd-receipt"] == answer.headers["x-sctd-receipt"]
 

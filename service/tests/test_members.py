@@ -21,7 +21,7 @@ from sctd_service.gateway.store import View, called_of, members_of
 
 from . import demo_members as demo
 from .asked import Asked
-from .house import SCT, House, Json, issue, parts_of, properties, told, version
+from .fixtures import SCT, Json, Service, issue, parts_of, properties, told, version
 
 LOOKUP, EXPAND = "CodeSystem/$lookup", "ValueSet/$expand"
 TRANSLATE = "ConceptMap/$translate"
@@ -36,11 +36,11 @@ FSN, SYNONYM = "900000000000003001", "900000000000013009"
 class Whole(Asked):
     """A store of layout 3 with whole packages."""
 
-    of = "whole_house"
+    of = "whole_service"
 
     def lookup(self, name: str, **words: Any) -> Json:
         code = self.codes[name]
-        status, said = self.house.gateway.fhir(LOOKUP, system=SCT, code=code, **words)
+        status, said = self.service.gateway.fhir(LOOKUP, system=SCT, code=code, **words)
         assert status == 200, said
         return said
 
@@ -50,7 +50,7 @@ class Whole(Asked):
 
     def refset(self, name: str, **words: Any) -> tuple[int, Json]:
         url = "%s?fhir_vs=refset/%s" % (SCT, self.codes[name])
-        return self.house.gateway.fhir(EXPAND, url=url, **words)
+        return self.service.gateway.fhir(EXPAND, url=url, **words)
 
     def expanded(self, name: str, **words: Any) -> Json:
         status, said = self.refset(name, **words)
@@ -124,14 +124,14 @@ class TestDisplays(Whole):
         ),
     )
     def test_wrong_tags(self, tag: str) -> None:
-        status, said = self.house.gateway.fhir(
+        status, said = self.service.gateway.fhir(
             LOOKUP, system=SCT, code=self.codes["wrist"], displayLanguage=tag
         )
         assert (status, issue(said)) == (400, "invalid"), tag
 
     def test_where_else_a_concept_is_shown(self) -> None:
         url = "%s?fhir_vs=isa/%s" % (SCT, self.codes["anaemia"])
-        fhir, code = self.house.gateway.fhir, self.codes["anaemia"]
+        fhir, code = self.service.gateway.fhir, self.codes["anaemia"]
         cases: list[tuple[dict[str, str], str]] = [({}, "Anaemia")]
         for words, display in [*cases, ({"displayLanguage": "en-US"}, "Anemia")]:
             said = fhir(EXPAND, url=url, **words)[1]["expansion"]["contains"]
@@ -141,12 +141,12 @@ class TestDisplays(Whole):
 
     def test_a_definition_is_no_name(self) -> None:
         words = {"url": SCT, "code": self.codes["wrist"], "display": demo.DEFINITION}
-        said = self.house.gateway.fhir("CodeSystem/$validate-code", **words)[1]
+        said = self.service.gateway.fhir("CodeSystem/$validate-code", **words)[1]
         assert told(said, "result") == [False]
-        found = self.house.gateway.fhir(EXPAND, url=SCT + "?fhir_vs", filter="a break of bones")
+        found = self.service.gateway.fhir(EXPAND, url=SCT + "?fhir_vs", filter="a break of bones")
         assert found[1]["expansion"]["total"] == 0
         assert self.gateway.send("GET", "/suggest?text=a+break").text == "[]"
-        assert "No term begins" in self.house.gateway.send("GET", "/?q=A+break").text
+        assert "No term begins" in self.service.gateway.send("GET", "/?q=A+break").text
 
 
 class TestTags:
@@ -221,7 +221,7 @@ class TestDesignations(Whole):
 
     def test_of_an_expansion(self) -> None:
         url = "%s?fhir_vs=isa/%s" % (SCT, self.codes["anaemia"])
-        said = self.house.gateway.fhir(EXPAND, url=url, includeDesignations="true")[1]
+        said = self.service.gateway.fhir(EXPAND, url=url, includeDesignations="true")[1]
         designations = said["expansion"]["contains"][0]["designation"]
         found = {one["value"]: one for one in designations}
         assert [context(one) for one in found["Anaemia"]["extension"]] == [
@@ -282,7 +282,7 @@ class TestRefsets(Whole):
 
     def test_version_of_the_url(self) -> None:
         url = "%s?fhir_vs=refset/%s" % (version("20200131"), self.codes["set"])
-        said = self.house.gateway.fhir(EXPAND, url=url)[1]["expansion"]
+        said = self.service.gateway.fhir(EXPAND, url=url)[1]["expansion"]
         assert [one["code"] for one in said["contains"]] == self.named("limb")
 
     def test_entries(self) -> None:
@@ -320,7 +320,7 @@ class TestRefsets(Whole):
         assert self.expanded("left", **before)["total"] == 1
         # Before the first member there was none.
         url = "%s?fhir_vs=refset/%s" % (version("20150131"), demo.INDICATORS)
-        said = self.house.gateway.fhir(EXPAND, url=url)[1]
+        said = self.service.gateway.fhir(EXPAND, url=url)[1]
         assert said["expansion"]["total"] == 0
 
     def test_that_are_not_kept(self) -> None:
@@ -340,7 +340,7 @@ class TestRefsets(Whole):
                     {"url": url, "system": SCT, "code": self.codes["wrist"]},
                 ),
             ):
-                got, said = self.house.gateway.fhir(path, **words)
+                got, said = self.service.gateway.fhir(path, **words)
                 assert (got, issue(said)) == (status, why), (path, code)
 
     def test_validate_code(self) -> None:
@@ -352,7 +352,7 @@ class TestRefsets(Whole):
             ("carpal", "20210131", False),
             ("absent", "20220731", False),
         ):
-            said = self.house.gateway.fhir(
+            said = self.service.gateway.fhir(
                 "ValueSet/$validate-code",
                 url=url,
                 system=SCT,
@@ -369,18 +369,18 @@ class TestRefsets(Whole):
             ("20180101", ("us", "gb", "ctv3", "odd", "set", "left")),
         ):
             url = version(day) + "?fhir_vs=refset"
-            said = self.house.gateway.fhir(EXPAND, url=url)[1]["expansion"]
+            said = self.service.gateway.fhir(EXPAND, url=url)[1]["expansion"]
             found = [one["code"] for one in said["contains"]]
             assert (found, said["total"]) == (self.named(*names), len(names)), day
         for name, valid in (("set", True), ("never", False), ("wrist", False)):
-            said = self.house.gateway.fhir(
+            said = self.service.gateway.fhir(
                 "ValueSet/$validate-code",
                 url=SCT + "?fhir_vs=refset",
                 system=SCT,
                 code=self.codes[name],
             )[1]
             assert told(said, "result") == [valid], name
-        said = self.house.gateway.fhir(EXPAND, url=SCT + "?fhir_vs=refset", filter="wrists of")[1]
+        said = self.service.gateway.fhir(EXPAND, url=SCT + "?fhir_vs=refset", filter="wrists of")[1]
         assert said["expansion"]["contains"][0]["code"] == self.codes["set"]
 
 
@@ -388,7 +388,7 @@ class TestMaps(Whole):
     def ask(self, name: str, refset: str = demo.CTV3, **words: Any) -> tuple[int, Json]:
         url = "%s?fhir_cm=%s" % (SCT, refset)
         code = self.codes[name]
-        return self.house.gateway.fhir(TRANSLATE, url=url, system=SCT, code=code, **words)
+        return self.service.gateway.fhir(TRANSLATE, url=url, system=SCT, code=code, **words)
 
     @pytest.mark.parametrize(
         "name, date, targets",
@@ -447,11 +447,11 @@ class TestMaps(Whole):
 
 class TestCapabilities(Whole):
     def test_what_is_new(self) -> None:
-        said = self.house.gateway.fhir("metadata", mode="terminology")[1]
+        said = self.service.gateway.fhir("metadata", mode="terminology")[1]
         for one in said["codeSystem"][0]["version"]:
             assert one["language"] == ["en-GB", "en-US"]
             assert "inactivationIndicator" in one["property"]
-        said = self.house.gateway.fhir("metadata")[1]
+        said = self.service.gateway.fhir("metadata")[1]
         found = {one["type"]: one["operation"][0] for one in said["rest"][0]["resource"]}
         assert "fhir_vs=refset/CODE" in found["ValueSet"]["documentation"]
         assert "a simple map" in found["ConceptMap"]["documentation"]
@@ -461,7 +461,7 @@ class TestCapabilities(Whole):
 class TestPage(Whole):
     def page(self, name: str, **words: str) -> str:
         target = "/?" + urlencode({"q": self.codes[name], **words})
-        answer = self.house.gateway.send("GET", target)
+        answer = self.service.gateway.send("GET", target)
         assert answer.status == 200
         return answer.text
 
@@ -556,8 +556,8 @@ class TestPage(Whole):
 class TestWithoutMembers:
     """Stores that have no members, asked for what they say."""
 
-    def compared(self, house: House) -> None:
-        fhir, codes = house.gateway.fhir, house.codes
+    def compared(self, service: Service) -> None:
+        fhir, codes = service.gateway.fhir, service.codes
         for tag in ((), ("en-GB",), (US_TAG,)):
             said = fhir(LOOKUP, system=SCT, code=codes["wrist"], displayLanguage=[*tag])[1]
             name = "Fracture of wrist joint region (disorder)"
@@ -578,22 +578,22 @@ class TestWithoutMembers:
         url = "%s?fhir_cm=%s" % (SCT, demo.CTV3)
         words = {"url": url, "system": SCT, "code": codes["wrist"]}
         assert fhir(TRANSLATE, **words)[0] in (404, 422)
-        text = house.gateway.send("GET", "/?q=" + codes["wrist"]).text
+        text = service.gateway.send("GET", "/?q=" + codes["wrist"]).text
         for title in ("Preferred term", "Text definition", "Why retired", "Reference sets"):
             assert ">%s<" % title not in text
         assert "in short" not in text
 
     def test_packages_without_members(self, request: pytest.FixtureRequest) -> None:
-        house = House(words=demo.WORDS)
-        request.addfinalizer(house.end)
-        self.compared(house)
-        assert "layout" not in house.gateway.told()
+        service = Service(words=demo.WORDS)
+        request.addfinalizer(service.end)
+        self.compared(service)
+        assert "layout" not in service.gateway.told()
 
     def test_a_layout_without_members(self, request: pytest.FixtureRequest) -> None:
         """What needs members is refused with a sentence, and all else is answered."""
-        house = House(layout=2, is_whole=True, words=demo.WORDS)
-        request.addfinalizer(house.end)
-        fhir, codes = house.gateway.fhir, house.codes
+        service = Service(layout=2, is_whole=True, words=demo.WORDS)
+        request.addfinalizer(service.end)
+        fhir, codes = service.gateway.fhir, service.codes
         code = {"system": SCT, "code": codes["wrist"]}
         refset = SCT + "?fhir_vs=refset/" + codes["set"]
         needing: tuple[tuple[str, dict[str, str]], ...] = (
@@ -608,38 +608,38 @@ class TestWithoutMembers:
             status, said = fhir(path, **words)
             assert (status, issue(said)) == (422, "not-supported"), (path, words)
             assert said["issue"][0]["diagnostics"] == NO_MEMBERS, (path, words)
-        page = house.gateway.send("GET", "/?q=" + codes["wrist"])
+        page = service.gateway.send("GET", "/?q=" + codes["wrist"])
         assert page.status == 422
         assert "keeps no members" in page.text
         record, kind = codes["wrist"] + ",2018-01-01", {"Content-Type": "text/csv"}
-        assert house.gateway.send("POST", "/records", record.encode(), kind).status == 200
+        assert service.gateway.send("POST", "/records", record.encode(), kind).status == 200
         changes = "/changes?from=2018-01-01&concept=" + codes["finding"]
-        assert house.gateway.send("GET", changes).status == 200
+        assert service.gateway.send("GET", changes).status == 200
         free = {**code, "property": "parent", "displayLanguage": "und"}
         assert fhir(LOOKUP, **free)[0] == 200
         within = SCT + "?fhir_vs=isa/" + codes["limb"]
         words = {"url": within, **code, "displayLanguage": "und"}
         assert fhir("ValueSet/$validate-code", **words)[0] == 200
-        assert "sctd-gateway: " + NO_MEMBERS in house.gateway.told()
+        assert "sctd-gateway: " + NO_MEMBERS in service.gateway.told()
 
 
 class TestAnotherStore:
     def test_reference_sets_of_another_store(self, request: pytest.FixtureRequest) -> None:
         """Its first import is another one: nothing that is remembered of a set holds."""
-        house = House(is_whole=True, words=demo.WORDS)
-        request.addfinalizer(house.end)
-        url = "%s?fhir_vs=refset/%s" % (version("20210131"), house.codes["set"])
+        service = Service(is_whole=True, words=demo.WORDS)
+        request.addfinalizer(service.end)
+        url = "%s?fhir_vs=refset/%s" % (version("20210131"), service.codes["set"])
         for releases, names in (
             (("d1", "d2"), ("wrist", "limb", "radius")),
             (("d1", "d3"), ("wrist", "limb")),
         ):
-            house.stop_hub()
-            os.unlink(house.store)
-            house.make_store(*releases)
-            house.start_hub()
-            said = house.gateway.fhir(EXPAND, "/pin/2/fhir/", url=url)[1]["expansion"]
+            service.stop_hub()
+            os.unlink(service.store)
+            service.make_store(*releases)
+            service.start_hub()
+            said = service.gateway.fhir(EXPAND, "/pin/2/fhir/", url=url)[1]["expansion"]
             found = {one["code"] for one in said["contains"]}
-            assert found == {house.codes[name] for name in names}, releases
+            assert found == {service.codes[name] for name in names}, releases
 
 
 class TestRows:

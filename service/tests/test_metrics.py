@@ -12,7 +12,7 @@ from sctd_service.hub.lines import kind_of
 from sctd_service.hub.metrics import BOUNDS, Metrics
 
 from .asked import Asked
-from .house import SCT, SECONDS, Gateway, House
+from .fixtures import SCT, SECONDS, Gateway, Service
 
 # How long these tests may take.
 LATE_SECONDS = 900
@@ -44,13 +44,13 @@ def labels(**words: str) -> frozenset[tuple[str, str]]:
 
 
 class TestCounted(Asked):
-    of = "own_house"
+    of = "own_service"
 
     def change(self, *lines: bytes) -> None:
         """Sends lines to the hub's own socket, and waits for the last line of each reply."""
         with socket.socket(socket.AF_UNIX) as hub:
             hub.settimeout(SECONDS)
-            hub.connect(self.house.socket)
+            hub.connect(self.service.socket)
             with hub.makefile("rwb") as stream:
                 for line in lines:
                     stream.write(line + b"\n")
@@ -91,10 +91,10 @@ class TestCounted(Asked):
     def test_state_of_the_store(self) -> None:
         found = scraped(self.gateway)
         with socket.socket(socket.AF_UNIX) as hub:
-            hub.connect(self.house.questions)
+            hub.connect(self.service.questions)
             hub.sendall(b"STATUS\n")
             _, imports, rows, segments, _ = hub.recv(1 << 16).split()
-        with open(self.house.store, "rb") as file:
+        with open(self.service.store, "rb") as file:
             size = file.seek(0, 2)
         for name, value in (
             ("sctd_pin", int(imports)),
@@ -134,7 +134,7 @@ class TestCounted(Asked):
         count, began = 200, time.monotonic()
         with socket.socket(socket.AF_UNIX) as hub:
             hub.settimeout(SECONDS)
-            hub.connect(self.house.questions)
+            hub.connect(self.service.questions)
             hub.sendall(b"STATUS\nMETRICS\n" * count)
             hub.shutdown(socket.SHUT_WR)
             got = b"".join(iter(lambda: hub.recv(1 << 16), b""))
@@ -146,16 +146,16 @@ class TestCounted(Asked):
 
     def test_hub_that_does_not_answer(self) -> None:
         """What the gateway counts is told all the same."""
-        with self.house.stopped_program():
+        with self.service.stopped_program():
             found = scraped(self.gateway)
             assert found["sctd_gateway_hub_up", labels()] == 1
             assert ("sctd_rows", labels()) in found
-        self.house.stop_hub()
+        self.service.stop_hub()
         found = scraped(self.gateway)
         assert found["sctd_gateway_hub_up", labels()] == 0
         assert ("sctd_rows", labels()) not in found
         assert found["sctd_gateway_pin", labels()] != 3
-        self.house.start_hub()
+        self.service.start_hub()
         assert scraped(self.gateway)["sctd_gateway_hub_up", labels()] == 1
 
 

@@ -16,7 +16,7 @@ from sctd_service.gateway.store import ANY, AnyRow, View
 
 from .asked import Asked
 from .demo_releases import REPLACED_BY
-from .house import version
+from .fixtures import version
 
 
 class Chain(View):
@@ -50,7 +50,7 @@ FOREIGN = re.compile(r"<script(?! src=\"page.js\" defer>)|<img|</textarea><s|onf
 
 class TestPage(Asked):
     def page(self, base: str = "/", **words: str) -> tuple[int, str]:
-        answer = self.house.gateway.send("GET", base + "?" + urlencode(words))
+        answer = self.service.gateway.send("GET", base + "?" + urlencode(words))
         return answer.status, answer.text
 
     def test_record(self) -> None:
@@ -152,7 +152,7 @@ class TestPage(Asked):
         text = self.page(q=self.codes["radius"], date="1999-01-01", other="2020-07-30")[1]
         assert text.count(nothing) == 1 and "isn\u2019t in the store by <time" in text
         assert nothing in self.page(q="fracture", date="2015-01-30")[1]
-        assert self.house.gateway.send("GET", "/suggest?text=f&date=2015-01-30").text == "[]"
+        assert self.service.gateway.send("GET", "/suggest?text=f&date=2015-01-30").text == "[]"
 
     def test_the_address_that_stays(self) -> None:
         text = self.page(q=self.codes["wrist"], date="2018-01-01")[1]
@@ -195,7 +195,7 @@ class TestPage(Asked):
             self.page(q="1", date='"><script>')[1],
             self.page(q="<b>bold")[1],
             self.page(q="{{content}} {content} {0.__class__}")[1],
-            self.house.gateway.send("GET", "/<script>alert(1)</script>").text,
+            self.service.gateway.send("GET", "/<script>alert(1)</script>").text,
         ]
         for text in texts:
             assert FOREIGN.findall(text) == []
@@ -214,7 +214,7 @@ class TestPage(Asked):
         )
 
     def test_a_refusal_tells_its_pin(self) -> None:
-        send = self.house.gateway.send
+        send = self.service.gateway.send
         for target in ("/?q=1&date=2018-02-31", "/suggest?text=", "/suggest?text=a&date=x"):
             answer = send("GET", target)
             assert (answer.status, answer.headers.get("x-sctd-pin")) == (400, "3"), target
@@ -339,12 +339,12 @@ class TestPage(Asked):
         assert 'value="7"' in self.page("/pin/99/", q="7")[1]
         text = self.page("/changes", concept="123", **{"from": "2018-02-31"})[1]
         assert 'value="123"' in text and 'id="concept"' in text
-        assert 'value=""' in self.house.gateway.send("GET", "/?q=%ff").text
+        assert 'value=""' in self.service.gateway.send("GET", "/?q=%ff").text
 
     def test_search_and_suggest(self) -> None:
         assert "5 terms begin" in self.page(q="FRACTURE", date="2021-06-01")[1]
         assert "No term begins" in self.page(q="nothing such")[1]
-        said = self.house.gateway.send("GET", "/suggest?text=fract&date=2021-06-01")
+        said = self.service.gateway.send("GET", "/suggest?text=fract&date=2021-06-01")
         found = {one["code"]: one["active"] for one in json.loads(said.body)}
         assert (found[self.codes["wrist"]], found[self.codes["limb"]]) == (False, True)
 
@@ -367,8 +367,8 @@ class TestPage(Asked):
             "/suggest?text=a%0ab",
             "/suggest?text=a&date=x",
         ):
-            assert self.house.gateway.send("GET", target).status == 400, target
-        assert self.house.gateway.send("GET", "/health").json()["pin"] == 3
+            assert self.service.gateway.send("GET", target).status == 400, target
+        assert self.service.gateway.send("GET", "/health").json()["pin"] == 3
 
     def test_labels_and_headings(self) -> None:
         text = self.page(q=self.codes["wrist"], date="2018-01-01")[1]

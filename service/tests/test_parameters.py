@@ -8,7 +8,7 @@ import pytest
 from sctd_service.gateway.fhir import parameters
 
 from .asked import Asked
-from .house import FHIR_JSON, SCT, Json, issue, told, version
+from .fixtures import FHIR_JSON, SCT, Json, issue, told, version
 
 # As FHIR R4 has them.
 R4 = {
@@ -59,6 +59,7 @@ VALUES: dict[str, Any] = {
     "property": "inactive",
     "url": EVERY,
     "valueSet": DEFINED,
+    "tx-resource": {**DEFINED, "url": "http://example.org/all"},
     "designation": "urn:ietf:bcp:47|en",
     "exclude-system": "http://loinc.org",
     "system-version": WITH_VERSION,
@@ -68,8 +69,11 @@ VALUES: dict[str, Any] = {
     "source": EVERY,
     "target": EVERY,
     "targetsystem": SCT,
+    "language": "en",
     **dict.fromkeys(
-        "activeOnly includeDesignations excludeNested inferSystem reverse abstract".split(), "true"
+        "activeOnly includeDesignations excludeNested inferSystem reverse abstract "
+        "lenient-display-validation valueset-membership-only".split(),
+        "true",
     ),
 }
 # What an operation is asked beside, and what can't stand beside a parameter.

@@ -30,6 +30,7 @@ LINES = [
         f"{AT}CHILDREN {CODE} {DAY}",
         f"{AT}ANCESTORS {CODE} {DAY}",
         f"{AT}DESCENDANTS {CODE} {DAY}",
+        f"{AT}SOURCES (-|[1-9][0-9]{{5,17}}) {CODE} {DAY} {AFTER} {COUNT}",
         f"{AT}REPLAC(ED|ES) {CODE} {DAY}",
         f"{AT}PAGE A {DAY} (-|[0-9a-f-]{{36}}) {COUNT}",
         f"{AT}HISTORY C {CODE}",
@@ -47,7 +48,7 @@ LINES = [
 
 class TestRecorded(Asked):
     def test_only_questions_were_sent(self) -> None:
-        recorder = self.house.recorder
+        recorder = self.service.recorder
         assert recorder
         lines = [line.decode() for line in recorder.lines]
         for line in lines:

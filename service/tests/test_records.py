@@ -19,7 +19,7 @@ from sctd_service.gateway.store import View
 from sctd_service.sockets import Identity
 
 from .asked import Asked
-from .house import Answer, version
+from .fixtures import Answer, version
 
 Row = dict[str, str]
 CSV, FORM = "text/csv", "application/x-www-form-urlencoded"

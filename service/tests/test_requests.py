@@ -16,7 +16,7 @@ from sctd_service.gateway.fhir.versions import Edition
 from sctd_service.gateway.pool import Pool
 
 from .asked import Asked
-from .house import EDITION, FHIR_JSON, POST, SCT, issue, told
+from .fixtures import EDITION, FHIR_JSON, POST, SCT, issue, told
 
 LOOKUP = "/fhir/CodeSystem/$lookup"
 GET = b"GET /health HTTP/1.1\r\nHost: x\r\n"
@@ -45,6 +45,7 @@ HEADS = (
     (b"\r\nGET /health HTTP/1.1\r\nHost: x\r\n\r\n", 400),
     (b"GET /health\r\n\r\n", 400),
     (b"GET /health HTTP/1.1 \r\nHost: x\r\n\r\n", 400),
+    (b"PRI * HTTP/2.0\r\n\r\nSM\r\n\r\n", 505),
     (GET + b"Host: y\r\n\r\n", 400),
     (GET + b"Host: x\r\n\r\n", 400),
     (GET + b" folded: x\r\n\r\n", 400),
@@ -151,7 +152,7 @@ class TestTurns:
         )
         await asyncio.sleep(0.1)
         app.walks.release()
-        with pytest.raises(http.Left):
+        with pytest.raises(http.ClientLeftError):
             await left
         assert (await stays).status == 503
 
@@ -212,7 +213,8 @@ class TestRequests(Asked):
         assert self.gateway.posted("CodeSystem/$lookup", *[part] * 61)[0] == 400
 
     def test_query_that_is_not_utf_8(self) -> None:
-        assert self.gateway.send("GET", LOOKUP + "?code=%ff").status == 400
+        for text in ("%ff", "%c0%80", "%ed%a0%80", "%f4%90%80%80"):
+            assert self.gateway.send("GET", LOOKUP + "?code=" + text).status == 400, text
 
     def test_paths(self) -> None:
         for path in (
@@ -326,6 +328,9 @@ class TestRequests(Asked):
             (head + CODING % b',"display":""' + b"}]}", 400),
             (head + CODING % b',"display":null' + b"}]}", 400),
             (head + b'{"name":"_format","valueCode":"json"}]}', 400),
+            (head + CODING % b"" + b'}],"x":NaN}', 400),
+            (head + CODING % b"" + b'}],"x":-Infinity}', 400),
+            (head + CODING % b"" + b'}],"x":1}', 200),
             (
                 head
                 + b'{"name":"code","valueCode":"\\ud800"},{"name":"system","valueUri":"'

@@ -10,7 +10,7 @@ from pathlib import Path
 import pytest
 from sctd_service.gateway import limits
 
-from .house import Gateway, issue, together
+from .fixtures import Gateway, issue, together
 
 # What a hub says to whatever it is asked but WATCH, and how long its client waits at most.
 LATE_SECONDS = 6.0

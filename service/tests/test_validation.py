@@ -6,13 +6,13 @@ import pytest
 from sctd_service.gateway import limits
 
 from .asked import Asked
-from .house import SCT, Json, issue, told, version
+from .fixtures import SCT, Json, issue, told, version
 
 
 class TestValidate(Asked):
     def code(self, code: str, **words: Any) -> Json:
         code = self.codes.get(code, code)
-        status, said = self.house.gateway.fhir(
+        status, said = self.service.gateway.fhir(
             "CodeSystem/$validate-code", url=SCT, code=code, **words
         )
         assert status == 200, said
@@ -20,12 +20,12 @@ class TestValidate(Asked):
 
     def member(self, top: str, code: str, **words: Any) -> Json:
         url = "%s?fhir_vs=isa/%s" % (SCT, self.codes[top])
-        return self.house.gateway.fhir(
+        return self.service.gateway.fhir(
             "ValueSet/$validate-code", url=url, system=SCT, code=self.codes[code], **words
         )[1]
 
     def concept(self, *codings: Json) -> tuple[int, Json]:
-        return self.house.gateway.posted(
+        return self.service.gateway.posted(
             "CodeSystem/$validate-code",
             {"name": "url", "valueUri": SCT},
             {"name": "codeableConcept", "valueCodeableConcept": {"coding": list(codings)}},
@@ -51,7 +51,7 @@ class TestValidate(Asked):
         assert told(said, "result") == [valid], language
 
     def test_display_without_a_code(self) -> None:
-        status, _ = self.house.gateway.fhir("CodeSystem/$validate-code", url=SCT, display="x")
+        status, _ = self.service.gateway.fhir("CodeSystem/$validate-code", url=SCT, display="x")
         assert status == 400
 
     def test_concept_with_several_codings(self) -> None:
@@ -84,7 +84,7 @@ class TestValidate(Asked):
             assert self.concept(*[unknown] * count)[0] == status, count
 
     def test_other_code_system(self) -> None:
-        status, _ = self.house.gateway.fhir(
+        status, _ = self.service.gateway.fhir(
             "CodeSystem/$validate-code", url="http://loinc.org", code="1-8"
         )
         assert status == 404
@@ -108,8 +108,8 @@ class TestValidate(Asked):
         other = {"system": "http://hl7.org/fhir/sid/icd-10", "code": "S52"}
         parts = {"name": "url", "valueUri": url}, {"name": "coding", "valueCoding": other}
         for status, said in (
-            self.house.gateway.fhir(path, url=url, **other),
-            self.house.gateway.posted(path, *parts),
+            self.service.gateway.fhir(path, url=url, **other),
+            self.service.gateway.posted(path, *parts),
         ):
             assert (status, told(said, "result")) == (200, [False]), said
             assert told(said, "message") == ["no code is one of " + SCT]
@@ -117,7 +117,7 @@ class TestValidate(Asked):
     def test_member_of_the_reference_sets(self) -> None:
         """Of which this store has none."""
         for what in ("=refset", "=refset/" + self.codes["limb"]):
-            status, said = self.house.gateway.fhir(
+            status, said = self.service.gateway.fhir(
                 "ValueSet/$validate-code",
                 url=SCT + "?fhir_vs" + what,
                 system=SCT,
@@ -134,7 +134,7 @@ class TestValidate(Asked):
 
     def test_member_of_the_version_of_the_value_set(self) -> None:
         url = "%s?fhir_vs=isa/%s" % (version("20190131"), self.codes["limb"])
-        said = self.house.gateway.fhir(
+        said = self.service.gateway.fhir(
             "ValueSet/$validate-code", url=url, system=SCT, code=self.codes["wrist"]
         )[1]
         assert (told(said, "result"), told(said, "version")) == ([True], [version("20190131")])
@@ -142,7 +142,7 @@ class TestValidate(Asked):
 
 class TestSubsumes(Asked):
     def outcome(self, first: str, second: str, **words: Any) -> list[str]:
-        said = self.house.gateway.fhir(
+        said = self.service.gateway.fhir(
             "CodeSystem/$subsumes",
             system=SCT,
             codeA=self.codes[first],
@@ -170,7 +170,7 @@ class TestSubsumes(Asked):
         assert self.outcome("limb", "wrist", version=version(day)) == [outcome]
 
     def test_unknown(self) -> None:
-        status, _ = self.house.gateway.fhir(
+        status, _ = self.service.gateway.fhir(
             "CodeSystem/$subsumes", system=SCT, codeA="1", codeB="138875005"
         )
         assert status == 404
@@ -189,7 +189,7 @@ class TestSubsumes(Asked):
                 self.codes["wrist"],
                 date,
             )
-            said = self.house.gateway.send("GET", target, headers={"Prefer": prefer}).json()
+            said = self.service.gateway.send("GET", target, headers={"Prefer": prefer}).json()
             assert told(said, "outcome") == [outcome], date
             assert (told(said, "version"), told(said, "sctd-date")) == ([version(release)], [date])
 
@@ -201,4 +201,4 @@ class TestSubsumes(Asked):
             }
             for name, day in (("codingA", "20180101"), ("codingB", "20190101"))
         ]
-        assert self.house.gateway.posted("CodeSystem/$subsumes", *codings)[0] == 400
+        assert self.service.gateway.posted("CodeSystem/$subsumes", *codings)[0] == 400

@@ -1,12 +1,13 @@
 """ValueSet/$expand, and ConceptMap/$translate."""
 
 from typing import Any
+from urllib.parse import urlencode
 
 import pytest
 
 from .asked import Asked
 from . import demo_releases as demo
-from .house import SCT, Json, issue, parts_of, told, version
+from .fixtures import SCT, Json, issue, parts_of, told, version
 
 # The days of the rows of the first two releases.
 FIRST_DAYS = ("20150131", "20170731", "20180705", "20180720", "20180731", "20190131")
@@ -15,7 +16,7 @@ SECOND_DAYS = ("20200131", "20200731", "20210131")
 
 class TestExpand(Asked):
     def ask(self, what: str, **words: Any) -> tuple[int, Json]:
-        return self.house.gateway.fhir("ValueSet/$expand", url=SCT + "?fhir_vs" + what, **words)
+        return self.service.gateway.fhir("ValueSet/$expand", url=SCT + "?fhir_vs" + what, **words)
 
     def expanded(self, what: str = "", **words: Any) -> tuple[list[str], Json]:
         status, said = self.ask(what, **words)
@@ -36,7 +37,7 @@ class TestExpand(Asked):
 
     def test_isa_in_the_version_of_the_url(self) -> None:
         url = "%s?fhir_vs=isa/%s" % (version("20190131"), self.codes["limb"])
-        said = self.house.gateway.fhir("ValueSet/$expand", url=url)[1]["expansion"]
+        said = self.service.gateway.fhir("ValueSet/$expand", url=url)[1]["expansion"]
         assert {one["code"] for one in said["contains"]} == {
             self.codes["limb"],
             self.codes["wrist"],
@@ -48,12 +49,19 @@ class TestExpand(Asked):
     def test_system_version(self) -> None:
         found = self.expanded(self.isa("limb"), system_version=SCT + "|" + version("20180101"))[0]
         assert found == [self.codes["limb"]]
-        for text, status in (
-            ("http://loinc.org|2.5", 404),
-            (version("20180101"), 400),
-            (SCT + "|", 400),
-        ):
-            assert self.ask(self.isa("limb"), system_version=text)[0] == status, text
+        for text in (version("20180101"), SCT + "|"):
+            assert self.ask(self.isa("limb"), system_version=text)[0] == 400, text
+
+    @pytest.mark.parametrize("name", ("system-version", "check-system-version"))
+    def test_versions_of_other_code_systems(self, name: str) -> None:
+        """They change no answer, which is told, or refused where the client wants that."""
+        words = {"url": SCT + "?fhir_vs" + self.isa("limb"), name: "http://loinc.org|2.77"}
+        found, said = self.expanded(self.isa("limb"), **{name: words[name]})
+        assert found == self.expanded(self.isa("limb"))[0]
+        assert ["http://loinc.org" in text for text in told(said, "warning")] == [True]
+        target = "/fhir/ValueSet/$expand?" + urlencode(words)
+        headers = {"Prefer": "handling=strict"}
+        assert self.gateway.send("GET", target, headers=headers).status == 400
 
     def test_active_only_and_pages(self) -> None:
         whole = self.expanded(self.isa("limb"), activeOnly="true")[0]
@@ -63,6 +71,10 @@ class TestExpand(Asked):
             for at in range(4)
         ]
         assert pages == [[one] for one in whole] + [[]]
+
+    def test_sources_of_an_attribute(self) -> None:
+        what = "=ecl/* : %s = %s" % (self.codes["site"], self.codes["bone"])
+        assert self.expanded(what, date="2021-01-31")[0] == [self.codes["radius"]]
 
     def test_count_0(self) -> None:
         found, said = self.expanded(self.isa("limb"), count=0)
@@ -95,7 +107,7 @@ class TestExpand(Asked):
     def test_again_at_the_pin(self) -> None:
         url = SCT + "?fhir_vs" + self.isa("limb")
         answers = [
-            self.house.gateway.fhir("ValueSet/$expand", base, url=url)[1]
+            self.service.gateway.fhir("ValueSet/$expand", base, url=url)[1]
             for base in ("/fhir/", "/pin/3/fhir/")
         ]
         for one in answers:
@@ -127,7 +139,7 @@ class TestExpand(Asked):
         for what, words, status in cases:
             got, said = self.ask(what, **words)
             assert (got, said["resourceType"]) == (status, "OperationOutcome"), (what, words)
-        fhir = self.house.gateway.fhir
+        fhir = self.service.gateway.fhir
         assert fhir("ValueSet/$expand", url="http://hl7.org/fhir/ValueSet/x")[0] == 404
         assert fhir("ValueSet/$expand", url="http://snomed.info/sctx?fhir_vs")[0] == 404
         assert fhir("ValueSet/$expand")[0] == 400
@@ -141,7 +153,7 @@ class TestExpand(Asked):
 
 class TestTranslate(Asked):
     def ask(self, refset: str, code: str = "wrist", **words: Any) -> tuple[int, Json]:
-        return self.house.gateway.fhir(
+        return self.service.gateway.fhir(
             "ConceptMap/$translate",
             url="%s?fhir_cm=%s" % (SCT, refset),
             system=SCT,
@@ -202,7 +214,7 @@ class TestTranslate(Asked):
         assert self.ask("900000000000207008")[0] == 404
         assert self.ask("900000000000526001", targetsystem="http://loinc.org")[0] == 404
         assert self.ask("900000000000526001", date="2010-01-01")[0] == 404
-        status, _ = self.house.gateway.fhir(
+        status, _ = self.service.gateway.fhir(
             "ConceptMap/$translate", url=SCT, system=SCT, code="138875005"
         )
         assert status == 404
@@ -210,7 +222,7 @@ class TestTranslate(Asked):
 
 class TestMetadata(Asked):
     def test_capability_statement(self) -> None:
-        said = self.house.gateway.fhir("metadata")[1]
+        said = self.service.gateway.fhir("metadata")[1]
         assert (said["resourceType"], said["fhirVersion"]) == ("CapabilityStatement", "4.0.1")
         offered = {
             "%s/$%s" % (resource["type"], operation["name"])
@@ -218,12 +230,12 @@ class TestMetadata(Asked):
             for operation in resource["operation"]
         }
         for path in offered:
-            status, answer = self.house.gateway.fhir(path)
+            status, answer = self.service.gateway.fhir(path)
             assert (status, issue(answer)) == (400, "required"), path
         assert len(offered) == 6
 
     def test_terminology_capabilities(self) -> None:
-        said = self.house.gateway.fhir("metadata", mode="terminology")[1]
+        said = self.service.gateway.fhir("metadata", mode="terminology")[1]
         assert said["resourceType"] == "TerminologyCapabilities"
         versions = said["codeSystem"][0]["version"]
         assert [one["code"] for one in versions] == [
@@ -235,18 +247,18 @@ class TestMetadata(Asked):
         assert said["validateCode"] == {"translations": True}
         # Neither $closure nor a search of value sets by a code is answered.
         assert said.keys() & {"closure", "codeSearch"} == set()
-        said = self.house.gateway.fhir("metadata", base="/pin/2/fhir/", mode="terminology")[1]
+        said = self.service.gateway.fhir("metadata", base="/pin/2/fhir/", mode="terminology")[1]
         assert [one["code"] for one in said["codeSystem"][0]["version"]] == [
             version(day) for day in (*FIRST_DAYS, *SECOND_DAYS)
         ]
 
     def test_modes(self) -> None:
-        fhir = self.house.gateway.fhir
+        fhir = self.service.gateway.fhir
         assert fhir("metadata", mode="full")[0] == 200
         assert fhir("metadata", mode="x")[0] == 400
 
     def test_code_system(self) -> None:
-        fhir = self.house.gateway.fhir
+        fhir = self.service.gateway.fhir
         days = (*FIRST_DAYS, *SECOND_DAYS, "20220731")
         searches: tuple[dict[str, str], ...] = ({"url": SCT}, {"system": SCT}, {})
         for words in searches:

@@ -5,7 +5,7 @@ import time
 from sctd_service.gateway import limits
 
 from .asked import Asked
-from .house import POST, close_all
+from .fixtures import POST, close_all
 
 # How much later than its limit something may end on a busy machine.
 LATE_SECONDS = 6.0

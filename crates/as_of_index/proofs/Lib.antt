@@ -22,8 +22,8 @@ pub mod Turns
 pub mod OneNumber
 pub mod Unions
 pub mod Shown
-pub mod SameKeys
 pub mod Reading
+pub mod Returned
 pub mod KeyOrder
 pub mod Changed
 pub mod Once

@@ -1,7 +1,7 @@
 //! The effective times and imports of a list's places, so that the dates of a store are known
 //! without looking at each place.
 
-ghost use Rattle.std.specs.Prelude.{◌≡◌, ◌++◌, ◌∷◌, [], List, IfOk, OnOk, OnErr, IsTrue};
+ghost use Rattle.std.specs.Prelude.{◌≡◌, ◌<◌, ◌++◌, ◌∷◌, [], List, IfOk, OnOk, OnErr, IsTrue};
 ghost use Rattle.std.specs.Prelude.{length, take};
 ghost use Rattle.std.specs.Ordering.{nat_cmp};
 ghost use Rattle.segment.specs.declared.place.RowPlace.{RowPlace};
@@ -23,6 +23,17 @@ pub(crate) struct DateEntry {
     pub(crate) first: usize,
 }
 
+/// How many entries a builder remembers. Since it is a prime, dates of the same day in different
+/// years or months rarely share a slot.
+pub(crate) const REMEMBERED: usize = 61;
+
+/// The slot in which the entry of places with this time and import is remembered.
+fn slot_of(place: &RowPlace) -> usize
+    ensures { result < REMEMBERED }
+{
+    place.key.time.value().wrapping_add(place.import) as usize % REMEMBERED
+}
+
 /// Whether the entry with this number has the place's time and import.
 fn is_noted(entries: &[DateEntry], number: usize, place: &RowPlace) -> bool
     ensures { IsTrue result → HasEntry entries.now place.now }
@@ -33,13 +44,9 @@ fn is_noted(entries: &[DateEntry], number: usize, place: &RowPlace) -> bool
     }
 }
 
-/// Adds an entry for the place with this number, unless there is one. It is the place after those
-/// that have been noted. An `Err` changes nothing.
-pub(crate) fn note(
-    entries: &mut Vec<DateEntry>,
-    place: &RowPlace,
-    number: usize,
-) -> Result<(), AllocError>
+/// Adds an entry for the place with this number, unless there is one, and returns the entry's number.
+/// It is the place after those that have been noted. An `Err` changes nothing.
+fn note(entries: &mut Vec<DateEntry>, place: &RowPlace, number: usize) -> Result<usize, AllocError>
     ensures ok { OnOk result ((places : List RowPlace) → length places ≡ number
         → AreEntries places entries.old.items
         → AreEntries (places ++ place.now ∷ []) entries.new.items) }
@@ -48,7 +55,7 @@ pub(crate) fn note(
     let (time, import) = (place.key.time, place.import);
     let at = entries.partition_point(|entry| (entry.time, entry.import) < (time, import));
     if is_noted(entries, at, place) {
-        return Ok(());
+        return Ok(at);
     }
     entries.insert(
         at,
@@ -58,6 +65,25 @@ pub(crate) fn note(
             first: number,
         },
     )?;
+    Ok(at)
+}
+
+/// The same as `note`, without a search if the entry is the one that its slot remembers.
+pub(crate) fn note_remembered(
+    entries: &mut Vec<DateEntry>,
+    remembered: &mut [usize; REMEMBERED],
+    place: &RowPlace,
+    number: usize,
+) -> Result<(), AllocError>
+    ensures ok { OnOk result ((places : List RowPlace) → length places ≡ number
+        → AreEntries places entries.old.items
+        → AreEntries (places ++ place.now ∷ []) entries.new.items) }
+    ensures err { OnErr result (entries.new.items ≡ entries.old.items) }
+{
+    let slot = slot_of(place);
+    if !is_noted(entries.as_slice(), remembered[slot], place) {
+        remembered[slot] = note(entries, place, number)?;
+    }
     Ok(())
 }
 
@@ -75,7 +101,7 @@ pub(crate) fn entries_of(alloc: Global, places: &[RowPlace]) -> Result<Vec<DateE
 {
     let mut entries = Vec::new(alloc);
     for (number, place) in places.iter().enumerate() {
-        note(&mut entries, place, number)?;
+        let _ = note(&mut entries, place, number)?;
     }
     Ok(entries)
 }

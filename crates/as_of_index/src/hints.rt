@@ -72,7 +72,7 @@ impl Hints {
 }
 
 /// Whether a search from `start` skips everything before the place.
-fn is_behind(list: &[RowPlace], place: usize, start: &Start) -> bool
+pub(crate) fn is_behind(list: &[RowPlace], place: usize, start: &Start) -> bool
     ensures within { IsTrue result → place ≤ length list.now }
     ensures before { IsAscending place_cmp list.now → IsTrue result
         → AllByRecursion (λ p. is_before start.now p ≡ true) (take place list.now) }
@@ -87,7 +87,7 @@ fn is_behind(list: &[RowPlace], place: usize, start: &Start) -> bool
 }
 
 /// Whether a search from `start` skips nothing from the place on.
-fn is_ahead(list: &[RowPlace], place: usize, start: &Start) -> bool
+pub(crate) fn is_ahead(list: &[RowPlace], place: usize, start: &Start) -> bool
     ensures { IsAscending place_cmp list.now → IsTrue result
         → AllByRecursion (λ p. is_before start.now p ≡ false) (drop place list.now) }
 {

@@ -9,6 +9,7 @@ ghost use Rattle.as_of_index.specs.Private.Search.{may_show, shown_part, may_cha
 
 use crate::as_of::AsOf;
 use crate::dates::{DateEntry, add_shown, entries_of};
+use crate::heads::heads_of;
 use rf2_values::EffectiveTime;
 use segment::RowPlace;
 use std::alloc::{AllocError, Global};
@@ -26,6 +27,8 @@ pub struct PlaceList {
     pub(crate) first_import: u32,
     /// The effective times and imports of the places.
     pub(crate) dates: Vec<DateEntry>,
+    /// Every 64th place.
+    pub(crate) heads: Vec<RowPlace>,
 }
 
 impl Model for PlaceList {
@@ -103,6 +106,7 @@ impl PlaceList {
         ensures { IfOk result (λ list. list ≡ places.items) }
     {
         let dates = entries_of(alloc, places.as_slice())?;
+        let heads = heads_of(alloc, places.as_slice())?;
         let first_time = first_time(places.as_slice());
         let last_time = last_time(places.as_slice());
         let first_import = first_import(places.as_slice());
@@ -112,6 +116,7 @@ impl PlaceList {
             last_time,
             first_import,
             dates,
+            heads,
         })
     }
 
@@ -121,6 +126,11 @@ impl PlaceList {
         ensures ascending { IsAscending place_cmp self.now }
     {
         self.places.as_slice()
+    }
+
+    /// Places by which a search in the list begins.
+    pub(crate) fn heads(&self) -> &[RowPlace] {
+        self.heads.as_slice()
     }
 
     /// Whether the list may have a place that the date and the pin show: not all are later than the

@@ -4,7 +4,8 @@ ghost use Rattle.std.specs.Prelude.{◌≡◌, ◌++◌, ◌∷◌, [], length, 
 ghost use Rattle.history_model.specs.InOrder.{IsAscending};
 ghost use Rattle.as_of_index.specs.Places.{place_cmp};
 
-use crate::dates::{DateEntry, cut, note};
+use crate::dates::{DateEntry, REMEMBERED, cut, note_remembered};
+use crate::heads::{STRIDE, add_head};
 use crate::place_list::{PlaceList, first_import, first_time, last_time, time_of};
 use segment::RowPlace;
 use std::alloc::{AllocError, Global};
@@ -23,6 +24,11 @@ pub struct PlaceListBuilder {
     first_import: u32,
     /// The effective times and imports of the places.
     dates: Vec<DateEntry>,
+    /// The numbers of entries of `dates` that were found, by their slots. If one isn't right, the
+    /// entry is searched for.
+    remembered: [usize; REMEMBERED],
+    /// Every 64th place.
+    heads: Vec<RowPlace>,
 }
 
 impl Model for PlaceListBuilder {
@@ -54,6 +60,8 @@ impl PlaceListBuilder {
             last_time: 0,
             first_import: u32::MAX,
             dates: Vec::new(alloc),
+            remembered: [0; REMEMBERED],
+            heads: Vec::new(alloc),
         }
     }
 
@@ -71,7 +79,8 @@ impl PlaceListBuilder {
     {
         let number = self.len();
         self.places.reserve(1)?;
-        note(&mut self.dates, &place, number)?;
+        add_head(&mut self.heads, &place, number)?;
+        note_remembered(&mut self.dates, &mut self.remembered, &place, number)?;
         let Ok(()) = self.places.push(place) else {
             unreachable!()
         };
@@ -95,6 +104,7 @@ impl PlaceListBuilder {
     {
         self.places.truncate(len);
         cut(&mut self.dates, len);
+        self.heads.truncate(len.div_ceil(STRIDE));
         self.first_time = first_time(self.places.as_slice());
         self.last_time = last_time(self.places.as_slice());
         self.first_import = first_import(self.places.as_slice());
@@ -111,6 +121,8 @@ impl PlaceListBuilder {
             last_time,
             first_import,
             dates,
+            heads,
+            ..
         } = self;
         PlaceList {
             places,
@@ -118,6 +130,7 @@ impl PlaceListBuilder {
             last_time,
             first_import,
             dates,
+            heads,
         }
     }
 }

@@ -1,11 +1,10 @@
 //! Reads rows at their places.
 
-ghost use Rattle.std.specs.Prelude.{◌≡◌, ◌≢◌, ◌+◌, ◌≤◌, ℕ, IfOk, IfErr};
+ghost use Rattle.std.specs.Prelude.{◌≢◌, ◌+◌, ◌≤◌, ℕ, IfOk, IfErr};
 ghost use Rattle.rf2_values.specs.Row.{RowValue};
-ghost use Rattle.rf2_values.specs.Key.{key_of};
 ghost use Rattle.history_model.specs.declared.stamped.StampedRow.{StampedRow};
 ghost use Rattle.segment.specs.Standing.{StandsAt};
-ghost use Rattle.as_of_index.specs.Reader.{ReaderView, LeavesReader};
+ghost use Rattle.as_of_index.specs.Reader.{ReaderView, IsReturned, LeavesReader};
 ghost use Rattle.fault_counts.specs.declared.fault.ReadFault.TheVariants as readfault;
 
 use fault_counts::ReadFault;
@@ -26,11 +25,8 @@ pub trait RowReader {
 
     /// Reads the row at a place of a list.
     fn row(&mut self, alloc: Global, segment: usize, at: RowPlace) -> Result<StampedRow, ReadFault>
-        ensures found { (view self.old).is_honest → (s : StampedRow)
-            → StandsAt (view self.old).lists segment at s → IfOk result (λ row. row ≡ s) }
-        // Whatever it returns, a row has the key of its place.
         // promise: keys_are_right_on_every_disk
-        ensures keyed { IfOk result (λ row. key_of row.row ≡ at.key) }
+        ensures returned { IfOk result (IsReturned (view self.old) segment at) }
         // If there is a row at the place, an honest reader fails only because of the disk or
         // memory.
         ensures undamaged { (view self.old).is_honest → (s : StampedRow)

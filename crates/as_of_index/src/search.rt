@@ -14,6 +14,7 @@ ghost use Rattle.as_of_index.specs.Private.Search.{sooner_of};
 ghost use Rattle.as_of_index.specs.declared.search.Start.TheVariants as starts;
 
 use crate::as_of::AsOf;
+use crate::heads::place_by_heads;
 use rf2_values::{EffectiveTime, Key, Kind};
 use segment::RowPlace;
 use std::cmp::Ordering;
@@ -41,12 +42,13 @@ pub enum Start {
     },
 }
 
-fn is_above(after: Option<u128>, id: u128) -> bool
-    ensures { result ≡ is_above after id }
+/// Whether a number is greater than `after`, if that is given.
+pub fn is_above(after: Option<u128>, number: u128) -> bool
+    ensures { result ≡ is_above after number }
 {
     match after {
         None => true,
-        Some(after) => after < id,
+        Some(after) => after < number,
     }
 }
 
@@ -135,15 +137,20 @@ fn is_passed(list: &[RowPlace], number: usize, start: &Start) -> bool
 
 /// The number of the first place that `start` doesn't skip. If the place with the number `near` is
 /// skipped, it steps on from there and makes no binary search, which is good if `near` is shortly
-/// before the result.
-pub(crate) fn place_near(list: &[RowPlace], near: Option<usize>, start: &Start) -> usize
+/// before the result. A binary search begins among the list's heads.
+pub(crate) fn place_near(
+    list: &[RowPlace],
+    heads: &[RowPlace],
+    near: Option<usize>,
+    start: &Start,
+) -> usize
     ensures within { result ≤ length list.now }
     ensures split { IsAscending place_cmp list.now
         → SplitsAt (is_before start.now) list.now result }
 {
     match near {
         Some(number) if is_passed(list, number, start) => go_on(list, number, start),
-        _ => place(list, *start),
+        _ => place_by_heads(list, heads, start),
     }
 }
 

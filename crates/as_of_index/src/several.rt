@@ -30,7 +30,7 @@ pub(crate) fn latest(
             Some((own, number)) if own == segment => Some(number),
             _ => None,
         };
-        let end = place_near(places, number, &start);
+        let end = place_near(places, list.heads(), number, &start);
         let found = latest_before(places, end, kind, id, as_of);
         best = later(best, segment, found);
     }

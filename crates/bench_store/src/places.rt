@@ -69,6 +69,7 @@ impl RowReader for OneRow {
     ghost view = { λ r. record {
       lists = [];
       is_honest = ⊥;
+      may_be = λ _ _ _. Unit {0};
       work = r.reads;
       disk_faults = 0;
       damages = r.damages;

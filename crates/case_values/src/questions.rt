@@ -5,11 +5,13 @@
 //! LIMIT`, `delta KIND FROM DATE AFTER LIMIT`, `members REFSET DATE AFTER LIMIT`, `values REFSET
 //! DATE AFTER LIMIT`, `called ID DATE REFSET`, `terms DATE LIMIT "PREFIX"` and `search DATE AFTER
 //! LIMIT "PREFIX"` ask for rows, `children ID DATE`, `descendants ID DATE` and `ancestors ID DATE`
-//! for identifiers, and `dates` for days. AFTER is a number or `-`.
+//! for identifiers, as `sources TYPE ID DATE AFTER LIMIT` does, and `dates` for days. `rows KIND ID
+//! DATE LIMIT` asks for all rows of a kind behind a key. AFTER is a number or `-`, as are TYPE and
+//! both ID and DATE of a key.
 
 use crate::words::{above, component_above, day_of, kind_of, number, sctid_of};
 use case_files::NoAnswer;
-use rf2_rows::{EffectiveTime, Kind, Sctid};
+use rf2_rows::{EffectiveTime, Key, Kind, Sctid};
 use std::alloc::Global;
 
 /// A question, without the prefix that it searches for.
@@ -31,6 +33,8 @@ pub enum Question {
     Children(Sctid, EffectiveTime),
     Descendants(Sctid, EffectiveTime),
     Ancestors(Sctid, EffectiveTime),
+    Sources(Option<Sctid>, Sctid, EffectiveTime, Option<u64>, u32),
+    AllRows(Kind, Option<Key>, u32),
     Dates,
 }
 
@@ -101,6 +105,36 @@ fn ask_of_refset(word: &str, words: &[&str]) -> Result<Question, NoAnswer> {
     }
 }
 
+/// Reads a question for the sources of relationships.
+fn ask_for_sources(words: &[&str]) -> Result<Question, NoAnswer> {
+    let [type_id, id, date, after, limit] = words else {
+        return Err(NoAnswer::NoQuestion);
+    };
+    let type_id = match *type_id {
+        "-" => None,
+        word => Some(sctid_of(word)?),
+    };
+    let (id, date) = (sctid_of(*id)?, day_of(*date)?);
+    Ok(Question::Sources(type_id, id, date, component_above(*after)?, number(*limit)?))
+}
+
+/// Reads a question for all rows of a kind.
+fn ask_for_rows(words: &[&str]) -> Result<Question, NoAnswer> {
+    let [kind, id, day, limit] = words else {
+        return Err(NoAnswer::NoQuestion);
+    };
+    let kind = kind_of(*kind)?;
+    let after = match (*id, *day) {
+        ("-", "-") => None,
+        (id, day) => Some(Key {
+            id: number(id)?,
+            time: day_of(day)?,
+            kind,
+        }),
+    };
+    Ok(Question::AllRows(kind, after, number(*limit)?))
+}
+
 /// Reads a question for descriptions.
 fn ask_for_terms(words: &[&str]) -> Result<Question, NoAnswer> {
     match words {
@@ -120,6 +154,8 @@ fn question_of(word: &str, words: &[&str]) -> Result<Question, NoAnswer> {
         ("page", _) => ask_for_page(words),
         ("delta", _) => ask_for_delta(words),
         ("members" | "values" | "called", _) => ask_of_refset(word, words),
+        ("sources", _) => ask_for_sources(words),
+        ("rows", _) => ask_for_rows(words),
         ("dates", 0) => Ok(Question::Dates),
         ("terms", 2) | ("search", 3) => ask_for_terms(words),
         _ => ask_of_kind(word, words),

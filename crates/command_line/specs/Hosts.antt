@@ -2,6 +2,7 @@
 use Rattle.std.specs.Prelude.{◌≡◌, ⊤, ℕ, Bool, true, false, List, Option, Some, None}
 use Rattle.line_server.specs.Sources.{Releases, SourceView, source_view}
 use Rattle.command_line.specs.declared.host.Mode.{Mode}
+use Rattle.command_line.specs.declared.host.Mode.TheVariants.{MakeNew}
 
 -- What a host does when it is asked.
 pub record HostView (D : Type 0) : Type 1 where
@@ -21,6 +22,13 @@ pub record HostView (D : Type 0) : Type 1 where
 -- a folder of releases, as a source
 abbrev pub source_in : {D : Type 0} → HostView D → List ℕ → SourceView
 source_in host folder = source_view host.is_honest (host.releases folder)
+
+-- What a host returns for a new disk after it was asked for so many, it would have returned before
+-- the last of them too: no name was taken in between, and none was freed.
+abbrev pub MakesAsBefore : {D : Type 0} → HostView D → (before after : ℕ) → Type 0
+MakesAsBefore {D} host before after =
+    (name : List ℕ) (made : Option D) → host.opens after MakeNew name made
+    → host.opens before MakeNew name made
 
 -- the file of this disk was removed, and so the disk is gone; or that can't be done, and it is left
 abbrev pub IsRemoved : {D : Type 0} → HostView D → D → Option D → Type 0

@@ -10,6 +10,7 @@ named_view view named =
     record {
       is_honest = (view named.disk).is_honest;
       moments = (view named.disk).moments;
+      reads_as = (view named.disk).reads_as;
       failures = named.failures;
       bytes_read = (view named.disk).bytes_read;
       other_calls = named.other_calls;

@@ -53,15 +53,21 @@ IsMadeAt host view name layout disk after report =
     (host.settles name true × IsMade layout view disk after report)
     ⊎ (host.settles name false × IsMissing report × (after ≡ disk))
 
+-- The host returns this for a new disk of a name, and would have returned it before the run: if it
+-- is a disk, the name wasn't in use then.
+abbrev pub IsNewSince : {D : Type 0} → HostView D → (before asked : ℕ) → List ℕ → Option D → Type 0
+IsNewSince host before asked name made =
+    host.opens asked MakeNew name made × host.opens before MakeNew name made
+
 -- The first imports of one disk's store, or all, were copied, in this layout or in its own, to a
--- disk that was made under another name, which wasn't in use, once it was sure that the new name
--- survives a crash. If none could be made, or the new name isn't sure to survive, that was written,
--- the new file is removed, and the other disk is unchanged.
-abbrev pub IsCopiedTo : {D : Type 0} → HostView D → (D → DiskView) → ℕ → List ℕ → Option ℕ
-    → Option Layout → (source after : D) → (made : Option D) → Report → Type 0
-IsCopiedTo {D} host view asked to imports layout source after made report =
-    (host.opens asked MakeNew to None × IsMissing report × (after ≡ source) × (made ≡ None))
-    ⊎ ((target : D) × host.opens asked MakeNew to (Some target)
+-- disk that was made under another name, which wasn't in use before the run, once it was sure that
+-- the new name survives a crash. If none could be made, or the new name isn't sure to survive, that
+-- was written, the new file is removed, and the other disk is unchanged.
+abbrev pub IsCopiedTo : {D : Type 0} → HostView D → (D → DiskView) → (before asked : ℕ) → List ℕ
+    → Option ℕ → Option Layout → (source after : D) → (made : Option D) → Report → Type 0
+IsCopiedTo {D} host view before asked to imports layout source after made report =
+    (IsNewSince host before asked to None × IsMissing report × (after ≡ source) × (made ≡ None))
+    ⊎ ((target : D) × IsNewSince host before asked to (Some target)
     × ((host.settles to false × IsMissing report × (after ≡ source) × IsRemoved host target made)
     ⊎ (host.settles to true
     × IsCopyMade host view imports layout source after target made report)))
@@ -82,20 +88,21 @@ IsUsed host view work disk after ended streams =
 
 -- The action was done on the disk of a name, which was left in its state after that, and so was
 -- the one that it made for a copy. Only `serve` reads the input, and only a copy asks for another
--- disk. `before` and `after` count how often one was asked for.
+-- disk. It was counted how often one was asked for: `before` the run, `asked` before the action, and
+-- `after` it.
 abbrev pub IsActionDone : {D : Type 0} → HostView D → (D → DiskView) → List ℕ → Action
     → (disk left : D) → (made : Option D) → Result Ending ServeFault → Streams
-    → (before after : ℕ) → Type 0
-IsActionDone host view name (actions.Init layout) disk left made ended streams before after =
+    → (before asked after : ℕ) → Type 0
+IsActionDone host view name (actions.Init layout) disk left made ended streams before asked after =
     IsMadeAt host view name layout disk left (report ended streams.old streams.new)
-    × (streams.rest ≡ streams.input) × (made ≡ None) × (after ≡ before)
+    × (streams.rest ≡ streams.input) × (made ≡ None) × (after ≡ asked)
 IsActionDone host view name (actions.Copy to imports layout) disk left made ended streams before
-    after =
-    IsCopiedTo host view before to.now imports layout disk left made
+    asked after =
+    IsCopiedTo host view before asked to.now imports layout disk left made
     (report ended streams.old streams.new)
-    × (streams.rest ≡ streams.input) × (after ≡ raised_by before 1)
-IsActionDone host view name (actions.Use work) disk left made ended streams before after =
-    IsUsed host view work disk left ended streams × (made ≡ None) × (after ≡ before)
+    × (streams.rest ≡ streams.input) × (after ≡ raised_by asked 1)
+IsActionDone host view name (actions.Use work) disk left made ended streams before asked after =
+    IsUsed host view work disk left ended streams × (made ≡ None) × (after ≡ asked)
 
 -- the action was done on the disk that was opened
 pub record IsDoneAt {D : Type 0} (host : HostView D) (view : D → DiskView) (name : List ℕ)
@@ -104,8 +111,8 @@ pub record IsDoneAt {D : Type 0} (host : HostView D) (view : D → DiskView) (na
   pub disk : D
   pub opened : host.opens before (mode_of action) name (Some disk)
   pub end : D
-  pub done : IsActionDone host view name action disk end made ended streams (raised_by before 1)
-      after
+  pub done : IsActionDone host view name action disk end made ended streams before
+      (raised_by before 1) after
   pub left_so : left ≡ Some end
 
 -- no disk could be opened, which was written; nothing was read, and no disk is left

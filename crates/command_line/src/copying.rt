@@ -1,8 +1,9 @@
 //! Copies a store to a new disk.
 
-ghost use Rattle.std.specs.Prelude.{◌≡◌, Err};
+ghost use Rattle.std.specs.Prelude.{◌≡◌, ℕ, Err};
 ghost use Rattle.command_line.specs.Copies.{IsCopyMade, IsKept, copy_refusal, copy_told};
 ghost use Rattle.command_line.specs.Endings.{IsTold, report};
+ghost use Rattle.command_line.specs.Hosts.{MakesAsBefore};
 ghost use Rattle.command_line.specs.Runs.{IsCopiedTo};
 ghost use Rattle.disk_model.specs.Disk.{raised_by};
 
@@ -127,7 +128,9 @@ pub(crate) fn copy_to<H: Host, O: Write, E: Write>(
     output: &mut O,
     faults: &mut E,
 ) -> (Result<Ending, ServeFault>, H::Disk, Option<H::Disk>)
-    ensures copied { IsCopiedTo (H.view host.now) H.Disk.view (H.count asked.old) to.now imports
+    ensures copied { (before : ℕ)
+        → MakesAsBefore (H.view host.now) before (H.count asked.old)
+        → IsCopiedTo (H.view host.now) H.Disk.view before (H.count asked.old) to.now imports
         layout source result.1 result.2
         (report result.0 (O.contents output.old) (O.contents output.new)) }
     ensures asked { H.count asked.new ≡ raised_by (H.count asked.old) 1 }

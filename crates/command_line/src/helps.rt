@@ -58,10 +58,16 @@ Questions of reference sets, which are concepts, as 723264001:
 Questions of an audit:
   0 ANCESTORS 1000004 20210131       all concepts above the concept
   0 DESCENDANTS 138875005 20210131   all concepts below it
+  0 SOURCES 116680003 138875005 20210131 - 100
+                                     what has a relationship of this type to the
+                                     concept; of any type for - in its place
   0 REPLACES 2000001 20210131        the active associations that lead to the component
   0 TIMELINE D 1000004               all versions of what was ever about it
                                      (D, R, V, A, M)
   0 DELTA C 20200131 20210131 - 100  what changed after the one date, up to the other
+  0 ROWS C - - 100                   all versions of the kind, from the first one on
+  0 ROWS C 1000004 20210131 100      the same, behind the row of this id and date
+  0 ADDED 2 C - - 100                the same, of the rows that import 2 brought
   0 DATES                            the dates that have rows
   0 DIGEST                           the SHA-256 of all rows that the session sees
   0 AT 1 GET C 1000004 20210131      a question, of what the first import brought

@@ -3,7 +3,8 @@
 ghost use Rattle.std.specs.Prelude.{◌≡◌, ℕ};
 ghost use Rattle.disk_model.specs.Disk.{raised_by};
 ghost use Rattle.line_server.specs.Sources.{IsGiven};
-ghost use Rattle.command_line.specs.Hosts.{HostView, IsRemoved};
+ghost use Rattle.command_line.specs.Hosts.{HostView, IsRemoved, MakesAsBefore};
+ghost use Rattle.command_line.specs.declared.host.Mode.TheVariants.{Open};
 
 use disk_model::Disk;
 use import_check::{Release, Scope};
@@ -45,6 +46,10 @@ pub trait Host {
     ) -> Option<Self::Disk>
         // promise: a_command_does_what_its_words_say
         ensures answer { (view self.now).opens (count asked.old) mode name.now result }
+        // Where a disk that exists is asked for, no name is taken or freed for a new one.
+        // promise: a_command_does_what_its_words_say
+        ensures names { mode ≡ Open
+            → MakesAsBefore (view self.now) (count asked.old) (count asked.new) }
         // promise: a_command_does_what_its_words_say
         ensures asked { count asked.new ≡ raised_by (count asked.old) 1 };
 

@@ -98,6 +98,8 @@ impl<D: Disk, N: Name> Disk for NamedDisk<D, N> {
 
     ghost view = { named_view D.view };
 
+    ghost honest_reads = { λ d honest. D.honest_reads d.disk honest };
+
     ghost now_is_image = { λ d honest. D.now_is_image d.disk honest };
 
     fn len(&mut self) -> Result<u64, DiskFault> {

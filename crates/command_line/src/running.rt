@@ -1,9 +1,11 @@
 //! Carries out the command line.
 
-ghost use Rattle.std.specs.Prelude.{◌≡◌, ◌≤◌, ◌⊎◌, map, string_bytes};
+ghost use Rattle.std.specs.Prelude.{◌≡◌, ◌≤◌, ◌⊎◌, ℕ, map, string_bytes};
 ghost use Rattle.line_server.specs.Streams.{streams};
 ghost use Rattle.command_line.specs.Endings.{report};
 ghost use Rattle.command_line.specs.Tasks.{IsWorkDone, IsWorkOnDisk};
+ghost use Rattle.command_line.specs.Hosts.{MakesAsBefore};
+ghost use Rattle.command_line.specs.declared.host.Mode.TheVariants.{Open};
 ghost use Rattle.command_line.specs.Runs.{Does, IsActionDone, IsMadeAt, FindsFolder, IsUsed};
 ghost use Rattle.command_line.specs.Runs.{mode_of, IsDemonstrated, IsDemonstration};
 ghost use Rattle.command_line.specs.Runs.{IsRun, IsNoTask, IsExplained};
@@ -118,9 +120,13 @@ fn do_at<H: Host, I: Read, O: Write, E: Write>(
     output: &mut O,
     faults: &mut E,
 ) -> (Result<Ending, ServeFault>, H::Disk, Option<H::Disk>)
-    ensures { IsActionDone (H.view host.now) H.Disk.view path.now action.now disk
+    ensures { (before : ℕ)
+        → (mode_of action.now ≡ Open
+        → MakesAsBefore (H.view host.now) before (H.count asked.old))
+        → IsActionDone (H.view host.now) H.Disk.view path.now action.now disk
         result.1 result.2 result.0 (streams (I.remaining input.old) (I.remaining input.new)
-        (O.contents output.old) (O.contents output.new)) (H.count asked.old) (H.count asked.new) }
+        (O.contents output.old) (O.contents output.new))
+        before (H.count asked.old) (H.count asked.new) }
 {
     match action {
         Action::Init { layout } => {

@@ -8,12 +8,14 @@ use Rattle.disk_model.specs.View.{DiskView}
 abbrev pub fault_of : FileDisk → Option Error
 fault_of d = d.last
 
--- nothing is specified about the bytes of a file, and so its disk doesn't count as honest
+-- nothing is specified about the bytes of a file, and so its disk counts neither as honest nor as
+-- one whose reads return the bytes of some file
 abbrev pub file_view : FileDisk → DiskView
 file_view d =
     record {
       is_honest = ⊥;
       moments = made [];
+      reads_as = λ _. ⊥;
       failures = d.failures;
       bytes_read = d.bytes_read;
       other_calls = d.other_calls;

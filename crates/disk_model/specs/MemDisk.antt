@@ -58,6 +58,7 @@ memory_view d =
     record {
       is_honest = Unit {0};
       moments = memory_moments d;
+      reads_as = λ file. (memory_moments d).state.now ≡ file;
       failures = d.failures;
       bytes_read = d.bytes_read;
       other_calls = d.other_calls;

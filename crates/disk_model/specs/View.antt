@@ -1,5 +1,5 @@
 -- What a disk shows, and how calls change its counts of failures, reads and other calls.
-use Rattle.std.specs.Prelude.{◌≡◌, ◌↔◌, ℕ, ◌+◌, ◌≤◌}
+use Rattle.std.specs.Prelude.{◌≡◌, ◌↔◌, ℕ, ◌+◌, ◌≤◌, List}
 use Rattle.disk_model.specs.Disk.{Moments, raised_by}
 
 -- a disk at one time, as clauses see it
@@ -9,6 +9,9 @@ pub record DiskView : Type 1 where
   pub is_honest : Type 0
   -- the state now and at each earlier moment: what a read returns, and what a crash may leave
   pub moments : Moments
+  -- its reads return the bytes of this file, honest or not, until a call that isn't a read; there
+  -- is no such file if they return now this, now that
+  pub reads_as : List ℕ → Type 0
   -- how many calls have failed; a count of 64 bits, which stays at its greatest value
   pub failures : ℕ
   -- how many bytes its reads requested, whatever their results; also a count of 64 bits

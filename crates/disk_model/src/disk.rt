@@ -1,4 +1,4 @@
-ghost use Rattle.std.specs.Prelude.{◌≡◌, ◌+◌, ◌-◌, ◌≤◌, ◌++◌, List, length, take, drop};
+ghost use Rattle.std.specs.Prelude.{◌≡◌, ◌+◌, ◌-◌, ◌≤◌, ◌++◌, ℕ, List, length, take, drop};
 ghost use Rattle.std.specs.Prelude.{min, IfOk, OnOk, OnErr, MatchResult};
 ghost use Rattle.disk_model.specs.Disk.{IsImage, Fails, followed_by, settled, after_write};
 ghost use Rattle.disk_model.specs.Disk.{after_cut};
@@ -49,7 +49,8 @@ pub const MAX_END: u64 = 17_179_869_184;
 /// and moments assume it, since no program can see whether a disk lies. Of a disk that isn't
 /// honest, only the clauses without that assumption are known: calls return, report no more bytes
 /// than the buffer has, and their failures, the bytes requested by reads, and the other calls are
-/// counted.
+/// counted. What its reads return is the bytes of some file as long as nothing else is called, if
+/// there is a file that it `reads_as`.
 pub trait Disk {
     /// What it shows at one time. Each count has 64 bits, and stays at its greatest value.
     ghost view: { Self → DiskView };
@@ -73,12 +74,14 @@ pub trait Disk {
         // promise: a_disk_does_what_its_trait_says
         ensures within { IfOk result (λ n. n ≤ length into.old) }
         // promise: a_disk_does_what_its_trait_says
-        ensures count { (view self.old).is_honest → IfOk result
-            (λ n. n ≡ min (length into.old) (length (view self.old).moments.state.now - at)) }
+        ensures count { (file : List ℕ) → (view self.old).reads_as file
+            → IfOk result (λ n. n ≡ min (length into.old) (length file - at)) }
         // promise: a_disk_does_what_its_trait_says
-        ensures bytes { (view self.old).is_honest → IfOk result
-            (λ n. into.new
-            ≡ take n (drop at (view self.old).moments.state.now) ++ drop n into.old) }
+        ensures bytes { (file : List ℕ) → (view self.old).reads_as file
+            → IfOk result (λ n. into.new ≡ take n (drop at file) ++ drop n into.old) }
+        // promise: a_disk_does_what_its_trait_says
+        ensures again { (file : List ℕ) → (view self.old).reads_as file
+            → (view self.new).reads_as file }
         // promise: a_disk_does_what_its_trait_says
         ensures meters { OnlyReads (CountsEach result) (RisesBy (length into.old))
             (view self.old) (view self.new) };
@@ -126,6 +129,10 @@ pub trait Disk {
         // promise: a_disk_does_what_its_trait_says
         ensures meters { Calls (CountsEach result) Stays (RisesBy 1)
             (view self.old) (view self.new) };
+
+    /// An honest disk's reads return the bytes that it has.
+    ghost honest_reads: { (disk : Self) → (view disk).is_honest
+        → (view disk).reads_as (view disk).moments.state.now };
 
     /// The bytes that a read returns are one of the images.
     ghost now_is_image: { (disk : Self) → (view disk).is_honest

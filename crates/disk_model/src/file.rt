@@ -172,6 +172,8 @@ impl Disk for FileDisk {
 
     ghost view = { file_view };
 
+    ghost honest_reads = { λ _ lie. absurd lie };
+
     ghost now_is_image = { λ _ lie. absurd lie };
 
     fn len(&mut self) -> Result<u64, DiskFault> {

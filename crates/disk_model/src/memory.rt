@@ -292,8 +292,11 @@ impl Disk for MemDisk {
     ghost use Rattle.disk_model.specs.Change.{Write, Cut, Sync};
     ghost use Rattle.disk_model.specs.Faults.{fate_of, after_change_call, passes_read};
     ghost use Rattle.disk_model.specs.Faults.{after_read_call, written_as, cut_as, synced_as};
+    ghost use Rattle.std.proofs.Common.{refl};
 
     ghost view = { memory_view };
+
+    ghost honest_reads = { λ d _. refl };
 
     ghost now_is_image = { λ d _. memory_image d.contents.first.items (changes_in d.calls) };
 

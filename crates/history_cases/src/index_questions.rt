@@ -6,8 +6,8 @@ use as_of_index::{AsOf, ReadFault, RowReader};
 use case_files::{Answer, NoAnswer};
 use case_values::Question;
 use links::{
-    about, ancestors, called, children, descendants, members, replacements, replaces, timeline,
-    values,
+    about, ancestors, called, children, descendants, members, replacements, replaces, sources,
+    timeline, values,
 };
 use rf2_values::Row;
 use std::alloc::{AllocError, Global};
@@ -105,9 +105,13 @@ pub fn rows_found<R: RowReader>(
             let as_of = AsOf { date, pin };
             search(alloc, made, reader, prefix, as_of, (after, limit))
         }
+        Question::AllRows(kind, after, limit) => {
+            index.rows_of_kind(reader, kind, after, limit, pin)
+        }
         Question::Children(_, _)
         | Question::Descendants(_, _)
         | Question::Ancestors(_, _)
+        | Question::Sources(_, _, _, _, _)
         | Question::Dates => Ok(Vec::new(alloc)),
     }
 }
@@ -138,6 +142,10 @@ fn concepts_found(alloc: Global, made: &Indexed, request: Request) -> Result<Vec
         Question::Children(id, date) => children(alloc, links, index, id, AsOf { date, pin }),
         Question::Descendants(id, date) => descendants(alloc, links, index, id, AsOf { date, pin }),
         Question::Ancestors(id, date) => ancestors(alloc, links, index, id, AsOf { date, pin }),
+        Question::Sources(type_id, id, date, after, limit) => {
+            let as_of = AsOf { date, pin };
+            sources(alloc, links, index, type_id, id, as_of, after, limit)
+        }
         _ => Ok(Vec::new(alloc)),
     }
 }
@@ -145,7 +153,10 @@ fn concepts_found(alloc: Global, made: &Indexed, request: Request) -> Result<Vec
 /// The answer of the index.
 pub fn ask_index(alloc: Global, made: &Indexed, request: Request, prefix: &str) -> Answer {
     match request.question {
-        Question::Children(_, _) | Question::Descendants(_, _) | Question::Ancestors(_, _) => {
+        Question::Children(_, _)
+        | Question::Descendants(_, _)
+        | Question::Ancestors(_, _)
+        | Question::Sources(_, _, _, _, _) => {
             spell_ids(alloc, &concepts_found(alloc, made, request)?)
         }
         Question::Dates => spell_dates(alloc, &made.index.dates(request.pin)?),

@@ -52,6 +52,9 @@ fn find<'a>(
         Question::Search(date, after, limit) => {
             plain_history::search_terms(alloc, shown, prefix, date, after, limit)?
         }
+        Question::AllRows(kind, after, limit) => {
+            plain_history::rows_of_kind(alloc, shown, kind, after, limit)?
+        }
         _ => return Err(NoAnswer::NoQuestion),
     })
 }
@@ -68,6 +71,10 @@ pub fn ask_plainly(alloc: Global, shown: &[Row], question: Question, prefix: &st
         }
         Question::Ancestors(id, date) => {
             spell_concepts(alloc, &plain_history::ancestors(alloc, shown, id, date)?)
+        }
+        Question::Sources(type_id, id, date, after, limit) => {
+            let found = plain_history::sources(alloc, shown, type_id, id, date, after, limit)?;
+            spell_concepts(alloc, &found)
         }
         Question::Dates => spell_dates(alloc, &plain_history::dates(alloc, shown)?),
         _ => spell_rows(alloc, &find(alloc, shown, question, prefix)?),

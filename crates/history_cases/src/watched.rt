@@ -53,6 +53,7 @@ impl RowReader for Watched<'_> {
     ghost view = { λ r. record {
       lists = map vec_items r.lists.now;
       is_honest = ⊥;
+      may_be = λ _ _ _. Unit {0};
       work = r.reads;
       disk_faults = r.disk_faults;
       damages = r.damages;

@@ -80,7 +80,7 @@ pub one_receipt_for_an_import : OneReceiptForAnImport
 one_receipt_for_an_import h number new n latest day a b =
     (a.new_is ∙ sym b.new_is, one_latest (brought_by number h.rows) latest day a.latest_is b.latest_is)
 
-brought_stays : (h : History) (release : List RowValue) (number : ℕ) → IsHistory h → number ≤ h.imports → brought_by number (after_release h release).rows ≡ brought_by number h.rows
+pub brought_stays : (h : History) (release : List RowValue) (number : ℕ) → IsHistory h → number ≤ h.imports → brought_by number (after_release h release).rows ≡ brought_by number h.rows
 unfolding brought_by
 brought_stays h release number is le =
     let after = after_release h release in

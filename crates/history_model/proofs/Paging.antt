@@ -8,7 +8,7 @@ use Rattle.rf2_values.specs.Row.{RowValue}
 use Rattle.history_model.specs.InOrder.{Has, IsAscending, joined}
 use Rattle.history_model.specs.History.{row_cmp}
 use Rattle.history_model.specs.Queries.{page, is_term, is_term_above, is_current, snapshot, terms, terms_above, search_terms}
-use Rattle.history_model.specs.Laws.{last_id}
+use Rattle.history_model.specs.Laws.{last_by, AreInTurn}
 use Rattle.history_model.specs.Laws.{SearchFromTheFirst}
 use Rattle.history_model.proofs.Snapshots.{above_cons, and-true}
 use Rattle.history_model.proofs.Ascents.{Rises-terms}
@@ -18,54 +18,62 @@ take_short zero xs lt = absurd (omega arith)
 take_short (suc n) [] lt = refl
 take_short (suc n) (x ∷ xs) lt = ap (λ ys. x ∷ ys) (take_short n xs (omega arith))
 
-none_left : (limit : ℕ) (xs : List RowValue) → 1 ≤ limit → take limit xs ≡ [] → xs ≡ []
+none_left : {X : Type 0} (limit : ℕ) (xs : List X) → 1 ≤ limit → take limit xs ≡ [] → xs ≡ []
 none_left zero xs le e = absurd (omega arith)
 none_left (suc n) [] le e = refl
 none_left (suc n) (x ∷ xs) le e = absurd (cc)
 
-first_has_some : (n : ℕ) (x : RowValue) (xs : List RowValue) → 1 ≤ n → 1 ≤ length (take n (x ∷ xs))
+first_has_some : {X : Type 0} (n : ℕ) (x : X) (xs : List X) → 1 ≤ n → 1 ≤ length (take n (x ∷ xs))
 first_has_some zero x xs le = absurd (omega arith)
 first_has_some (suc n) x xs le = omega arith
 
--- all rows from behind an id: the first, and then all from behind that one
-module _ (all : Option ℕ → List RowValue) (split : (after : Option ℕ) (b : RowValue) (ys : List RowValue) → all after ≡ b ∷ ys → all after ≡ b ∷ all (Some b.id)) where
-  pub goes_on : (limit : ℕ) (after : Option ℕ) → all after ≡ take limit (all after) ++ all (last_id after (take limit (all after)))
+-- all items from behind a mark: the first, and then all from behind that one
+module _ {X C : Type 0} (mark : X → C) (all : Option C → List X) (split : (after : Option C) (b : X) (ys : List X) → all after ≡ b ∷ ys → all after ≡ b ∷ all (Some (mark b))) where
+  pub goes_on : (limit : ℕ) (after : Option C) → all after ≡ take limit (all after) ++ all (last_by mark after (take limit (all after)))
   goes_on zero after = refl
   goes_on (suc n) after =
-      elim (all after) as (λ xs. all after ≡ xs → all after ≡ take (suc n) (all after) ++ all (last_id after (take (suc n) (all after)))) [
-        | [] ↦ λ e. subst (λ ys. all after ≡ take (suc n) ys ++ all (last_id after (take (suc n) ys))) (sym e) refl
+      elim (all after) as (λ xs. all after ≡ xs → all after ≡ take (suc n) (all after) ++ all (last_by mark after (take (suc n) (all after)))) [
+        | [] ↦ λ e. subst (λ ys. all after ≡ take (suc n) ys ++ all (last_by mark after (take (suc n) ys))) (sym e) refl
         | ◌∷◌ b ys ↦ λ e.
             let first = split after b ys e in
-            subst (λ zs. all after ≡ take (suc n) zs ++ all (last_id after (take (suc n) zs))) (sym first)
-            (first ∙ ap (λ zs. b ∷ zs) (goes_on n (Some b.id)))
+            subst (λ zs. all after ≡ take (suc n) zs ++ all (last_by mark after (take (suc n) zs))) (sym first)
+            (first ∙ ap (λ zs. b ∷ zs) (goes_on n (Some (mark b))))
       ] refl
 
   -- lists of which each is the first so many from behind the one before
-  module _ (limit : ℕ) (some : 1 ≤ limit) (Are : Option ℕ → List (List RowValue) → Type 0) (last : (after : Option ℕ) → Are after [] ↔ (take limit (all after) ≡ [])) (more : (after : Option ℕ) (first : List RowValue) (pages : List (List RowValue)) → Are after (first ∷ pages) ↔ ((first ≡ take limit (all after)) × Are (last_id after first) pages)) where
-    pub are_all : (after : Option ℕ) (pages : List (List RowValue)) → Are after pages → joined pages ≡ all after
+  module _ (limit : ℕ) (some : 1 ≤ limit) (Are : Option C → List (List X) → Type 0) (last : (after : Option C) → Are after [] ↔ (take limit (all after) ≡ [])) (more : (after : Option C) (first : List X) (pages : List (List X)) → Are after (first ∷ pages) ↔ ((first ≡ take limit (all after)) × Are (last_by mark after first) pages)) where
+    pub are_all : (after : Option C) (pages : List (List X)) → Are after pages → joined pages ≡ all after
     are_all after [] e = sym (none_left limit (all after) some ((last after).0 e))
     are_all after (first ∷ pages) e =
         let w = (more after first pages).0 e in
-        ap (λ xs. first ++ xs) (are_all (last_id after first) pages w.1)
-        ∙ ap (λ xs. xs ++ all (last_id after xs)) w.0
+        ap (λ xs. first ++ xs) (are_all (last_by mark after first) pages w.1)
+        ∙ ap (λ xs. xs ++ all (last_by mark after xs)) w.0
         ∙ sym (goes_on limit after)
 
-    abbrev AreLeft : Option ℕ → Type 0
-    AreLeft after = (pages : List (List RowValue)) × Are after pages × (Has pages [] → ⊥)
+    abbrev AreLeft : Option C → Type 0
+    AreLeft after = (pages : List (List X)) × Are after pages × (Has pages [] → ⊥)
 
     -- what is behind a page is less than what is behind the one before
-    next : (after : Option ℕ) (xs : List RowValue) → all after ≡ xs → ((later : Option ℕ) → length (all later) < length xs → AreLeft later) → AreLeft after
+    next : (after : Option C) (xs : List X) → all after ≡ xs → ((later : Option C) → length (all later) < length xs → AreLeft later) → AreLeft after
     next after [] e shorter = ([], (last after).1 (subst (λ ys. take limit ys ≡ []) (sym e) (take_all limit [] (omega arith))), λ h. h)
     next after (x ∷ xs) e shorter =
         let first = take limit (all after) in
         let has_some : 1 ≤ length first = subst (λ ys. 1 ≤ length (take limit ys)) (sym e) (first_has_some limit x xs some) in
-        let sum = ap length (sym e ∙ goes_on limit after) ∙ length-append first (all (last_id after first)) in
-        let others = shorter (last_id after first) (omega (arith, has_some, sum)) in
+        let sum = ap length (sym e ∙ goes_on limit after) ∙ length-append first (all (last_by mark after first)) in
+        let others = shorter (last_by mark after first) (omega (arith, has_some, sum)) in
         (first ∷ others.0, (more after first others.0).1 (refl, others.1), λ h. elim h [ inl none ↦ (let no = ap length none in omega (arith, no, has_some)) | inr t ↦ others.2 t ])
 
-    pub ends : (n : ℕ) (after : Option ℕ) → length (all after) ≤ n → AreLeft after
+    pub ends : (n : ℕ) (after : Option C) → length (all after) ≤ n → AreLeft after
     ends zero after le = next after (all after) refl (λ later lt. absurd (omega (arith, lt, le)))
     ends (suc n) after le = next after (all after) refl (λ later lt. ends n later (omega (arith, lt, le)))
+
+-- lists in turn are all, where each has at most so many, and there are such lists
+module _ {X C : Type 0} (mark : X → C) (all : Option C → List X) (split : (after : Option C) (b : X) (ys : List X) → all after ≡ b ∷ ys → all after ≡ b ∷ all (Some (mark b))) (limit : ℕ) (some : 1 ≤ limit) where
+  pub turns_are_all : (after : Option C) (pages : List (List X)) → AreInTurn mark (λ id. take limit (all id)) after pages → joined pages ≡ all after
+  turns_are_all = are_all mark all split limit some (AreInTurn mark (λ id. take limit (all id))) (λ id. (λ e. e, λ e. e)) (λ id first others. (λ e. e, λ e. e))
+
+  pub turns_end : (after : Option C) → (pages : List (List X)) × AreInTurn mark (λ id. take limit (all id)) after pages × (Has pages [] → ⊥)
+  turns_end after = ends mark all split limit some (AreInTurn mark (λ id. take limit (all id))) (λ id. (λ e. e, λ e. e)) (λ id first others. (λ e. e, λ e. e)) (length (all after)) after (omega arith)
 
 -- ---- searches
 

@@ -30,6 +30,10 @@ ghost use Rattle.history_model.specs.Membership.{ValuesAreTheFirstWithTies};
 ghost use Rattle.history_model.specs.Membership.{ValuesFillTheLimit};
 ghost use Rattle.history_model.specs.Membership.{CalledAreNames};
 ghost use Rattle.history_model.specs.Membership.{CalledAreAmongValues};
+ghost use Rattle.history_model.specs.Relationships.{SourcesAreAll, ChildrenAreSources};
+ghost use Rattle.history_model.specs.Relationships.{PagesOfSourcesAreAll, PagesOfSourcesEnd};
+ghost use Rattle.history_model.specs.Exports.{KindsAreAll, AddedAscend, AddedAreShown, AddedStay};
+ghost use Rattle.history_model.specs.Exports.{ReceiptCountsTheAdded};
 
 /// A history is a chain of row sets, each contained in the next.
 pub fn each_history_is_a_chain()
@@ -332,4 +336,58 @@ pub fn called_are_names()
 pub fn called_are_among_values()
     // promise: nothing_is_left_out_of_an_answer
     ensures { CalledAreAmongValues }
+{}
+
+/// No source of a relationship is missing, and there are no others.
+pub fn sources_are_all()
+    // promise: nothing_is_left_out_of_an_answer
+    ensures { SourcesAreAll }
+{}
+
+/// The children of a concept are the sources of "is a".
+pub fn children_are_sources()
+    // promise: nothing_is_left_out_of_an_answer
+    ensures { ChildrenAreSources }
+{}
+
+/// Answers of any limit, each from after the last source of the one before, give all sources.
+pub fn pages_of_sources_are_all()
+    // promise: pages_are_the_whole
+    ensures { PagesOfSourcesAreAll }
+{}
+
+/// The sequence of such answers ends.
+pub fn pages_of_sources_end()
+    // promise: pages_are_the_whole
+    ensures { PagesOfSourcesEnd }
+{}
+
+/// The rows of all kinds, one kind after the other, are all rows.
+pub fn kinds_are_all()
+    // promise: pages_are_the_whole
+    ensures { KindsAreAll }
+{}
+
+/// What an import added is in key order.
+pub fn added_ascend()
+    // promise: nothing_is_left_out_of_an_answer
+    ensures { AddedAscend }
+{}
+
+/// What the first imports added, together, is what a pin to them shows, each row once.
+pub fn added_are_shown()
+    // promise: a_receipt_counts_the_new_rows
+    ensures { AddedAreShown }
+{}
+
+/// The receipt of an import counts the rows that it added.
+pub fn receipt_counts_the_added()
+    // promise: a_receipt_counts_the_new_rows
+    ensures { ReceiptCountsTheAdded }
+{}
+
+/// What an import added isn't changed by later imports.
+pub fn added_stay()
+    // promise: a_pin_shows_the_same_for_ever
+    ensures { AddedStay }
 {}

@@ -8,6 +8,7 @@ pub mod Places
 pub mod NewSegment
 pub mod Refusing
 pub mod Lent
+pub mod Returned
 pub mod Querying
 pub mod GoingOn
 pub mod FewestRows

@@ -1,16 +1,14 @@
 -- What is left of a store after a query.
-use Rattle.std.proofs.Common.{◌≡◌, ◌≢◌, ◌↔◌, ℕ, ◌+◌, ◌≤◌, List, false, true, Result, Ok, Err, IfOk, IfErr, MatchResult, map, refl, sym, ap, subst, ◌∙◌, arith, Vec, Global}
+use Rattle.std.proofs.Common.{◌≡◌, ◌≢◌, ◌↔◌, ℕ, ◌+◌, ◌≤◌, List, Bool, false, true, Result, Ok, Err, IfOk, IfErr, MatchResult, refl, sym, ap, subst, ◌∙◌, arith, Vec, Global}
 use Rattle.std.specs.List.{sum_by}
-use Rattle.rf2_values.specs.declared.key.Key.{Key}
 use Rattle.rf2_values.specs.Row.{RowValue}
-use Rattle.rf2_values.specs.Key.{key_of}
 use Rattle.std.proofs.lemmas.Bool.{false≢true}
 use Rattle.fault_counts.specs.Counting.{Counts as CountsBy, CountsDiskFault}
 use Rattle.history_model.specs.declared.stamped.StampedRow.{StampedRow}
-use Rattle.history_model.specs.History.{rows_at}
 use Rattle.history_model.specs.Lists.{listed}
 use Rattle.disk_model.specs.View.{DiskView}
-use Rattle.as_of_index.specs.Reader.{ReaderView, IsRowsReadBy}
+use Rattle.segment.specs.declared.place.RowPlace.{RowPlace}
+use Rattle.as_of_index.specs.Reader.{ReaderView, IsReadFor, AreFor, IsRowsReadBy}
 use Rattle.lru.specs.LruCache.{LruCache}
 use Rattle.blocks.specs.Cache.{AgreesWith, LooksUpSome}
 use Rattle.blocks.proofs.Looked.{none_looks_up}
@@ -21,11 +19,13 @@ use Rattle.history_store.specs.declared.refusal.Refusal.{Refusal}
 use Rattle.history_store.specs.declared.refusal.Refusal.TheVariants as refusals
 use Rattle.history_store.specs.Private.Reading.{AreThere, MomentsStay}
 use Rattle.history_store.specs.Reading.{row_cost}
+use Rattle.history_store.specs.Stored.{MayBe}
 use Rattle.history_store.specs.Refusals.{of_read}
 use Rattle.history_store.specs.StoreValue.{StoreValue, IsAcknowledged}
 use Rattle.history_store.specs.Answers.{Counts, IsRefused, IsReadingOf}
-use Rattle.history_store.specs.Queries.{IsQuery, IsRowsQueryBy, IsWithoutRead, is_listed}
+use Rattle.history_store.specs.Queries.{IsQuery, IsStoredFor, IsRowsQueryOf, IsWithoutRead, is_listed}
 use Rattle.history_store.proofs.Refusing.{read_undamaged}
+use Rattle.history_store.proofs.Returned.{for_weaker, rows_exact, stored_for}
 
 -- what was read, as the store answers it
 abbrev answer_of : {T : Type 0} → Result T ReadFault → Result T Refusal
@@ -105,35 +105,37 @@ abbrev pub row_items : Vec RowValue Global → List RowValue
 row_items rows = rows.items
 
 -- rows were read by a reader to which the disk, the cache and the segments were lent, and what was read is answered
-module _ {T D : Type 0} (view : D → DiskView) (rows_of : T → List RowValue) (wanted : List RowValue → List RowValue) (pin : ℕ) where
+module _ {T D : Type 0} (view : D → DiskView) (rows_of : T → List RowValue) (wanted : List StampedRow → List RowValue) where
   -- what a reader shows to which a disk is lent
-  abbrev pub shown_of : D → List (List StampedRow) → Type 0 → ℕ → ReaderView
-  shown_of disk lists is_honest damages = record { lists = lists; is_honest = is_honest; work = (view disk).bytes_read; disk_faults = (view disk).failures; damages = damages }
+  abbrev pub shown_of : D → List (List StampedRow) → Type 0 → (ℕ → RowPlace → StampedRow → Type 0) → ℕ → ReaderView
+  shown_of disk lists is_honest may_be damages = record { lists = lists; is_honest = is_honest; may_be = may_be; work = (view disk).bytes_read; disk_faults = (view disk).failures; damages = damages }
 
   module _ (Indexed : List (List StampedRow) → Type 0) (old new : StoreValue D) (lists shown : List (List StampedRow)) (entries : List Entry) (lent disk : D) (lent_cache cache : LruCache ℕ (List ℕ)) (read : Result T ReadFault) (result : Result T Refusal) where
     abbrev pub IsHonestReader : Type 0
     IsHonestReader = (view lent).is_honest × AgreesWith lent_cache (view lent).moments.state.now × AreThere entries shown (view lent).moments.state.now
 
     abbrev pub BoundOf : List (List StampedRow) → D → D → Type 0
-    BoundOf ls before after = (view after).bytes_read ≤ (view before).bytes_read + sum_by row_cost (wanted (rows_at pin (listed ls)))
+    BoundOf ls before after = (view after).bytes_read ≤ (view before).bytes_read + sum_by row_cost (wanted (listed ls))
 
-    pub rows_answered : (SameKeys : List Key → List Key → Type 0) {left : List (List StampedRow)} {is_honest : Type 0} {m n : ℕ} → old.history.rows ≡ listed lists → old.needs_reopen ≡ false
+    pub rows_answered : (put_in_order : Bool) {left : List (List StampedRow)} {is_honest : Type 0} {may_be : ℕ → RowPlace → StampedRow → Type 0} {m n : ℕ} → old.history.rows ≡ listed lists → old.needs_reopen ≡ false
         → lent ≡ old.disk → lent_cache ≡ old.cache → entries ≡ old.catalog.entries → shown ≡ lists
         → Indexed lists → ((view old.disk).is_honest → IsHonestReader)
-        → IsRowsReadBy SameKeys read rows_of (λ ls. wanted (rows_at pin (listed ls))) Indexed row_cost (shown_of lent shown IsHonestReader m) (shown_of disk left is_honest n)
+        → IsRowsReadBy put_in_order read rows_of (λ ls. wanted (listed ls)) Indexed row_cost (shown_of lent shown IsHonestReader (MayBe (view lent).reads_as lent_cache entries) m) (shown_of disk left is_honest may_be n)
         → MomentsStay (view lent).is_honest (view disk).is_honest (view lent).moments (view disk).moments
         → LooksUpSome (is_listed entries) lent_cache cache (view lent).bytes_read (view disk).bytes_read
         → (view disk).other_calls ≡ (view lent).other_calls
         → IsAnswerOf read result → IsReadingOf result (record old { disk = disk; cache = cache }) new → new.disk ≡ disk → new.cache ≡ cache
         → ((view disk).is_honest → new.needs_reopen ≡ false → IsAcknowledged view new)
-        → IsRowsQueryBy SameKeys result rows_of wanted pin view old new
-    rows_answered SameKeys rows_are still lent_is lent_cache_is entries_are shown_is indexed lends read_so stays looked_up calls answers left same kept acknowledged =
+        → IsRowsQueryOf put_in_order result rows_of wanted view old new
+    rows_answered put_in_order {m = m} rows_are still lent_is lent_cache_is entries_are shown_is indexed lends read_so stays looked_up calls answers left same kept acknowledged =
         let rows = read_so.rows (subst Indexed (sym shown_is) indexed) in
-        let all_are = ap (λ rows. wanted (rows_at pin rows)) (sym rows_are) in
+        let same_wanted = ap (λ ls. wanted (listed ls)) shown_is ∙ ap wanted (sym rows_are) in
+        let lent_shown : ReaderView = shown_of lent shown IsHonestReader (MayBe (view lent).reads_as lent_cache entries) m in
         record {
-          found = λ up. answered_so (λ x. rows_of x ≡ wanted (rows_at pin (listed shown))) (λ x. rows_of x ≡ wanted (rows_at pin old.history.rows)) read result answers (λ x is. is ∙ ap (λ ls. wanted (rows_at pin (listed ls))) shown_is ∙ all_are) (rows.found (lends up));
-          keys = answered_so (λ x. SameKeys (map key_of (rows_of x)) (map key_of (wanted (rows_at pin (listed shown))))) (λ x. SameKeys (map key_of (rows_of x)) (map key_of (wanted (rows_at pin old.history.rows)))) read result answers (λ x same_keys. subst (λ (those : List RowValue). SameKeys (map key_of (rows_of x)) (map key_of those)) (ap (λ ls. wanted (rows_at pin (listed ls))) shown_is ∙ all_are) same_keys) rows.keys;
-          causes = λ none. subst (λ r. IfErr r IsWithoutRead) (sym (is_answer read result answers)) (caused_answer read (rows.causes (ap (λ ls. wanted (rows_at pin (listed ls))) shown_is ∙ all_are ∙ none)));
+          found = λ up. answered_so (λ x. AreFor put_in_order (IsReadFor lent_shown) (rows_of x) (wanted (listed shown))) (λ x. rows_of x ≡ wanted old.history.rows) read result answers (λ x each. rows_exact lent_shown put_in_order (rows_of x) _ each (lends up) ∙ same_wanted) rows.each;
+          stored = answered_so (λ x. AreFor put_in_order (IsReadFor lent_shown) (rows_of x) (wanted (listed shown))) (λ x. AreFor put_in_order (IsStoredFor view old) (rows_of x) (wanted old.history.rows)) read result answers
+              (λ x each. subst (AreFor put_in_order (IsStoredFor view old) (rows_of x)) same_wanted (for_weaker put_in_order (IsReadFor lent_shown) (IsStoredFor view old) (stored_for lent_shown view old lent lent_cache entries lent_is lent_cache_is entries_are (λ segment at s may. may)) (rows_of x) _ each)) rows.each;
+          causes = λ none. subst (λ r. IfErr r IsWithoutRead) (sym (is_answer read result answers)) (caused_answer read (rows.causes (same_wanted ∙ none)));
           query = answered_query view old new lent disk cache read result still lent_is stays read_so.reader.disk_faults (λ up. rows.undamaged (lends up)) answers left same acknowledged;
           other_calls = ap (λ d. (view d).other_calls) same ∙ calls ∙ ap (λ d. (view d).other_calls) lent_is;
           looked_up =
@@ -145,17 +147,17 @@ module _ {T D : Type 0} (view : D → DiskView) (rows_of : T → List RowValue) 
           bytes_read = answered_so (λ x. (view disk).bytes_read ≤ (view lent).bytes_read + sum_by row_cost (rows_of x)) (λ x. (view new.disk).bytes_read ≤ (view old.disk).bytes_read + sum_by row_cost (rows_of x)) read result answers
               (λ x le. subst (λ d. (view d).bytes_read ≤ (view old.disk).bytes_read + sum_by row_cost (rows_of x)) (sym same) (subst (λ d. (view disk).bytes_read ≤ (view d).bytes_read + sum_by row_cost (rows_of x)) lent_is le)) read_so.work;
           bytes_read_always =
-              subst (λ rows. (view new.disk).bytes_read ≤ (view old.disk).bytes_read + sum_by row_cost (wanted (rows_at pin rows))) (sym rows_are)
+              subst (λ rows. (view new.disk).bytes_read ≤ (view old.disk).bytes_read + sum_by row_cost (wanted rows)) (sym rows_are)
               (subst (λ d. BoundOf lists old.disk d) (sym same)
               (subst (λ d. BoundOf lists d disk) lent_is
               (subst (λ ls. BoundOf ls lent disk) shown_is rows.work_always)));
         }
 
   -- a store that has to be opened again answers nothing, and isn't touched
-  pub closed_rows : (SameKeys : List Key → List Key → Type 0) (s : StoreValue D) → s.needs_reopen ≡ true → IsRowsQueryBy SameKeys (Err refusals.ReopenNeeded) rows_of wanted pin view s s
-  closed_rows SameKeys s needs = record {
+  pub closed_rows : (put_in_order : Bool) (s : StoreValue D) → s.needs_reopen ≡ true → IsRowsQueryOf put_in_order (Err refusals.ReopenNeeded) rows_of wanted view s s
+  closed_rows put_in_order s needs = record {
     found = λ up. tt;
-    keys = tt;
+    stored = tt;
     causes = λ none. tt;
     query = closed_query {T = T} view s needs;
     other_calls = refl;

@@ -1,4 +1,5 @@
 pub mod Reading
+pub mod Stored
 pub mod Catalog
 pub mod MergeInProgress
 pub mod Merging

@@ -1,10 +1,10 @@
 -- The result of a query, and the store after it.
 use Rattle.std.specs.Prelude.{◌≡◌, ◌≢◌, ◌⊎◌, ◌↔◌, ℕ, Bool, true, false, List, []}
-use Rattle.std.specs.Prelude.{◌+◌, ◌≤◌, Result, IfOk, IfErr, OnOk, OnErr, Option, Some, None, map}
+use Rattle.std.specs.Prelude.{◌+◌, ◌≤◌, Result, IfOk, IfErr, OnOk, OnErr, Option, Some, None}
 use Rattle.std.specs.List.{list_any, sum_by}
-use Rattle.rf2_values.specs.declared.key.Key.{Key}
 use Rattle.rf2_values.specs.Row.{RowValue}
 use Rattle.rf2_values.specs.Key.{key_of}
+use Rattle.history_model.specs.declared.stamped.StampedRow.{StampedRow}
 use Rattle.history_model.specs.History.{rows_at}
 use Rattle.disk_model.specs.View.{DiskView}
 use Rattle.lru.specs.LruCache.{LruCache}
@@ -14,10 +14,13 @@ use Rattle.blocks.specs.declared.slots.Slot.{Slot}
 use Rattle.blocks.specs.Slots.{slot_extent}
 use Rattle.directory.specs.declared.entry.Entry.{Entry}
 use Rattle.directory.specs.Places.{extent_of}
+use Rattle.segment.specs.declared.place.RowPlace.{RowPlace}
+use Rattle.as_of_index.specs.Reader.{AreFor}
 use Rattle.history_store.specs.declared.refusal.Refusal.{Refusal}
 use Rattle.history_store.specs.declared.refusal.Refusal.TheVariants as refusals
 use Rattle.history_store.specs.Catalog.{reserved_by}
 use Rattle.history_store.specs.Reading.{row_cost}
+use Rattle.history_store.specs.Stored.{MayBe}
 use Rattle.history_store.specs.Written.{added_entries}
 use Rattle.history_store.specs.StoreValue.{StoreValue, IsAcknowledged}
 use Rattle.history_store.specs.Answers.{Counts, IsReadingOf}
@@ -92,28 +95,42 @@ IsWithoutRead refusals.DiskFault = ⊥
 IsWithoutRead refusals.Damaged = ⊥
 IsWithoutRead _ = Unit {0}
 
+-- The row has the key of the wanted one, and its record is in a listed segment of the file that is
+-- read of the disk through the cache, if there is one.
+pub record IsStoredFor {D : Type 0} (view : D → DiskView) (store : StoreValue D)
+    (row wanted : RowValue) : Type 0 where
+  pub key : key_of row ≡ key_of wanted
+  pub stored : (s : StampedRow) × (row ≡ s.row) × (segment : ℕ) × (at : RowPlace)
+      × MayBe (view store.disk).reads_as store.cache store.catalog.entries segment at s
+
 -- A query for rows: `rows_of` gives the rows of an answer, and `wanted` those that should be in it,
--- among the rows that the pin shows. On an honest disk both are equal. On every disk they have the
--- same keys, as `SameKeys` says, no calls but reads are made, cached blocks aren't read again, and
--- no more is read than the rows of the answer take. Whatever the result, no more is read than the
--- wanted rows take, each counted once. If no row is wanted, the disk doesn't fail, and none is
--- damaged.
-pub record IsRowsQueryBy {T D : Type 0} (SameKeys : List Key → List Key → Type 0)
-    (result : Result T Refusal) (rows_of : T → List RowValue)
-    (wanted : List RowValue → List RowValue) (pin : ℕ) (view : D → DiskView)
-    (old new : StoreValue D) : Type 0 where
+-- from the store's rows with the numbers of their imports. On an honest disk both are equal. On
+-- every disk each row of the answer is stored, with the key of a wanted one, as `AreFor` says; no
+-- calls but reads are made, cached blocks aren't read again, and no more is read than the rows of
+-- the answer take. Whatever the result, no more is read than the wanted rows take, each counted
+-- once. If no row is wanted, the disk doesn't fail, and none is damaged.
+pub record IsRowsQueryOf {T D : Type 0} (put_in_order : Bool) (result : Result T Refusal)
+    (rows_of : T → List RowValue) (wanted : List StampedRow → List RowValue)
+    (view : D → DiskView) (old new : StoreValue D) : Type 0 where
   pub found : (view old.disk).is_honest
-      → IfOk result (λ x. rows_of x ≡ wanted (rows_at pin old.history.rows))
-  pub keys : IfOk result (λ x.
-      SameKeys (map key_of (rows_of x)) (map key_of (wanted (rows_at pin old.history.rows))))
-  pub causes : wanted (rows_at pin old.history.rows) ≡ [] → IfErr result IsWithoutRead
+      → IfOk result (λ x. rows_of x ≡ wanted old.history.rows)
+  pub stored : IfOk result (λ x. AreFor put_in_order (IsStoredFor view old) (rows_of x)
+      (wanted old.history.rows))
+  pub causes : wanted old.history.rows ≡ [] → IfErr result IsWithoutRead
   pub query : IsQuery result view old new
   pub other_calls : (view new.disk).other_calls ≡ (view old.disk).other_calls
   pub looked_up : ReadsThroughCache view old new
   pub bytes_read : IfOk result
       (λ x. (view new.disk).bytes_read ≤ (view old.disk).bytes_read + sum_by row_cost (rows_of x))
   pub bytes_read_always : (view new.disk).bytes_read
-      ≤ (view old.disk).bytes_read + sum_by row_cost (wanted (rows_at pin old.history.rows))
+      ≤ (view old.disk).bytes_read + sum_by row_cost (wanted old.history.rows)
+
+-- the same, of the rows that the pin shows
+abbrev pub IsRowsQueryBy : {T D : Type 0} → (put_in_order : Bool) → Result T Refusal
+    → (T → List RowValue) → (List RowValue → List RowValue) → ℕ → (D → DiskView)
+    → StoreValue D → StoreValue D → Type 0
+IsRowsQueryBy put_in_order result rows_of wanted pin =
+    IsRowsQueryOf put_in_order result rows_of (λ rows. wanted (rows_at pin rows))
 
 -- A query that the index answers on every disk, among the rows that the pin shows, without reading
 -- a row. Nothing changes, and it is refused only if the store has to be opened again or memory runs

@@ -18,7 +18,7 @@ impl<D: Disk> Store<D> {
     ghost use Rattle.history_model.specs.Queries.{dates};
     ghost use Rattle.question_model.specs.Questions.{row_question_of, id_question_of};
     ghost use Rattle.question_model.specs.Wanted.{rows_for, AreIdsFor};
-    ghost use Rattle.index_answers.specs.Keys.{SameKeysFor};
+    ghost use Rattle.index_answers.specs.Keys.{is_put_in_order};
     ghost use Rattle.history_store.specs.Answers.{IsReadingOf};
     ghost use Rattle.history_store.specs.Queries.{IsRowsQueryBy, IsIndexQuery};
     ghost use Rattle.history_store.specs.Refusals.{of_read};
@@ -55,7 +55,7 @@ impl<D: Disk> Store<D> {
         // promise: no_damage_is_invented, a_question_changes_nothing
         // promise: a_question_reads_only_its_rows, what_is_cached_is_not_read_again
         // promise: few_calls_reach_the_disk
-        ensures answer { IsRowsQueryBy (SameKeysFor (row_question_of question.now)) result
+        ensures answer { IsRowsQueryBy (is_put_in_order (row_question_of question.now)) result
             (λ rows. rows.items) (rows_for (row_question_of question.now)) pin D.view self.old
             self.new }
     {

@@ -7,7 +7,7 @@ ghost use Rattle.question_model.specs.Questions.{id_question_of};
 ghost use Rattle.question_model.specs.Wanted.{AreIdsFor};
 
 use as_of_index::AsOf;
-use links::{ancestors, children, descendants};
+use links::{ancestors, children, descendants, sources};
 use question_model::IdQuestion;
 use segment_index::StoreIndex;
 use std::alloc::{AllocError, Global};
@@ -35,6 +35,25 @@ pub fn ids(
         }
         IdQuestion::Descendants { concept, date } => {
             descendants(alloc, links, places, concept, AsOf { date, pin })
+        }
+        IdQuestion::Sources {
+            type_id,
+            destination,
+            date,
+            after,
+            limit,
+        } => {
+            let as_of = AsOf { date, pin };
+            sources(
+                alloc,
+                links,
+                places,
+                type_id,
+                destination,
+                as_of,
+                after,
+                limit,
+            )
         }
     }
 }

@@ -9,7 +9,7 @@ ghost use Rattle.as_of_index.specs.Places.{Lists};
 ghost use Rattle.as_of_index.specs.Reader.{IsRowsRead, IsRowsReadBy};
 ghost use Rattle.question_model.specs.Questions.{row_question_of};
 ghost use Rattle.question_model.specs.Wanted.{rows_for};
-ghost use Rattle.index_answers.specs.Keys.{SameKeysFor};
+ghost use Rattle.index_answers.specs.Keys.{is_put_in_order};
 
 use as_of_index::{AsOf, Index, ReadFault, RowReader};
 use links::{about, called, members, replacements, replaces, timeline, values};
@@ -58,7 +58,8 @@ pub fn select<R: RowReader>(
 ) -> Result<Vec<Row>, ReadFault>
     // promise: an_answer_is_the_defined_one, keys_are_right_on_every_disk, no_damage_is_invented
     // promise: a_question_reads_only_its_rows
-    ensures answer { IsRowsReadBy (SameKeysFor (row_question_of question.now)) result (λ rows. rows.items)
+    ensures answer { IsRowsReadBy (is_put_in_order (row_question_of question.now)) result
+        (λ rows. rows.items)
         (λ lists. rows_for (row_question_of question.now) (rows_at pin (listed lists))) (λ lists. lists ≡ index.now)
         R.cost (R.view reader.old) (R.view reader.new) }
     ensures stays { R.stays reader.old reader.new }
@@ -145,6 +146,9 @@ pub fn select<R: RowReader>(
         } => {
             let as_of = AsOf { date, pin };
             called(alloc, links, places, reader, concept, as_of, refset)
+        }
+        RowQuestion::AllRows { kind, after, limit } => {
+            places.rows_of_kind(reader, kind, after, limit, pin)
         }
     }
 }

@@ -78,6 +78,7 @@ impl RowReader for KeptRows<'_> {
     ghost view = { λ r. record {
       lists = map vec_items r.lists.now;
       is_honest = AreLists (map vec_items r.lists.now);
+      may_be = λ _ _ _. Unit {0};
       work = r.reads;
       disk_faults = 0;
       damages = r.damages;

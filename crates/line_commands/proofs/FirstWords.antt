@@ -18,7 +18,7 @@ use Rattle.line_commands.specs.Spelling.{word_of_question, letter}
 use Rattle.question_model.specs.Questions.{Question, Get, History, Children, Ancestors, Descendants}
 use Rattle.question_model.specs.Questions.{Terms, Search, Replaced, Replaces, About, Timeline, Page}
 use Rattle.question_model.specs.Questions.{Delta, Members, Values, Called, Dates, Digest, Receipt}
-use Rattle.question_model.specs.Questions.{ForRows, ForIds}
+use Rattle.question_model.specs.Questions.{ForRows, ForIds, AllRows, Sources, Added}
 use Rattle.line_commands.specs.Commands.{Command, Ask, At, Import, Check, Pin, Unpin, Merge, Step, Publish, Abandon, Trim, Status, word_of}
 use Rattle.line_commands.specs.Requests.{with_rest, spaced}
 use Rattle.line_commands.specs.Private.{IsWord, IsOther, text_of_question, behind}
@@ -68,9 +68,12 @@ question_is_word (ForRows (Delta kind from date after limit)) = from_test (codes
 question_is_word (ForRows (Members refset date after limit)) = from_test (codes "MEMBERS") refl
 question_is_word (ForRows (Values refset date after limit)) = from_test (codes "VALUES") refl
 question_is_word (ForRows (Called concept date refset)) = from_test (codes "CALLED") refl
+question_is_word (ForRows (AllRows kind after limit)) = from_test (codes "ROWS") refl
+question_is_word (ForIds (Sources type_id destination date after limit)) = from_test (codes "SOURCES") refl
 question_is_word Dates = from_test (codes "DATES") refl
 question_is_word Digest = from_test (codes "DIGEST") refl
 question_is_word (Receipt number) = from_test (codes "RECEIPT") refl
+question_is_word (Added number kind after limit) = from_test (codes "ADDED") refl
 
 pub command_is_word : (command : Command) → IsWord (word_of command)
 unfolding test
@@ -137,10 +140,10 @@ spaced_is word (t ∷ ts) = refl
 
 -- the words of questions for rows, and of those for identifiers
 row_words : List (List ℕ)
-row_words = codes "GET" ∷ codes "HISTORY" ∷ codes "TERMS" ∷ codes "SEARCH" ∷ codes "REPLACED" ∷ codes "REPLACES" ∷ codes "ABOUT" ∷ codes "TIMELINE" ∷ codes "PAGE" ∷ codes "DELTA" ∷ codes "MEMBERS" ∷ codes "VALUES" ∷ codes "CALLED" ∷ []
+row_words = codes "GET" ∷ codes "HISTORY" ∷ codes "TERMS" ∷ codes "SEARCH" ∷ codes "REPLACED" ∷ codes "REPLACES" ∷ codes "ABOUT" ∷ codes "TIMELINE" ∷ codes "PAGE" ∷ codes "DELTA" ∷ codes "MEMBERS" ∷ codes "VALUES" ∷ codes "CALLED" ∷ codes "ROWS" ∷ []
 
 id_words : List (List ℕ)
-id_words = codes "CHILDREN" ∷ codes "ANCESTORS" ∷ codes "DESCENDANTS" ∷ []
+id_words = codes "CHILDREN" ∷ codes "ANCESTORS" ∷ codes "DESCENDANTS" ∷ codes "SOURCES" ∷ []
 
 among : List ℕ → List (List ℕ) → Bool
 among word [] = false
@@ -150,7 +153,8 @@ among word (one ∷ others) = if bytes_eq word one then true else among word oth
 pub form : List ℕ → ℕ
 form word =
     if among word row_words then 1 else if among word id_words then 2
-    else if bytes_eq word (codes "DATES") then 3 else if bytes_eq word (codes "DIGEST") then 4 else if bytes_eq word (codes "RECEIPT") then 5 else 0
+    else if bytes_eq word (codes "DATES") then 3 else if bytes_eq word (codes "DIGEST") then 4 else if bytes_eq word (codes "RECEIPT") then 5
+    else if bytes_eq word (codes "ADDED") then 6 else 0
 
 abbrev pub form_of : Question → ℕ
 form_of (ForRows question) = 1
@@ -158,6 +162,7 @@ form_of (ForIds question) = 2
 form_of Dates = 3
 form_of Digest = 4
 form_of (Receipt number) = 5
+form_of (Added number kind after limit) = 6
 
 pub form_is : (question : Question) → form (word_of_question question) ≡ form_of question
 unfolding form among row_words id_words
@@ -174,12 +179,15 @@ form_is (ForRows (Delta kind from date after limit)) = refl
 form_is (ForRows (Members refset date after limit)) = refl
 form_is (ForRows (Values refset date after limit)) = refl
 form_is (ForRows (Called concept date refset)) = refl
+form_is (ForRows (AllRows kind after limit)) = refl
 form_is (ForIds (Children concept date)) = refl
 form_is (ForIds (Ancestors concept date)) = refl
 form_is (ForIds (Descendants concept date)) = refl
+form_is (ForIds (Sources type_id destination date after limit)) = refl
 form_is Dates = refl
 form_is Digest = refl
 form_is (Receipt number) = refl
+form_is (Added number kind after limit) = refl
 
 some_form : (question : Question) → nat_eq 0 (form_of question) ≡ false
 some_form (ForRows question) = refl
@@ -187,6 +195,7 @@ some_form (ForIds question) = refl
 some_form Dates = refl
 some_form Digest = refl
 some_form (Receipt number) = refl
+some_form (Added number kind after limit) = refl
 
 -- no other command has a question's word
 pub not_asked : (question : Question) (command : Command) → IsOther command → word_of_question question ≡ word_of command → ⊥
@@ -216,9 +225,12 @@ some_question asking.Delta = (ForRows (Delta kinds.Concept 0 0 None 0), refl)
 some_question asking.Members = (ForRows (Members 0 0 None 0), refl)
 some_question asking.Values = (ForRows (Values 0 0 None 0), refl)
 some_question asking.Called = (ForRows (Called 0 0 0), refl)
+some_question asking.AllRows = (ForRows (AllRows kinds.Concept None 0), refl)
+some_question asking.Sources = (ForIds (Sources None 0 0 None 0), refl)
 some_question asking.Dates = (Dates, refl)
 some_question asking.Digest = (Digest, refl)
 some_question asking.Receipt = (Receipt 0, refl)
+some_question asking.Added = (Added 0 kinds.Concept None 0, refl)
 
 pub one_letter : (k l : Kind) → letter k ≡ letter l → k ≡ l
 one_letter kinds.Concept kinds.Concept e = refl

@@ -7,3 +7,4 @@ pub mod NameTexts
 pub mod Readings
 pub mod Refsets
 pub mod Refusing
+mod RowWords

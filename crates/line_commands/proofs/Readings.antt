@@ -7,16 +7,17 @@ use Rattle.std.proofs.lemmas.Option.{same_Some}
 use Rattle.std.proofs.lemmas.Fmt.{decimal_injective}
 use Rattle.rf2_values.specs.declared.row.Kind.{Kind}
 use Rattle.rf2_values.specs.declared.row.Kind.TheVariants as kinds
+use Rattle.rf2_values.specs.declared.key.Key.{Key}
 use Rattle.rf2_values.specs.Time.{IsTime}
 use Rattle.rf2_values.specs.Row.{IsIdOf, SpellsId, IsConcept, IsComponent}
 use Rattle.rf2_values.proofs.Ids.{same_ids}
 use Rattle.rf2_values.proofs.Decimals.{time_below}
 use Rattle.line_commands.specs.declared.unread.Unread.TheVariants as unread
-use Rattle.line_commands.specs.Spelling.{word_of_question, letter, IsSubjectOf, SpellsQuestion, SpellsAfter, SpellsComponentAfter, most_rows}
+use Rattle.line_commands.specs.Spelling.{word_of_question, letter, IsSubjectOf, SpellsQuestion, SpellsAfter, SpellsComponentAfter, SpellsType, SpellsKeyAfter, SpellsRows, most_rows}
 use Rattle.question_model.specs.Questions.{Question, Get, History, Children, Ancestors, Descendants}
 use Rattle.question_model.specs.Questions.{Terms, Search, Replaced, Replaces, About, Timeline, Page}
 use Rattle.question_model.specs.Questions.{Delta, Members, Values, Called, Dates, Digest, Receipt}
-use Rattle.question_model.specs.Questions.{ForRows, ForIds}
+use Rattle.question_model.specs.Questions.{ForRows, ForIds, AllRows, Sources, Added}
 use Rattle.question_model.specs.Questions.{RowQuestion, IdQuestion}
 use Rattle.line_commands.specs.Commands.{Command, Ask, At, Import, Check, Pin, Unpin, Merge, Step, Publish, Abandon, Trim, Status, word_of, SpellsArguments}
 use Rattle.line_commands.specs.Requests.{with_rest, sessions, Asks, HasSession, HasCommand}
@@ -104,8 +105,47 @@ same_refset_words refset other date day a b limit most h g time also is_word oth
     let third = peel a b _ _ is_word other_word second.1 in
     (same_concepts refset other h g first.0, same_times date day time also second.0, third.0, decimal_injective limit most (omega arith) (omega arith) third.1)
 
+-- so are the type of a relationship or none, and a key or none
+same_type : (a b : Option ℕ) (t u : List ℕ) → t ≡ u → SpellsType a t → SpellsType b u → a ≡ b
+same_type None None t u text s h = refl
+same_type None (Some id) t u text s h = let high = h.0.sctid.high in absurd (no_dash_number id u (omega arith) (sym text ∙ s) h.1)
+same_type (Some id) None t u text s h = let high = s.0.sctid.high in absurd (no_dash_number id t (omega arith) (text ∙ h) s.1)
+same_type (Some id) (Some jd) t u text s h = ap (λ (x : ℕ). Some x) (same_concepts id jd s.0 h.0 (sym s.1 ∙ text ∙ h.1))
+
+same_key_after : (k l : Kind) (a b : Option Key) (id jd day other : List ℕ) → k ≡ l → id ≡ jd → day ≡ other → SpellsKeyAfter k a id day → SpellsKeyAfter l b jd other → a ≡ b
+same_key_after k l None None id jd day other kind ids days s h = refl
+same_key_after k l None (Some key) id jd day other kind ids days s h = absurd (not_dash l key.id jd (sym ids ∙ s.0) h.1 h.2)
+same_key_after k l (Some key) None id jd day other kind ids days s h = absurd (not_dash k key.id id (ids ∙ h.0) s.1 s.2)
+same_key_after k l (Some p) (Some q) id jd day other kind ids days s h =
+    let kinds_are : p.kind ≡ q.kind = s.0 ∙ kind ∙ sym h.0 in
+    let ids_are : p.id ≡ q.id = same_ids_of k l p.id q.id id jd kind ids s.1 h.1 s.2 h.2 in
+    let times_are : p.time ≡ q.time = same_times p.time q.time s.3 h.3 (sym s.4 ∙ days ∙ h.4) in
+    λ i. Some (record { id = ids_are i; time = times_are i; kind = kinds_are i })
+
+pub type_word : (type_id : Option ℕ) (t : List ℕ) → SpellsType type_id t → IsWord t
+type_word None t h = subst IsWord (sym h) none_word
+type_word (Some id) t h = let high = h.0.sctid.high in subst IsWord (sym h.1) (decimal_word id (omega arith))
+
+pub key_words : (k : Kind) (o : Option Key) (id day : List ℕ) → SpellsKeyAfter k o id day → IsWord id × IsWord day
+key_words k None id day h = (subst IsWord (sym h.0) none_word, subst IsWord (sym h.1) none_word)
+key_words k (Some key) id day h = (id_word k key.id id h.1 h.2, subst IsWord (sym h.4) (decimal_word key.time (time_below key.time h.3)))
+
 rest_same : (xs ys : List (List ℕ)) (x y : List (List ℕ)) → xs ≡ x → ys ≡ y → behind xs ≡ behind ys → behind x ≡ behind y
 rest_same xs ys x y e f same = sym (ap behind e) ∙ same ∙ ap behind f
+
+-- a kind, a key or none and a limit are spelled in one way
+one_rows : (k l : Kind) (a b : Option Key) (m n : ℕ) (xs ys : List (List ℕ)) → SpellsRows k a m xs → SpellsRows l b n ys → behind xs ≡ behind ys → (k ≡ l) × (a ≡ b) × (m ≡ n)
+one_rows k l a b m n xs ys s t same =
+    let whole = same_Some _ _ (rest_same xs ys _ _ s.5 t.5 same) in
+    let own = key_words k a s.0 s.1 s.2 in
+    let other = key_words l b t.0 t.1 t.2 in
+    let first = peel (letter k) (letter l) _ _ (letter_word k) (letter_word l) whole in
+    let second = peel s.0 t.0 _ _ own.0 other.0 first.1 in
+    let third = peel s.1 t.1 _ _ own.1 other.1 second.1 in
+    let kind = one_letter k l first.0 in
+    let low = s.4 in
+    let high = t.4 in
+    (kind, same_key_after k l a b s.0 t.0 s.1 t.1 kind second.0 third.0 s.2 t.2, decimal_injective m n (omega arith) (omega arith) third.1)
 
 one_row_question : (p q : RowQuestion) (xs ys : List (List ℕ)) → word_of_question (ForRows p) ≡ word_of_question (ForRows q) → SpellsQuestion (ForRows p) xs → SpellsQuestion (ForRows q) ys → behind xs ≡ behind ys → p ≡ q
 one_row_question (Get k id date) (Get l jd day) xs ys w s t same =
@@ -206,6 +246,9 @@ one_row_question (Called concept date refset) (Called other day also) xs ys w s 
     let days = same_times date day s.1 t.1 second.0 in
     let refsets = same_concepts refset also s.2 t.2 second.1 in
     ap (λ (x : ℕ). Called x date refset) concepts ∙ ap (λ (x : ℕ). Called other x refset) days ∙ ap (λ (x : ℕ). Called other day x) refsets
+one_row_question (AllRows k a m) (AllRows l b n) xs ys w s t same =
+    let e = one_rows k l a b m n xs ys s t same in
+    ap (λ (x : Kind). AllRows x a m) e.0 ∙ ap (λ (x : Option Key). AllRows l x m) e.1 ∙ ap (λ (x : ℕ). AllRows l b x) e.2
 one_row_question p q xs ys w s t same = absurd (false≢true (sym (ap (bytes_eq (word_of_question (ForRows p))) w)))
 
 one_id_question : (p q : IdQuestion) (xs ys : List (List ℕ)) → word_of_question (ForIds p) ≡ word_of_question (ForIds q) → SpellsQuestion (ForIds p) xs → SpellsQuestion (ForIds q) ys → behind xs ≡ behind ys → p ≡ q
@@ -218,6 +261,14 @@ one_id_question (Ancestors id date) (Ancestors jd day) xs ys w s t same =
 one_id_question (Descendants id date) (Descendants jd day) xs ys w s t same =
     let e = same_concept_dates id jd date day s.0 t.0 s.1 t.1 (same_Some _ _ (rest_same xs ys _ _ s.2 t.2 same)) in
     ap (λ (x : ℕ). Descendants x date) e.0 ∙ ap (λ (x : ℕ). Descendants jd x) e.1
+one_id_question (Sources type_id to date after limit) (Sources other of day since most) xs ys w s t same =
+    let whole = same_Some _ _ (rest_same xs ys _ _ s.8 t.8 same) in
+    let first = peel s.0 t.0 _ _ (type_word type_id s.0 s.2) (type_word other t.0 t.2) whole in
+    let e = same_refset_words to of date day s.1 t.1 limit most s.4 t.4 s.5 t.5 (component_after_word after s.1 s.3) (component_after_word since t.1 t.3) s.7 t.7 first.1 in
+    let types = same_type type_id other s.0 t.0 first.0 s.2 t.2 in
+    let afters = same_component_after after since s.1 t.1 e.2 s.3 t.3 in
+    ap (λ (x : Option ℕ). Sources x to date after limit) types ∙ ap (λ (x : ℕ). Sources other x date after limit) e.0 ∙ ap (λ (x : ℕ). Sources other of x after limit) e.1
+    ∙ ap (λ (x : Option ℕ). Sources other of day x limit) afters ∙ ap (λ (x : ℕ). Sources other of day since x) e.3
 one_id_question p q xs ys w s t same = absurd (false≢true (sym (ap (bytes_eq (word_of_question (ForIds p))) w)))
 
 one_question : (p q : Question) (xs ys : List (List ℕ)) → word_of_question p ≡ word_of_question q → SpellsQuestion p xs → SpellsQuestion q ys → behind xs ≡ behind ys → p ≡ q
@@ -229,6 +280,14 @@ one_question (Receipt m) (Receipt n) xs ys w s t same =
     let low = s.1 in
     let high = t.1 in
     ap (λ (x : ℕ). Receipt x) (decimal_injective m n (omega arith) (omega arith) (same_Some _ _ (rest_same xs ys _ _ s.2 t.2 same)))
+one_question (Added m k a x) (Added n l b y) xs ys w s t same =
+    let whole = same_Some _ _ (rest_same xs ys _ _ s.3 t.3 same) in
+    let low = s.1 in
+    let high = t.1 in
+    let heads = one_head (decimal m) (decimal n) _ _ (decimal_word m (omega arith)) (decimal_word n (omega arith)) (sym (spaced_is (decimal m) s.0) ∙ whole ∙ spaced_is (decimal n) t.0) in
+    let numbers = decimal_injective m n (omega arith) (omega arith) heads.0 in
+    let e = one_rows k l a b x y s.0 t.0 s.2 t.2 heads.1 in
+    ap (λ (z : ℕ). Added z k a x) numbers ∙ ap (λ (z : Kind). Added n z a x) e.0 ∙ ap (λ (z : Option Key). Added n l z x) e.1 ∙ ap (λ (z : ℕ). Added n l b z) e.2
 one_question p q xs ys w s t same = absurd (false≢true (sym (ap (nat_eq (form_of p)) (sym (form_is p) ∙ ap form w ∙ form_is q))))
 
 -- ---- one command

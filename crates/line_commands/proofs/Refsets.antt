@@ -32,18 +32,18 @@ refset_word refset h = let high = h.sctid.high in decimal_word refset (omega ari
 -- ---- MEMBERS, VALUES
 
 pub record RefsetForm (Spells : Option ℕ → List ℕ → Type 0) (text : List ℕ) : Type 0 where
-  refset : ℕ
-  date : ℕ
-  after : Option ℕ
-  word : List ℕ
-  limit : ℕ
-  is_concept : IsConcept refset
-  is_time : IsTime date
-  spells : Spells after word
-  is_word : IsWord word
-  low : 1 ≤ limit
-  high : limit ≤ most_rows
-  whole : text ≡ decimal refset ++ 32 ∷ (decimal date ++ 32 ∷ (word ++ 32 ∷ decimal limit))
+  pub refset : ℕ
+  pub date : ℕ
+  pub after : Option ℕ
+  pub word : List ℕ
+  pub limit : ℕ
+  pub is_concept : IsConcept refset
+  pub is_time : IsTime date
+  pub spells : Spells after word
+  pub is_word : IsWord word
+  pub low : 1 ≤ limit
+  pub high : limit ≤ most_rows
+  pub whole : text ≡ decimal refset ++ 32 ∷ (decimal date ++ 32 ∷ (word ++ 32 ∷ decimal limit))
 
 pub members_form : (text : List ℕ) (question : Question) → IsSpelledQuestion (codes "MEMBERS") (Some text) question → RefsetForm (SpellsAfter kinds.Member) text
 members_form text (ForRows (Members refset date after limit)) s = record {

@@ -1,12 +1,14 @@
 -- Definitions for this crate's private functions. No public clause cites them.
 use Rattle.std.specs.Prelude.{◌≡◌, ◌≢◌, ℕ, List, [], ◌∷◌, ◌++◌, codes, Option, Some, None, All}
+use Rattle.rf2_values.specs.declared.row.Kind.{Kind}
+use Rattle.rf2_values.specs.declared.key.Key.{Key}
 use Rattle.line_commands.specs.declared.command.Command.{Command as RustCommand}
 use Rattle.question_model.specs.declared.question.Question.{Question as RustQuestion}
 use Rattle.line_commands.specs.declared.words.Word.{Word}
 use Rattle.line_commands.specs.declared.words.Word.TheVariants as words
 use Rattle.line_commands.specs.declared.words.QuestionWord.{QuestionWord}
 use Rattle.line_commands.specs.declared.words.QuestionWord.TheVariants as asking
-use Rattle.line_commands.specs.Spelling.{word_of_question, SpellsQuestion}
+use Rattle.line_commands.specs.Spelling.{word_of_question, SpellsRows, SpellsQuestion}
 use Rattle.question_model.specs.Questions.{Question, question_of}
 use Rattle.line_commands.specs.Commands.{Command, Ask, word_of, SpellsArguments}
 use Rattle.line_commands.specs.Requests.{command_of, spaced}
@@ -37,9 +39,12 @@ text_of_question asking.Delta = codes "DELTA"
 text_of_question asking.Members = codes "MEMBERS"
 text_of_question asking.Values = codes "VALUES"
 text_of_question asking.Called = codes "CALLED"
+text_of_question asking.AllRows = codes "ROWS"
+text_of_question asking.Sources = codes "SOURCES"
 text_of_question asking.Dates = codes "DATES"
 text_of_question asking.Digest = codes "DIGEST"
 text_of_question asking.Receipt = codes "RECEIPT"
+text_of_question asking.Added = codes "ADDED"
 
 abbrev pub text_of_word : Word → List ℕ
 text_of_word (words.Question word) = text_of_question word
@@ -59,6 +64,11 @@ text_of_word words.Status = codes "STATUS"
 abbrev pub behind : List (List ℕ) → Option (List ℕ)
 behind [] = None
 behind (text ∷ texts) = Some (spaced (text ∷ texts))
+
+-- the text consists of a kind, a key of the kind or none, and a limit
+abbrev pub IsRowsText : Kind → Option Key → ℕ → List ℕ → Type 0
+IsRowsText kind after limit text = (texts : List (List ℕ)) × SpellsRows kind after limit texts
+    × (behind texts ≡ Some text)
 
 -- the word and the text after it spell the question
 pub record IsSpelledQuestion (word : List ℕ) (rest : Option (List ℕ)) (question : Question)

@@ -4,12 +4,13 @@ use Rattle.std.specs.Prelude.{Some, None}
 use Rattle.std.specs.Str.{IsUtf8}
 use Rattle.rf2_values.specs.declared.row.Kind.{Kind}
 use Rattle.rf2_values.specs.declared.row.Kind.TheVariants as kinds
+use Rattle.rf2_values.specs.declared.key.Key.{Key}
 use Rattle.rf2_values.specs.Row.{IsIdOf, SpellsId, IsConcept, IsComponent}
 use Rattle.rf2_values.specs.Time.{IsTime}
-use Rattle.question_model.specs.Questions.{Question, ForRows, ForIds, Dates, Digest, Receipt}
+use Rattle.question_model.specs.Questions.{Question, ForRows, ForIds, Dates, Digest, Receipt, Added}
 use Rattle.question_model.specs.Questions.{Get, History, Terms, Search, Replaced, Replaces, About, Timeline}
-use Rattle.question_model.specs.Questions.{Page, Delta, Members, Values, Called}
-use Rattle.question_model.specs.Questions.{Children, Ancestors, Descendants}
+use Rattle.question_model.specs.Questions.{Page, Delta, Members, Values, Called, AllRows}
+use Rattle.question_model.specs.Questions.{Children, Ancestors, Descendants, Sources}
 
 -- the word of a question
 abbrev pub word_of_question : Question → List ℕ
@@ -29,9 +30,12 @@ word_of_question (ForRows (Delta kind from date after limit)) = codes "DELTA"
 word_of_question (ForRows (Members refset date after limit)) = codes "MEMBERS"
 word_of_question (ForRows (Values refset date after limit)) = codes "VALUES"
 word_of_question (ForRows (Called concept date refset)) = codes "CALLED"
+word_of_question (ForRows (AllRows kind after limit)) = codes "ROWS"
+word_of_question (ForIds (Sources type_id destination date after limit)) = codes "SOURCES"
 word_of_question Dates = codes "DATES"
 word_of_question Digest = codes "DIGEST"
 word_of_question (Receipt number) = codes "RECEIPT"
+word_of_question (Added number kind after limit) = codes "ADDED"
 
 -- the greatest number of rows that can be asked for
 abbrev pub most_rows : ℕ
@@ -66,6 +70,23 @@ SpellsAfter kind (Some id) text = IsIdOf kind id × SpellsId kind id text
 abbrev pub SpellsComponentAfter : Option ℕ → List ℕ → Type 0
 SpellsComponentAfter None text = text ≡ codes "-"
 SpellsComponentAfter (Some id) text = IsComponent id × (text ≡ decimal id)
+
+-- the type of a relationship, or `-` for any type
+abbrev pub SpellsType : Option ℕ → List ℕ → Type 0
+SpellsType None text = text ≡ codes "-"
+SpellsType (Some id) text = IsConcept id × (text ≡ decimal id)
+
+-- the identifier and the date of a key of the kind, or `-` twice for none
+abbrev pub SpellsKeyAfter : Kind → Option Key → (id day : List ℕ) → Type 0
+SpellsKeyAfter kind None id day = (id ≡ codes "-") × (day ≡ codes "-")
+SpellsKeyAfter kind (Some key) id day = (key.kind ≡ kind) × IsIdOf kind key.id
+    × SpellsId kind key.id id × IsTime key.time × (day ≡ decimal key.time)
+
+-- a kind, a key of the kind or none, and a limit
+abbrev pub SpellsRows : Kind → Option Key → ℕ → List (List ℕ) → Type 0
+SpellsRows kind after limit texts = (id : List ℕ) × (day : List ℕ)
+    × SpellsKeyAfter kind after id day × (1 ≤ limit) × (limit ≤ most_rows)
+    × (texts ≡ letter kind ∷ id ∷ day ∷ decimal limit ∷ [])
 
 -- How the arguments of a question are spelled. The last one of TERMS and SEARCH may contain spaces.
 abbrev pub SpellsQuestion : Question → List (List ℕ) → Type 0
@@ -113,7 +134,14 @@ SpellsQuestion (ForRows (Values refset date after limit)) texts =
 SpellsQuestion (ForRows (Called concept date refset)) texts =
     IsConcept concept × IsTime date × IsConcept refset
     × (texts ≡ decimal concept ∷ decimal date ∷ decimal refset ∷ [])
+SpellsQuestion (ForRows (AllRows kind after limit)) texts = SpellsRows kind after limit texts
+SpellsQuestion (ForIds (Sources type_id destination date after limit)) texts =
+    (word : List ℕ) × (text : List ℕ) × SpellsType type_id word × SpellsComponentAfter after text
+    × IsConcept destination × IsTime date × (1 ≤ limit) × (limit ≤ most_rows)
+    × (texts ≡ word ∷ decimal destination ∷ decimal date ∷ text ∷ decimal limit ∷ [])
 SpellsQuestion Dates texts = texts ≡ []
 SpellsQuestion Digest texts = texts ≡ []
 SpellsQuestion (Receipt number) texts =
     (1 ≤ number) × (number < 2 ^ 32) × (texts ≡ decimal number ∷ [])
+SpellsQuestion (Added number kind after limit) texts = (rest : List (List ℕ))
+    × (number < 2 ^ 32) × SpellsRows kind after limit rest × (texts ≡ decimal number ∷ rest)

@@ -1,16 +1,17 @@
 //! Parses single arguments: each function returns the one value that a text spells, or none.
 
 ghost use Rattle.std.specs.Prelude.{◌≡◌, ◌≢◌, ◌≤◌, ◌<◌, ◌^◌, ℕ, Option, MatchOption, decimal};
-ghost use Rattle.std.specs.Prelude.{length};
+ghost use Rattle.std.specs.Prelude.{length, Some};
 ghost use Rattle.std.specs.Str.{IsUtf8};
 ghost use Rattle.rf2_values.specs.Member.{SpellsMember};
 ghost use Rattle.rf2_values.specs.Row.{IsOfClass, IsComponent, IsIdOf, SpellsId};
 ghost use Rattle.line_commands.specs.Spelling.{letter, IsSubjectOf, SpellsAfter};
-ghost use Rattle.line_commands.specs.Spelling.{SpellsComponentAfter};
+ghost use Rattle.line_commands.specs.Spelling.{SpellsComponentAfter, SpellsType, SpellsKeyAfter};
+ghost use Rattle.rf2_values.specs.declared.key.Key.{Key};
 ghost use Rattle.line_commands.specs.Requests.{sessions};
 
 use crate::command::SESSIONS;
-use rf2_values::{Class, Kind, Member, Sctid, number};
+use rf2_values::{Class, EffectiveTime, Key, Kind, Member, Sctid, number};
 
 /// A session's number.
 pub(crate) fn session_number(text: &[u8]) -> Option<u16>
@@ -129,6 +130,44 @@ pub(crate) fn prefix(text: &[u8]) -> Option<&str>
     match str::from_utf8(text) {
         Ok(prefix) => Some(prefix),
         Err(_) => None,
+    }
+}
+
+/// The type of a relationship, or `-` for any type.
+pub(crate) fn type_of(text: &[u8]) -> Option<Option<Sctid>>
+    ensures { MatchOption result ((o : Option ℕ) → SpellsType o text.now → ⊥)
+        (λ o. SpellsType o text.now) }
+{
+    if text == b"-".as_slice() {
+        return Some(None);
+    }
+    match sctid_of(text, Class::Concept) {
+        Some(id) => Some(Some(id)),
+        None => None,
+    }
+}
+
+/// A key of a kind, spelled by its identifier and its date.
+fn key(kind: Kind, id: &[u8], day: &[u8]) -> Option<Key>
+    ensures { MatchOption result ((k : Key) → SpellsKeyAfter kind (Some k) id.now day.now → ⊥)
+        (λ k. SpellsKeyAfter kind (Some k) id.now day.now) }
+{
+    let id = identifier(kind, id)?;
+    let time = EffectiveTime::parse(day)?;
+    Some(Key { id, time, kind })
+}
+
+/// A key of a kind, or `-` twice for none.
+pub(crate) fn key_after(kind: Kind, id: &[u8], day: &[u8]) -> Option<Option<Key>>
+    ensures { MatchOption result ((o : Option Key) → SpellsKeyAfter kind o id.now day.now → ⊥)
+        (λ o. SpellsKeyAfter kind o id.now day.now) }
+{
+    if id == b"-".as_slice() && day == b"-".as_slice() {
+        return Some(None);
+    }
+    match key(kind, id, day) {
+        Some(key) => Some(Some(key)),
+        None => None,
     }
 }
 

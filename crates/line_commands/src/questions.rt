@@ -2,17 +2,20 @@
 //! returns none if that isn't such a question.
 
 ghost use Rattle.std.specs.Prelude.{◌≡◌, ◌≢◌, ◌++◌, ◌∷◌, ℕ, MatchOption, Some, codes};
-ghost use Rattle.std.specs.Prelude.{decimal, option_map};
+ghost use Rattle.std.specs.Prelude.{decimal, option_map, Option};
 ghost use Rattle.rf2_values.specs.Row.{IsConcept, IsComponent};
 ghost use Rattle.rf2_values.specs.Time.{IsTime};
-ghost use Rattle.line_commands.specs.Private.{IsQuestionReadAs, text_of_question};
+ghost use Rattle.line_commands.specs.Private.{IsQuestionReadAs, IsRowsText, text_of_question};
+ghost use Rattle.rf2_values.specs.declared.row.Kind.{Kind};
+ghost use Rattle.rf2_values.specs.declared.key.Key.{Key};
 
 use crate::columns::{
-    after, component, component_after, identifier, kind, limit, prefix, sctid_of, subject,
+    after, component, component_after, identifier, import_number, key_after, kind, limit, prefix,
+    sctid_of, subject, type_of,
 };
 use crate::words::{QuestionWord, cut, cut_thrice, cut_twice};
 use question_model::{IdQuestion, Question, RowQuestion};
-use rf2_values::{Class, EffectiveTime, Kind, Sctid};
+use rf2_values::{Class, EffectiveTime, Key, Kind, Sctid};
 
 /// The greatest number of rows that can be asked for.
 const MOST_ROWS: u32 = 1000;
@@ -227,6 +230,59 @@ fn called(text: &[u8]) -> Option<Question<'_>>
     }))
 }
 
+/// The arguments of ROWS, which follow the number in those of ADDED: a kind, a key, and a limit.
+fn kind_key_and_limit(text: &[u8]) -> Option<(Kind, Option<Key>, u32)>
+    ensures { MatchOption result
+        ((k : Kind) (o : Option Key) (n : ℕ) → IsRowsText k o n text.now → ⊥)
+        (λ x. IsRowsText x.0 x.1 x.2 text.now) }
+{
+    let (letter, id, day, count) = cut_thrice(text)?;
+    let kind = kind(letter)?;
+    let after = key_after(kind, id, day)?;
+    let limit = limit(count, MOST_ROWS)?;
+    Some((kind, after, limit))
+}
+
+fn all_rows(text: &[u8]) -> Option<Question<'_>>
+    ensures { IsQuestionReadAs (codes "ROWS") (Some text.now) result }
+{
+    let (kind, after, limit) = kind_key_and_limit(text)?;
+    Some(Question::ForRows(RowQuestion::AllRows { kind, after, limit }))
+}
+
+fn added(text: &[u8]) -> Option<Question<'_>>
+    ensures { IsQuestionReadAs (codes "ADDED") (Some text.now) result }
+{
+    let (word, rest) = cut(text)?;
+    let number = import_number(word)?;
+    let (kind, after, limit) = kind_key_and_limit(rest)?;
+    Some(Question::Added {
+        number,
+        kind,
+        after,
+        limit,
+    })
+}
+
+fn sources(text: &[u8]) -> Option<Question<'_>>
+    ensures { IsQuestionReadAs (codes "SOURCES") (Some text.now) result }
+{
+    let (word, rest) = cut(text)?;
+    let (to, day, from, count) = cut_thrice(rest)?;
+    let type_id = type_of(word)?;
+    let destination = sctid_of(to, Class::Concept)?;
+    let date = EffectiveTime::parse(day)?;
+    let after = component_after(from)?;
+    let limit = limit(count, MOST_ROWS)?;
+    Some(Question::ForIds(IdQuestion::Sources {
+        type_id,
+        destination,
+        date,
+        after,
+        limit,
+    }))
+}
+
 fn receipt(text: &[u8]) -> Option<Question<'_>>
     ensures { IsQuestionReadAs (codes "RECEIPT") (Some text.now) result }
 {
@@ -259,7 +315,10 @@ pub(crate) fn question<'a>(word: QuestionWord, rest: Option<&'a [u8]>) -> Option
             QuestionWord::Members => members(text),
             QuestionWord::Values => values(text),
             QuestionWord::Called => called(text),
+            QuestionWord::AllRows => all_rows(text),
+            QuestionWord::Sources => sources(text),
             QuestionWord::Receipt => receipt(text),
+            QuestionWord::Added => added(text),
             QuestionWord::Dates | QuestionWord::Digest => None,
         },
         None => match word {

@@ -28,9 +28,12 @@ pub(crate) enum QuestionWord {
     Members,
     Values,
     Called,
+    AllRows,
+    Sources,
     Dates,
     Digest,
     Receipt,
+    Added,
 }
 
 /// The word of a command.
@@ -116,9 +119,12 @@ pub(crate) fn question_word(text: &[u8]) -> Option<QuestionWord>
         b"MEMBERS" => Some(QuestionWord::Members),
         b"VALUES" => Some(QuestionWord::Values),
         b"CALLED" => Some(QuestionWord::Called),
+        b"ROWS" => Some(QuestionWord::AllRows),
+        b"SOURCES" => Some(QuestionWord::Sources),
         b"DATES" => Some(QuestionWord::Dates),
         b"DIGEST" => Some(QuestionWord::Digest),
         b"RECEIPT" => Some(QuestionWord::Receipt),
+        b"ADDED" => Some(QuestionWord::Added),
         _ => None,
     }
 }

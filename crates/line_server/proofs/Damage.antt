@@ -5,7 +5,7 @@ use Rattle.disk_model.specs.View.{DiskView}
 use Rattle.history_store.specs.declared.refusal.Refusal.{Refusal}
 use Rattle.history_store.specs.declared.refusal.Refusal.TheVariants as store
 use Rattle.history_store.specs.StoreValue.{StoreValue}
-use Rattle.question_model.specs.Questions.{Question, Dates, Receipt, ForIds}
+use Rattle.question_model.specs.Questions.{Question, Dates, Receipt, Added, ForIds}
 use Rattle.line_commands.specs.Commands.{Command, Ask, At, Import, Check, Pin, Unpin, Merge, Step, Publish, Abandon, Trim, Status}
 use Rattle.line_server.specs.declared.refusal.LineRefusal.{LineRefusal}
 use Rattle.line_server.specs.declared.refusal.LineRefusal.TheVariants as refusals
@@ -84,6 +84,7 @@ module _ {D : Type 0} (honest : Type 0) (up : honest) (releases : Releases) (old
 
   asked_undamaged : (seen : ℕ) (question : Question) → IsRefusalAt honest seen question store.Damaged old new → ⊥
   asked_undamaged seen (Receipt number) r = closed_undamaged r.1
+  asked_undamaged seen (Added number kind after limit) r = r.1.undamaged up refl
   asked_undamaged seen (ForIds ids) r = listed_undamaged r
   asked_undamaged seen Dates r = listed_undamaged r
   asked_undamaged seen question r = r.undamaged up refl

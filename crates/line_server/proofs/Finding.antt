@@ -6,8 +6,8 @@ use Rattle.history_model.specs.History.{rows_at}
 use Rattle.history_model.proofs.Hierarchy.{one_list_of_ancestors, one_list_of_descendants}
 use Rattle.history_store.specs.declared.refusal.Refusal.{Refusal}
 use Rattle.history_store.specs.declared.refusal.Refusal.TheVariants as store
-use Rattle.question_model.specs.Questions.{Question, Dates, Digest, Receipt, ForRows, ForIds}
-use Rattle.question_model.specs.Questions.{IdQuestion, Children, Ancestors, Descendants}
+use Rattle.question_model.specs.Questions.{Question, Dates, Digest, Receipt, Added, ForRows, ForIds}
+use Rattle.question_model.specs.Questions.{IdQuestion, Children, Ancestors, Descendants, Sources}
 use Rattle.question_model.specs.Wanted.{AreIdsFor}
 use Rattle.line_server.specs.declared.refusal.LineRefusal.{LineRefusal}
 use Rattle.line_server.specs.declared.refusal.LineRefusal.TheVariants as refusals
@@ -29,6 +29,7 @@ AsksReceipt _ = ⊥
 
 abbrev pub AsksFound : Question → Type 0
 AsksFound (Receipt number) = ⊥
+AsksFound (Added number kind after limit) = ⊥
 AsksFound _ = Unit {0}
 
 -- ---- one answer
@@ -38,6 +39,7 @@ same_ids : (question : IdQuestion) (rows : List RowValue) (ids others : List ℕ
 same_ids (Children concept date) rows ids others are also = are ∙ sym also
 same_ids (Ancestors concept date) rows ids others are also = one_list_of_ancestors concept date rows ids others are also
 same_ids (Descendants concept date) rows ids others are also = one_list_of_descendants concept date rows ids others are also
+same_ids (Sources type_id destination date after limit) rows ids others are also = are ∙ sym also
 
 -- a question finds one answer
 pub one_found : (question : Question) (rows : List RowValue) (x y : Answer) → IsFound question rows x → IsFound question rows y → x ≡ y
@@ -46,6 +48,7 @@ one_found (ForIds question) rows x y (ids, are, is) (others, also, so) = is ∙ 
 one_found Dates rows x y h k = h ∙ sym k
 one_found Digest rows x y h k = h ∙ sym k
 one_found (Receipt number) rows x y h k = absurd h
+one_found (Added number kind after limit) rows x y h k = absurd h
 
 -- ---- how a question comes out
 
@@ -71,21 +74,22 @@ module _ {D : Type 0} (honest : Type 0) (up : honest) (seen : ℕ) (old new : Se
   answer_found : (question : Question) (answer : Answer) → AsksFound question → IsAnswerAt honest seen question answer old new
       → (old.store.needs_reopen ≡ false) × Same old new × IsFound question (rows_at seen old.store.history.rows) answer
   answer_found (Receipt number) answer q a = absurd q
+  answer_found (Added number kind after limit) answer q a = absurd q
   answer_found (ForIds ids) answer q a = (a.0, a.1, a.2)
   answer_found Dates answer q a = (a.0, a.1, a.2)
   answer_found Digest answer q a = (a.0, a.1, a.2.4 up)
   answer_found question answer q a = (a.0, a.1, a.2.3 up)
 
   -- an open store refuses it only for want of memory or the disk
-  unfound : (question : Question) (refusal : Refusal) → IsSure (Err (refusals.Store refusal)) → IsUnfound honest seen question refusal old new → IsShut (Err (refusals.Store refusal)) old × Same old new
-  unfound question store.ReopenNeeded sure u = (
+  pub unfound : (rows : List RowValue) (question : Question) (refusal : Refusal) → IsSure (Err (refusals.Store refusal)) → IsUnfound honest rows question refusal old new → IsShut (Err (refusals.Store refusal)) old × Same old new
+  unfound rows question store.ReopenNeeded sure u = (
     (u.cause, refl),
     record { pins = u.pins; store = record { history = u.refused.history; catalog = u.refused.catalog; needs_reopen = u.refused.still (λ e. false≢true (ap is_fault e)) } },
   )
-  unfound question store.Damaged sure u = absurd (u.undamaged up refl)
-  unfound question store.OutOfMemory sure u = absurd sure
-  unfound question store.DiskFault sure u = absurd sure
-  unfound question _ sure u = absurd u.cause
+  unfound rows question store.Damaged sure u = absurd (u.undamaged up refl)
+  unfound rows question store.OutOfMemory sure u = absurd sure
+  unfound rows question store.DiskFault sure u = absurd sure
+  unfound rows question _ sure u = absurd u.cause
 
   unlisted : (refusal : Refusal) → IsSure (Err (refusals.Store refusal)) → IsClosed refusal old new ⊎ IsLacking refusal old new → IsShut (Err (refusals.Store refusal)) old × Same old new
   unlisted refusal sure (inl h) = ((h.1, ap (λ (e : Refusal). Err (refusals.Store e)) h.0), same_from old new h.2)
@@ -94,12 +98,14 @@ module _ {D : Type 0} (honest : Type 0) (up : honest) (seen : ℕ) (old new : Se
   refused : (question : Question) (refusal : Refusal) → AsksFound question → IsSure (Err (refusals.Store refusal)) → IsRefusalAt honest seen question refusal old new
       → IsShut (Err (refusals.Store refusal)) old × Same old new
   refused (Receipt number) refusal q sure r = absurd q
+  refused (Added number kind after limit) refusal q sure r = absurd q
   refused (ForIds ids) refusal q sure r = unlisted refusal sure r
   refused Dates refusal q sure r = unlisted refusal sure r
-  refused question refusal q sure r = unfound question refusal sure r
+  refused question refusal q sure r = unfound (rows_at seen old.store.history.rows) question refusal sure r
 
   not_unseen : {A : Type 0} (question : Question) → AsksFound question → IsUnseen seen question → A
   not_unseen (Receipt number) q h = absurd q
+  not_unseen (Added number kind after limit) q h = absurd q
   not_unseen question q h = absurd h
 
   pub found_out : (question : Question) (outcome : Result Answer LineRefusal) → AsksFound question → IsSure outcome → OutcomeAt honest seen question outcome old new → ComesOut seen question outcome old × Same old new

@@ -9,7 +9,7 @@ use Rattle.import_check.specs.Release.{files_of}
 use Rattle.history_store.specs.declared.refusal.Refusal.{Refusal}
 use Rattle.history_store.specs.declared.refusal.Refusal.TheVariants as store
 use Rattle.history_store.specs.Prepared.{IsForLater}
-use Rattle.question_model.specs.Questions.{Question, Dates, Receipt, ForIds}
+use Rattle.question_model.specs.Questions.{Question, Dates, Receipt, Added, ForIds}
 use Rattle.line_commands.specs.Commands.{Command, Ask, At, Import, Check, Pin, Unpin, Merge, Step, Publish, Abandon, Trim, Status}
 use Rattle.line_commands.specs.Requests.{Asks}
 use Rattle.line_server.specs.declared.refusal.LineRefusal.{LineRefusal}
@@ -44,6 +44,7 @@ module _ {D : Type 0} (honest : Type 0) (releases : Releases) (none : GivesNoMem
 
   asked_never : (seen : ℕ) (question : Question) → IsRefusalAt honest seen question store.LaterVersion old new → ⊥
   asked_never seen (Receipt number) r = closed_never r.1
+  asked_never seen (Added number kind after limit) r = r.1.cause
   asked_never seen (ForIds ids) r = listed_never r
   asked_never seen Dates r = listed_never r
   asked_never seen question r = r.cause

@@ -15,7 +15,7 @@ use Rattle.history_store.specs.Answers.{IsImportOf}
 use Rattle.history_store.specs.Checking.{IsCheckingOf}
 use Rattle.history_store.specs.MergeAnswers.{IsBeginningOf}
 use Rattle.line_commands.specs.declared.unread.Unread.{Unread}
-use Rattle.question_model.specs.Questions.{Question, Receipt as AskReceipt}
+use Rattle.question_model.specs.Questions.{Question, Receipt as AskReceipt, Added}
 use Rattle.line_commands.specs.Commands.{Command, Ask, At, Import, Check, Pin, Unpin, Merge, Step, Publish, Abandon, Trim, Status}
 use Rattle.line_commands.proofs.Readings.{one_reading, asked_is_read, one_refusal}
 use Rattle.line_server.specs.declared.refusal.LineRefusal.{LineRefusal}
@@ -31,6 +31,7 @@ use Rattle.history_store.specs.Checking.{HasFailed}
 use Rattle.line_server.specs.Laws.{OneReply, AreAlike, IsSure, without_sums}
 use Rattle.store_life.proofs.AlikeReleases.{import_alike}
 use Rattle.line_server.proofs.AskedOf.{OutcomeAt, outcome_at}
+use Rattle.line_server.proofs.AddedRows.{added_out, one_added}
 use Rattle.line_server.proofs.Finding.{AsksFound, same_from, found_out, one_way}
 use Rattle.line_server.proofs.Damage.{not_both}
 use Rattle.line_server.proofs.Pinned.{Settles}
@@ -359,6 +360,10 @@ module _ {D : Type 0} (a b after next : Server D) (honest also : Type 0) (up : h
 
   one_question : (question : Question) (m n : ℕ) (x y : Result Answer LineRefusal) → m ≡ n → IsSure x → IsSure y → OutcomeAt honest m question x a after → OutcomeAt also n question y b next → (x ≡ y) × AreLike after next
   one_question (AskReceipt number) m n x y seen u v h k = one_receipt_told number m n x y seen h k
+  one_question (Added number kind from limit) m n x y seen u v h k =
+      let one = added_out number kind from limit honest up m x a after u h in
+      let two = added_out number kind from limit also so n y b next v k in
+      (one_added number kind from limit m n x y a b seen (sym same.history) (sym same.needs_reopen) one.0 two.0, then_like a b after next same one.1 two.1)
   one_question question m n x y seen u v h k = one_found_told question m n x y tt seen u v h k
 
 -- behind AT the number is compared first

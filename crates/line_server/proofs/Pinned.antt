@@ -4,7 +4,7 @@ use Rattle.std.proofs.lemmas.Bool.{false≢true}
 use Rattle.disk_model.specs.View.{DiskView}
 use Rattle.rf2_values.specs.Row.{RowValue}
 use Rattle.history_model.specs.History.{rows_at}
-use Rattle.question_model.specs.Questions.{Question, Receipt}
+use Rattle.question_model.specs.Questions.{Question, Receipt, Added}
 use Rattle.line_commands.specs.Commands.{Command}
 use Rattle.line_commands.specs.Requests.{Asks}
 use Rattle.line_commands.proofs.Readings.{one_reading, asked_is_read}
@@ -42,6 +42,7 @@ question_out honest releases old new line session command question pin outcome a
 -- what is found isn't a receipt
 found_asked : (question : Question) (rows : List RowValue) (query : Answer) → IsFound question rows query → AsksFound question
 found_asked (Receipt number) rows query h = h
+found_asked (Added number kind after limit) rows query h = h
 found_asked question rows query h = tt
 
 -- on an honest disk an open store answers what is found

@@ -5,6 +5,8 @@ use Rattle.std.specs.Prelude.{decimal, slice_set, unwrap_or}
 use Rattle.std.proofs.lemmas.Bool.{false≢true}
 use Rattle.std.proofs.lemmas.List.Elements.{All-set}
 use Rattle.history_model.specs.History.{rows_at}
+use Rattle.rf2_values.specs.declared.row.Kind.{Kind}
+use Rattle.rf2_values.specs.declared.key.Key.{Key}
 use Rattle.history_model.specs.Brought.{ImportReceiptOf}
 use Rattle.history_store.specs.declared.refusal.Refusal.{Refusal}
 use Rattle.history_store.specs.declared.refusal.Refusal.TheVariants as store
@@ -13,7 +15,7 @@ use Rattle.history_store.specs.Queries.{is_listed}
 use Rattle.blocks.proofs.Looked.{none_looks_up}
 use Rattle.history_store.specs.Answers.{CountsRefusal}
 use Rattle.line_commands.specs.declared.unread.Unread.{Unread}
-use Rattle.question_model.specs.Questions.{Question, Dates, Digest, Receipt as AskReceipt, ForRows, ForIds}
+use Rattle.question_model.specs.Questions.{Question, Dates, Digest, Receipt as AskReceipt, Added, ForRows, ForIds}
 use Rattle.line_commands.specs.Commands.{Command, Ask, At, Import, Check, Pin, Unpin, Merge, Step, Publish, Status}
 use Rattle.line_commands.specs.Requests.{Asks, IsUnread}
 use Rattle.line_commands.proofs.Readings.{asked_is_read, one_reading}
@@ -22,7 +24,7 @@ use Rattle.line_server.specs.declared.refusal.LineRefusal.TheVariants as refusal
 use Rattle.line_server.specs.Pins.{AreWithin, pin_of}
 use Rattle.line_server.specs.Sources.{Releases, SourceView, source_view}
 use Rattle.line_server.specs.ReplyValue.{Answer, Done, ReplyValue, reply_value}
-use Rattle.line_server.specs.Replies.{Server, imports_seen, IsFound, IsAnswer, IsAnswerAt, IsRefusalAt, IsClosed, IsLacking, IsOutOfRange, NeedsLater, Replies, receipt_of, status_of, server}
+use Rattle.line_server.specs.Replies.{IsUnseen, Server, imports_seen, IsFound, IsAnswer, IsAnswerAt, IsRefusalAt, IsClosed, IsLacking, IsOutOfRange, NeedsLater, Replies, receipt_of, status_of, server}
 use Rattle.store_life.specs.Life.{Other}
 use Rattle.line_server.specs.Turns.{CountsOutcome, GoesBy, HasTurn, IsToldBy, LeavesAsked, LeavesDisk}
 use Rattle.line_server.specs.StateValue.{StateValue, IsHeldBack, HoldsBack}
@@ -166,8 +168,17 @@ unasked_left : {D : Type 0} (view : D → DiskView) (seen : ℕ) (question : Que
 unasked_left view seen (ForIds ids) refusal s = refl
 unasked_left view seen Dates refusal s = refl
 unasked_left view seen (AskReceipt other) refusal s = refl
+unasked_left view seen (Added number kind after limit) refusal s = ((λ h. refl, none_looks_up (is_listed s.catalog.entries) s.cache (view s.disk).bytes_read), tt, omega arith)
 unasked_left view seen Digest refusal s = ((λ h. refl, none_looks_up (is_listed s.catalog.entries) s.cache (view s.disk).bytes_read), omega arith)
 unasked_left view seen (ForRows question) refusal s = ((λ h. refl, none_looks_up (is_listed s.catalog.entries) s.cache (view s.disk).bytes_read), tt, omega arith)
+
+-- ---- ADDED
+
+-- no import that is seen has the number
+pub added_unseen : {D : Type 0} (view : D → DiskView) (number : ℕ) (kind : Kind) (after : Option Key) (limit pin : ℕ) (s : StoreValue D) → IsUnseen pin (Added number kind after limit) → IsQueried (Err refusals.PinRange) view (Added number kind after limit) pin s s
+added_unseen view number kind after limit pin s unseen =
+    queried view (Err refusals.PinRange) (Added number kind after limit) pin (Err refusals.PinRange) s s (λ met. refl) refl
+    (λ state. (unseen, refl)) (unmade view s) refl (unasked_left view pin (Added number kind after limit) refusals.PinRange s) (omega arith)
 
 module _ {D : Type 0} (view : D → DiskView) (number : ℕ) (question : Question) (old new : StoreValue D) where
   -- as the question is answered that is asked of the first so many imports

@@ -8,6 +8,7 @@ use Rattle.rf2_values.specs.Key.{key_of}
 use Rattle.history_model.specs.declared.receipt.Receipt.{Receipt}
 use Rattle.history_model.specs.History.{rows_at}
 use Rattle.history_model.specs.Brought.{ImportReceiptOf}
+use Rattle.history_model.specs.Exports.{rows_added}
 use Rattle.history_model.specs.Queries.{dates}
 use Rattle.import_check.specs.declared.scope.Scope.TheVariants as scopes
 use Rattle.import_check.specs.declared.release.Release.{Release}
@@ -24,9 +25,9 @@ use Rattle.history_store.specs.MergeAnswers.{IsBeginningOf, IsSteppingOf, IsPubl
 use Rattle.history_store.specs.MergeAnswers.{IsAbandoningOf, IsTrimmingOf}
 use Rattle.line_commands.specs.declared.unread.Unread.{Unread}
 use Rattle.question_model.specs.Questions.{RowQuestion, Get, History, About, Timeline, Page, Delta}
-use Rattle.question_model.specs.Questions.{Members, Values, Called}
+use Rattle.question_model.specs.Questions.{Members, Values, Called, AllRows}
 use Rattle.question_model.specs.Questions.{Question, ForRows, ForIds, Dates as AskDates, Digest}
-use Rattle.question_model.specs.Questions.{Receipt as AskReceipt}
+use Rattle.question_model.specs.Questions.{Receipt as AskReceipt, Added}
 use Rattle.question_model.specs.Wanted.{rows_for, AreIdsFor}
 use Rattle.index_answers.specs.Keys.{SameKeysFor}
 use Rattle.line_commands.specs.Commands.{Command, Ask, At, Import, Check, Pin, Unpin, Merge, Step}
@@ -70,7 +71,8 @@ pub record Same {D : Type 0} (old new : Server D) : Type 0 where
 abbrev pub imports_seen : {D : Type 0} → Server D → ℕ → ℕ
 imports_seen server session = pin_of server.pins session server.store.history.imports
 
--- What a question finds in the rows shown by a pin. A receipt isn't found in them.
+-- What a question finds in the rows shown by a pin. A receipt isn't found in them, nor is what an
+-- import added.
 abbrev pub IsFound : Question → List RowValue → Answer → Type 0
 IsFound (ForRows question) rows answer = answer ≡ Rows (rows_for question rows)
 IsFound (ForIds question) rows answer =
@@ -78,6 +80,7 @@ IsFound (ForIds question) rows answer =
 IsFound AskDates rows answer = answer ≡ Dates (dates rows)
 IsFound Digest rows answer = answer ≡ digits_of (digest_of rows)
 IsFound (AskReceipt number) rows answer = ⊥
+IsFound (Added number kind after limit) rows answer = ⊥
 
 -- The answer is what the question finds: on every disk if the index alone finds it, and otherwise,
 -- when rows are read, on an honest disk. On every disk the answer consists of rows with the same
@@ -93,6 +96,7 @@ IsFinding honest Digest rows answer = (digest : List ℕ) × (length digest ≡ 
     × (answer ≡ digits_of digest) × IsDigestByKey digest rows
     × (honest → IsFound Digest rows answer)
 IsFinding honest (AskReceipt number) rows answer = ⊥
+IsFinding honest (Added number kind after limit) rows answer = ⊥
 
 -- the session's pin is set or removed; the store and its disk are unchanged
 abbrev pub IsPinned : {D : Type 0} → Server D → Server D → ℕ → Option ℕ → Type 0
@@ -155,12 +159,25 @@ pub record IsReceived {D : Type 0} (seen number : ℕ) (answer : Answer) (old ne
   pub answer_is : answer ≡ Done (receipt_of number brought latest)
   pub unchanged : new ≡ old
 
--- the answer to a question about the first `seen` imports; it changes nothing
+-- the answer to a question that is asked of these rows; it changes nothing
+abbrev pub IsAnswerIn : {D : Type 0} → Type 0 → Question → List RowValue → Answer → Server D
+    → Server D → Type 0
+IsAnswerIn honest question rows answer old new = (old.store.needs_reopen ≡ false) × Same old new
+    × IsFinding honest question rows answer
+
+-- the number is that of one of the first `seen` imports
+abbrev pub IsNumber : (seen number : ℕ) → Type 0
+IsNumber seen number = (1 ≤ number) × (number ≤ seen)
+
+-- The answer to a question about the first `seen` imports; it changes nothing. ADDED asks for rows
+-- as ROWS does, of those that an import was the first to bring.
 abbrev pub IsAnswerAt : {D : Type 0} → Type 0 → ℕ → Question → Answer → Server D → Server D → Type 0
 IsAnswerAt honest seen (AskReceipt number) answer old new = IsReceived seen number answer old new
+IsAnswerAt honest seen (Added number kind after limit) answer old new = IsNumber seen number
+    × IsAnswerIn honest (ForRows (AllRows kind after limit))
+    (rows_added number old.store.history.rows) answer old new
 IsAnswerAt honest seen question answer old new =
-    (old.store.needs_reopen ≡ false) × Same old new
-    × IsFinding honest question (rows_at seen old.store.history.rows) answer
+    IsAnswerIn honest question (rows_at seen old.store.history.rows) answer old new
 
 -- The answer to a command, and the server after it. A question is asked about the imports that its
 -- session sees, or after AT about the first `number`: then it is answered as in a session that is
@@ -219,15 +236,15 @@ abbrev pub AsksNoRow : Question → List RowValue → Type 0
 AsksNoRow (ForRows question) rows = rows_for question rows ≡ []
 AsksNoRow question rows = rows ≡ []
 
--- A question about the first `seen` imports is refused as a call of the store that only reads. On
--- an honest disk nothing is reported as damaged. On every disk the disk fails, or a row is damaged,
+-- A question that is asked of these rows is refused as a call of the store that only reads. On an
+-- honest disk nothing is reported as damaged. On every disk the disk fails, or a row is damaged,
 -- only if the question asks for a row.
-pub record IsUnfound {D : Type 0} (honest : Type 0) (seen : ℕ) (question : Question)
+pub record IsUnfound {D : Type 0} (honest : Type 0) (rows : List RowValue) (question : Question)
     (refusal : Refusal) (old new : Server D) : Type 0 where
   pub cause : IsReadRefusal refusal old.store
   pub refused : IsRefused refusal old.store new.store
   pub undamaged : honest → refusal ≢ store.Damaged
-  pub causes : AsksNoRow question (rows_at seen old.store.history.rows) → IsWithoutRead refusal
+  pub causes : AsksNoRow question rows → IsWithoutRead refusal
   pub pins : new.pins ≡ old.pins
 
 -- the store's refusal of a question about the first `seen` imports
@@ -239,7 +256,11 @@ IsRefusalAt honest seen (ForIds question) refusal old new =
     IsClosed refusal old new ⊎ IsLacking refusal old new
 IsRefusalAt honest seen AskDates refusal old new =
     IsClosed refusal old new ⊎ IsLacking refusal old new
-IsRefusalAt honest seen question refusal old new = IsUnfound honest seen question refusal old new
+IsRefusalAt honest seen (Added number kind after limit) refusal old new = IsNumber seen number
+    × IsUnfound honest (rows_added number old.store.history.rows)
+    (ForRows (AllRows kind after limit)) refusal old new
+IsRefusalAt honest seen question refusal old new =
+    IsUnfound honest (rows_at seen old.store.history.rows) question refusal old new
 
 -- The store's refusal of a command. For an import or a check the source is asked first, and memory
 -- may run out there too. On an honest disk no step of a merge finds damage.
@@ -270,13 +291,15 @@ IsStoreRefusal honest releases session Trim refusal old new =
     IsTrimmingOf (Err refusal) old.store new.store × (new.pins ≡ old.pins)
 IsStoreRefusal honest releases session Status refusal old new = IsClosed refusal old new
 
--- the question asks for the receipt of an import after the first `seen`
+-- the question asks for the receipt of an import after the first `seen`, or for what it added, or
+-- for what no import added
 abbrev pub IsUnseen : ℕ → Question → Type 0
 IsUnseen seen (AskReceipt number) = seen < number
+IsUnseen seen (Added number kind after limit) = (number ≡ 0) ⊎ (seen < number)
 IsUnseen seen question = ⊥
 
 -- No import has the number: the store has fewer imports than PIN or AT names, or the session sees
--- fewer than the one whose receipt is asked for.
+-- fewer than the one that is asked for, or that is 0.
 abbrev pub IsOutOfRange : {D : Type 0} → ℕ → Command → Server D → Type 0
 IsOutOfRange session (Pin (Some number)) old = old.store.history.imports < number
 IsOutOfRange session (Ask question) old = IsUnseen (imports_seen old session) question
@@ -328,10 +351,12 @@ AsksMembers (Delta kind from date after limit) = kind ≡ kinds.Member
 AsksMembers (Members refset date after limit) = Unit {0}
 AsksMembers (Values refset date after limit) = Unit {0}
 AsksMembers (Called concept date refset) = Unit {0}
+AsksMembers (AllRows kind after limit) = kind ≡ kinds.Member
 AsksMembers _ = ⊥
 
 abbrev pub NeedsMembers : Question → Type 0
 NeedsMembers (ForRows question) = AsksMembers question
+NeedsMembers (Added number kind after limit) = kind ≡ kinds.Member
 NeedsMembers _ = ⊥
 
 -- the command needs a later layout than the store's: it asks a question that needs members, and

@@ -11,10 +11,15 @@ use Rattle.history_store.specs.StoreValue.{StoreValue}
 use Rattle.history_store.specs.Answers.{CountsRefusal}
 use Rattle.history_store.specs.Meters.{ReadsKnown}
 use Rattle.history_store.specs.Merging.{trimmed_len, step_cost}
-use Rattle.history_store.specs.Queries.{ReadsThroughCache, StepsThroughCache}
+use Rattle.history_store.specs.Queries.{ReadsThroughCache, StepsThroughCache, IsStoredFor}
+use Rattle.as_of_index.specs.Reader.{AreFor}
+use Rattle.index_answers.specs.Keys.{is_put_in_order}
 use Rattle.history_store.specs.Reading.{row_cost}
+use Rattle.rf2_values.specs.Row.{RowValue}
+use Rattle.history_model.specs.Exports.{added}
 use Rattle.history_model.specs.History.{rows_at}
-use Rattle.question_model.specs.Questions.{Question, ForRows, ForIds, Dates, Digest, Receipt}
+use Rattle.question_model.specs.Questions.{Question, ForRows, ForIds, Dates, Digest, Receipt, Added}
+use Rattle.question_model.specs.Questions.{RowQuestion, AllRows}
 use Rattle.question_model.specs.Wanted.{rows_for}
 use Rattle.line_commands.specs.Commands.{Command, Ask, At, Import, Check, Step, Publish, Trim}
 use Rattle.line_commands.specs.Requests.{Asks}
@@ -57,11 +62,6 @@ IfRefused (Ok answer) so = Unit {0}
 IfRefused (Err (refusals.Store store.DiskFault)) so = Unit {0}
 IfRefused (Err refusal) so = so
 
--- an answer with rows read no more than these rows take
-abbrev pub ReadsFor : Result Answer LineRefusal → ℕ → ℕ → Type 0
-ReadsFor (Ok (Rows rows)) old new = new ≤ old + sum_by row_cost rows
-ReadsFor _ old new = Unit {0}
-
 -- Reads asked for at most so many bytes, and at most so many other calls were made.
 abbrev pub CostsAtMost : (bytes calls : ℕ) → DiskView → DiskView → Type 0
 CostsAtMost bytes calls old new =
@@ -74,21 +74,38 @@ LeavesQueried view old new =
     ((view old.disk).is_honest → (view new.disk).moments ≡ (view old.disk).moments)
     × ReadsThroughCache view old new
 
+-- the rows of an answer are read from the disk: each is stored there, with the key of a wanted one,
+-- as `AreFor` says, and no more is read than they take
+abbrev pub AreReadFrom : {D : Type 0} → (D → DiskView) → RowQuestion → (wanted : List RowValue)
+    → Result Answer LineRefusal → StoreValue D → StoreValue D → Type 0
+AreReadFrom view question wanted (Ok (Rows given)) old new =
+    AreFor (is_put_in_order question) (IsStoredFor view old) given wanted
+    × ((view new.disk).bytes_read ≤ (view old.disk).bytes_read + sum_by row_cost given)
+AreReadFrom view question wanted _ old new = Unit {0}
+
+-- what a question for rows leaves of the disk, if these are the wanted ones: no more is read than
+-- they take, and what is answered is read from there
+abbrev pub LeavesRead : {D : Type 0} → (D → DiskView) → RowQuestion → (wanted : List RowValue)
+    → Result Answer LineRefusal → StoreValue D → StoreValue D → Type 0
+LeavesRead view question wanted outcome old new =
+    LeavesQueried view old new × AreReadFrom view question wanted outcome old new
+    × ((view new.disk).bytes_read ≤ (view old.disk).bytes_read + sum_by row_cost wanted)
+
 -- what a question about the first `seen` imports leaves of the disk, which is unchanged if the
 -- index alone answers it
 abbrev pub LeavesAsked : {D : Type 0} → (D → DiskView) → ℕ → Question → Result Answer LineRefusal
     → StoreValue D → StoreValue D → Type 0
 LeavesAsked view seen (ForRows question) outcome old new =
-    LeavesQueried view old new
-    × ReadsFor outcome (view old.disk).bytes_read (view new.disk).bytes_read
-    × ((view new.disk).bytes_read ≤ (view old.disk).bytes_read
-    + sum_by row_cost (rows_for question (rows_at seen old.history.rows)))
+    LeavesRead view question (rows_for question (rows_at seen old.history.rows)) outcome old new
 LeavesAsked view seen (ForIds question) outcome old new = new.disk ≡ old.disk
 LeavesAsked view seen Dates outcome old new = new.disk ≡ old.disk
 LeavesAsked view seen Digest outcome old new = LeavesQueried view old new
     × ((view new.disk).bytes_read
     ≤ (view old.disk).bytes_read + sum_by row_cost (rows_at seen old.history.rows))
 LeavesAsked view seen (Receipt number) outcome old new = new.disk ≡ old.disk
+LeavesAsked view seen (Added number kind after limit) outcome old new =
+    LeavesRead view (AllRows kind after limit) (added number kind after limit old.history.rows)
+    outcome old new
 
 -- the stored rows whose keys are in the release of the name are read, in the scope of the store's
 -- layout, and so many bytes besides

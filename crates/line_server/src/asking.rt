@@ -8,7 +8,9 @@ ghost use Rattle.question_model.specs.Questions.{question_of, row_question_of};
 ghost use Rattle.line_server.specs.Replies.{AsksMembers, NeedsLater, NeedsMembers};
 ghost use Rattle.line_server.specs.Private.{IsCarriedOut, IsQueried, QuestionCanBeAsked};
 
-use crate::queries::{answer_dates, answer_digest, answer_ids, answer_receipt, answer_rows};
+use crate::queries::{
+    answer_added, answer_dates, answer_digest, answer_ids, answer_receipt, answer_rows,
+};
 use crate::refusal::LineRefusal;
 use crate::reply::Reply;
 use crate::source::scope_for;
@@ -30,7 +32,8 @@ fn asks_members(question: &RowQuestion<'_>) -> bool
         | RowQuestion::About { kind, .. }
         | RowQuestion::Timeline { kind, .. }
         | RowQuestion::Page { kind, .. }
-        | RowQuestion::Delta { kind, .. } => kind == Kind::Member,
+        | RowQuestion::Delta { kind, .. }
+        | RowQuestion::AllRows { kind, .. } => kind == Kind::Member,
         RowQuestion::Members { .. } | RowQuestion::Values { .. } | RowQuestion::Called { .. } => {
             true
         }
@@ -43,6 +46,7 @@ fn needs_members(question: &Question<'_>) -> bool
 {
     match question {
         Question::ForRows(rows) => asks_members(rows),
+        Question::Added { kind, .. } => *kind == Kind::Member,
         _ => false,
     }
 }
@@ -80,6 +84,12 @@ pub(crate) fn ask<D: Disk>(
         Question::Dates => answer_dates(alloc, pin, store),
         Question::Digest => answer_digest(alloc, pin, store),
         Question::Receipt { number } => answer_receipt(alloc, *number, pin, store),
+        Question::Added {
+            number,
+            kind,
+            after,
+            limit,
+        } => answer_added(alloc, *number, *kind, *after, *limit, pin, store),
     }
 }
 

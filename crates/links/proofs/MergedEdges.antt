@@ -17,7 +17,7 @@ use Rattle.as_of_index.specs.Merging.{moved}
 use Rattle.as_of_index.proofs.Unions.{merged_postings}
 use Rattle.as_of_index.proofs.Turns.{none_merged, all_merged}
 use Rattle.links.specs.declared.posting.Tag.TheVariants as tags
-use Rattle.links.specs.Edges.{RowKey, row_key, keys_of_body, keys_of, posting, posted, subject_at, posted_subject}
+use Rattle.links.specs.Edges.{RowKey, row_key, plain_key, keys_of_relationship, keys_of_body, keys_of, posting, posted, subject_at, posted_subject}
 use Rattle.links.specs.MergedEdges.{subject_kind, posting_kind, AnyMergeBegins, PostingsAreFew, MergedArePosted}
 
 -- ---- a row has one subject at most, and two postings
@@ -29,8 +29,10 @@ few_if n false xs le = omega arith
 keys_few : (active : Bool) (b : Body) → length (keys_of_body active b) ≤ 2
 keys_few active (body.Concept c) = omega arith
 keys_few active (body.Description d) = omega arith
-keys_few active (body.Relationship r) = few_if 2 (active && r.type_id == is_a) (row_key tags.Child r.destination r.source true ∷ row_key tags.Parent r.source r.destination true ∷ []) (omega arith)
-keys_few active (body.Association a) = few_if 2 active (row_key tags.Target a.target a.refset true ∷ []) (omega arith)
+keys_few active (body.Relationship r) =
+    let second = few_if 1 (r.type_id == is_a) (row_key tags.Parent r.source r.type_id r.destination true ∷ []) (omega arith) in
+    few_if 2 active (keys_of_relationship r.source r.type_id r.destination) (omega (arith, second))
+keys_few active (body.Association a) = few_if 2 active (plain_key tags.Target a.target a.refset true ∷ []) (omega arith)
 keys_few active (body.Concrete c) = omega arith
 keys_few active (body.Member m) = omega arith
 

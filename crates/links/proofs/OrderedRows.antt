@@ -1,14 +1,12 @@
 -- Rows that were read and then put in order are an answer in this order.
-use Rattle.std.proofs.Common.{◌≡◌, ◌+◌, ◌≤◌, ℕ, List, [], ◌∷◌, map, refl, sym, ap, subst, ◌∙◌, arith}
+use Rattle.std.proofs.Common.{◌≡◌, ◌+◌, ◌≤◌, ℕ, List, [], ◌∷◌, refl, sym, ap, subst, ◌∙◌, arith}
 use Rattle.std.specs.Prelude.{Ok, Err, length}
 use Rattle.std.specs.List.{sum_by}
 use Rattle.std.specs.List.Sorted.{IsPermutation, IsSorted}
 use Rattle.std.specs.Cmp.{IsTotalOrder}
 use Rattle.std.specs.declared.cmp.Ordering.{Ordering}
-use Rattle.std.proofs.lemmas.List.Sorted.{length_permutation, sum_by-IsPermutation, IsPermutation-sym, IsPermutation-trans, IsPermutation-map}
-use Rattle.rf2_values.specs.declared.key.Key.{Key}
+use Rattle.std.proofs.lemmas.List.Sorted.{length_permutation, sum_by-IsPermutation}
 use Rattle.rf2_values.specs.Row.{RowValue}
-use Rattle.rf2_values.specs.Key.{key_of}
 use Rattle.history_model.specs.declared.stamped.StampedRow.{StampedRow}
 use Rattle.history_model.specs.InOrder.{in_order}
 use Rattle.fault_counts.specs.declared.fault.ReadFault.{ReadFault}
@@ -23,17 +21,20 @@ ordered_read rows_of {order} total wanted Kept cost old new read after apart as_
     let arranged = in_order_moved total those apart in record {
       rows = λ so. (
           let answers = as_read.rows so in record {
-            found = λ honest. in_order_is total those (rows_of after) apart (subst (λ xs. IsPermutation xs (rows_of after)) (answers.found honest) moved) sorted;
-            keys =
-                IsPermutation-trans (map key_of (in_order order those)) (map key_of those) (map key_of (rows_of after))
-                (IsPermutation-sym (map key_of those) (map key_of (in_order order those)) (IsPermutation-map key_of those (in_order order those) arranged))
-                (subst (λ (ks : List Key). IsPermutation ks (map key_of (rows_of after))) answers.keys (IsPermutation-map key_of (rows_of read) (rows_of after) moved));
+            each = record {
+              read = rows_of read;
+              those = those;
+              each = answers.each;
+              given_are = moved;
+              wanted_are = arranged;
+              in_order = λ same. in_order_is total those (rows_of after) apart (subst (λ xs. IsPermutation xs (rows_of after)) same moved) sorted;
+            };
             undamaged = λ honest. tt;
             causes = λ none. tt;
             work_always = subst (λ n. new.work ≤ old.work + n) (sym (sum_by-IsPermutation cost those (in_order order those) arranged)) answers.work_always;
           });
       work = subst (λ n. new.work ≤ old.work + n) (sym (sum_by-IsPermutation cost (rows_of read) (rows_of after) moved)) as_read.work;
-      reader = record { lists = as_read.reader.lists; honesty = as_read.reader.honesty; disk_faults = as_read.reader.disk_faults; damages = as_read.reader.damages };
+      reader = record { lists = as_read.reader.lists; honesty = as_read.reader.honesty; steady = as_read.reader.steady; disk_faults = as_read.reader.disk_faults; damages = as_read.reader.damages };
     }
 
 none_in : (rows : List RowValue) → length rows ≡ 0 → rows ≡ []
@@ -47,8 +48,7 @@ ordered_refused rows_of {order} total wanted Kept cost old new fault apart as_re
     let arranged = in_order_moved total those apart in record {
       rows = λ so. (
           let answers = as_read.rows so in record {
-            found = λ honest. tt;
-            keys = tt;
+            each = tt;
             undamaged = answers.undamaged;
             causes = λ none. answers.causes (none_in those (
                 let same = length_permutation those (in_order order those) arranged in

@@ -1,6 +1,6 @@
 -- The postings of rows: what a row other than a concept is about, and by which two numbers a
 -- relationship, an association or a member of a reference set is found.
-use Rattle.std.specs.Prelude.{ℕ, ◌+◌, ◌*◌, ◌==◌, ◌&&◌, min, Bool, true, List, [], ◌∷◌, ◌++◌}
+use Rattle.std.specs.Prelude.{ℕ, ◌+◌, ◌*◌, ◌==◌, min, Bool, true, List, [], ◌∷◌, ◌++◌}
 use Rattle.std.specs.Prelude.{if◌then◌else◌, length, map}
 use Rattle.std.specs.Prelude.{Option, Some, None}
 use Rattle.std.specs.List.Sorted.{IsNonDecreasingBy, IsPermutation}
@@ -19,27 +19,38 @@ use Rattle.links.specs.declared.postings.Subject.{Subject}
 
 -- ---- by which numbers a row is found
 
--- a tag, two numbers that it explains, and whether the row is active
+-- a tag, two numbers that it explains, by which rows are found; what a relationship leads to then;
+-- and whether the row is active
 pub record RowKey : Type 0 where
   pub tag : Tag
   pub first : ℕ
   pub second : ℕ
+  pub end : ℕ
   pub active : Bool
 
-abbrev pub row_key : Tag → ℕ → ℕ → Bool → RowKey
-row_key tag first second active =
-    record { tag = tag; first = first; second = second; active = active }
+abbrev pub row_key : Tag → ℕ → ℕ → ℕ → Bool → RowKey
+row_key tag first second end active =
+    record { tag = tag; first = first; second = second; end = end; active = active }
 
--- an active "is a" relationship is found by its destination and its source, and the other way round;
--- an active association by its target and its reference set; and a member, active or not, by its
--- reference set and the component that it refers to
+-- the same of a row that isn't a relationship
+abbrev pub plain_key : Tag → ℕ → ℕ → Bool → RowKey
+plain_key tag first second active = row_key tag first second 0 active
+
+-- an active relationship is found by its destination and its type, and leads to its source; if it
+-- is an "is a" relationship, also by its source, and leads to its destination
+abbrev pub keys_of_relationship : (source type_id destination : ℕ) → List RowKey
+keys_of_relationship source type_id destination =
+    row_key tags.Source destination type_id source true
+    ∷ (if type_id == is_a then row_key tags.Parent source type_id destination true ∷ [] else [])
+
+-- an active association is found by its target and its reference set; and a member, active or not,
+-- by its reference set and the component that it refers to
 abbrev pub keys_of_body : Bool → Body → List RowKey
-keys_of_body active (body.Relationship r) = if active && r.type_id == is_a
-    then row_key tags.Child r.destination r.source true
-    ∷ row_key tags.Parent r.source r.destination true ∷ [] else []
+keys_of_body active (body.Relationship r) =
+    if active then keys_of_relationship r.source r.type_id r.destination else []
 keys_of_body active (body.Association a) =
-    if active then row_key tags.Target a.target a.refset true ∷ [] else []
-keys_of_body active (body.Member m) = row_key tags.Member m.refset m.referenced active ∷ []
+    if active then plain_key tags.Target a.target a.refset true ∷ [] else []
+keys_of_body active (body.Member m) = plain_key tags.Member m.refset m.referenced active ∷ []
 keys_of_body active _ = []
 
 abbrev pub keys_of : RowValue → List RowKey
@@ -50,7 +61,8 @@ keys_of row = keys_of_body row.active row.body
 -- the posting of row `i` by this key
 abbrev pub posting : ℕ → RowKey → Posting
 posting i k =
-    record { first = k.first; second = k.second; row = i; tag = k.tag; active = k.active }
+    record
+    { first = k.first; second = k.second; end = k.end; row = i; tag = k.tag; active = k.active }
 
 abbrev pub posted : RowValue → ℕ → List Posting
 posted row i = map (posting i) (keys_of row)
@@ -108,7 +120,7 @@ subject_rank id kind = 6 * id + kind_place kind
 
 -- the place of a tag among them
 abbrev pub tag_place : Tag → ℕ
-tag_place tags.Child = 0
+tag_place tags.Source = 0
 tag_place tags.Parent = 1
 tag_place tags.Target = 2
 tag_place tags.Member = 3

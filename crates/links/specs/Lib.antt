@@ -5,6 +5,7 @@ pub use Rattle.history_model.specs.History
 pub use Rattle.history_model.specs.Lists
 pub use Rattle.history_model.specs.Queries
 pub use Rattle.history_model.specs.Hierarchy
+pub use Rattle.history_model.specs.Relationships
 pub use Rattle.segment.specs.Standing
 pub use Rattle.fault_counts.specs.Counting
 pub use Rattle.as_of_index.specs.Places

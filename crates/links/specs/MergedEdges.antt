@@ -25,8 +25,14 @@ posting_kind =
     record {
       rank = rank_of;
       number = λ p. p.row;
-      renumbered = λ n p. record
-          { first = p.first; second = p.second; row = n; tag = p.tag; active = p.active };
+      renumbered = λ n p. record {
+        first = p.first;
+        second = p.second;
+        end = p.end;
+        row = n;
+        tag = p.tag;
+        active = p.active;
+      };
     }
 
 -- the subjects and postings merged so far, and how many of each were taken from each of two

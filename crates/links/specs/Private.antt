@@ -3,12 +3,12 @@
 pub mod Asking
 pub mod Memberships
 use Rattle.std.specs.Prelude.{◌≡◌, ◌≤◌, ◌⊎◌, ℕ, true, nat_eq}
-use Rattle.std.specs.Prelude.{List, [], ◌∷◌, map}
+use Rattle.std.specs.Prelude.{List, [], ◌∷◌, map, Some}
 use Rattle.std.specs.HashSet.{HashSet, contains}
 use Rattle.std.specs.Ordering.{nat_cmp}
 use Rattle.rf2_values.specs.declared.row.Kind.{Kind}
 use Rattle.rf2_values.specs.Row.{RowValue}
-use Rattle.history_model.specs.Queries.{children, parents}
+use Rattle.history_model.specs.Queries.{is_a, children, parents}
 use Rattle.history_model.specs.declared.stamped.StampedRow.{StampedRow}
 use Rattle.history_model.specs.InOrder.{Has}
 use Rattle.segment.specs.declared.place.RowPlace.{RowPlace}
@@ -17,13 +17,14 @@ use Rattle.as_of_index.specs.declared.chosen.Chosen.{Chosen}
 use Rattle.as_of_index.specs.Private.Chosen.{chosen, chosen_cmp}
 use Rattle.as_of_index.specs.Private.Once.{AreOnce}
 use Rattle.as_of_index.specs.Current.{IsPlaceOfRow, IsCurrentAt}
-use Rattle.links.specs.declared.posting.Tag.{Tag}
 use Rattle.links.specs.declared.posting.Tag.TheVariants as tags
 use Rattle.links.specs.declared.posting.Posting.{Posting}
 use Rattle.links.specs.declared.postings.Subject.{Subject}
+use Rattle.links.specs.declared.wanted.Wanted.{Wanted}
 use Rattle.links.specs.declared.hierarchy.Direction.{Direction}
 use Rattle.links.specs.declared.hierarchy.Direction.TheVariants as directions
 use Rattle.links.specs.Edges.{Edges, subject_rank}
+use Rattle.links.specs.Private.Asking.{all_with, sources_with}
 
 -- the subjects, and the postings by two numbers, of each list
 abbrev pub postings_in : List Edges → List (List Posting)
@@ -96,10 +97,10 @@ pub record AreSeen {S : Type 0} (seen : HashSet ℕ S) (found : List ℕ) : Type
   pub seen_is : (x : ℕ) → Has found x → contains nat_eq seen x ≡ true
   pub distinct : AreDistinct found
 
--- the tag of the postings that lead from a concept this way
-abbrev pub tag_towards : Direction → Tag
-tag_towards directions.Down = tags.Child
-tag_towards directions.Up = tags.Parent
+-- the postings that lead from a concept this way
+abbrev pub towards : Direction → ℕ → Wanted
+towards directions.Down concept = sources_with (Some is_a) concept
+towards directions.Up concept = all_with tags.Parent concept
 
 -- the concepts one step from each concept: its children, or its parents
 abbrev pub next_ones : Direction → ℕ → List RowValue → ℕ → List ℕ

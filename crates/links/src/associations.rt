@@ -12,9 +12,10 @@ ghost use Rattle.as_of_index.specs.Reader.{IsOrderedRead};
 ghost use Rattle.links.specs.Laws.{EachPosted};
 
 use crate::Links;
-use crate::finding::{asked_all, select};
+use crate::finding::{asked_for, select};
 use crate::posting::Tag;
 use crate::subjects::about_of;
+use crate::wanted::all_with;
 use as_of_index::{AsOf, Index, ReadFault, RowReader};
 use rf2_values::{Body, Kind, Row, Sctid};
 use std::alloc::Global;
@@ -123,7 +124,7 @@ pub fn replaces<R: RowReader>(
         (R.view reader.new) }
     ensures stays { R.stays reader.old reader.new }
 {
-    let asked = asked_all(Tag::Target, component.value(), &as_of);
+    let asked = asked_for(all_with(Tag::Target, component.value()), &as_of);
     let mut rows = select(alloc, links, index, reader, &asked)?;
     sort_by_referenced(&mut rows);
     Ok(rows)

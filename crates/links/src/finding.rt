@@ -13,12 +13,12 @@ ghost use Rattle.as_of_index.specs.Private.Postings.{numbered};
 ghost use Rattle.links.specs.Laws.{EachPosted};
 ghost use Rattle.links.specs.Private.{Takes, postings_in};
 ghost use Rattle.links.specs.Private.Asking.{is_asked, placed, GivesPlace, AreGiven, AreFound};
-ghost use Rattle.links.specs.Private.Asking.{asked_all, placed_cmp, selected, IsPath};
+ghost use Rattle.links.specs.Private.Asking.{asked_for, placed_cmp, selected, IsPath};
 
 use crate::Links;
-use crate::posting::{Posting, Tag};
+use crate::posting::Posting;
 use crate::postings::Sealed;
-use crate::wanted::{Seconds, Wanted, is_between, is_wanted, part};
+use crate::wanted::{Wanted, is_between, is_wanted, part};
 use as_of_index::{AsOf, Chosen, Index, ReadFault, RowReader, read_all};
 use rf2_values::Row;
 use segment::RowPlace;
@@ -35,17 +35,12 @@ pub(crate) struct Asked {
     pub(crate) as_of: AsOf,
 }
 
-/// All rows with a posting of this tag and first number.
-pub(crate) fn asked_all(tag: Tag, first: u64, as_of: &AsOf) -> Asked
-    ensures { result ≡ asked_all tag first as_of.now }
+/// All rows with a wanted posting.
+pub(crate) fn asked_for(wanted: Wanted, as_of: &AsOf) -> Asked
+    ensures { result ≡ asked_for wanted as_of.now }
 {
     Asked {
-        wanted: Wanted {
-            tag,
-            first,
-            seconds: Seconds::Between(None, None),
-            active: false,
-        },
+        wanted,
         above: None,
         up_to: None,
         as_of: *as_of,

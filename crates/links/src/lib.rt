@@ -1,5 +1,5 @@
-//! Finds what is above and below a concept, what replaces a component, what is about a component, and the
-//! members of reference sets, at a date and a pin.
+//! Finds what is above and below a concept, what has a relationship to it, what replaces a
+//! component, what is about a component, and the members of reference sets, at a date and a pin.
 //!
 //! As rows are written, postings are made, each with the number of its row in the segment: of what
 //! each active row is about, and by two numbers of active relationships and associations, and of
@@ -11,6 +11,7 @@ mod associations;
 mod ever_about;
 mod finding;
 mod hierarchy;
+mod incoming;
 mod languages;
 pub mod laws;
 mod member_pages;
@@ -26,6 +27,7 @@ use as_of_index::PerList;
 pub use associations::{replacements, replaces};
 pub use ever_about::timeline;
 pub use hierarchy::children;
+pub use incoming::sources;
 pub use languages::called;
 pub use member_pages::members;
 pub use merging::Merging;

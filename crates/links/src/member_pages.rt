@@ -13,44 +13,67 @@ ghost use Rattle.links.specs.Private.Asking.{AreEnough, placed_cmp};
 ghost use Rattle.links.specs.Private.Memberships.{asked_above};
 
 use crate::Links;
-use crate::finding::{Asked, asked_all, find_by_key};
-use crate::posting::Tag;
+use crate::finding::{Asked, asked_for, find_by_key};
+use crate::posting::{Posting, Tag};
 use crate::postings::Sealed;
-use crate::wanted::{is_above, part};
-use as_of_index::{AsOf, Chosen, Index, ReadFault, RowReader, read_all};
-use rf2_values::{Row, Sctid};
+use crate::wanted::{all_with, part};
+use as_of_index::{AsOf, Chosen, Index, ReadFault, RowReader, is_above, read_all};
+use rf2_values::{Kind, Row, Sctid};
 use std::alloc::{AllocError, Global};
 
-/// The ids of the posted members of a reference set that are greater than `above`, if that is given.
-/// The result of a query doesn't depend on which these are: they are only used as upper limits of a
-/// search.
-fn posted_ids(
+/// The number of the first row of a list that is of a member with an id greater than `above`, if
+/// that is given. The ids of members ascend with these numbers.
+fn first_above(index: &Index, segment: usize, above: Option<u128>) -> usize {
+    if index.lists() <= segment {
+        return 0;
+    }
+    let places = index.list(segment);
+    places.partition_point(|p| p.key.kind < Kind::Member || !is_above(above, p.key.id))
+}
+
+/// The rows of the postings, by their numbers, from this number on.
+fn rows_from(alloc: Global, postings: &[Posting], first: usize) -> Result<Vec<u32>, AllocError> {
+    let mut rows = Vec::new(alloc);
+    for p in postings {
+        if first <= p.row as usize {
+            rows.push(p.row)?;
+        }
+    }
+    Ok(rows)
+}
+
+/// The rows of the posted members of a reference set in each list, by their numbers, but for those
+/// with ids up to `above`, if that is given. The result of a query doesn't depend on which these
+/// are: they are only used for upper limits of a search.
+fn posted_rows(
     alloc: Global,
     links: &[Sealed],
     index: &Index,
     asked: &Asked,
-) -> Result<Vec<u128>, AllocError> {
-    let mut ids = Vec::new(alloc);
+) -> Result<Vec<Vec<u32>>, AllocError> {
+    let mut lists = Vec::new(alloc);
     for (segment, list) in links.iter().enumerate() {
-        for p in part(list.postings(), &asked.wanted) {
-            if let Some(id) = index.id_at(segment, p.row) {
-                if is_above(asked.above, id) {
-                    ids.push(id)?;
-                }
-            }
-        }
+        let first = first_above(index, segment, asked.above);
+        lists.push(rows_from(alloc, part(list.postings(), &asked.wanted), first)?)?;
     }
-    Ok(ids)
+    Ok(lists)
 }
 
-/// Which of the ids has the number `count` in ascending order, from 0 on, if there are so many.
-/// Changes their order.
-fn id_behind(ids: &mut [u128], count: usize) -> Option<u128> {
-    if ids.len() <= count {
-        return None;
+/// The smallest of the ids that have the number `count` among those of the rows of a list, from 0
+/// on, if there are so many in any. Changes the order of the rows.
+fn id_behind(index: &Index, lists: &mut [Vec<u32>], count: usize) -> Option<u128> {
+    let mut least = None;
+    for (segment, rows) in lists.iter_mut().enumerate() {
+        if count < rows.len() {
+            let (_, row, _) = rows.as_mut_slice().select_nth_unstable(count);
+            least = match (least, index.id_at(segment, *row)) {
+                (Some(least), Some(id)) if id < least => Some(id),
+                (None, id) => id,
+                _ => least,
+            };
+        }
     }
-    let (_, id, _) = ids.select_nth_unstable(count);
-    Some(*id)
+    least
 }
 
 /// The places of the current members with ids greater than `after`, if that is given, by id: either
@@ -71,12 +94,12 @@ fn enough_by_id(
 {
     let all = Asked {
         above: after,
-        ..asked_all(Tag::Member, refset, as_of)
+        ..asked_for(all_with(Tag::Member, refset), as_of)
     };
-    let mut ids = posted_ids(alloc, links, index, &all)?;
+    let mut rows = posted_rows(alloc, links, index, &all)?;
     let mut count = limit as usize;
     for _ in 0..16 {
-        let Some(last) = id_behind(&mut ids, count) else {
+        let Some(last) = id_behind(index, rows.as_mut_slice(), count) else {
             break;
         };
         let asked = Asked {
@@ -94,7 +117,7 @@ fn enough_by_id(
 
 /// The first `limit` members of the reference set at the date, by id, active or not, with ids
 /// greater than `after`, if that is given, among the rows that the pin shows. Looks up the id of
-/// each posted member of the reference set, and allocates memory for those greater than `after`.
+/// each posted member of the reference set, and allocates memory for a number of each.
 /// For the first `limit` of these it makes a binary search in each list; if too few are current, it
 /// tries again with four times as many, and so on.
 pub fn members<R: RowReader>(

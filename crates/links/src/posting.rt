@@ -3,12 +3,13 @@
 ghost use Rattle.std.specs.Prelude.{◌≡◌, ◌≤◌};
 ghost use Rattle.links.specs.Edges.{tag_place, posting_rank, rank_of};
 
-/// What the two numbers of a posting are.
+/// What the numbers of a posting are.
 #[derive(Clone, Copy)]
 pub enum Tag {
-    /// Of an active "is a" relationship: its destination and its source, as SCTIDs.
-    Child,
-    /// Of an active "is a" relationship: its source and its destination, as SCTIDs.
+    /// Of an active relationship: its destination and its type, as SCTIDs. It leads to its source.
+    Source,
+    /// Of an active "is a" relationship: its source and its type, as SCTIDs. It leads to its
+    /// destination.
     Parent,
     /// Of an active association: its target and its reference set, as SCTIDs.
     Target,
@@ -17,13 +18,15 @@ pub enum Tag {
     Member,
 }
 
-/// What a row is found by: two numbers, which the tag explains.
+/// What a row is found by: two numbers, which the tag explains; and what it leads to.
 #[derive(Clone, Copy)]
 pub struct Posting {
     /// The first number.
     pub first: u64,
     /// The second number.
     pub second: u64,
+    /// The concept that a relationship leads to, as an SCTID; 0 for other rows.
+    pub end: u64,
     /// The row's number in its segment, from 0 on.
     pub row: u32,
     /// What the numbers are.
@@ -38,7 +41,7 @@ pub(crate) fn place_of(tag: Tag) -> u8
     ensures few { result ≤ 3 }
 {
     match tag {
-        Tag::Child => 0,
+        Tag::Source => 0,
         Tag::Parent => 1,
         Tag::Target => 2,
         Tag::Member => 3,

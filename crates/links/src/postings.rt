@@ -2,16 +2,17 @@
 //! and members of reference sets are found; in the order in which rows were pushed, or sealed, that
 //! is, sorted.
 
-ghost use Rattle.std.specs.Prelude.{◌≡◌, ◌≤◌, ◌<◌, ◌+◌, ◌++◌, ◌∷◌, [], length, vec_capacity};
+ghost use Rattle.std.specs.Prelude.{◌≡◌, ◌≤◌, ◌<◌, ◌+◌, ◌++◌, ◌∷◌, [], length, map, vec_capacity};
 ghost use Rattle.std.specs.Prelude.{OnOk, OnErr};
 ghost use Rattle.std.specs.List.Sorted.{IsNonDecreasingBy, IsPermutation};
 ghost use Rattle.std.specs.Ordering.{nat_cmp};
-ghost use Rattle.links.specs.Edges.{no_edges, posting, row_key, posted, posted_subject, edges_of};
+ghost use Rattle.links.specs.Edges.{no_edges, posting, plain_key, keys_of_relationship, posted};
+ghost use Rattle.links.specs.Edges.{posted_subject, edges_of};
 ghost use Rattle.links.specs.Edges.{AreSameEdges, IsSealed, joined_edges, subject_rank, rank_of};
 
 use crate::posting::{Posting, Tag, rank_of};
 use history_model::{IS_A, StampedRow, subject_of};
-use rf2_values::{Body, Kind, Sctid};
+use rf2_values::{Body, Kind, Relationship, Sctid};
 use std::alloc::{AllocError, Global};
 use std::cmp::Ordering;
 use std::marker::Model;
@@ -82,13 +83,14 @@ fn push_subject(subjects: &mut Vec<Subject>, row: &StampedRow, number: u32)
     }
 }
 
-/// A posting of the row with this number.
+/// A posting of the row with this number, which leads to no component.
 fn posting(tag: Tag, first: Sctid, second: Sctid, number: u32, active: bool) -> Posting
-    ensures { result ≡ posting number (row_key tag first second active) }
+    ensures { result ≡ posting number (plain_key tag first second active) }
 {
     Posting {
         first: first.value(),
         second: second.value(),
+        end: 0,
         row: number,
         tag,
         active,
@@ -106,6 +108,34 @@ fn add(postings: &mut Vec<Posting>, posting: Posting)
     };
 }
 
+/// Adds the postings of an active relationship, whose row has this number. Allocates nothing.
+fn push_relationship(postings: &mut Vec<Posting>, relationship: &Relationship, number: u32)
+    requires { length postings.old.items + 1 < vec_capacity postings.old }
+    ensures { postings.new.items ≡ postings.old.items ++ map (posting number)
+        (keys_of_relationship relationship.now.source relationship.now.type_id
+        relationship.now.destination) }
+{
+    let source = relationship.source;
+    let destination = relationship.destination;
+    let type_id = relationship.type_id;
+    add(
+        postings,
+        Posting {
+            end: source.value(),
+            ..posting(Tag::Source, destination, type_id, number, true)
+        },
+    );
+    if type_id.value() == IS_A {
+        add(
+            postings,
+            Posting {
+                end: destination.value(),
+                ..posting(Tag::Parent, source, type_id, number, true)
+            },
+        );
+    }
+}
+
 /// Adds the postings of the row with this number by two numbers, of which it has two at most.
 /// Allocates nothing.
 fn push_postings(postings: &mut Vec<Posting>, row: &StampedRow, number: u32)
@@ -114,16 +144,7 @@ fn push_postings(postings: &mut Vec<Posting>, row: &StampedRow, number: u32)
 {
     let active = row.row.active;
     match &row.row.body {
-        Body::Relationship(r) if active && r.type_id.value() == IS_A => {
-            add(
-                postings,
-                posting(Tag::Child, r.destination, r.source, number, active),
-            );
-            add(
-                postings,
-                posting(Tag::Parent, r.source, r.destination, number, active),
-            );
-        }
+        Body::Relationship(r) if active => push_relationship(postings, r, number),
         Body::Association(a) if active => {
             add(
                 postings,

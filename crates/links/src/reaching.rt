@@ -10,7 +10,8 @@ ghost use Rattle.links.specs.Laws.{EachPosted};
 ghost use Rattle.links.specs.Private.{AreSeen, next_ones};
 
 use crate::Links;
-use crate::hierarchy::{Direction, find_next, sort_once};
+use crate::hierarchy::{Direction, find_next};
+use crate::incoming::sort_once;
 use as_of_index::{AsOf, Index};
 use rf2_values::Sctid;
 use std::alloc::{AllocError, Global};

@@ -3,12 +3,12 @@
 ghost use Rattle.std.specs.Prelude.{◌≡◌, ◌≤◌, ◌↔◌};
 ghost use Rattle.std.specs.List.Sorted.{IsNonDecreasingBy};
 ghost use Rattle.history_model.specs.InOrder.{Has};
-ghost use Rattle.history_model.specs.Queries.{is_above};
 ghost use Rattle.links.specs.Edges.{rank_of};
 ghost use Rattle.links.specs.Private.Asking.{is_up_to, is_between, is_second, is_wanted, key_of};
-ghost use Rattle.links.specs.Private.Asking.{low_rank, high_rank};
+ghost use Rattle.links.specs.Private.Asking.{low_rank, high_rank, all_with, sources_with};
 
 use crate::posting::{Posting, Tag, place_of, rank, rank_of};
+use as_of_index::is_above;
 
 /// Which second numbers are wanted.
 #[derive(Clone, Copy)]
@@ -29,13 +29,30 @@ pub(crate) struct Wanted {
     pub(crate) active: bool,
 }
 
-/// Whether a number is greater than `after`, if that is given.
-pub(crate) fn is_above(after: Option<u128>, number: u128) -> bool
-    ensures { result ≡ is_above after number }
+/// All postings of a tag and a first number.
+pub(crate) fn all_with(tag: Tag, first: u64) -> Wanted
+    ensures { result ≡ all_with tag first }
 {
-    match after {
-        None => true,
-        Some(after) => after < number,
+    Wanted {
+        tag,
+        first,
+        seconds: Seconds::Between(None, None),
+        active: false,
+    }
+}
+
+/// The postings of active relationships of a type, if one is given, to a destination.
+pub(crate) fn sources_with(type_id: Option<u64>, destination: u64) -> Wanted
+    ensures { result ≡ sources_with type_id destination }
+{
+    match type_id {
+        None => all_with(Tag::Source, destination),
+        Some(type_id) => Wanted {
+            tag: Tag::Source,
+            first: destination,
+            seconds: Seconds::Only(u128::from(type_id)),
+            active: false,
+        },
     }
 }
 
@@ -49,7 +66,7 @@ fn is_up_to(last: Option<u128>, number: u128) -> bool
     }
 }
 
-fn widened(number: Option<u64>) -> Option<u128>
+pub(crate) fn widened(number: Option<u64>) -> Option<u128>
     ensures { result ≡ number }
 {
     match number {

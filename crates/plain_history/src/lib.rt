@@ -7,17 +7,21 @@
 mod audit;
 mod descriptions;
 mod edges;
+mod exports;
 mod hierarchy;
 mod known;
 mod membership;
+mod relationships;
 mod releases;
 mod snapshots;
 
 pub use audit::{dates, delta, replaces, timeline};
 pub use descriptions::{search_terms, terms};
 pub use edges::{about, children, replacements};
+pub use exports::rows_of_kind;
 pub use hierarchy::{ancestors, descendants, parents};
 pub use known::KnownRows;
 pub use membership::{called, members, values};
+pub use relationships::sources;
 pub use releases::{accepts, after_release, import_receipt, receipt, rows_at};
 pub use snapshots::{get, page, snapshot, versions};

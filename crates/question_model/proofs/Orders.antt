@@ -9,11 +9,13 @@ use Rattle.history_model.proofs.Chains.{pinned_stays}
 use Rattle.history_model.proofs.Ascents.{versions_ascend, page_ascends, terms_ascend, children_ascend, replacements_ascend, about_ascends, search_ascends}
 use Rattle.history_model.proofs.Audits.{delta_ascends, timeline_ascends, replaces_ascend}
 use Rattle.history_model.proofs.Membership.{members_ascend, values_ascend, called_ascend}
+use Rattle.history_model.proofs.Relationships.{sources_ascend}
+use Rattle.history_model.proofs.Exports.{rows_of_kind_ascend}
 use Rattle.history_model.proofs.Hierarchy.{one_list_of_descendants, one_list_of_ancestors}
 use Rattle.history_model.proofs.Ways.{each_has_descendants, each_has_ancestors}
 use Rattle.history_model.specs.Queries.{get}
-use Rattle.question_model.specs.Questions.{Get, History, Terms, Search, Replaced, Replaces, About, Timeline, Page, Delta, Members, Values, Called}
-use Rattle.question_model.specs.Questions.{IdQuestion, Children, Ancestors, Descendants}
+use Rattle.question_model.specs.Questions.{Get, History, Terms, Search, Replaced, Replaces, About, Timeline, Page, Delta, Members, Values, Called, AllRows}
+use Rattle.question_model.specs.Questions.{IdQuestion, Children, Ancestors, Descendants, Sources}
 use Rattle.question_model.specs.Wanted.{rows_for, AreIdsFor}
 use Rattle.question_model.specs.Laws.{RowsStay, IdsStay, RowsAscend, IdsAscend, OneListOfIds}
 
@@ -43,21 +45,25 @@ rows_ascend (Delta kind from date after limit) rows up = delta_ascends kind from
 rows_ascend (Members refset date after limit) rows up = members_ascend refset date after limit rows up
 rows_ascend (Values refset date after limit) rows up = values_ascend refset date after limit rows
 rows_ascend (Called concept date refset) rows up = called_ascend concept date refset rows up
+rows_ascend (AllRows kind after limit) rows up = rows_of_kind_ascend kind after limit rows up
 
 pub ids_ascend : IdsAscend
 ids_ascend (Children concept date) rows ids are = subst (IsAscending nat_cmp) (sym are) (children_ascend rows concept date)
 ids_ascend (Ancestors concept date) rows ids are = are.ascending
 ids_ascend (Descendants concept date) rows ids are = are.ascending
+ids_ascend (Sources type_id destination date after limit) rows ids are = subst (IsAscending nat_cmp) (sym are) (sources_ascend type_id destination date after limit rows)
 
 pub same_ids : (question : IdQuestion) (rows : List RowValue) (ids others : List ℕ) → AreIdsFor question rows ids → AreIdsFor question rows others → ids ≡ others
 same_ids (Children concept date) rows ids others are also = are ∙ sym also
 same_ids (Ancestors concept date) rows ids others are also = one_list_of_ancestors concept date rows ids others are also
 same_ids (Descendants concept date) rows ids others are also = one_list_of_descendants concept date rows ids others are also
+same_ids (Sources type_id destination date after limit) rows ids others are also = are ∙ sym also
 
 some_ids : (question : IdQuestion) (rows : List RowValue) → (ids : List ℕ) × AreIdsFor question rows ids
 some_ids (Children concept date) rows = (_, refl)
 some_ids (Ancestors concept date) rows = each_has_ancestors concept date rows
 some_ids (Descendants concept date) rows = each_has_descendants concept date rows
+some_ids (Sources type_id destination date after limit) rows = (_, refl)
 
 pub one_list_of_ids : OneListOfIds
 one_list_of_ids question rows =

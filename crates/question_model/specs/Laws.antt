@@ -12,8 +12,10 @@ use Rattle.history_model.specs.Queries.{values_above, replacement_cmp, replaced_
 use Rattle.history_model.specs.Laws.{by_id, by_time, last_id}
 use Rattle.history_model.specs.Audit.{by_version}
 use Rattle.history_model.specs.Membership.{last_component}
+use Rattle.history_model.specs.Exports.{all_of_kind, last_key}
 use Rattle.question_model.specs.Questions.{RowQuestion, Get, History as AskHistory, Terms, Search, Replaced}
 use Rattle.question_model.specs.Questions.{Replaces, About, Timeline, Page, Delta, Members, Values, Called}
+use Rattle.question_model.specs.Questions.{AllRows}
 use Rattle.question_model.specs.Questions.{IdQuestion}
 use Rattle.question_model.specs.Wanted.{rows_for, AreIdsFor}
 
@@ -44,6 +46,7 @@ AscendFor (Timeline kind id) found = IsAscending by_version found
 AscendFor (Values refset date after limit) found = IsAscending value_cmp found
 AscendFor (Called concept date refset) found =
     IsAscending by_id (filter (is_kind Description) found)
+AscendFor (AllRows kind after limit) found = IsAscending row_cmp found
 AscendFor _ found = IsAscending by_id found
 
 abbrev pub RowsAscend : Type 0
@@ -71,6 +74,7 @@ limit_of (Page kind date after limit) = Some limit
 limit_of (Delta kind from date after limit) = Some limit
 limit_of (Members refset date after limit) = Some limit
 limit_of (Values refset date after limit) = Some limit
+limit_of (AllRows kind after limit) = Some limit
 limit_of _ = None
 
 -- all rows for such a question, from where it begins on
@@ -80,10 +84,11 @@ all_for (Page kind date after limit) rows = all_above kind date after rows
 all_for (Delta kind from date after limit) rows = changed_above kind from date after rows
 all_for (Members refset date after limit) rows = members_above refset date after rows
 all_for (Values refset date after limit) rows = values_above refset date after rows
+all_for (AllRows kind after limit) rows = all_of_kind kind after rows
 all_for question rows = rows_for question rows
 
--- the question that goes on after the last row of a page: values after its component, and the others
--- after its id
+-- the question that goes on after the last row of a page: values after its component, all rows of a
+-- kind after its key, and the others after its id
 abbrev pub after_page : RowQuestion → List RowValue → RowQuestion
 after_page (Search prefix date after limit) found = Search prefix date (last_id after found) limit
 after_page (Page kind date after limit) found = Page kind date (last_id after found) limit
@@ -93,6 +98,7 @@ after_page (Members refset date after limit) found =
     Members refset date (last_id after found) limit
 after_page (Values refset date after limit) found =
     Values refset date (last_component after found) limit
+after_page (AllRows kind after limit) found = AllRows kind (last_key after found) limit
 after_page question found = question
 
 -- each is the answer from after the last row of the one before, and the answer after the last one is

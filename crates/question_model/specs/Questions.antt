@@ -1,6 +1,7 @@
 -- Questions, with texts as their bytes.
 use Rattle.std.specs.Prelude.{ℕ, List, Option}
 use Rattle.rf2_values.specs.declared.row.Kind.{Kind}
+use Rattle.rf2_values.specs.declared.key.Key.{Key}
 use Rattle.question_model.specs.declared.question.RowQuestion.{RowQuestion as RustRowQuestion}
 use Rattle.question_model.specs.declared.question.RowQuestion.TheVariants as rows
 use Rattle.question_model.specs.declared.question.IdQuestion.{IdQuestion as RustIdQuestion}
@@ -23,12 +24,15 @@ pub data RowQuestion : Type 0 where
   Members : (refset date : ℕ) (after : Option ℕ) (limit : ℕ) → RowQuestion
   Values : (refset date : ℕ) (after : Option ℕ) (limit : ℕ) → RowQuestion
   Called : (concept date refset : ℕ) → RowQuestion
+  AllRows : (kind : Kind) (after : Option Key) (limit : ℕ) → RowQuestion
 
--- a question for the identifiers of concepts at a date
+-- a question for identifiers at a date
 pub data IdQuestion : Type 0 where
   Children : (concept date : ℕ) → IdQuestion
   Ancestors : (concept date : ℕ) → IdQuestion
   Descendants : (concept date : ℕ) → IdQuestion
+  Sources : (type_id : Option ℕ) (destination date : ℕ) (after : Option ℕ) (limit : ℕ)
+      → IdQuestion
 
 -- A question about the imports that a session sees. A question changes nothing, and its answer
 -- depends on the session's pin.
@@ -38,6 +42,7 @@ pub data Question : Type 0 where
   Dates : Question
   Digest : Question
   Receipt : (number : ℕ) → Question
+  Added : (number : ℕ) (kind : Kind) (after : Option Key) (limit : ℕ) → Question
 
 abbrev pub row_question_of : RustRowQuestion → RowQuestion
 row_question_of (rows.Get kind id date) = Get kind id date
@@ -53,11 +58,14 @@ row_question_of (rows.Replaces id date) = Replaces id date
 row_question_of (rows.Members refset date after limit) = Members refset date after limit
 row_question_of (rows.Values refset date after limit) = Values refset date after limit
 row_question_of (rows.Called concept date refset) = Called concept date refset
+row_question_of (rows.AllRows kind after limit) = AllRows kind after limit
 
 abbrev pub id_question_of : RustIdQuestion → IdQuestion
 id_question_of (ids.Children concept date) = Children concept date
 id_question_of (ids.Ancestors concept date) = Ancestors concept date
 id_question_of (ids.Descendants concept date) = Descendants concept date
+id_question_of (ids.Sources type_id destination date after limit) =
+    Sources type_id destination date after limit
 
 abbrev pub question_of : RustQuestion → Question
 question_of (asked.ForRows question) = ForRows (row_question_of question)
@@ -65,3 +73,4 @@ question_of (asked.ForIds question) = ForIds (id_question_of question)
 question_of asked.Dates = Dates
 question_of asked.Digest = Digest
 question_of (asked.Receipt number) = Receipt number
+question_of (asked.Added number kind after limit) = Added number kind after limit

@@ -5,9 +5,12 @@ use Rattle.history_model.specs.Queries.{get, versions, page, delta, terms, searc
 use Rattle.history_model.specs.Queries.{timeline, replacements, replaces, members, values, called}
 use Rattle.history_model.specs.Queries.{children}
 use Rattle.history_model.specs.Hierarchy.{AreAncestors, AreDescendants}
+use Rattle.history_model.specs.Relationships.{sources}
+use Rattle.history_model.specs.Exports.{rows_of_kind}
 use Rattle.question_model.specs.Questions.{RowQuestion, Get, History, Terms, Search, Replaced, Replaces}
 use Rattle.question_model.specs.Questions.{About, Timeline, Page, Delta, Members, Values, Called}
-use Rattle.question_model.specs.Questions.{IdQuestion, Children, Ancestors, Descendants}
+use Rattle.question_model.specs.Questions.{AllRows}
+use Rattle.question_model.specs.Questions.{IdQuestion, Children, Ancestors, Descendants, Sources}
 
 -- the rows that a question asks for
 abbrev pub rows_for : RowQuestion → List RowValue → List RowValue
@@ -24,9 +27,12 @@ rows_for (Delta kind from date after limit) rows = delta kind from date after li
 rows_for (Members refset date after limit) rows = members refset date after limit rows
 rows_for (Values refset date after limit) rows = values refset date after limit rows
 rows_for (Called concept date refset) rows = called concept date refset rows
+rows_for (AllRows kind after limit) rows = rows_of_kind kind after limit rows
 
 -- the identifiers that a question asks for
 abbrev pub AreIdsFor : IdQuestion → List RowValue → List ℕ → Type 0
 AreIdsFor (Children concept date) rows ids = ids ≡ children concept date rows
 AreIdsFor (Ancestors concept date) rows ids = AreAncestors concept date rows ids
 AreIdsFor (Descendants concept date) rows ids = AreDescendants concept date rows ids
+AreIdsFor (Sources type_id destination date after limit) rows ids =
+    ids ≡ sources type_id destination date after limit rows

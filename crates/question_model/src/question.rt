@@ -1,6 +1,6 @@
 //! The questions, by what they are answered with.
 
-use rf2_values::{EffectiveTime, Kind, Sctid};
+use rf2_values::{EffectiveTime, Key, Kind, Sctid};
 
 /// A question for rows, among those that a pin shows.
 #[derive(Clone, Copy, Debug, PartialEq, Eq)]
@@ -97,19 +97,44 @@ pub enum RowQuestion<'a> {
         date: EffectiveTime,
         refset: Sctid,
     },
+    /// All versions of the components of a kind, in the order of their keys: the first rows whose
+    /// keys are greater than `after`, if that is given, at most `limit`.
+    AllRows {
+        kind: Kind,
+        after: Option<Key>,
+        limit: u32,
+    },
 }
 
-/// A question for concepts at a date, ascending, among the rows that a pin shows.
+/// A question for identifiers at a date, ascending, among the rows that a pin shows.
 #[derive(Clone, Copy, Debug, PartialEq, Eq)]
 pub enum IdQuestion {
     /// The sources of the active "is a" relationships to a concept.
-    Children { concept: Sctid, date: EffectiveTime },
+    Children {
+        concept: Sctid,
+        date: EffectiveTime,
+    },
     /// All concepts above a concept: those that are reached from it by one or more active "is a"
     /// relationships, each from a concept to a parent.
-    Ancestors { concept: Sctid, date: EffectiveTime },
+    Ancestors {
+        concept: Sctid,
+        date: EffectiveTime,
+    },
     /// All concepts below a concept: those that are reached from it by one or more active "is a"
     /// relationships, each from a concept to a child.
-    Descendants { concept: Sctid, date: EffectiveTime },
+    Descendants {
+        concept: Sctid,
+        date: EffectiveTime,
+    },
+    /// The sources of the active relationships to a destination, of a type, if one is given: the
+    /// first ones that are greater than `after`, if that is given, at most `limit`.
+    Sources {
+        type_id: Option<Sctid>,
+        destination: Sctid,
+        date: EffectiveTime,
+        after: Option<u64>,
+        limit: u32,
+    },
 }
 
 /// A question about the imports that a session sees. A question changes nothing, and its answer
@@ -125,5 +150,15 @@ pub enum Question<'a> {
     /// The digest of all rows.
     Digest,
     /// How many rows an import brought, and the latest date among them.
-    Receipt { number: u32 },
+    Receipt {
+        number: u32,
+    },
+    /// The rows of a kind that an import was the first to bring, in the order of their keys: the
+    /// first ones whose keys are greater than `after`, if that is given, at most `limit`.
+    Added {
+        number: u32,
+        kind: Kind,
+        after: Option<Key>,
+        limit: u32,
+    },
 }

@@ -13,7 +13,6 @@ ghost use Rattle.rf2_rows.specs.Line.{columns_of};
 ghost use Rattle.rf2_rows.specs.Private.{texts, HaveNoTab};
 
 use crate::fault::{LineFault, RowFault};
-use bstr::ByteSlice;
 use rf2_values::{Class, EffectiveTime, Further, Kind, Member, Sctid, Text, number};
 use std::alloc::{AllocError, Global};
 
@@ -22,9 +21,14 @@ pub(crate) fn put_columns<'a>(columns: &mut Vec<&'a [u8]>, text: &'a [u8]) -> Re
     ensures { OnOk result (texts columns.new.items ≡ columns_of text.now) }
 {
     columns.clear();
-    for column in text.split_str(b"\t") {
-        columns.push(column)?;
+    let mut begin = 0;
+    for (at, byte) in text.iter().enumerate() {
+        if *byte == b'\t' {
+            columns.push(&text[begin..at])?;
+            begin = at + 1;
+        }
     }
+    columns.push(&text[begin..])?;
     Ok(())
 }
 

@@ -1,10 +1,12 @@
 -- Segments: one record after the other.
 use Rattle.std.proofs.Common.{◌≡◌, ℕ, ◌+◌, ◌<◌, List, [], ◌∷◌, ◌++◌, length, take, get_or, refl, sym, ap, ◌∙◌, append_assoc, arith}
 use Rattle.std.specs.List.{AllByRecursion, flat_map}
-use Rattle.std.proofs.lemmas.List.{append-nil, length-append}
+use Rattle.std.proofs.lemmas.List.{append-nil, length-append, map-append}
 use Rattle.std.proofs.lemmas.List.Concat.{flat_map-append}
 use Rattle.list_lemmas.proofs.Parts.{take_one_more}
+use Rattle.rf2_values.specs.Row.{RowValue}
 use Rattle.history_model.specs.declared.stamped.StampedRow.{StampedRow}
+use Rattle.history_model.specs.History.{stamped}
 use Rattle.checksum.specs.declared.form.Form.{Form}
 use Rattle.checksum.specs.declared.form.Form.TheVariants as forms
 use Rattle.segment.specs.Records.{record_of, record_in, segment_of, segment_in, IsStamped, IsSegment, IsSegmentIn, OneSegment, PiecesJoin, EquallyLong, PlainIsAsBefore}
@@ -99,6 +101,13 @@ push_plain rows s = flat_map-append record_of rows (s ∷ []) ∙ ap (λ (end : 
 
 pub more_plain : (rows : List StampedRow) (i : ℕ) (s : StampedRow) → i < length rows → s ≡ get_or rows i s → segment_of (take (i + 1) rows) ≡ segment_of (take i rows) ++ record_of s
 more_plain rows i s lt is = ap segment_of (take_one_more rows i s lt is) ∙ push_plain (take i rows) s
+
+-- of rows of one import
+pub more_stamped : (import : ℕ) (rows : List RowValue) (i : ℕ) (row : RowValue) → i < length rows → row ≡ get_or rows i row
+    → segment_of (stamped import (take (i + 1) rows)) ≡ segment_of (stamped import (take i rows)) ++ record_of (record { row = row; import = import })
+more_stamped import rows i row lt is =
+    let of : RowValue → StampedRow = λ r. record { row = r; import = import } in
+    ap (λ (l : List RowValue). segment_of (stamped import l)) (take_one_more rows i row lt is) ∙ ap segment_of (map-append of (take i rows) (row ∷ [])) ∙ push_plain (stamped import (take i rows)) (of row)
 
 pub no_rows_plain : segment_of [] ≡ []
 unfolding segment_of

@@ -4,9 +4,9 @@ ghost use Rattle.std.specs.Prelude.{◌≡◌, ℕ, ◌+◌, ◌-◌, ◌++◌, 
 ghost use Rattle.std.specs.List.{AllByRecursion};
 ghost use Rattle.rf2_values.specs.declared.row.Kind.TheVariants as kinds;
 ghost use Rattle.rf2_values.specs.declared.row.Body.TheVariants as bodies;
-ghost use Rattle.rf2_values.specs.Row.{line_limit};
+ghost use Rattle.rf2_values.specs.Row.{kind_of, line_limit};
 ghost use Rattle.history_model.specs.InOrder.{IsAscending};
-ghost use Rattle.history_model.specs.History.{stamped_cmp};
+ghost use Rattle.history_model.specs.History.{stamped, stamped_cmp};
 ghost use Rattle.segment.specs.Records.{spelled, kind_code, active_code, body_fields, record_of};
 ghost use Rattle.segment.specs.Records.{fields_of, head_of, record_in};
 ghost use Rattle.segment.specs.Records.{segment_of, IsStamped, IsSegmentIn};
@@ -15,7 +15,7 @@ ghost use Rattle.segment.specs.Private.Reading.{Fits, fixed_len, texts_len};
 use crate::writing::{put_text, put_u8, put_u32, put_u64, put_u128};
 use checksum::{Form, crc32c};
 use history_model::StampedRow;
-use rf2_values::{Body, Concrete, Description, Kind, RefsetMember, Relationship};
+use rf2_values::{Body, Concrete, Description, Kind, RefsetMember, Relationship, Row};
 use std::alloc::{AllocError, Global};
 
 fn code_of(kind: Kind) -> u8
@@ -67,12 +67,20 @@ fn fixed_bytes(kind: Kind) -> u32
     }
 }
 
+/// The length of a row's record in bytes, which is the same for every import.
+#[tactic(auto, using(crate::proofs::RecordLaws::texts_room))]
+fn row_len(row: &Row) -> u32
+    ensures { result ≡ fixed_len (kind_of row.now) + texts_len row.now.body }
+{
+    fixed_bytes(row.kind()) + text_bytes(&row.body)
+}
+
 /// The length of a row's record, in bytes.
-#[tactic(auto, using(crate::proofs::RecordLaws::record_size, crate::proofs::RecordLaws::texts_room))]
+#[tactic(auto, using(crate::proofs::RecordLaws::record_size))]
 pub(crate) fn record_len(stamped: &StampedRow) -> u32
     ensures { result ≡ length (record_of stamped.now) }
 {
-    fixed_bytes(stamped.row.kind()) + text_bytes(&stamped.row.body)
+    row_len(&stamped.row)
 }
 
 fn put_description(out: &mut Vec<u8>, description: &Description) -> Result<(), AllocError>
@@ -198,6 +206,19 @@ pub fn encoded_len(rows: &[StampedRow]) -> u64
         len = len.saturating_add(u64::from(record_len(stamped)));
     }
     len
+}
+
+/// The length of the segment of these rows in bytes, whatever import they are of, or `u64::MAX` if it
+/// is longer.
+pub fn rows_len(rows: &[Row]) -> u64
+    ensures { (import : ℕ)
+        → result ≡ min (length (segment_of (stamped import rows.now))) (2 ^ 64 - 1) }
+{
+    let mut bytes = 0u64;
+    for row in rows {
+        bytes = bytes.saturating_add(u64::from(row_len(row)));
+    }
+    bytes
 }
 
 /// Encodes rows that are in key order as a segment.

@@ -15,7 +15,7 @@ mod writing;
 
 pub use checksum::Form;
 pub use decoding::{decode, record_at};
-pub use encoding::{encode, encoded_len, put_record};
+pub use encoding::{encode, encoded_len, put_record, rows_len};
 pub use fault::SegmentFault;
 pub use history_model::StampedRow;
 pub use place::RowPlace;

@@ -3,7 +3,7 @@
 //! days; `none` if there are none.
 
 use crate::calls::spell_refusal;
-use case_files::Answer;
+use case_files::{Answer, NoAnswer};
 use case_values::{Question, first_word, number, read_question, spell_text, split_prefix};
 use history_store::{IdQuestion, Refusal, RowQuestion};
 use std::alloc::{AllocError, Global};
@@ -77,37 +77,47 @@ fn rows_asked(question: Question, prefix: &str) -> Option<RowQuestion<'_>> {
             after,
             limit,
         }),
+        Question::AllRows(kind, after, limit) => Some(RowQuestion::AllRows { kind, after, limit }),
         _ => None,
     }
 }
 
-/// The lines that a question finds.
+/// The lines that a question finds, or the refusal.
 fn find(
     alloc: Global,
     store: &mut Example,
     pin: u32,
-    question: Question,
+    text: &str,
     prefix: &str,
-) -> Result<Vec<u8>, Refusal> {
+) -> Result<Result<Vec<u8>, Refusal>, NoAnswer> {
+    let question = read_question(alloc, text)?;
     if let Some(rows) = rows_asked(question, prefix) {
-        return store.select(&rows, pin);
+        return Ok(store.select(&rows, pin));
     }
     let concepts = match question {
         Question::Children(concept, date) => IdQuestion::Children { concept, date },
         Question::Descendants(concept, date) => IdQuestion::Descendants { concept, date },
         Question::Ancestors(concept, date) => IdQuestion::Ancestors { concept, date },
-        _ => return store.dates(pin),
+        Question::Sources(type_id, destination, date, after, limit) => IdQuestion::Sources {
+            type_id,
+            destination,
+            date,
+            after,
+            limit,
+        },
+        _ => return Ok(store.dates(pin)),
     };
-    let ids = store.ids(&concepts, pin)?;
-    Ok(lines_of_ids(alloc, ids.as_slice())?)
+    match store.ids(&concepts, pin) {
+        Ok(ids) => Ok(Ok(lines_of_ids(alloc, ids.as_slice())?)),
+        Err(refusal) => Ok(Err(refusal)),
+    }
 }
 
 /// The answer to a question about the rows that a pin shows.
 pub fn ask_at(alloc: Global, store: &mut Example, text: &str) -> Answer {
     let (pin, text) = first_word(text)?;
     let (text, prefix) = split_prefix(text)?;
-    let question = read_question(alloc, text)?;
-    match find(alloc, store, number(pin)?, question, prefix) {
+    match find(alloc, store, number(pin)?, text, prefix)? {
         Ok(lines) => spell_lines(alloc, lines.as_slice()),
         Err(refusal) => spell_refusal(alloc, refusal),
     }

@@ -1,5 +1,5 @@
 -- One row was read, and its line was added.
-use Rattle.std.proofs.Common.{◌≡◌, ℕ, Option, Some, None, Ok, List, [], ◌∷◌, ◌++◌, take, map, refl, sym, ap, subst, ◌∙◌, append-nil}
+use Rattle.std.proofs.Common.{◌≡◌, ℕ, Option, Some, None, false, Ok, List, [], ◌∷◌, ◌++◌, take, map, refl, sym, ap, subst, ◌∙◌, append-nil}
 use Rattle.std.specs.List.{filter, slice_get}
 use Rattle.std.proofs.lemmas.List.Concat.{flat_map-cons}
 use Rattle.sha2.specs.declared.Sha256.{Sha256}
@@ -10,8 +10,8 @@ use Rattle.rf2_values.specs.Key.{key_of}
 use Rattle.history_model.specs.KeyOrder.{is_after, rows_after}
 use Rattle.disk_model.specs.View.{DiskView}
 use Rattle.history_store.specs.StoreValue.{StoreValue}
-use Rattle.as_of_index.specs.Reader.{AreSame}
-use Rattle.history_store.specs.Queries.{IsRowsQueryBy}
+use Rattle.history_store.specs.Queries.{IsRowsQueryBy, IsStoredFor}
+use Rattle.history_store.proofs.Returned.{keyed_same}
 use Rattle.store_digest.specs.Digest.{text_line, text_of}
 use Rattle.store_digest.specs.Private.{IsNextAdded}
 use Rattle.store_digest.proofs.Composed.{answered_otherwise}
@@ -37,18 +37,19 @@ none_first [] e = refl
 none_first (row ∷ rest) e = absurd (cc)
 
 module _ {D : Type 0} (view : D → DiskView) (pin : ℕ) (after : Option Key) (old new : StoreValue D) where
-  pub row_added : {T : Type 0} (rows_of : T → List RowValue) (x : T) (row : RowValue) (key : Key) (before more : Sha256) → IsRowsQueryBy AreSame (Ok x) rows_of (rows_after after 1) pin view old new → slice_get (rows_of x) 0 ≡ Some row → key ≡ key_of row → ((m : List ℕ) → Holds256 before m → Holds256 more (m ++ text_line row)) → IsNextAdded (Ok (Some key)) after pin before more view old new
+  pub row_added : {T : Type 0} (rows_of : T → List RowValue) (x : T) (row : RowValue) (key : Key) (before more : Sha256) → IsRowsQueryBy false (Ok x) rows_of (rows_after after 1) pin view old new → slice_get (rows_of x) 0 ≡ Some row → key ≡ key_of row → ((m : List ℕ) → Holds256 before m → Holds256 more (m ++ text_line row)) → IsNextAdded (Ok (Some key)) after pin before more view old new
   row_added rows_of x row key before more q first key_is holds =
-      let one = one_only (rows_of x) row after _ first q.keys in
+      let keys = keyed_same (IsStoredFor view old) (λ x y r. r.key) (rows_of x) _ q.stored in
+      let one = one_only (rows_of x) row after _ first keys in
       let text : text_line row ≡ text_of (row ∷ []) = sym (append-nil (text_line row)) ∙ sym (flat_map-cons text_line row []) in
       record {
         hashed = record {
           read = row ∷ [];
-          keys = ap (map key_of) (sym one) ∙ q.keys;
+          keys = ap (map key_of) (sym one) ∙ keys;
           found = λ h. sym one ∙ q.found h;
           holds = λ m holding. subst (λ t. Holds256 more (m ++ t)) text (holds m holding);
         };
-        key = ap (λ k. k ∷ []) key_is ∙ ap (map key_of) (sym one) ∙ q.keys;
+        key = ap (λ k. k ∷ []) key_is ∙ ap (map key_of) (sym one) ∙ keys;
         causes = λ none. tt;
         query = answered_otherwise view old new x (Some key) q.query;
         other_calls = q.other_calls;
@@ -56,18 +57,19 @@ module _ {D : Type 0} (view : D → DiskView) (pin : ℕ) (after : Option Key) (
         bytes_read = q.bytes_read_always;
       }
 
-  pub none_added : {T : Type 0} (rows_of : T → List RowValue) (x : T) (hasher : Sha256) → IsRowsQueryBy AreSame (Ok x) rows_of (rows_after after 1) pin view old new → rows_of x ≡ [] → IsNextAdded (Ok None) after pin hasher hasher view old new
-  none_added rows_of x hasher q none = record {
-    hashed = record {
-      read = [];
-      keys = ap (map key_of) (sym none) ∙ q.keys;
-      found = λ h. sym none ∙ q.found h;
-      holds = λ m holding. subst (Holds256 hasher) (sym (append-nil m)) holding;
-    };
-    key = ap (map key_of) (sym none) ∙ q.keys;
-    causes = λ none. tt;
-    query = answered_otherwise view old new x None q.query;
-    other_calls = q.other_calls;
-    looked_up = q.looked_up;
-    bytes_read = q.bytes_read_always;
-  }
+  pub none_added : {T : Type 0} (rows_of : T → List RowValue) (x : T) (hasher : Sha256) → IsRowsQueryBy false (Ok x) rows_of (rows_after after 1) pin view old new → rows_of x ≡ [] → IsNextAdded (Ok None) after pin hasher hasher view old new
+  none_added rows_of x hasher q none = (
+      let keys = keyed_same (IsStoredFor view old) (λ x y r. r.key) (rows_of x) _ q.stored in record {
+        hashed = record {
+          read = [];
+          keys = ap (map key_of) (sym none) ∙ keys;
+          found = λ h. sym none ∙ q.found h;
+          holds = λ m holding. subst (Holds256 hasher) (sym (append-nil m)) holding;
+        };
+        key = ap (map key_of) (sym none) ∙ keys;
+        causes = λ none. tt;
+        query = answered_otherwise view old new x None q.query;
+        other_calls = q.other_calls;
+        looked_up = q.looked_up;
+        bytes_read = q.bytes_read_always;
+      })

@@ -6,7 +6,7 @@ ghost use Rattle.std.specs.List.Sorted.{IsPermutation, IsNonDecreasingBy};
 ghost use Rattle.history_model.specs.declared.stamped.StampedRow.{StampedRow};
 ghost use Rattle.history_model.specs.InOrder.{IsAscending, put};
 ghost use Rattle.history_model.specs.Private.{IsPlace};
-ghost use Rattle.history_model.specs.Queries.{is_above, search_terms};
+ghost use Rattle.history_model.specs.Queries.{search_terms};
 ghost use Rattle.as_of_index.specs.Current.{rows_seen};
 ghost use Rattle.as_of_index.specs.Reader.{IsRowsRead};
 ghost use Rattle.as_of_index.specs.Places.{Lists};
@@ -19,7 +19,7 @@ ghost use Rattle.term_prefix.specs.Private.{IsOfDescription, AreOfDescriptions, 
 use crate::Terms;
 use crate::sealed::Sealed;
 use crate::text::Term;
-use as_of_index::{AsOf, Chosen, Index, ReadFault, RowReader, read_all};
+use as_of_index::{AsOf, Chosen, Index, ReadFault, RowReader, is_above, read_all};
 use caseless::default_case_fold_str;
 use rf2_values::Row;
 use segment::RowPlace;
@@ -106,15 +106,6 @@ fn is_taken(kept: &[Chosen], limit: u32, id: u128) -> bool
     match kept.last() {
         Some(last) => limit as usize <= kept.len() && last.at.key.id <= id,
         None => limit == 0,
-    }
-}
-
-fn is_above(after: Option<u128>, id: u128) -> bool
-    ensures { result ≡ is_above after id }
-{
-    match after {
-        None => true,
-        Some(after) => after < id,
     }
 }
 

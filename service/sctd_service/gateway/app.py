@@ -15,7 +15,7 @@ from .fhir import Operation, batch, operation_at, operation_of
 from .fhir.inputs import Given, Query, parsed, posted
 from .fhir.outputs import dumped, text_in_parts, written
 from .fhir.parameters import with_warnings
-from .fhir.request import Request
+from .fhir.request import OperationRequest
 from .fhir.versions import Edition
 from .frame import FOLDER, JSON, Answer
 from .hub import NEEDS_LATER_LAYOUT, OUT_OF_MEMORY, HubGone, HubRefused, Reply
@@ -82,7 +82,7 @@ class App:
         try:
             async with asyncio.timeout(limits.SCTD_SECONDS):
                 response = await self.of_one_pin(request)
-        except http.Left:
+        except http.ClientLeftError:
             raise
         except Exception as error:
             response = await refused(problem_of(error), request)
@@ -135,7 +135,7 @@ class App:
                 waits = self.walks.locked()
                 await places.enter_async_context(self.walks)
                 if waits and request.has_left():
-                    raise http.Left
+                    raise http.ClientLeftError
             yield View(await places.enter_async_context(self.pool.session(pin)))
 
     async def fhir(self, request: http.Request, pin: int | None, path: str,
@@ -155,7 +155,7 @@ class App:
             tag = None if request.method == "POST" else delivery.tag_of(whence)
             if tag and delivery.is_known(request, tag):
                 return http.Response(304, "", b"", delivery.kept(VARIED, tag, pin is not None))
-            response = await told_of(view, request, self.operated(operation, view, query))
+            response = await with_pin(view, request, self.operated(operation, view, query))
         if not tag or response.status != 200:
             return response
         kept = delivery.kept(response.headers, tag, pin is not None)
@@ -183,7 +183,7 @@ class App:
         return operation, Query(asked, operation.ways, is_strict)
 
     async def resource(self, operation: Operation, view: View, query: Query) -> Json:
-        resource = await operation.answer(Request(self.edition, view, query))
+        resource = await operation.answer(OperationRequest(self.edition, view, query))
         return with_warnings(resource, query.passed)
 
     async def operated(self, operation: Operation, view: View, query: Query) -> http.Response:
@@ -197,7 +197,7 @@ class App:
         check_body(request)
         entries, is_strict = batch.entries_of(request.body), self.wants_all(request)
         async with self.view(request, pin, is_walk=True) as view:
-            return await told_of(view, request, self.of_batch(view, entries, is_strict))
+            return await with_pin(view, request, self.of_batch(view, entries, is_strict))
 
     async def of_batch(self, view: View, entries: Sequence[batch.Entry],
                        is_strict: bool) -> http.Response:
@@ -227,7 +227,7 @@ class App:
         words = await pages.words_of(path, request)
         async with self.view(request, pin, PAGES[path].is_walk) as view:
             shown = pages.answered(path, self.edition, view, words, pin is not None)
-            return await told_of(view, request, sent(shown))
+            return await with_pin(view, request, sent(shown))
 
     async def health(self, pin: int | None) -> http.Response:
         """Whether the store can be asked, in time whatever hangs."""
@@ -274,7 +274,7 @@ async def sent(shown: Awaitable[Answer]) -> http.Response:
     return http.Response(200, answer.kind, answer.body, (*SAFE, *answer.headers))
 
 
-async def told_of(view: View, request: http.Request,
+async def with_pin(view: View, request: http.Request,
                   answer: Awaitable[http.Response]) -> http.Response:
     """An answer, or its refusal, with the pin that it is of."""
     try:

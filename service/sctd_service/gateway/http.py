@@ -24,11 +24,12 @@ END_OF_HEAD = b"\r\n\r\n"
 METHODS_WITH_BODY = ("POST", "PUT", "PATCH")
 VERSIONS = (b"1.0", b"1.1")
 WITHOUT_BODY = (204, 304)
-# Where bodies are sent to that may be longer than others, and how long: batches and lists.
+# Where bodies are sent to that may be longer than others, and how long: FHIR and lists.
 LONGER = {
     re.compile(rb"(?:https?://[^/?#]+)?(?:/pin/[0-9]{1,10})?" + path + rb"(?:\?|\Z)"): most
     for path, most in (
-        (rb"/fhir/?", limits.BATCH_BYTES), (rb"/records", limits.RECORDS_BODY_BYTES))}
+        (rb"/fhir(?:/[^?]*)?", limits.FHIR_BODY_BYTES),
+        (rb"/records", limits.RECORDS_BODY_BYTES))}
 CONTINUE = b"HTTP/1.1 100 Continue\r\n\r\n"
 # A path, behind a scheme and an authority where a client sends them too.
 TARGET = re.compile(rb"(?:https?://[^/?#\x00-\x20\x7f-\xff]+)?(/[\x21-\x7e]*)\Z", re.I)
@@ -63,7 +64,7 @@ class Response(NamedTuple):
     headers: Headers = ()
 
 
-class Bad(Exception):
+class BadRequestError(Exception):
     """A request that isn't one, or that is too large or too slow."""
 
     def __init__(self, status: int, text: str) -> None:
@@ -71,7 +72,7 @@ class Bad(Exception):
         self.status, self.text = status, text
 
 
-class Left(Exception):
+class ClientLeftError(Exception):
     """The client has left, or has said nothing for too long."""
 
 
@@ -84,37 +85,38 @@ Observer = Callable[[Request | None, Response, float], None]
 def check_head(head: bytes) -> None:
     """Refuses a head that not every program reads as h11 does."""
     if not HEAD.match(head):
-        raise Bad(400, "the head isn't made of lines of printable ASCII that end with CR LF")
+        raise BadRequestError(
+            400, "the head isn't made of lines of printable ASCII that end with CR LF")
     single = [found.lower() for found in SINGLE.findall(head)]
     if len(set(single)) < len(single):
-        raise Bad(400, "a header stands twice")
+        raise BadRequestError(400, "a header stands twice")
     if b"content-length" in single:
         if not LENGTH.search(head):
-            raise Bad(400, "Content-Length isn't a number")
+            raise BadRequestError(400, "Content-Length isn't a number")
         if b"transfer-encoding" in single:
-            raise Bad(400, "a length and chunks")
+            raise BadRequestError(400, "a length and chunks")
 
 
 def check_request(request: h11.Request) -> None:
     """Refuses what isn't answered whatever it asks."""
     if request.http_version not in VERSIONS:
-        raise Bad(505, "HTTP/1.1 is spoken here")
+        raise BadRequestError(505, "HTTP/1.1 is spoken here")
     if not TARGET.match(request.target):
-        raise Bad(400, "the target isn't a path, nor an address with one")
+        raise BadRequestError(400, "the target isn't a path, nor an address with one")
     headers = dict(request.headers)
     if b"content-encoding" in headers:
-        raise Bad(415, "a compressed body isn't read")
+        raise BadRequestError(415, "a compressed body isn't read")
     if b"transfer-encoding" in headers:
         if request.http_version != b"1.1":
-            raise Bad(400, "HTTP/1.0 has no chunks")
+            raise BadRequestError(400, "HTTP/1.0 has no chunks")
         return
     length = headers.get(b"content-length")
     if length is None:
         if request.method.decode() in METHODS_WITH_BODY:
-            raise Bad(411, "a body needs the header Content-Length")
+            raise BadRequestError(411, "a body needs the header Content-Length")
         return
     if int(length) > (most := room_for(request)):
-        raise Bad(413, "a body may have %d bytes" % most)
+        raise BadRequestError(413, "a body may have %d bytes" % most)
 
 
 def room_for(request: h11.Request) -> int:
@@ -135,7 +137,7 @@ class Client:
     async def more(self) -> bytes:
         data = await self.reader.read(READ_BYTES)
         if not data:
-            raise Left
+            raise ClientLeftError
         return data
 
     async def wait(self) -> None:
@@ -148,7 +150,7 @@ class Client:
                 async with asyncio.timeout(limits.IDLE_SECONDS):
                     self.rest = await self.more()
             except TimeoutError:
-                raise Left from None
+                raise ClientLeftError from None
 
     async def head(self) -> bytes:
         """The head of the next request, with the empty line that ends it."""
@@ -158,10 +160,10 @@ class Client:
                     while END_OF_HEAD not in self.rest and len(self.rest) <= limits.HEAD_BYTES:
                         self.rest += await self.more()
             except TimeoutError:
-                raise Bad(408, "the head came too slowly") from None
+                raise BadRequestError(408, "the head came too slowly") from None
         end = self.rest.find(END_OF_HEAD) + len(END_OF_HEAD)
         if not len(END_OF_HEAD) <= end <= limits.HEAD_BYTES:
-            raise Bad(431, "a head may have %d bytes" % limits.HEAD_BYTES)
+            raise BadRequestError(431, "a head may have %d bytes" % limits.HEAD_BYTES)
         head, self.rest = self.rest[:end], self.rest[end:]
         return head
 
@@ -176,10 +178,10 @@ class Client:
             elif isinstance(event, h11.Data):
                 found, chunks = found + event.data, chunks + event.chunk_start
                 if len(found) > most or chunks > limits.BODY_CHUNKS:
-                    raise Bad(413, "a body may have %d bytes in %d chunks" % (
+                    raise BadRequestError(413, "a body may have %d bytes in %d chunks" % (
                         most, limits.BODY_CHUNKS))
         if list(event.headers):
-            raise Bad(400, "headers behind a body")
+            raise BadRequestError(400, "headers behind a body")
         self.rest = parser.trailing_data[0]
         return found
 
@@ -191,7 +193,7 @@ class Client:
             parser.receive_data(head)
             event = parser.next_event()
             if not isinstance(event, h11.Request):
-                raise Bad(400, "the head isn't one of HTTP")
+                raise BadRequestError(400, "the head isn't one of HTTP")
             check_request(event)
             headers = joined(event.headers)
             self.stays = event.http_version == b"1.1" and not is_last(headers)
@@ -200,9 +202,9 @@ class Client:
             async with asyncio.timeout(limits.BODY_SECONDS):
                 body = await self.body(parser, room_for(event))
         except h11.RemoteProtocolError as error:
-            raise Bad(error.error_status_hint, str(error)) from None
+            raise BadRequestError(error.error_status_hint, str(error)) from None
         except TimeoutError:
-            raise Bad(408, "the body came too slowly") from None
+            raise BadRequestError(408, "the body came too slowly") from None
         found = TARGET.match(event.target)
         assert found
         method, target = event.method.decode(), found[1].decode()
@@ -262,7 +264,7 @@ class Server:
             else:
                 while await self.turn(client):
                     pass
-        except (OSError, Left, asyncio.CancelledError):
+        except (OSError, ClientLeftError, asyncio.CancelledError):
             pass
         finally:
             self.leave(client)
@@ -287,7 +289,7 @@ class Server:
             self.waiting.pop(client, None)
             response = await self.answer(request)
             stays = client.stays and not self.is_ending
-        except Bad as bad:
+        except BadRequestError as bad:
             response, stays = self.refusal(bad.status, bad.text), False
         self.waiting.pop(client, None)
         if self.untaken + len(response.body) > limits.UNTAKEN_BYTES:

@@ -4,6 +4,8 @@ said."""
 # Of HTTP.
 HEAD_BYTES = 16 << 10
 BODY_BYTES = 64 << 10
+# Of one that is sent to FHIR, which may have a value set with all of its codes, or a batch.
+FHIR_BODY_BYTES = 256 << 10
 # Each chunk of a body costs more than its bytes.
 BODY_CHUNKS = 1_000
 ANSWER_BYTES = 4 << 20
@@ -46,9 +48,8 @@ PARAMETERS = 60
 CODINGS = 60
 # Parts of a value set that a client defines, each of which may be a walk.
 COMPOSED_PARTS = 20
-# Requests of a batch, and the length of one.
+# Requests of a batch.
 BATCH_ENTRIES = 1_000
-BATCH_BYTES = 256 << 10
 
 # Of the hub.
 HUB_CONNECTIONS = 8

@@ -129,7 +129,7 @@ async def which_have_members(view: View, found: Sequence[str], day: str) -> list
 
 async def which_of(view: View, codes: Sequence[str], day: str) -> set[str]:
     """Those of the concepts that are such reference sets."""
-    found = await view.those_within(codes, REFERENCE_SET, day) - {REFERENCE_SET}
+    found = await view.codes_within(codes, REFERENCE_SET, day) - {REFERENCE_SET}
     return set(await which_have_members(view, sorted(found, key=int), day))
 
 

@@ -312,9 +312,9 @@ class View:
 
     async def is_within(self, code: str, top: str, day: str) -> bool:
         """Whether the concept is the top, or the top is an ancestor of it on that day."""
-        return code in await self.those_within([code], top, day)
+        return code in await self.codes_within([code], top, day)
 
-    async def those_within(self, codes: Sequence[str], top: str, day: str) -> set[str]:
+    async def codes_within(self, codes: Sequence[str], top: str, day: str) -> set[str]:
         """Those of the concepts that are the top, or that the top is an ancestor of."""
         known = self.session.remembered_set(self.session.pool.subtrees, day, top)
         if known is not None:

@@ -14,12 +14,12 @@ whatever isn't a question is answered `ERR hub NotAQuestion` there. Each is its 
 with `--group` the second one is that group's, too.
 
 The program answers one line after the other, and is sent the next ones meanwhile, at most 32 of a
-client. An import or a DIGEST goes alone and keeps the others waiting. `WATCH` is answered `OK` and
-the number of imports, and the client is told so again with each import, before that is answered.
-`METRICS` is answered with what a monitor counts, each line of Prometheus' text as a row.
-`BACKUP PATH`, on the socket of `--socket`, copies the store while questions are answered. When more
-than N segments stand (100 if not said), the hub merges in short steps between the clients' lines;
-where the store is full, an import waits for a merge.
+client. An import goes alone and keeps the others waiting; a DIGEST doesn't, of which the hub
+hashes pages of rows. `WATCH` is answered `OK` and the number of imports, and the client is told so
+again with each import, before that is answered. `METRICS` is answered with what a monitor counts,
+each line of Prometheus' text as a row. `BACKUP PATH`, on the socket of `--socket`, copies the store
+while questions are answered. When more than N segments stand (100 if not said), the hub merges in
+short steps between the clients' lines; where the store is full, an import waits for a merge.
 
 Once the store is open, the hub prints `OK ready` (and tells systemd, where that started it). An
 opening that is refused ends the hub with the `ERR` line and the program's status. The hub ends with
@@ -55,7 +55,7 @@ from .. import settings, sockets
 from ..logs import log, tell
 from . import opening
 from .clients import Client, Hub
-from .program import Ended, Program
+from .program import Program, ProgramEndedError
 from .store import MOST_SEGMENTS, Store
 
 # Connections that the system keeps until they are taken.
@@ -146,7 +146,7 @@ async def serve(options: argparse.Namespace) -> int:
         [options.program, "serve", "--store", options.store, "--releases", options.releases])
     try:
         status = await program.opened()
-    except Ended as ended:
+    except ProgramEndedError as ended:
         sys.stdout.buffer.write(ended.line)
         return ended.status
     try:

@@ -1,6 +1,7 @@
 """The hub's clients: connections, each of which is a session of the program."""
 
 import asyncio
+import select
 import socket
 import struct
 from collections import Counter
@@ -9,8 +10,9 @@ from typing import Optional, cast
 
 from ..logs import log, tell
 from ..protocol import REFUSED
-from .lines import LINE_LIMIT, NOT_A_QUESTION, TOO_LONG, Lines, Sort, without_cr
-from .program import Ended, Program
+from .digests import Digests
+from .lines import LINE_LIMIT, NOT_A_QUESTION, TOO_LONG, Lines, Sort, pin_after, without_cr
+from .program import Program, ProgramEndedError
 from .store import Store
 
 # Session 0 is the hub's own. Clients that only ask leave some of the others to those that import.
@@ -29,7 +31,8 @@ LAST_SECONDS, WAIT_SECONDS = 2, 0.01
 # where few sessions are left.
 IDLE_SECONDS, IDLE_SECONDS_IF_FULL = 600, 10
 FEW_SESSIONS = 100
-# How often that is looked at, and whether the store's file is still there.
+# How often that is looked at, who has left while its digest is computed, and whether the store's
+# file is still there.
 LOOK_SECONDS = 2
 # For how long what is counted is told as it was made.
 METRICS_SECONDS = 0.1
@@ -45,6 +48,7 @@ class Client(asyncio.Protocol):
     def __init__(self, hub: "Hub", may_change: bool) -> None:
         self.hub, self.may_change = hub, may_change
         self.session, self.user, self.lines = 0, "nobody", Lines(LINE_LIMIT, may_change)
+        self.pin: Optional[bytes] = None
         # How many lines are on their way, and what they were answered that isn't sent yet.
         self.flying, self.replies = 0, list[bytes]()
         # Whether it waits for a turn, has a line that the hub carries out, has replies to read.
@@ -120,6 +124,7 @@ class Client(asyncio.Protocol):
 
     def answered(self, line: bytes, reply: bytes) -> None:
         self.flying -= 1
+        self.pin = pin_after(line, reply, self.pin)
         if self.hub.program.damaged_at:
             reply = with_damage(line, reply)
         self.replies.append(reply)
@@ -151,6 +156,7 @@ class Client(asyncio.Protocol):
         self.is_gone = True
         self.lines.clear()
         self.hub.unread.pop(self, None)
+        self.hub.digests.end_waiting(self)
         if self.session and not self.is_busy:
             self.hub.begin(self.hub.left(self))
 
@@ -171,7 +177,11 @@ class Client(asyncio.Protocol):
             self.hub.begin(self.carried_out(sort, line))
 
     async def carried_out(self, sort: Sort, line: bytes) -> None:
-        reply = await self.hub.reply(self, sort, line)
+        try:
+            reply = await self.hub.reply(self, sort, line)
+        except ProgramEndedError:
+            self.transport.close()
+            raise
         self.is_busy = False
         self.send(reply)
         if self.is_gone:
@@ -184,6 +194,14 @@ class Client(asyncio.Protocol):
         self.lines.clear()
         self.is_at_end, self.flying, self.waits = True, 0, False
         self.read_on()
+
+    def end_if_left(self) -> None:
+        """Ends it if nobody reads what it is answered. (One that sends no more may still read.)"""
+        if not self.is_gone:
+            seen = select.poll()
+            seen.register(self.transport.get_extra_info("socket"), 0)
+            if seen.poll(0):
+                self.transport.abort()
 
     def is_idle(self, seconds: float) -> bool:
         """Whether it has said nothing for so long, and waits for nothing."""
@@ -202,6 +220,7 @@ class Hub:
 
     def __init__(self, program: Program, store: Store, most_a_user: int) -> None:
         self.program, self.store, self.most_a_user = program, store, most_a_user
+        self.digests = Digests(program)
         self.loop = asyncio.get_running_loop()
         self.free = list(reversed(SESSIONS))
         self.clients: dict[Client, None] = {}
@@ -261,7 +280,7 @@ class Hub:
         """Does it, and ends the hub where that fails."""
         try:
             await work
-        except Ended as ended:
+        except ProgramEndedError as ended:
             self.end(ended.status)
         except asyncio.CancelledError:
             pass  # The hub ends.
@@ -275,7 +294,7 @@ class Hub:
             return await self.store.backup(line)
         if sort is Sort.CHANGE:
             return await self.store.change(client.session, line, client.user)
-        return await self.program.ask(client.session, line, client.user, alone=True)
+        return await self.digests.reply(client, line, self.store.imports)
 
     def metrics_told(self) -> bytes:
         """What METRICS is answered, which isn't made each time, so that many cost as little."""
@@ -326,6 +345,7 @@ class Hub:
             if self.store.is_replaced():
                 log("the store's file was replaced: the hub ends")
                 return self.end(1)
+            self.digests.end_left()
             is_full = len(self.free) <= KEPT_SESSIONS + FEW_SESSIONS
             seconds = IDLE_SECONDS_IF_FULL if is_full else IDLE_SECONDS
             for client in list(self.clients):

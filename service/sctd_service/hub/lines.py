@@ -2,14 +2,17 @@
 what of them goes into the log."""
 
 import enum
+import re
 from collections import deque
+from typing import Optional
 
 from ..protocol import CHANGES, QUESTIONS
 
 # The program's limit, for a line with the number of its session.
 LINE_LIMIT = 4096
-# A question that reads each row of the store.
-DIGEST = b"DIGEST"
+# A question that reads each row of the store, and the pin that it names. (The program refuses all
+# others with this word at once.)
+DIGEST = re.compile(rb"(?:AT ([0-9]{1,10}) )?DIGEST")
 # Lines that the hub carries out itself.
 BACKUP, WATCH, METRICS = b"BACKUP", b"WATCH", b"METRICS"
 # What a line is counted as, by its word.
@@ -24,8 +27,8 @@ class Sort(enum.Enum):
     """What the hub does with a line."""
 
     QUESTION = enum.auto()
-    # A question that takes so long that no other line goes to the program beside it.
-    SLOW = enum.auto()
+    # A question that the hub answers by many of its own.
+    DIGEST = enum.auto()
     # Whatever isn't known to be a question, on a socket on which the store may be changed.
     CHANGE = enum.auto()
     BACKUP = enum.auto()
@@ -50,6 +53,23 @@ def kind_of(line: bytes) -> str:
     return KINDS.get(words[3] if words[1] == b"AT" else words[1], OTHER)
 
 
+def pin_named(line: bytes) -> Optional[bytes]:
+    """The pin that a DIGEST names."""
+    found = DIGEST.fullmatch(without_cr(line))
+    return found[1] if found else None
+
+
+def pin_after(line: bytes, reply: bytes, before: Optional[bytes]) -> Optional[bytes]:
+    """The pin of a session after a line that begins with its number, of which it was that before.
+    """
+    if not reply.startswith(b"OK"):
+        return before
+    word = line.split(None, 2)[1]
+    if word == b"PIN":
+        return reply.split()[1]
+    return None if word == b"UNPIN" else before
+
+
 # A line without its LF, and what is done with it. Of one that is too long nothing is kept.
 Line = tuple[Sort, bytes]
 
@@ -58,7 +78,7 @@ def sort_of(line: bytes, may_change: bool) -> Sort:
     """What is done with a line of a client that may change the store, or may ask alone."""
     word = first_word(line)
     if word in QUESTIONS:
-        return Sort.SLOW if without_cr(line).endswith(DIGEST) else Sort.QUESTION
+        return Sort.DIGEST if DIGEST.fullmatch(without_cr(line)) else Sort.QUESTION
     if word in (WATCH, METRICS):
         return Sort.WATCH if word == WATCH else Sort.METRICS
     if not may_change:

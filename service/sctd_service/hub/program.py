@@ -28,7 +28,7 @@ SLOW_SECONDS = 1.0
 LAST_SECONDS = 2
 
 
-class Ended(Exception):
+class ProgramEndedError(Exception):
     """The program has ended, or has to be started again."""
 
     def __init__(self, status: int, line: bytes = b"") -> None:
@@ -73,7 +73,7 @@ class Single:
     def end(self, status: int) -> None:
         """There is no reply any more."""
         if not self.reply.done():
-            self.reply.set_exception(Ended(status))
+            self.reply.set_exception(ProgramEndedError(status))
 
 
 class Program(asyncio.SubprocessProtocol):
@@ -111,14 +111,14 @@ class Program(asyncio.SubprocessProtocol):
         reply = await self.ask(HUB_SESSION, b"STATUS")
         if reply.startswith(REFUSED):
             await self.exited
-            raise Ended(self.status(), reply)
+            raise ProgramEndedError(self.status(), reply)
         self.is_open = True
         return reply
 
     async def ask(self, session: int, line: bytes, user: str = "hub", alone: bool = False) -> bytes:
         """The reply to a line, with its line ends."""
         if self.is_over:
-            raise Ended(1)
+            raise ProgramEndedError(1)
         asked = Single(session, line, user, alone)
         self.wait(asked)
         return await asked.reply

@@ -11,7 +11,7 @@ from typing import Optional
 from ..logs import log, tell
 from ..protocol import REFUSED
 from .lines import BACKUP, first_word, shown, without_cr
-from .program import HUB_SESSION, Ended, Program
+from .program import HUB_SESSION, Program, ProgramEndedError
 
 # A merge of the hub's own goes in steps of so many rows.
 STEP = b"STEP 1000"
@@ -64,7 +64,7 @@ class Store:
         asking = self.imported if first_word(line) in FOR_RELEASES else self.asked
         try:
             reply = await asking(session, line, user)
-        except Ended:
+        except ProgramEndedError:
             if session != HUB_SESSION and first_word(line) in LOGGED:
                 log("%s: no reply" % shown(without_cr(line)))
             raise
@@ -170,7 +170,7 @@ class Store:
         """The reply to a line of a merge of the hub's own."""
         reply = await self.change(HUB_SESSION, line)
         if self.program.is_over:
-            raise Ended(1)
+            raise ProgramEndedError(1)
         return reply[:-1]
 
     async def backup(self, line: bytes) -> bytes:

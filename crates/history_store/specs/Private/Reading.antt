@@ -1,8 +1,7 @@
 -- Rows on a disk, and what reading them leaves unchanged.
-use Rattle.std.specs.Prelude.{◌≡◌, ◌↔◌, ℕ, ◌+◌, ◌*◌, ◌^◌, ◌≤◌, List, Some, length, map, take, drop}
-use Rattle.std.specs.List.{AllByRecursion, slice_get}
+use Rattle.std.specs.Prelude.{◌≡◌, ◌↔◌, ℕ, ◌≤◌, List, map}
+use Rattle.std.specs.List.{AllByRecursion}
 use Rattle.std.proofs.Common.{refl, subst, ◌∙◌}
-use Rattle.rf2_values.specs.Key.{key_of}
 use Rattle.rf2_values.specs.Row.{RowValue}
 use Rattle.history_model.specs.declared.stamped.StampedRow.{StampedRow}
 use Rattle.history_model.specs.Lists.{listed}
@@ -11,10 +10,7 @@ use Rattle.lru.specs.LruCache.{LruCache}
 use Rattle.blocks.specs.Cache.{LooksUpSome}
 use Rattle.blocks.proofs.Looked.{some_more}
 use Rattle.directory.specs.declared.entry.Entry.{Entry}
-use Rattle.directory.specs.Listings.{IsEntry, form_in}
-use Rattle.segment.specs.declared.place.RowPlace.{RowPlace}
-use Rattle.checksum.specs.declared.form.Form.{Form}
-use Rattle.segment.specs.Records.{record_in, IsStamped}
+use Rattle.directory.specs.Listings.{IsEntry}
 use Rattle.store_image.specs.Pieces.{HoldsAll}
 use Rattle.store_image.specs.Kept.{AreSegments, pieces_of}
 use Rattle.history_store.specs.Queries.{is_listed}
@@ -46,24 +42,6 @@ pub record AreThere (entries : List Entry) (lists : List (List StampedRow))
   pub entries_are : AllByRecursion IsEntry entries
   pub segments : AreSegments entries lists
   pub pieces : HoldsAll (pieces_of entries lists) file
-
--- the row's record in this form is in the file at this byte, and `p` is its place
-pub record IsThere (form : Form) (from : ℕ) (s : StampedRow) (p : RowPlace) (file : List ℕ)
-    : Type 0 where
-  pub below : from + p.bytes ≤ 2 ^ 34
-  pub whole : length (take p.bytes (drop from file)) ≡ p.bytes
-  pub is : take p.bytes (drop from file) ≡ record_in form s
-  pub stamped : IsStamped s
-  pub key : key_of s.row ≡ p.key
-  pub import : s.import ≡ p.import
-
--- the row's record is at its place within the segment with this number, in the form of the segment
-pub record IsRecordOf (entries : List Entry) (segment : ℕ) (s : StampedRow) (p : RowPlace)
-    (file : List ℕ) : Type 0 where
-  pub entry : Entry
-  pub listed : slice_get entries segment ≡ Some entry
-  pub within : p.at + p.bytes ≤ entry.bytes
-  pub there : IsThere (form_in entry.sums) (4096 * entry.first + p.at) s p file
 
 -- the rows of the lists
 abbrev pub rows_of : List (List StampedRow) → List RowValue

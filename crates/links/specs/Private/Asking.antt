@@ -15,6 +15,7 @@ use Rattle.as_of_index.specs.Places.{place_cmp}
 use Rattle.as_of_index.specs.Private.Once.{AreOnce}
 use Rattle.as_of_index.specs.Current.{rows_seen, IsPlaceOfRow, IsCurrentAt}
 use Rattle.links.specs.declared.posting.Tag.{Tag}
+use Rattle.links.specs.declared.posting.Tag.TheVariants as tags
 use Rattle.links.specs.declared.posting.Posting.{Posting}
 use Rattle.links.specs.declared.wanted.Seconds.{Seconds}
 use Rattle.links.specs.declared.wanted.Seconds.TheVariants as seconds
@@ -43,7 +44,7 @@ is_wanted w k = tag_place k.tag == tag_place w.tag && is_second w.seconds k.seco
 
 -- by which key the posting's row is found
 abbrev pub key_of : Posting → RowKey
-key_of p = row_key p.tag p.first p.second p.active
+key_of p = row_key p.tag p.first p.second p.end p.active
 
 -- the lowest and the highest rank that wanted postings may have
 abbrev pub low_from : Tag → ℕ → Seconds → ℕ
@@ -68,16 +69,21 @@ high_rank w = high_from w.tag w.first w.seconds
 abbrev pub IsPath : (RowValue → Bool) → Wanted → Type 0
 IsPath test w = (row : RowValue) → test row ≡ list_any (is_wanted w) (keys_of row)
 
--- all rows with a posting of this tag and first number
-abbrev pub asked_all : Tag → ℕ → AsOf → Asked
-asked_all tag first as_of =
-    record {
-      wanted = record
-          { tag = tag; first = first; seconds = seconds.Between None None; active = false };
-      above = None;
-      up_to = None;
-      as_of = as_of;
-    }
+-- all postings of a tag and a first number
+abbrev pub all_with : Tag → ℕ → Wanted
+all_with tag first =
+    record { tag = tag; first = first; seconds = seconds.Between None None; active = false }
+
+-- the postings of active relationships of the type, if that is given, to the destination
+abbrev pub sources_with : Option ℕ → ℕ → Wanted
+sources_with None destination = all_with tags.Source destination
+sources_with (Some type_id) destination = record
+    { tag = tags.Source; first = destination; seconds = seconds.Only type_id; active = false }
+
+-- all rows with a wanted posting
+abbrev pub asked_for : Wanted → AsOf → Asked
+asked_for wanted as_of =
+    record { wanted = wanted; above = None; up_to = None; as_of = as_of }
 
 -- the row is asked for, if the wanted postings are a path of the test
 abbrev pub is_passed : Asked → (RowValue → Bool) → RowValue → Bool
@@ -104,12 +110,12 @@ pub record GivesAsked {Y : Type 0} (answer : ℕ → Posting → RowPlace → Y)
   pub asked_so : is_asked asked p at.key.id ≡ true
   pub answer_is : answer n p at ≡ y
 
--- a row to read, or the posting's second number
+-- a row to read, or what the posting leads to
 abbrev pub GivesPlace : List (List StampedRow) → Asked → ℕ → Posting → Chosen → Type 0
 GivesPlace = GivesAsked placed
 
-abbrev pub GivesSecond : List (List StampedRow) → Asked → ℕ → Posting → ℕ → Type 0
-GivesSecond = GivesAsked (λ n p at. p.second)
+abbrev pub GivesEnd : List (List StampedRow) → Asked → ℕ → Posting → ℕ → Type 0
+GivesEnd = GivesAsked (λ n p at. p.end)
 
 -- the list has the items that the postings give, and no others; each posting comes with the number
 -- of its list

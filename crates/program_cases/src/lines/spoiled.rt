@@ -22,7 +22,10 @@ impl Spoiled {
 impl Disk for Spoiled {
     ghost use Rattle.disk_model.specs.MemDisk.{memory_view};
 
-    ghost view = { λ spoiled. record (memory_view spoiled.disk) { is_honest = ⊥ } };
+    ghost view = { λ spoiled.
+        record (memory_view spoiled.disk) { is_honest = ⊥; reads_as = λ _. ⊥ } };
+
+    ghost honest_reads = { λ _ honest. absurd honest };
 
     ghost now_is_image = { λ _ honest. absurd honest };
 

@@ -77,12 +77,10 @@ class Evaluation:
                 return await self.members(e, among)
             case s.Compound():
                 return await self.compound(e, among)
-            case s.Refined(focus, refinement):
-                base = await self.meant(focus, among)
-                return await refining.refined(self.store, self.meant, base, refinement)
-            case s.Dotted(focus, attribute):
-                base = await self.meant(focus)
-                return await refining.dotted(self.store, self.meant, base, attribute)
+            case s.Refined():
+                return await refining.refined(self.store, self.meant, e, among)
+            case s.Dotted():
+                return await refining.dotted(self.store, self.meant, e, among)
             case s.Filtered():
                 return await self.filtered(e, among)
             case s.WithHistory(focus, by):

@@ -60,13 +60,14 @@ async def in_dialects(store: Terminology, meant: Meant, rows: Sequence[Descripti
     """The descriptions that have active members in the dialects."""
     members = await store.members_about([row.id for row in rows])
     refsets = frozenset(one.refset for some in members.values() for one in some)
-    wanted = await among(meant, f, refsets)
+    ways = [(await among(meant, f, refsets), f.acceptabilities)]
+    if f.own and isinstance(f.value, tuple):
+        ways = [(frozenset([code]), own or f.acceptabilities) for code, own in zip(f.value, f.own)]
 
     def is_in(row: Description) -> bool:
         return any(
-            one.refset in wanted
-            and (not f.acceptabilities or one.further[:1] and one.further[0] in f.acceptabilities)
-            for one in members[row.id])
+            one.refset in wanted and (not hows or one.further[:1] and one.further[0] in hows)
+            for one in members[row.id] for wanted, hows in ways)
 
     return [row for row in rows if is_in(row) == (f.comparison == s.EQUAL)]
 

@@ -172,11 +172,22 @@ class Builder(Transformer[Token, Any]):
         return list(filters)
 
     def filter(self, name: Token, comparison: Token, wanted: Any) -> Named:
-        value, within = wanted if isinstance(wanted, list) else (wanted, ())
-        return name, s.Filter(str(name), str(comparison), value, within)
+        value, within, own = wanted if isinstance(wanted, list) else (wanted, (), ())
+        return name, s.Filter(str(name), str(comparison), value, within, own)
 
-    def words(self, *words: Token) -> tuple[Token, ...]:
-        return tuple(word.update(value=word.lower()) for word in words)
+    def word(self, word: Token) -> tuple[Token, ...]:
+        return (word.update(value=word.lower()),)
+
+    def own(self, one: Token | s.ConceptReference, within: tuple[str, ...] = ()) -> Own:
+        """A word or a concept of a list, with acceptabilities of its own if it has any."""
+        return one.code if isinstance(one, s.ConceptReference) else self.word(one)[0], within
+
+    def several(self, *found: Own) -> list[Any]:
+        values, own = zip(*found)
+        return [values, (), own if any(own) else ()]
+
+    def one_code(self, *found: Any) -> list[Any]:
+        return self.several(self.own(*found))
 
     def within(self, *words: Token | s.ConceptReference) -> tuple[str, ...]:
         """Acceptabilities, by their words or their concepts."""
@@ -189,13 +200,8 @@ class Builder(Transformer[Token, Any]):
         return tuple(found)
 
     def dialects(self, dialects: Any, within: tuple[str, ...]) -> list[Any]:
-        return [dialects, within]
-
-    def codes(self, *codes: s.ConceptReference) -> tuple[str, ...]:
-        return tuple(one.code for one in codes)
-
-    def dialect_codes(self, *found: Any) -> list[Any]:
-        return [self.codes(*found[:-1]), found[-1]]
+        value, _, own = dialects if isinstance(dialects, list) else (dialects, (), ())
+        return [value, within, own]
 
     def both(self, *parts: s.Refinement) -> s.Junction:
         return s.Junction(s.AND, parts)
@@ -250,8 +256,9 @@ class Builder(Transformer[Token, Any]):
         return s.Text(hows.pop(), tuple(text for _, text in typed))
 
 
-# A filter, with where its name stands.
+# A filter, with where its name stands; and what stands in a list, with its acceptabilities.
 Named = tuple[Token, s.Filter]
+Own = tuple[str, tuple[str, ...]]
 
 
 def has_group(refinement: s.Refinement) -> bool:
@@ -276,7 +283,7 @@ def checked(about: str, filters: Sequence[Named],
             raise not_supported(TERMS_LATER)
         if not is_of(form, one, others):
             raise misspelt_at(token, "%s isn't compared so" % name)
-        if one.acceptabilities and not name.startswith("dialect"):
+        if (one.acceptabilities or one.own) and not name.startswith("dialect"):
             raise misspelt_at(token, "%s has no acceptability" % name)
         found.append(normal(name, one, token))
     return tuple(found)
@@ -327,4 +334,4 @@ def normal(name: str, one: s.Filter, token: Token) -> s.Filter:
         name, value = name + "Id", tuple(KNOWN[name][word] for word in value)
     if isinstance(value, tuple):
         value = tuple(map(str, value))
-    return s.Filter(name, one.comparison, value, one.acceptabilities)
+    return s.Filter(name, one.comparison, value, one.acceptabilities, one.own)

@@ -7,13 +7,15 @@
 
 from __future__ import annotations
 
-from collections.abc import Callable, Iterable, Iterator, Mapping
+from collections.abc import Callable, Iterable, Mapping
 
 from . import syntax as s
 from .. import limits
 from .comparing import fits_concrete
+from .planning import Plan, is_cheap, leading, types_of
 from .syntax import Ids, Meant
-from .terminology import CONCRETE, TO_CONCEPTS, Stated, Terminology, those_of
+from .terminology import (
+    CONCRETE, TO_CONCEPTS, Sources, Stated, Terminology, lines_of_sources, those_of)
 
 NO_GROUP = "0"
 Attributes = frozenset[Stated]
@@ -21,9 +23,37 @@ Attributes = frozenset[Stated]
 Test = Callable[[str, Attributes], bool]
 
 
-async def refined(store: Terminology, meant: Meant, base: Ids, refinement: s.Refinement) -> Ids:
+async def refined(store: Terminology, meant: Meant, e: s.Refined, among: Ids | None) -> Ids:
+    """The concepts of the focus that fit the refinement, or those among some. They are looked for
+    from the focus, or from the values of the attributes where that asks less."""
+    base, plan = None, Plan(store, meant)
+    if s.cost(e.focus) < 2 or among is not None and len(among) <= limits.ASKED_UPWARDS:
+        base = await meant(e.focus, among)
+    if base is None or len(base) > limits.ASKED_UPWARDS:
+        await plan.learn(leading(e.refinement), is_cheap)
+        if base is None and plan.price(e.refinement) > most_lines(e.focus, among):
+            base = await meant(e.focus, among)
+        if base is not None and len(base) > store.room():
+            await plan.learn(leading(e.refinement), lambda _: True)
+    if base is None or plan.price(e.refinement) < len(base):
+        found = await plan.found(e.refinement)
+        if base is None:
+            base = await meant(e.focus, found.codes if among is None else found.codes & among)
+        base &= found.codes
+        if found.is_exact:
+            return base
+    return await fitting(store, meant, base, e.refinement)
+
+
+def most_lines(focus: s.Expression, among: Ids | None) -> float:
+    """How many lines are asked to find something before the focus, which isn't found by few."""
+    is_every = isinstance(focus, s.Wildcard)
+    most = limits.ASKED_ONE_BY_ONE if is_every else limits.ASKED_UPWARDS
+    return most if among is None else min(most, len(among))
+
+
+async def fitting(store: Terminology, meant: Meant, base: Ids, refinement: s.Refinement) -> Ids:
     """Those of the base that fit the refinement."""
-    base = await narrowed(store, meant, base, refinement)
     if not base:
         return base
     said = await store.relationships(base, kinds_of(refinement))
@@ -38,45 +68,31 @@ async def refined(store: Terminology, meant: Meant, base: Ids, refinement: s.Ref
         await those_of(base, lambda code: fits(refinement, tests, code, own[code])))
 
 
-async def narrowed(store: Terminology, meant: Meant, base: Ids,
-                   refinement: s.Refinement) -> Ids:
-    """Those of the base that have one of the attributes that each has to have."""
-    if len(base) <= limits.ASKED_UPWARDS:
-        return base
-    for one in needed(refinement):
-        types = None if isinstance(one.name, s.Wildcard) else await meant(one.name, None)
-        assert not isinstance(one.value, s.Concrete)
-        values = await meant(one.value, None)
-        if one.is_reverse:
-            base = frozenset(await store.sources(types, base, values))
-        else:
-            found = await store.sources(types, values, base)
-            base = frozenset(source for some in found.values() for source in some)
-    return base
-
-
-def needed(r: s.Refinement) -> Iterator[s.Attribute]:
-    """The attributes of which each concept that fits has one, and whose names and values are found
-    by a question or two."""
-    if isinstance(r, s.Attribute):
-        is_plain = isinstance(r.name, s.Wildcard) or s.cost(r.name) < 2
-        is_certain = is_plain and not isinstance(r.value, s.Concrete) and s.cost(r.value) < 2
-        if is_certain and r.comparison == s.EQUAL and r.cardinality.least:
-            yield r
-    elif isinstance(r, s.AttributeGroup):
-        if r.cardinality.least:
-            yield from needed(r.attributes)
-    elif r.operator == s.AND:
-        for part in r.parts:
-            yield from needed(part)
-
-
-async def dotted(store: Terminology, meant: Meant, base: Ids, name: s.Expression) -> Ids:
-    """The values of an attribute of the base."""
-    said = (await store.relationships(base, TO_CONCEPTS)).values()
+async def dotted(store: Terminology, meant: Meant, e: s.Dotted, among: Ids | None) -> Ids:
+    """The values of an attribute of the focus, or those among some."""
+    if among is not None and is_cheap(e.attribute):
+        types = await types_of(meant, e.attribute)
+        found = await sources_within(store, meant, types, among, e.focus)
+        return frozenset(code for code, some in found.items() if some)
+    said = (await store.relationships(await meant(e.focus, None), TO_CONCEPTS)).values()
     own = {one for some in said for one in attributes_of(some)}
-    types = await types_among(meant, name, own)
+    types = await types_among(meant, e.attribute, own)
     return frozenset(one.value for one in own if one.type in types)
+
+
+async def sources_within(store: Terminology, meant: Meant, types: Ids | None, destinations: Ids,
+                         e: s.Expression) -> Sources:
+    """Of each of the destinations those of its sources that an expression means: from the side
+    that asks less, as far as that can be told."""
+    lines = lines_of_sources(types, destinations)
+    if lines > (limits.ASKED_UPWARDS if s.cost(e) < 2 else limits.ASKED_ONE_BY_ONE):
+        among = await meant(e, None)
+        if len(among) < min(lines, store.room()):
+            found = await store.values(types, among)
+            return {code: some for code, some in found.items() if code in destinations}
+    found = await store.sources(types, destinations)
+    named = await meant(e, frozenset().union(*found.values()))
+    return {code: some & named for code, some in found.items()}
 
 
 def attributes_of(said: Iterable[Stated]) -> Attributes:
@@ -115,14 +131,16 @@ async def with_concepts(meant: Meant, a: s.Attribute, own: Iterable[Stated]) -> 
 async def reverse_test(store: Terminology, meant: Meant, base: Ids, a: s.Attribute) -> Test:
     """Whether the number of sources is right whose attribute a concept of the base is."""
     assert not isinstance(a.value, s.Concrete)
-    types = None if isinstance(a.name, s.Wildcard) else await meant(a.name, None)
-    is_any, is_equal = isinstance(a.value, s.Wildcard), a.comparison == s.EQUAL
-    among = await meant(a.value, None) if is_equal and not is_any else None
-    found = await store.sources(types, base, among) if is_equal or not is_any else {}
-    if not is_equal and found:
-        every = frozenset(source for some in found.values() for source in some)
-        excluded = await meant(a.value, every)
-        found = {code: some - excluded for code, some in found.items()}
+    types, is_any = await types_of(meant, a.name), isinstance(a.value, s.Wildcard)
+    found: Sources = {}
+    if a.comparison != s.EQUAL and not is_any:
+        found = await store.sources(types, base)
+        others = await meant(a.value, frozenset().union(*found.values()))
+        found = {code: some - others for code, some in found.items()}
+    elif not is_any:
+        found = await sources_within(store, meant, types, base, a.value)
+    elif a.comparison == s.EQUAL:
+        found = await store.sources(types, base)
     return lambda code, _: a.cardinality.allows(len(found.get(code, ())))
 
 

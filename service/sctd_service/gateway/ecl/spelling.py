@@ -3,7 +3,7 @@ differ in spaces, terms and comments alone are spelled alike."""
 
 from __future__ import annotations
 
-from collections.abc import Iterable
+from collections.abc import Iterable, Sequence
 
 from . import syntax as s
 
@@ -97,6 +97,14 @@ def spelled_filters(filters: Iterable[s.Filter]) -> str:
 
 
 def spelled_filter(f: s.Filter) -> str:
-    value = listed(f.value) if isinstance(f.value, tuple) else spelled_value(f.value)
-    within = " (%s)" % " ".join(f.acceptabilities) if f.acceptabilities else ""
-    return "%s %s %s%s" % (f.name, f.comparison, value, within)
+    if not isinstance(f.value, tuple):
+        value = spelled_value(f.value)
+    elif f.own:
+        value = "(%s)" % " ".join(one + within(own) for one, own in zip(f.value, f.own))
+    else:
+        value = listed(f.value)
+    return "%s %s %s%s" % (f.name, f.comparison, value, within(f.acceptabilities))
+
+
+def within(acceptabilities: Sequence[str]) -> str:
+    return " (%s)" % " ".join(acceptabilities) if acceptabilities else ""

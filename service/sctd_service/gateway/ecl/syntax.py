@@ -157,12 +157,14 @@ Refinement = Attribute | AttributeGroup | Junction
 @dataclass(frozen=True)
 class Filter:
     """The name of a filter, `=` or another comparison, and what it compares with, of which a tuple
-    has words such as `fsn`, or codes. `acceptabilities` are those of a dialect."""
+    has words such as `fsn`, or codes. `acceptabilities` are those of a dialect, and `own` those
+    that each of several dialects has for itself, if one has any."""
 
     name: str
     comparison: str
     value: Value | tuple[str, ...]
     acceptabilities: tuple[str, ...] = ()
+    own: tuple[tuple[str, ...], ...] = ()
 
 
 # Concepts by their codes, and what tells which of some concepts an expression means, or of all.
@@ -177,6 +179,8 @@ def cost(e: Expression) -> int:
             return 0
         case Related(_, ConceptReference()) | MemberOf(ConceptReference(), "", ()):
             return 1
+        case Compound(_, parts):
+            return max(1, *map(cost, parts))
         case Refined(focus) | Filtered(focus) | Dotted(focus):
             return max(cost(focus), 3)
         case Wildcard():

@@ -5,7 +5,7 @@ from __future__ import annotations
 
 import asyncio
 import itertools
-from collections.abc import AsyncIterator, Callable, Collection, Iterable
+from collections.abc import AsyncIterator, Callable, Collection, Iterable, Sequence
 from typing import NamedTuple, TypeVar
 
 from .. import limits, refsets
@@ -20,8 +20,12 @@ from .syntax import Ids
 Item = TypeVar("Item")
 # The kinds of relationships: with a concept as value, and with a concrete one.
 TO_CONCEPTS, CONCRETE = "R", "V"
-# Where a row has whether it is active, the concept of a description, and what a member refers to.
-ACTIVE, DESCRIBED, REFERENCED = 2, 4, 5
+ANY_TYPE = "-"
+# Where a row has whether it is active, the concept of a description, the source and the destination
+# of a relationship, and what a member refers to.
+ACTIVE, DESCRIBED, SOURCE, DESTINATION, REFERENCED = 2, 4, 4, 5, 5
+# The sources of relationships, by their destinations.
+Sources = dict[str, set[str]]
 
 
 class Stated(NamedTuple):
@@ -36,6 +40,10 @@ class Stated(NamedTuple):
     def is_attribute(self) -> bool:
         return self.is_concrete or self.type != IS_A
 
+    def is_of(self, types: Ids | None) -> bool:
+        """Whether it is an attribute of one of the types, all of which None stands for."""
+        return self.is_attribute and (types is None or self.type in types)
+
 
 async def those_of(items: Collection[Item], fits: Callable[[Item], bool]) -> list[Item]:
     """Those that fit. Other requests have their turn in between."""
@@ -44,6 +52,11 @@ async def those_of(items: Collection[Item], fits: Callable[[Item], bool]) -> lis
         found += filter(fits, some)
         await asyncio.sleep(0)
     return found
+
+
+def lines_of_sources(types: Ids | None, destinations: Ids) -> int:
+    """How many lines `sources` asks at first."""
+    return len(destinations) * (2 if types is None else len(types))
 
 
 def stated(row: Relationship, kind: str) -> Stated:
@@ -58,24 +71,33 @@ class Terminology:
         self.stated: dict[str, frozenset[Stated]] = {}
         self.associated: list[Association] | None = None
 
+    def room(self) -> int:
+        """How many lines may still be asked."""
+        return limits.EXPRESSION_LINES - (self.view.session.asked - self.began)
+
     def must_have_room(self, count: int) -> None:
-        if self.view.session.asked - self.began + count > limits.EXPRESSION_LINES:
+        if count > self.room():
             raise too_costly(
                 "the expression asks the store more than %d questions: ask for fewer concepts"
                 % limits.EXPRESSION_LINES)
 
+    async def replies(self, lines: Sequence[str]) -> AsyncIterator[Reply]:
+        """The reply to each of the lines. Other requests have their turn in between."""
+        self.must_have_room(len(lines))
+        for start in range(0, len(lines), limits.HUB_BATCH):
+            some = lines[start : start + limits.HUB_BATCH]
+            for reply in await self.view.ask(some, keep=len(lines) <= limits.ASKED_UPWARDS):
+                yield reply
+            await asyncio.sleep(0)
+
     async def told(self, question: str,
                    codes: Collection[str]) -> AsyncIterator[tuple[str, Reply]]:
-        """What is said of each of the codes. Other requests have their turn in between."""
-        self.must_have_room(len(codes))
+        """What is said of each of the codes."""
         ordered = sorted(codes, key=int)
-        for start in range(0, len(ordered), limits.HUB_BATCH):
-            some = ordered[start : start + limits.HUB_BATCH]
-            lines = ["%s %s %s" % (question, code, self.day) for code in some]
-            keep = len(ordered) <= limits.ASKED_UPWARDS
-            for code, reply in zip(some, await self.view.ask(lines, keep)):
-                yield code, reply
-            await asyncio.sleep(0)
+        lines = ["%s %s %s" % (question, code, self.day) for code in ordered]
+        left = iter(ordered)
+        async for reply in self.replies(lines):
+            yield next(left), reply
 
     async def pages(self, question: str, place: int = 0) -> AsyncIterator[list[list[str]]]:
         """The rows of all pages of a question, which goes on behind what stands at a place."""
@@ -88,10 +110,10 @@ class Terminology:
             after = page[-1][place] if len(page) >= limits.QUESTION_ROWS else ""
             await asyncio.sleep(0)
 
-    async def rows_of_pages(self, kind: str, codes: Collection[str],
+    async def rows_of_pages(self, question: str, codes: Collection[str],
                             place: int) -> AsyncIterator[list[str]]:
-        """The rows of a kind that have one of the codes at a place."""
-        async for page in self.pages("PAGE " + kind):
+        """The rows of all pages that have one of the codes at a place."""
+        async for page in self.pages(question):
             for row in page:
                 if row[place] in codes:
                     yield row
@@ -138,34 +160,79 @@ class Terminology:
         each once."""
         found = dict.fromkeys(codes, frozenset[Stated]())
         for kind in kinds:
-            missing = [code for code in codes if kind + code not in self.stated]
-            async for code, reply in self.told("ABOUT " + kind, missing):
-                self.stated[kind + code] = frozenset(
-                    stated(row, kind) for row in rows(Relationship, reply))
+            missing = self.not_stated(codes, kind)
+            if kind == CONCRETE and len(missing) > self.room():
+                await self.learn_concrete(missing)
+            else:
+                async for code, reply in self.told("ABOUT " + kind, missing):
+                    self.stated[kind + code] = frozenset(
+                        stated(row, kind) for row in rows(Relationship, reply))
             for code in codes:
                 found[code] |= self.stated[kind + code]
         return found
 
-    async def sources(self, types: Ids | None, destinations: Ids,
-                      among: Ids | None) -> dict[str, set[str]]:
-        """Of each of the destinations those of the sources `among` that have an active relationship
-        of one of the types to it, "is a" apart. None stands for all types, and for all sources."""
-        found: dict[str, set[str]] = {}
+    def not_stated(self, codes: Iterable[str], kind: str) -> list[str]:
+        """Those of the concepts about which it isn't known what relationships of a kind say."""
+        return [code for code in codes if kind + code not in self.stated]
 
-        def take(source: str, one: Stated) -> None:
-            is_wanted = one.is_attribute and (types is None or one.type in types)
-            if is_wanted and one.value in destinations:
-                found.setdefault(one.value, set()).add(source)
+    async def learn_concrete(self, codes: Collection[str]) -> None:
+        """Reads all relationships with concrete values, of which a store has few."""
+        found = {code: set[Stated]() for code in codes}
+        async for row in self.rows_of_pages("PAGE " + CONCRETE, found, SOURCE):
+            if row[ACTIVE] == "1":
+                found[row[SOURCE]].add(stated(Relationship(*row), CONCRETE))
+        for code, some in found.items():
+            self.stated[CONCRETE + code] = frozenset(some)
 
-        if among is None:
-            async for page in self.pages("PAGE R"):
-                for row in map(Relationship._make, page):
-                    if row.active == "1":
-                        take(row.source, stated(row, TO_CONCEPTS))
-        else:
-            for source, own in (await self.relationships(among, TO_CONCEPTS)).items():
-                for one in own:
-                    take(source, one)
+    async def linked(self, types: Collection[str], destinations: Collection[str]) -> Sources:
+        """The sources of active relationships of these types to each of the destinations."""
+        found: Sources = {code: set() for code in destinations}
+        left = [(one, code, FIRST) for one in sorted(types) for code in sorted(destinations)]
+        while left:
+            lines = ["SOURCES %s %s %s %s %d" % (one, code, self.day, after, limits.QUESTION_ROWS)
+                     for one, code, after in left]
+            asked, left = iter(left), []
+            async for reply in self.replies(lines):
+                one, code, _ = next(asked)
+                page = ids(reply)
+                found[code].update(page)
+                if len(page) >= limits.QUESTION_ROWS:
+                    left.append((one, code, page[-1]))
+        return found
+
+    async def sources(self, types: Ids | None, destinations: Ids) -> Sources:
+        """Which concepts have an attribute of one of the types with each of the destinations as
+        value. None stands for all types."""
+        if lines_of_sources(types, destinations) > self.room():
+            return await self.sources_among_all(types, destinations)
+        if types is not None:
+            return await self.linked(types - {IS_A}, destinations)
+        found = await self.linked([ANY_TYPE], destinations)
+        below = await self.children(destinations)
+        doubtful = frozenset(one for code, some in found.items() for one in some & below[code])
+        said = await self.relationships(doubtful, TO_CONCEPTS)
+        for code, some in found.items():
+            some -= {source for source in some & below[code] if not any(
+                one.is_attribute and one.value == code for one in said[source])}
+        return found
+
+    async def sources_among_all(self, types: Ids | None, destinations: Ids) -> Sources:
+        """The same, for which the relationships of all concepts are read."""
+        found: Sources = {code: set() for code in destinations}
+        async for row in self.rows_of_pages("PAGE " + TO_CONCEPTS, found, DESTINATION):
+            one = stated(Relationship(*row), TO_CONCEPTS)
+            if row[ACTIVE] == "1" and one.is_of(types):
+                found[one.value].add(row[SOURCE])
+        return found
+
+    async def values(self, types: Ids | None, sources: Ids) -> Sources:
+        """The concepts that are values of attributes of one of the types, each with those of the
+        sources of whose attributes it is the value."""
+        found: Sources = {}
+        for source, own in (await self.relationships(sources, TO_CONCEPTS)).items():
+            for one in own:
+                if one.is_of(types):
+                    found.setdefault(one.value, set()).add(source)
         return found
 
     # ---- descriptions
@@ -173,7 +240,7 @@ class Terminology:
     async def descriptions(self, codes: Ids, with_inactive: bool) -> AsyncIterator[Description]:
         """Those of these concepts. (Of inactive ones the store tells only among all.)"""
         if with_inactive:
-            async for row in self.rows_of_pages("D", codes, DESCRIBED):
+            async for row in self.rows_of_pages("PAGE D", codes, DESCRIBED):
                 yield Description(*row)
         else:
             async for _, reply in self.told("ABOUT D", codes):

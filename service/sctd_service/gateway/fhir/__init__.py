@@ -9,7 +9,7 @@ from . import capabilities, expansion, implicit, lookup, subsumption, translatio
 from .inputs import Given
 from .parameters import OPERATIONS as TABLED
 from .parameters import Ways, ways_of
-from .request import Request
+from .request import OperationRequest
 from .versions import Edition
 
 
@@ -17,7 +17,7 @@ class Operation(NamedTuple):
     """How an operation is answered, and the parameters that it takes. A read is asked by GET alone.
     A walk may ask thousands of questions."""
 
-    answer: Callable[[Request], Awaitable[Json]]
+    answer: Callable[[OperationRequest], Awaitable[Json]]
     ways: Ways
     is_read: bool = False
     is_walk: bool = False

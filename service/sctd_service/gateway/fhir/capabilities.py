@@ -7,7 +7,7 @@ from ...snomed import with_hyphens
 from . import lookup
 from .inputs import SCT
 from .parameters import ways_of
-from .request import Request
+from .request import OperationRequest
 from .translation import ICD_10, MAPS
 from .valuesets import CONSTRAINT, FILTERS, IS
 
@@ -31,7 +31,7 @@ FILTERED = [{"code": "concept", "op": [*FILTERS]}, {"code": CONSTRAINT, "op": [I
 DOCUMENTATION = {"ValueSet": OF_VALUE_SETS, "ConceptMap": OF_MAPS}
 
 
-async def metadata(request: Request) -> Json:
+async def metadata(request: OperationRequest) -> Json:
     mode = request.query.text("mode")
     if mode == "terminology":
         return terminology_capabilities(request)
@@ -40,7 +40,7 @@ async def metadata(request: Request) -> Json:
     return capability_statement(request)
 
 
-def head(request: Request) -> Json:
+def head(request: OperationRequest) -> Json:
     view = request.view
     description = "SNOMED CT of any day, read only; pin %d, %s" % (view.pin, view.receipt)
     return {"status": "active", "date": with_hyphens(view.latest or NO_DAY), "kind": "instance",
@@ -48,7 +48,7 @@ def head(request: Request) -> Json:
             "implementation": {"description": description}}
 
 
-def capability_statement(request: Request) -> Json:
+def capability_statement(request: OperationRequest) -> Json:
     resources = [resource_capabilities(kind, names) for kind, names in OFFERED.items()]
     rest = {"mode": "server", "resource": resources, "interaction": [{"code": "batch"}]}
     return {"resourceType": "CapabilityStatement", **head(request), "instantiates": [INSTANTIATES],
@@ -66,7 +66,7 @@ def resource_capabilities(kind: str, names: tuple[str, ...]) -> Json:
     return found
 
 
-def terminology_capabilities(request: Request) -> Json:
+def terminology_capabilities(request: OperationRequest) -> Json:
     latest = request.view.latest
     tags = [tag_of(refset) for refset in request.edition.languages]
     languages = {"language": tags} if tags else {}

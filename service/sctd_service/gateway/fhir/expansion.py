@@ -12,9 +12,9 @@ from ..pool import Member
 from ..problems import Json, invalid, not_supported, too_costly
 from ..store import SEARCHED
 from ...snomed import Language, with_hyphens
-from .inputs import SCT
+from .inputs import SCT, not_here
 from .outputs import ASKED, designations, parameter
-from .request import Request
+from .request import OperationRequest
 from .valuesets import (
     Sort, ValueSet, codes_in, expression_codes, inside, refset_codes, versions_of, wanted_value_set)
 from .versions import Moment
@@ -42,8 +42,10 @@ class Wanted:
         return limits.PAGE_CONCEPTS + 1 if self.count is None else self.count
 
 
-async def expand(request: Request) -> Json:
+async def expand(request: OperationRequest) -> Json:
     value_set = wanted_value_set(request.query)
+    for system in value_set.others:
+        raise not_here(system)
     moment = request.moment(*versions_of(request.query, value_set))
     wanted = wanted_of(request, value_set.active_only)
     request.query.flag("excludeNested")  # Expansions are flat.
@@ -59,7 +61,7 @@ async def expand(request: Request) -> Json:
             "expansion": expansion(request, value_set, moment, wanted, entries, total)}
 
 
-def wanted_of(request: Request, active_only: bool) -> Wanted:
+def wanted_of(request: OperationRequest, active_only: bool) -> Wanted:
     query = request.query
     text, count = query.text("filter"), query.number("count")
     if text is not None:
@@ -75,7 +77,7 @@ def wanted_of(request: Request, active_only: bool) -> Wanted:
         request.language(), query.flag("includeDesignations") or bool(designations), designations)
 
 
-async def members(request: Request, value_set: ValueSet, moment: Moment,
+async def members(request: OperationRequest, value_set: ValueSet, moment: Moment,
                   wanted: Wanted) -> tuple[Sequence[Member], int | None]:
     """A page of the members, and how many there are where that is known."""
     view = request.view
@@ -102,7 +104,7 @@ async def members(request: Request, value_set: ValueSet, moment: Moment,
     return found[wanted.offset : wanted.offset + wanted.most], len(found)
 
 
-async def members_of_refset(request: Request, refset: str, moment: Moment,
+async def members_of_refset(request: OperationRequest, refset: str, moment: Moment,
                             wanted: Wanted) -> tuple[Sequence[Member], int]:
     """A page of a reference set, of whose other concepts nothing has to be known. A code that the
     store has no concept of is told as the reference set has it."""
@@ -112,8 +114,8 @@ async def members_of_refset(request: Request, refset: str, moment: Moment,
     return await page_of(request, codes, moment, wanted)
 
 
-async def members_of_expression(request: Request, expression: syntax.Expression, moment: Moment,
-                                wanted: Wanted) -> tuple[Sequence[Member], int]:
+async def members_of_expression(request: OperationRequest, expression: syntax.Expression,
+                                moment: Moment, wanted: Wanted) -> tuple[Sequence[Member], int]:
     """A page of what an expression means."""
     if wanted.active_only:
         expression = syntax.Compound(syntax.AND, (expression, syntax.Wildcard()))
@@ -121,14 +123,14 @@ async def members_of_expression(request: Request, expression: syntax.Expression,
     return await page_of(request, codes, moment, wanted)
 
 
-async def page_of(request: Request, codes: Sequence[str], moment: Moment,
+async def page_of(request: OperationRequest, codes: Sequence[str], moment: Moment,
                   wanted: Wanted) -> tuple[Sequence[Member], int]:
     page = codes[wanted.offset : wanted.offset + wanted.most]
     there = {one.code: one for one in await request.view.members(page, moment.day)}
     return [there.get(code, Member(code, True)) for code in page], len(codes)
 
 
-async def entries_of(request: Request, found: Sequence[Member], moment: Moment,
+async def entries_of(request: OperationRequest, found: Sequence[Member], moment: Moment,
                      wanted: Wanted) -> list[Json]:
     """The concepts of a page, as an expansion has them. Other requests have their turn between its
     slices."""
@@ -140,7 +142,7 @@ async def entries_of(request: Request, found: Sequence[Member], moment: Moment,
     return entries
 
 
-async def slice_of_entries(request: Request, found: Sequence[Member], moment: Moment,
+async def slice_of_entries(request: OperationRequest, found: Sequence[Member], moment: Moment,
                            wanted: Wanted) -> list[Json]:
     codes, view = [member.code for member in found], request.view
     displays = await view.names(codes, moment.day, wanted.language)
@@ -158,10 +160,11 @@ async def slice_of_entries(request: Request, found: Sequence[Member], moment: Mo
 
 
 def is_chosen(designation: Json, wanted: Sequence[str]) -> bool:
-    """Whether a designation is of a use or a language that is asked for, as SYSTEM|CODE."""
-    use = "%s|%s" % (SCT, designation["use"]["code"])
-    language = "%s|%s" % (LANGUAGE_SYSTEM, designation["language"])
-    return not wanted or use in wanted or language in wanted
+    """Whether a designation is of a use or a language that is asked for, as SYSTEM|CODE or as a
+    code alone."""
+    codes = ((SCT, designation["use"]["code"]), (LANGUAGE_SYSTEM, designation["language"]))
+    return not wanted or any(
+        token in wanted for system, code in codes for token in (code, "%s|%s" % (system, code)))
 
 
 def entry(member: Member, display: str) -> Json:
@@ -169,7 +172,7 @@ def entry(member: Member, display: str) -> Json:
     return {"system": SCT, "code": member.code, "display": display, **inactive}
 
 
-def expansion(request: Request, value_set: ValueSet, moment: Moment, wanted: Wanted,
+def expansion(request: OperationRequest, value_set: ValueSet, moment: Moment, wanted: Wanted,
               entries: list[Json], total: int | None) -> Json:
     view = request.view
     named = " ".join(map(str, (value_set.url, view.pin, moment.day, *astuple(wanted))))

@@ -9,7 +9,7 @@ from ..problems import Json, Problem, invalid, not_found
 from ...snomed import is_concept_id, is_day
 from .inputs import SCT, Given
 from .parameters import Ways
-from .request import Request
+from .request import OperationRequest
 from .translation import MAPS, Asked, map_of, must_be_a_map, systems_of
 from .valuesets import CONSTRAINT, FILTERS, IS, Sort, must_be_kept, value_set_of
 from .versions import Edition, Moment
@@ -78,7 +78,7 @@ def code_system(edition: Edition, day: str, is_latest: bool) -> Json:
         "hierarchyMeaning": "is-a", "versionNeeded": False, "content": "not-present"}
 
 
-async def value_set(request: Request, address: str, version: str | None = None) -> Json:
+async def value_set(request: OperationRequest, address: str, version: str | None = None) -> Json:
     """The value set of an address, which has to be there."""
     found = value_set_of(address)
     moment = request.moment(*found.versions, version)
@@ -102,12 +102,12 @@ async def value_set(request: Request, address: str, version: str | None = None) 
     return {**named(VALUE_SET, found.url, form, found.code, moment), **compose}
 
 
-async def concept_map(request: Request, address: str, version: str | None = None) -> Json:
+async def concept_map(request: OperationRequest, address: str, version: str | None = None) -> Json:
     base, own_version, refset = map_of(address)
     moment = request.moment(base, own_version, version)
     if refset and refset not in MAPS:
         system = systems_of(request).get(refset)
-        asked = Asked(base, (refset,), "", moment, False, None)
+        asked = Asked(base, (refset,), "", moment, False, None, None)
         await must_be_a_map(request, asked, refset, system)
         await must_be_kept(request, refset, moment)
     url = address.partition("|")[0]
@@ -130,7 +130,7 @@ def named(kind: str, url: str, form: str, code: str, moment: Moment) -> Json:
 MADE: dict[str, Callable[..., Awaitable[Json]]] = {VALUE_SET: value_set, CONCEPT_MAP: concept_map}
 
 
-async def read(request: Request, kind: str, name: str) -> Json:
+async def read(request: OperationRequest, kind: str, name: str) -> Json:
     version, address = address_of(kind, name, request.edition)
     if kind != CODE_SYSTEM:
         return await MADE[kind](request, address)
@@ -141,19 +141,20 @@ async def read(request: Request, kind: str, name: str) -> Json:
     return code_system(request.edition, day, version == SCT)
 
 
-async def search_systems(request: Request) -> Json:
+async def search_systems(request: OperationRequest) -> Json:
     """One code system of each version, the latest first."""
     query, edition, days = request.query, request.edition, request.view.days
-    urls = [text for name in ("url", "system") if (text := query.text(name)) is not None]
-    is_here = all(query.system_of(text) == SCT for text in urls)
-    wanted = set(filter(None, [query.text("version"), *query.canonical]))
+    urls = [text.split(",") for name in ("url", "system") if (text := query.text(name))]
+    # (Of several with commas between them one has to be it, as FHIR has searches.)
+    is_here = all(SCT in [*map(query.system_of, some)] for some in urls)
+    wanted = [query.canonical, (query.text("version") or "").split(",")]
     found = [
         code_system(edition, day, day == days[-1]) for day in reversed(days)
-        if is_here and wanted <= {edition.version(day)}]
+        if is_here and all(edition.version(day) in some for some in wanted if any(some))]
     return bundle(request, found)
 
 
-async def search(request: Request, kind: str) -> Json:
+async def search(request: OperationRequest, kind: str) -> Json:
     """The resource of an address, or those that can be listed."""
     query, found = request.query, list[Json]()
     url = query.text("url")
@@ -167,7 +168,7 @@ async def search(request: Request, kind: str) -> Json:
     return bundle(request, found)
 
 
-def bundle(request: Request, found: Sequence[Json]) -> Json:
+def bundle(request: OperationRequest, found: Sequence[Json]) -> Json:
     summary = request.query.text("_summary")
     if summary not in (None, *SUMMARIES):
         raise invalid("_summary must be one of %s" % ", ".join(SUMMARIES))

@@ -165,7 +165,8 @@ def not_json() -> Problem:
 def parsed(body: bytes) -> Any:
     """What a body has, in JSON."""
     try:
-        resource = json.loads(body.decode(), object_pairs_hook=object_of)
+        resource = json.loads(
+            body.decode(), object_pairs_hook=object_of, parse_constant=no_number)
         # Half a character, which JSON can write, is no text.
         json.dumps(resource, ensure_ascii=False).encode()
     except (ValueError, TypeError, RecursionError):
@@ -173,9 +174,16 @@ def parsed(body: bytes) -> Any:
     return resource
 
 
+def no_number(text: str) -> None:
+    """Refuses `NaN` and the like, which Python reads and JSON doesn't have."""
+    raise ValueError(text)
+
+
 def posted(resource: Any) -> list[Given]:
-    """The parameters of a resource `Parameters` of FHIR."""
+    """The parameters of a resource `Parameters` of FHIR. A value set by itself is the only one."""
     try:
+        if resource["resourceType"] == "ValueSet":
+            return [("valueSet", resource)]
         if resource["resourceType"] != "Parameters":
             raise ValueError
         given = [given_part(part) for part in resource.get("parameter", [])]

@@ -7,12 +7,12 @@ from ..problems import Json
 from ...snomed import DEFINED, IS_A, Facts, is_concept_id
 from .inputs import CodeNames
 from .outputs import concrete, dated, designations, parameter, parameters
-from .request import Request
+from .request import OperationRequest
 
 ALL, CHILD, DESIGNATION = "*", "child", "designation"
 INACTIVATION, NORMAL_FORM, TERSE = "inactivationIndicator", "normalForm", "normalFormTerse"
-# Those that have a name. An attribute is the property of its code, and ROLE_GROUP has the attributes
-# of one group as its parts.
+# Those that have a name. An attribute is the property of its code, and ROLE_GROUP has the
+# attributes of one group as its parts.
 PROPERTIES = ("inactive", "sufficientlyDefined", "moduleId", "effectiveTime", INACTIVATION,
               "parent", CHILD, NORMAL_FORM, TERSE)
 ROLE_GROUP, NO_GROUP = "609096000", "0"
@@ -22,7 +22,7 @@ ALWAYS = (ALL, DESIGNATION, "url", "name", "version", "display", "code", "system
 Property = tuple[str, dict[str, Any]]
 
 
-async def lookup(request: Request) -> Json:
+async def lookup(request: OperationRequest) -> Json:
     query = request.query
     coding = query.coding(CodeNames())
     moment = request.moment(coding.version, query.text("version"))
@@ -108,7 +108,7 @@ def coded(found: Iterable[Property]) -> list[str]:
 
 
 def property_parts(code: str, value: dict[str, Any], names: Mapping[str, str]) -> list[Json]:
-    """A property with its value and, where that is a code, what this is called, if that is known."""
+    """A property with its value and, where that is a code, its name if that is known."""
     known = value.get("valueCode", "")
     name = names.get(known, known)
     described = [parameter("description", valueString=name)] if name != known else []

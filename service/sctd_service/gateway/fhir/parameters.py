@@ -34,19 +34,26 @@ codeSystem                              .       no        .         .       .   
 valueSet,valueSetVersion                .       .         .         has     has       .
 context                                 .       .         .         no      no        .
 systemVersion                           .       .         .         .       has       .
-system-version,check-system-version     .       .         .         has     own       .
-force-system-version                    .       .         .         has     own       .
-filter,offset,count,activeOnly          .       .         .         has     .         .
-exclude-system,excludeNested            .       .         .         has     .         .
-designation,includeDesignations         .       .         .         has     .         .
-contextDirection,includeDefinition      .       .         .         over    .         .
-excludeNotForUI,excludePostCoordinated  .       .         .         over    .         .
-inferSystem                             .       .         .         .       own       .
+system-version,check-system-version     .       own       .         has     own       .
+force-system-version                    .       own       .         has     own       .
+filter,exclude-system,designation       .       .         .         has     .         .
+offset,count                            .       also      .         has     also      .
+activeOnly                              .       own       .         has     own       .
+excludeNested,includeDesignations       .       also      .         has     also      .
+contextDirection                        .       .         .         over    .         .
+includeDefinition                       .       also      .         over    also      .
+excludeNotForUI,excludePostCoordinated  .       also      .         over    also      .
+inferSystem,valueset-membership-only    .       .         .         .       own       .
+lenient-display-validation              .       own       .         .       own       .
+language                                own     .         .         .       .         .
 conceptMap                              .       .         .         .       .         no
 conceptMapVersion,reverse               .       .         .         .       .         has
 source,target,targetsystem              .       .         .         .       .         has
 dependency                              .       .         .         .       .         over
-tx-resource,cache-id                    also    also      also      also    also      also
+profile,profile-url,diagnostics         .       also      .         also    also      .
+default-to-latest-version,incomplete-ok .       also      .         also    also      .
+tx-resource                             also    also      also      own     own       also
+cache-id                                also    also      also      also    also      also
 _summary,_elements,_count               also    also      also      also    also      also
 """
 # Each row of it: what becomes of a parameter, by the operations.

@@ -10,7 +10,7 @@ from .inputs import Query
 from .versions import Edition, Moment
 
 
-class Request(NamedTuple):
+class OperationRequest(NamedTuple):
     """An operation's parameters, the store as the request sees it, and the store's edition."""
 
     edition: Edition
@@ -23,8 +23,9 @@ class Request(NamedTuple):
         return self.edition.moment(self.view, named, self.query.text("date"))
 
     def language(self) -> Language:
-        """The language of `displayLanguage`, or those of the house where none is given."""
-        tag = self.query.text("displayLanguage")
+        """The language of `displayLanguage`, which HAPI calls `language`, or those of the house
+        where none is given."""
+        tag = self.query.text("displayLanguage") or self.query.text("language")
         house = self.edition.languages
         return Language("", house) if tag is None else language_of(tag, house)
 

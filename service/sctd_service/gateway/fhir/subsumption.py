@@ -3,7 +3,7 @@
 from ..problems import Json
 from .inputs import CodeNames
 from .outputs import dated, parameter, parameters
-from .request import Request
+from .request import OperationRequest
 
 # By whether the first code is the second or above it, and whether it is the second or below it. Two
 # codes that are both, as on a cycle of a faulty release, are kinds of each other.
@@ -11,7 +11,7 @@ OUTCOMES = {(True, True): "equivalent", (True, False): "subsumes", (False, True)
             (False, False): "not-subsumed"}
 
 
-async def subsumes(request: Request) -> Json:
+async def subsumes(request: OperationRequest) -> Json:
     query, view = request.query, request.view
     first, second = (
         query.coding(CodeNames(code="code" + letter, coding="coding" + letter)) for letter in "AB")

@@ -6,10 +6,10 @@ from typing import NamedTuple
 
 from ... import snomed
 from ...snomed import SIMPLE_MAP, Language, is_concept_id
-from ..problems import Json, Problem, not_found, not_supported
-from .inputs import SCT, CodeNames
+from ..problems import Json, Problem, conflict, not_found, not_supported
+from .inputs import SCT, CodeNames, not_here
 from .outputs import concrete, dated, parameter, parameters
-from .request import Request
+from .request import OperationRequest
 from .valuesets import CANONICAL, ValueSet, inside, is_of_snomed, must_be_kept, value_set_of
 from .versions import Moment
 
@@ -66,7 +66,8 @@ CORRELATIONS = {
 
 class Asked(NamedTuple):
     """A code that is to be translated, by maps of which version, on which day, the other way round
-    or not, and among which concepts the targets have to be."""
+    or not, among which concepts the targets have to be, and of which code system, if one is
+    named."""
 
     base: str
     refsets: Sequence[str]
@@ -74,44 +75,58 @@ class Asked(NamedTuple):
     moment: Moment
     is_reverse: bool
     target: ValueSet | None
+    system: str | None
 
     def url(self, refset: str) -> str:
         return "%s?%s%s" % (self.base, FORM, refset)
 
 
-async def translate(request: Request) -> Json:
+async def translate(request: OperationRequest) -> Json:
     query = request.query
     base, version, refset = map_of(query.text("url") or SCT + "?" + BARE)
     codings = [one for one in query.codings(CodeNames()) if one.system == SCT]
     if not codings:
         raise not_found("no code is one of %s" % SCT)
-    # The value set in which the code was chosen is all of SNOMED CT, or a part of it.
-    _, target = (
-        value_set_of(text) if (text := query.text(name)) else None for name in ("source", "target"))
+    if source := query.text("source"):
+        value_set_of(source)  # (It is all of SNOMED CT, or a part of it.)
+    system, target = targets_of(request)
     versions = (codings[0].version, *map(query.text, ("version", "conceptMapVersion")))
     moment = request.moment(*versions, base, version, *(target.versions if target else ()))
     asked = Asked(
-        base, refsets_for(request, refset), codings[0].code, moment, query.flag("reverse"), target)
+        base, refsets_for(request, refset, system), codings[0].code, moment,
+        query.flag("reverse"), target, system)
     if not MAPS.keys() >= set(asked.refsets):
         return await mapped(request, asked)
-    if refset:
-        query.code_system("targetsystem")
+    if system not in (None, SCT):
+        raise not_here(str(system))
     await request.must_have(asked.code, moment)
     return await replaced(request, asked)
 
 
-def systems_of(request: Request) -> dict[str, str]:
+def systems_of(request: OperationRequest) -> dict[str, str]:
     """The code systems to which maps lead."""
     return {ICD_10: ICD_10_SYSTEM, **request.edition.maps}
 
 
-def refsets_for(request: Request, refset: str) -> Sequence[str]:
+def targets_of(request: OperationRequest) -> tuple[str | None, ValueSet | None]:
+    """The code system and the value set to which targets have to belong. As Snowstorm has it, the
+    value set of all codes of a system may be called as the system is."""
+    system, target = map(request.query.text, ("targetsystem", "target"))
+    if target is None:
+        return system, None
+    if target not in (SCT, *systems_of(request).values()):
+        return system, value_set_of(target)
+    if system not in (None, target):
+        raise conflict("target and targetsystem are different code systems")
+    return target, None
+
+
+def refsets_for(request: OperationRequest, refset: str, system: str | None) -> Sequence[str]:
     """The maps that are asked for: one, or all that lead to a code system. The associations lead to
     SNOMED CT."""
-    system = request.query.text("targetsystem") or SCT
     if refset:
         return (refset,)
-    if system == SCT:
+    if system in (None, SCT):
         return tuple(MAPS)
     found = [one for one, leads_to in systems_of(request).items() if leads_to == system]
     if not found:
@@ -119,7 +134,7 @@ def refsets_for(request: Request, refset: str) -> Sequence[str]:
     return found
 
 
-async def replaced(request: Request, asked: Asked) -> Json:
+async def replaced(request: OperationRequest, asked: Asked) -> Json:
     """What took the place of a code, or whose place it took, by historical associations."""
     view, day, code = request.view, asked.moment.day, asked.code
     ask = view.replaced_by if asked.is_reverse else view.associations
@@ -151,7 +166,7 @@ def why_not(asked: Asked, found: set[str]) -> str:
     return ""
 
 
-async def mapped(request: Request, asked: Asked) -> Json:
+async def mapped(request: OperationRequest, asked: Asked) -> Json:
     """What simple and extended maps have for a code. The release doesn't say of which code system
     that is, so but for ICD-10 an answer says it only where the house has said it."""
     if asked.is_reverse or asked.target:
@@ -175,12 +190,12 @@ async def mapped(request: Request, asked: Asked) -> Json:
     return translated(asked, matches, why, told)
 
 
-async def must_be_a_map(request: Request, asked: Asked, refset: str, system: str | None) -> None:
+async def must_be_a_map(request: OperationRequest, asked: Asked, refset: str,
+                        system: str | None) -> None:
     if system is None and not await request.view.is_within(refset, SIMPLE_MAP, asked.moment.day):
         raise not_a_map(asked.url(refset))
-    wanted = request.query.text("targetsystem")
-    if wanted not in (None, system):
-        raise not_found("the code system %.100r isn't said to be that of the map" % wanted)
+    if asked.system not in (None, system):
+        raise not_found("the code system %.100r isn't said to be that of the map" % asked.system)
 
 
 def rows_of_map(refset: str, members: Sequence[Sequence[str]]) -> list[dict[str, str]]:

@@ -3,9 +3,9 @@ right on the day of a record."""
 
 from ..problems import Json
 from ...snomed import is_concept_id, is_display
-from .inputs import SCT, CodeNames, Coding
+from .inputs import SCT, CodeNames, Coding, not_here
 from .outputs import dated, parameter, parameters
-from .request import Request
+from .request import OperationRequest
 from .valuesets import Sort, ValueSet, inside, versions_of, wanted_value_set
 from .versions import Moment
 
@@ -13,26 +13,30 @@ from .versions import Moment
 OUTSIDE = {Sort.WITHIN: "%s and isn't below it", Sort.IN_REFSET: "in the reference set %s",
            Sort.ARE_REFSETS: "a reference set with members%s",
            Sort.EXPRESSION: "what the expression means%s", Sort.COMPOSED: "in the value set%s"}
+# With these of HL7's own validator a wrong display is told, and the code is valid all the same.
+LENIENT = ("lenient-display-validation", "valueset-membership-only")
 
 
-async def validate_code(request: Request) -> Json:
+async def validate_code(request: OperationRequest) -> Json:
     request.query.code_system("url")
     return await validated(request, CodeNames(system="url"), None)
 
 
-async def validate_member(request: Request) -> Json:
+async def validate_member(request: OperationRequest) -> Json:
     value_set = wanted_value_set(request.query)
     return await validated(request, CodeNames(version="systemVersion"), value_set)
 
 
-async def validated(request: Request, names: CodeNames, value_set: ValueSet | None) -> Json:
-    """The answer for the first code that is valid, or else for the last of SNOMED CT."""
+async def validated(request: OperationRequest, names: CodeNames,
+                    value_set: ValueSet | None) -> Json:
+    """The answer for the first code that is valid, or else for the last of SNOMED CT. Of a code of
+    another code system that the value set has too nothing is known."""
     query = request.query
-    of_set = versions_of(query, value_set) if value_set else []
-    versions = [query.text(names.version), *of_set]
+    versions = [query.text(names.version), *versions_of(query, value_set)]
     answer = parameters([parameter("result", valueBoolean=False),
                          parameter("message", valueString="no code is one of %s" % SCT)])
-    for coding in query.codings(names):
+    codings = query.codings(names)
+    for coding in codings:
         # The version of another code system's coding is none of SNOMED CT.
         is_own = coding.system == SCT
         moment = request.moment(coding.version if is_own else None, *versions)
@@ -42,13 +46,19 @@ async def validated(request: Request, names: CodeNames, value_set: ValueSet | No
         message = [parameter("message", valueString=wrong)] if wrong else []
         answer = parameters([parameter("result", valueBoolean=not wrong), *parts, *message])
         if not wrong:
-            break
+            return answer
+    others = value_set.others if value_set else ()
+    unknown = next((coding.system for coding in codings if coding.system in others), None)
+    if unknown is not None:
+        raise not_here(unknown)
     return answer
 
 
-async def checked(request: Request, coding: Coding, moment: Moment,
+async def checked(request: OperationRequest, coding: Coding, moment: Moment,
                   value_set: ValueSet | None) -> tuple[str, list[Json]]:
     """What is wrong with a code, or nothing, and what there is to say of it."""
+    is_lenient = any([request.query.flag(name) for name in LENIENT])
+    active_only = request.query.flag("activeOnly") or value_set and value_set.active_only
     parts = [parameter("code", valueCode=coding.code), parameter("system", valueUri=SCT),
              *dated(moment)]
     codes = [coding.code] if is_concept_id(coding.code) else []
@@ -63,6 +73,9 @@ async def checked(request: Request, coding: Coding, moment: Moment,
               parameter("inactive", valueBoolean=not facts.concept.is_active)]
     if value_set and coding.code not in among:
         return "the code isn't %s on that day" % (OUTSIDE[value_set.sort] % value_set.code), parts
-    if coding.display and not is_display(coding.display, terms):
-        return "%.100r isn't a term of the code on that day" % coding.display, parts
-    return "", parts
+    if active_only and not facts.concept.is_active:
+        return "the code was inactive on that day, and active ones alone are meant", parts
+    if not coding.display or is_display(coding.display, terms):
+        return "", parts
+    said = "%.100r isn't a term of the code on that day" % coding.display
+    return ("", [*parts, parameter("message", valueString=said)]) if is_lenient else (said, parts)

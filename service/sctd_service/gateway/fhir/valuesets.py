@@ -14,7 +14,7 @@ from ..ecl.parsing import parse
 from ..problems import Json, Problem, conflict, invalid, not_found, not_supported, too_costly
 from ...snomed import REFERENCE_SET, distinct, is_concept_id
 from .inputs import SCT, Query, not_here
-from .request import Request
+from .request import OperationRequest
 from .versions import Moment
 
 ALL, IS_A, REFSETS, REFSET = "fhir_vs", "fhir_vs=isa/", "fhir_vs=refset", "fhir_vs=refset/"
@@ -37,6 +37,7 @@ class Sort(enum.Enum):
     EXPRESSION = enum.auto()
     LISTED = enum.auto()
     COMPOSED = enum.auto()
+    OF_OTHERS = enum.auto()
 
 
 # The filters of a concept that a client's value set may have.
@@ -52,7 +53,8 @@ OPERATORS = {Sort.WITHIN: "<<", Sort.BELOW: "<", Sort.ABOVE: ">>"}
 class ValueSet(NamedTuple):
     """Its address, the versions that it names, and the top or the reference set of its concepts if
     it has one, or their list. A composed one has the codes that are in all parts of one of
-    `included`, but for those that are so in `excluded`."""
+    `included`, but for those that are so in `excluded`, and may have codes of `others`, which are
+    other code systems."""
 
     url: str
     versions: tuple[str, ...]
@@ -63,37 +65,68 @@ class ValueSet(NamedTuple):
     excluded: tuple[tuple["ValueSet", ...], ...] = ()
     active_only: bool = False
     expression: syntax.Expression | None = None
+    others: tuple[str, ...] = ()
+
+
+class Sent:
+    """The value sets that a client sends along, by their addresses, and how many parts may still be
+    read of those that it defines."""
+
+    def __init__(self, query: Query) -> None:
+        self.resources, self.parts = dict[str, Json](), limits.COMPOSED_PARTS
+        for one in query.given.get("tx-resource", []):
+            if not isinstance(one, dict) or one.get("resourceType") != "ValueSet":
+                query.pass_over("a tx-resource is passed over that is no ValueSet")
+            elif isinstance(url := one.get("url"), str):
+                self.resources |= {url: one, "%s|%s" % (url, one.get("version")): one}
+
+    def value_set(self, address: str) -> ValueSet:
+        """The value set of an address. (In one that is sent along its own leads nowhere.)"""
+        resource = self.resources.pop(address, None)
+        if resource is None:
+            return value_set_of(address)
+        found = composed(resource, self)
+        self.resources[address] = resource
+        return found
 
 
 def wanted_value_set(query: Query) -> ValueSet:
     """The value set that is asked for, by its address or as the client has it."""
-    version = query.text("valueSetVersion")
+    version, sent = query.text("valueSetVersion"), Sent(query)
     if "valueSet" not in query.given:
-        found = value_set_of(query.needed("url"))
+        url = query.needed("url")
+        is_own = "%s|%s" % (url, version) in sent.resources
+        found = sent.value_set("%s|%s" % (url, version) if is_own else url)
     elif "url" in query.given:
         raise conflict("url and valueSet are two ways to name the value set")
     else:
-        found = composed(query.one("valueSet"))
-    return found._replace(versions=(*found.versions, version)) if version else found
+        resource = query.one("valueSet")
+        found = composed(resource, sent)
+        is_own = version == resource.get("version")
+    # (A value set that a client defines has versions of its own.)
+    return found._replace(versions=(*found.versions, version)) if version and not is_own else found
 
 
-def versions_of(query: Query, value_set: ValueSet) -> list[str]:
-    """The versions that an answer about a value set has to be of."""
+def versions_of(query: Query, value_set: ValueSet | None) -> list[str]:
+    """The versions that an answer about a value set, or about all codes, has to be of."""
     forced = system_versions(query, "force-system-version")
-    own = [*value_set.versions, *system_versions(query, "system-version")]
+    named = value_set.versions if value_set else ()
+    own = [*named, *system_versions(query, "system-version")]
     return [*(forced or own), *system_versions(query, "check-system-version")]
 
 
 def system_versions(query: Query, name: str) -> list[str]:
-    """The versions that a parameter names, as `http://snomed.info/sct|VERSION`."""
+    """The versions of SNOMED CT that a parameter names, as `http://snomed.info/sct|VERSION`. Those
+    of other code systems change no answer."""
     found = []
     for text in query.all(name):
         system, bar, version = text.partition("|")
         if not bar or not version:
             raise invalid("%s must be SYSTEM|VERSION" % name)
-        if system != SCT:
-            raise not_here(system)
-        found.append(version)
+        if system == SCT:
+            found.append(version)
+        else:
+            query.pass_over("the version of %.100r is passed over: only %s is here" % (system, SCT))
     return found
 
 
@@ -128,7 +161,7 @@ def is_of_snomed(base: str) -> bool:
     return base == SCT or base.startswith(SCT + "/")
 
 
-def composed(resource: Any) -> ValueSet:
+def composed(resource: Any, sent: Sent) -> ValueSet:
     """A value set that a client defines."""
     compose = resource.get("compose") if isinstance(resource, dict) else None
     if not isinstance(compose, dict) or resource.get("resourceType") != "ValueSet":
@@ -136,14 +169,18 @@ def composed(resource: Any) -> ValueSet:
     if "lockedDate" in compose:
         raise not_supported("lockedDate isn't read: give the date beside the value set")
     included, excluded = (
-        tuple(parts_of(one) for one in entries(compose, name)) for name in ("include", "exclude"))
+        tuple(parts_of(one, sent) for one in entries(compose, name))
+        for name in ("include", "exclude"))
     parts = [part for some in (*included, *excluded) for part in some]
-    if not included or len(parts) > limits.COMPOSED_PARTS:
+    sent.parts -= len(parts)
+    if not included or sent.parts < 0:
         raise invalid("valueSet has to include 1 to %d parts" % limits.COMPOSED_PARTS)
     url = resource.get("url") if isinstance(resource.get("url"), str) else ""
+    others = distinct(other for some in included for other in others_of(some))
     found = ValueSet(
         url, tuple(one for part in parts for one in part.versions), Sort.COMPOSED,
-        included=included, excluded=excluded, active_only=compose.get("inactive") is False)
+        included=included, excluded=excluded, active_only=compose.get("inactive") is False,
+        others=tuple(others))
     # All of SNOMED CT, and what an expression means, are paged without being put together.
     if len(parts) == 1 and parts[0].sort in (Sort.ANY, Sort.EXPRESSION):
         found = found._replace(sort=parts[0].sort, expression=parts[0].expression)
@@ -157,18 +194,23 @@ def entries(of: Json, name: str) -> list[Json]:
     return found
 
 
-def parts_of(one: Json) -> tuple[ValueSet, ...]:
+def parts_of(one: Json, sent: Sent) -> tuple[ValueSet, ...]:
     """The value sets in all of which the codes of an `include` or `exclude` are."""
     urls, system, version = one.get("valueSet", []), one.get("system"), one.get("version")
     if not isinstance(urls, list) or not all(isinstance(url, str) for url in urls):
         raise invalid("valueSet of an include isn't a list of addresses")
-    parts = [value_set_of(url) for url in urls]
+    parts = [sent.value_set(url) for url in urls]
+    if any(part.active_only for part in parts):
+        # (Of other code systems it isn't known what is active.)
+        parts.append(ValueSet("", (), Sort.EXPRESSION, expression=syntax.Wildcard(),
+                              others=others_of(parts)))
     if system is None:
         if not parts or {"concept", "filter", "version"}.intersection(one):
             raise invalid("an include of valueSet has no system")
         return tuple(parts)
     if system != SCT:
-        raise not_here(str(system))
+        # (No code of SNOMED CT is in it.)
+        return (*parts, ValueSet("", (), Sort.OF_OTHERS, others=(str(system),)))
     versions = () if version is None else (str(version),)
     # A code that isn't one is none of SNOMED CT.
     codes = [str(concept.get("code")) for concept in entries(one, "concept")]
@@ -177,6 +219,12 @@ def parts_of(one: Json) -> tuple[ValueSet, ...]:
     if codes:
         own.append(ValueSet("", versions, Sort.LISTED, listed=listed))
     return (*parts, *(own or [ValueSet("", versions, Sort.ANY)]))
+
+
+def others_of(parts: Sequence[ValueSet]) -> tuple[str, ...]:
+    """The other code systems of which codes may be in all of these value sets."""
+    first, *more = parts
+    return tuple(one for one in first.others if all(one in part.others for part in more))
 
 
 def filter_of(each: Json, versions: tuple[str, ...]) -> ValueSet:
@@ -228,13 +276,13 @@ def expression_of(value_set: ValueSet) -> syntax.Expression:
     return syntax.Related(OPERATORS[value_set.sort], concept)
 
 
-async def inside(request: Request, value_set: ValueSet, codes: Collection[str],
+async def inside(request: OperationRequest, value_set: ValueSet, codes: Collection[str],
                  moment: Moment) -> set[str]:
     """Those of the concepts that are in the value set, which has to be there."""
     view, day, sort, asked = request.view, moment.day, value_set.sort, list(codes)
     if sort in (Sort.WITHIN, Sort.BELOW):
         await request.must_have(value_set.code, moment)
-        within = await view.those_within(asked, value_set.code, day)
+        within = await view.codes_within(asked, value_set.code, day)
         return within - {value_set.code} if sort is Sort.BELOW else within
     if sort is Sort.IN_REFSET:
         found = await refsets.those_in(view, value_set.code, asked, day)
@@ -258,10 +306,12 @@ async def inside(request: Request, value_set: ValueSet, codes: Collection[str],
         return await ecl.those_in(view, day, value_set.expression, asked)
     if sort is Sort.ANY:
         return set(asked)
+    if sort is Sort.OF_OTHERS:
+        return set()
     return set(asked).intersection(await codes_in(request, value_set, moment))
 
 
-async def inside_all(request: Request, parts: Sequence[ValueSet], codes: Collection[str],
+async def inside_all(request: OperationRequest, parts: Sequence[ValueSet], codes: Collection[str],
                      moment: Moment) -> set[str]:
     found = set(codes)
     for part in parts:
@@ -269,10 +319,10 @@ async def inside_all(request: Request, parts: Sequence[ValueSet], codes: Collect
     return found
 
 
-async def codes_in(request: Request, value_set: ValueSet, moment: Moment) -> Sequence[str]:
+async def codes_in(request: OperationRequest, value_set: ValueSet, moment: Moment) -> Sequence[str]:
     """The codes of a value set. Some may not be there on that day."""
     view, day, sort, code = request.view, moment.day, value_set.sort, value_set.code
-    if sort is Sort.LISTED:
+    if sort in (Sort.LISTED, Sort.OF_OTHERS):
         return value_set.listed
     if sort is Sort.IN_REFSET:
         return await refset_codes(request, code, moment)
@@ -300,18 +350,18 @@ async def codes_in(request: Request, value_set: ValueSet, moment: Moment) -> Seq
 
 
 SMALLEST_FIRST = (
-    Sort.LISTED, Sort.ABOVE, Sort.ARE_REFSETS, Sort.IN_REFSET, Sort.EXPRESSION, Sort.BELOW,
-    Sort.WITHIN, Sort.ANY)
+    Sort.OF_OTHERS, Sort.LISTED, Sort.ABOVE, Sort.ARE_REFSETS, Sort.IN_REFSET, Sort.COMPOSED,
+    Sort.EXPRESSION, Sort.BELOW, Sort.WITHIN, Sort.ANY)
 
 
-async def refset_codes(request: Request, refset: str, moment: Moment) -> Sequence[str]:
+async def refset_codes(request: OperationRequest, refset: str, moment: Moment) -> Sequence[str]:
     codes = await refsets.codes_of(request.view, refset, moment.day)
     if not codes:
         await must_be_kept(request, refset, moment)
     return codes
 
 
-async def must_be_kept(request: Request, refset: str, moment: Moment) -> None:
+async def must_be_kept(request: OperationRequest, refset: str, moment: Moment) -> None:
     """Refuses a reference set of which the store has no member of any day: it isn't known to be
     empty."""
     if not await refsets.was_kept(request.view, refset):
@@ -319,19 +369,20 @@ async def must_be_kept(request: Request, refset: str, moment: Moment) -> None:
         raise not_supported("the store has no members of the reference set %s" % refset)
 
 
-async def expression_codes(request: Request, expression: syntax.Expression,
+async def expression_codes(request: OperationRequest, expression: syntax.Expression,
                            moment: Moment) -> Sequence[str]:
     await must_keep_all(request, expression, moment)
     return await ecl.codes_of(request.view, moment.day, expression)
 
 
-async def must_keep_all(request: Request, expression: syntax.Expression, moment: Moment) -> None:
+async def must_keep_all(request: OperationRequest, expression: syntax.Expression,
+                        moment: Moment) -> None:
     """Refuses an expression that names a reference set of which the store has no member."""
     for refset in distinct(syntax.named_refsets(expression)):
         await must_be_kept(request, refset, moment)
 
 
-async def refsets_there(request: Request, moment: Moment) -> list[str]:
+async def refsets_there(request: OperationRequest, moment: Moment) -> list[str]:
     found = await refsets.with_members(request.view, moment.day)
     if not found:
         raise no_refsets()

@@ -1,4 +1,4 @@
-use Rattle.std.specs.List.{sum_by}
+use Rattle.std.specs.List.{sum_by, AllZip}
 use Rattle.rf2_values.specs.Row.{RowValue}
 use Rattle.std.proofs.Common.{Ok, ℕ, ◌+◌, ◌++◌, [], ◌∷◌, sym, ap, subst, ◌∙◌, take, map, rules, arith}
 use Rattle.std.proofs.lemmas.List.Sums.{sum_by_push}
@@ -6,8 +6,8 @@ use Rattle.std.proofs.lemmas.List.{map_push}
 use Rattle.history_model.specs.declared.stamped.StampedRow.{StampedRow}
 use Rattle.segment.specs.Standing.{StandsAt}
 use Rattle.as_of_index.proofs.Current.{stand_at, stand_end, rows_push, first_rows}
-use Rattle.rf2_values.specs.Key.{key_of}
-use Rattle.as_of_index.proofs.SameKeys.{key_there, keys_push}
+use Rattle.as_of_index.specs.Reader.{IsReadFor}
+use Rattle.as_of_index.proofs.Returned.{reads_more}
 use Rattle.as_of_index.proofs.Reading.{reads_on, has_read, read_so, fails_on}
 use Rattle.as_of_index.proofs.chosen.read_all.Goals as goal
 
@@ -28,22 +28,12 @@ loop-k-preserved g c =
           let sum = ap (λ xs. sum_by f (map (λ (s : StampedRow). s.row) xs)) w.2 ∙ rows_push f (take c.loop-k.k-index rows) w.0 in
           omega arith;
       stays = g.met.R.RowReader.stays_on a.reader.now _ _ so_far.stays found.ensures.stays;
-      rows = λ honest rows stand.
-          let w = stand_at (g.R.RowReader.view a.reader.now).lists a.places.now rows c.loop-k.k-index c.k-item.result stand c.loop-k-test.true c.k-item.is in
-          let stands = subst (λ ls. StandsAt ls c.k-item.result.segment c.k-item.result.at w.0) (sym so_far.reader.lists) w.1 in
-          let same = found.ensures.found (so_far.reader.honesty honest) w.0 stands in
-          c.in_ok-push.ensures.items
-          ∙ ap (λ xs. xs ++ found.found.row ∷ []) (so_far.rows honest rows stand)
-          ∙ ap (λ (s : StampedRow). map (λ (s : StampedRow). s.row) (take c.loop-k.k-index rows) ++ s.row ∷ []) same
-          ∙ sym (map_push (λ (s : StampedRow). s.row) (take c.loop-k.k-index rows) w.0)
-          ∙ ap (λ xs. map (λ (s : StampedRow). s.row) xs) (sym w.2);
-      keys = λ rows stand.
+      each = λ rows stand.
           let w = stand_at (g.R.RowReader.view a.reader.now).lists a.places.now rows c.loop-k.k-index c.k-item.result stand c.loop-k-test.true c.k-item.is in
           let first = take c.loop-k.k-index rows in
-          ap (map key_of) c.in_ok-push.ensures.items
-          ∙ keys_push c.loop-k.rows.items (map (λ (s : StampedRow). s.row) first) found.found.row w.0.row (so_far.keys rows stand)
-          (key_there (g.R.RowReader.view a.reader.now).lists c.k-item.result.segment c.k-item.result.at w.0 found.found.row w.1 found.ensures.keyed)
-          ∙ ap (map key_of) (sym (map_push (λ (s : StampedRow). s.row) first w.0) ∙ ap (map (λ (s : StampedRow). s.row)) (sym w.2));
+          rw c.in_ok-push.ensures.items
+          (subst (λ xs. AllZip (IsReadFor (g.R.RowReader.view a.reader.now)) (c.loop-k.rows.items ++ found.found.row ∷ []) xs) (sym (map_push (λ (s : StampedRow). s.row) first w.0) ∙ ap (map (λ (s : StampedRow). s.row)) (sym w.2))
+          (reads_more so_far.reader w.1 found.ensures.returned c.loop-k.rows.items (map (λ (s : StampedRow). s.row) first) (so_far.each rows stand)));
     }
 
 pub returns-in_err-found-clause-answer : goal.returns-in_err-found-clause-answer
@@ -57,8 +47,7 @@ returns-in_err-found-clause-answer g c = λ rows stand.
     let sum = ap (λ xs. sum_by f (map (λ (s : StampedRow). s.row) xs)) w.2 ∙ rows_push f (take k rows) w.0 in
     let all = first_rows f (k + 1) rows in
     record {
-      found = λ honest. search rules;
-      keys = search rules;
+      each = search rules;
       undamaged = λ honest. (let other = c.in_err-found.ensures.undamaged (c.loop-k.invariant.reader.honesty honest) w.0 stands in search rules);
       causes = λ none.
           let one : RowValue → ℕ = λ row. 1 in
@@ -82,8 +71,7 @@ returns-in_err-push-clause-answer g c = λ rows stand.
     let sum = ap (λ xs. sum_by f (map (λ (s : StampedRow). s.row) xs)) w.2 ∙ rows_push f (take k rows) w.0 in
     let all = first_rows f (k + 1) rows in
     record {
-      found = λ honest. search rules;
-      keys = search rules;
+      each = search rules;
       undamaged = λ honest. search rules;
       causes = λ none. search rules;
       work_always = omega arith;
@@ -96,8 +84,7 @@ returns-clause-answer g c = λ rows stand.
     let least = so_far.work_always rows stand in
     let all = first_rows g.R.RowReader.cost c.loop-k.k-index rows in
     record {
-      found = λ honest. so_far.rows honest rows stand ∙ ap (λ xs. map (λ (s : StampedRow). s.row) xs) end;
-      keys = so_far.keys rows stand ∙ ap (λ xs. map key_of (map (λ (s : StampedRow). s.row) xs)) end;
+      each = subst (λ xs. AllZip (IsReadFor (g.R.RowReader.view c.args.reader.now)) c.loop-k.rows.items (map (λ (s : StampedRow). s.row) xs)) end (so_far.each rows stand);
       undamaged = λ honest. tt;
       causes = λ none. tt;
       work_always = omega arith;

@@ -1,6 +1,6 @@
 use Rattle.std.proofs.Common.{◌≡◌, ◌+◌, ◌≤◌, List, take, map}
-use Rattle.std.specs.List.{sum_by}
-use Rattle.rf2_values.specs.Key.{key_of}
+use Rattle.std.specs.List.{sum_by, AllZip}
+use Rattle.as_of_index.specs.Reader.{IsReadFor}
 use Rattle.history_model.specs.declared.stamped.StampedRow.{StampedRow}
 use Rattle.as_of_index.specs.Chosen.{StandAtAll}
 use Rattle.as_of_index.proofs.Reading.{HasRead}
@@ -14,6 +14,5 @@ invariant-loop-k g l =
       work : (r.view l.reader).work ≤ (r.view l.fn.reader).work + sum_by r.cost l.rows.items;
       work_always : (rows : List StampedRow) → StandAtAll (r.view l.fn.reader).lists l.places rows → (r.view l.reader).work ≤ (r.view l.fn.reader).work + sum_by r.cost (map (λ (s : StampedRow). s.row) (take l.k-index rows));
       stays : r.stays l.fn.reader l.reader;
-      rows : (r.view l.fn.reader).is_honest → (rows : List StampedRow) → StandAtAll (r.view l.fn.reader).lists l.places rows → l.rows.items ≡ map (λ (s : StampedRow). s.row) (take l.k-index rows);
-      keys : (rows : List StampedRow) → StandAtAll (r.view l.fn.reader).lists l.places rows → map key_of l.rows.items ≡ map key_of (map (λ (s : StampedRow). s.row) (take l.k-index rows));
+      each : (rows : List StampedRow) → StandAtAll (r.view l.fn.reader).lists l.places rows → AllZip (IsReadFor (r.view l.fn.reader)) l.rows.items (map (λ (s : StampedRow). s.row) (take l.k-index rows));
     }

@@ -1,42 +1,33 @@
 use Rattle.std.proofs.Common.{◌≡◌, ◌+◌, ◌*◌, ◌≤◌, ◌++◌, take, drop, ◌/◌, ◌%◌, List, ℕ, length, refl, sym, ap, subst, ◌∙◌, arith, rules}
 use Rattle.std.proofs.lemmas.Result.{err_from_is_err_and}
-use Rattle.disk_model.specs.Disk.{Moments}
-use Rattle.blocks.specs.Cache.{count_of, AgreesWith}
 use Rattle.blocks.proofs.Looked.{none_looked_up, looked_up_next, ended, all_looked_up, part_asks}
 use Rattle.blocks.proofs.PartsKept.{next_kept, used_keeps, keeps_on, count_in}
 use Rattle.blocks.proofs.PartsRead.{IsReadSoFar, none_read, all_read, more_read, short_read}
 use Rattle.blocks.proofs.ranges.read_part.Goals as goal
 
 pub returns-clause-bytes : goal.returns-clause-bytes
-returns-clause-bytes g c honest agrees =
+returns-clause-bytes g c file shows =
     let inv = c.loop-done.invariant in
-    let file = (g.D.Disk.view c.args.disk.now).moments.state.now in
     let all : c.loop-done.done ≡ length c.args.into.now = omega (arith, inv.0, inv.1, c.loop-done-test.false) in
-    all_read c.args.from file c.loop-done.into (length c.args.into.now) inv.0 (subst (IsReadSoFar c.args.from file c.loop-done.into) all (inv.5 honest agrees).1)
+    all_read c.args.from file c.loop-done.into (length c.args.into.now) inv.0 (subst (IsReadSoFar c.args.from file c.loop-done.into) all (inv.5 file shows).1)
 
 pub returns-then-count-skip-clause-bytes : goal.returns-then-count-skip-clause-bytes
-returns-then-count-skip-clause-bytes g c honest agrees =
+returns-then-count-skip-clause-bytes g c file shows =
     let inv = c.loop-done.invariant in
-    let file = (g.D.Disk.view c.args.disk.now).moments.state.now in
     let at = c.args.from + c.loop-done.done in
-    let same : (g.D.Disk.view c.loop-done.disk).moments.state.now ≡ file = ap (λ (m : Moments). m.state.now) (inv.3 honest) in
-    let counted = c.in_ok-count.ensures.count (inv.2.0 honest) (subst (AgreesWith c.loop-done.cache) (sym same) (inv.5 honest agrees).0) in
-    short_read c.args.from file c.args.into.now c.loop-done.done at (at / 4096) (at % 4096) c.min-taken.result c.in_ok-count.count refl (omega arith) (counted ∙ ap (λ l. count_of l (at / 4096)) same)
+    let counted = c.in_ok-count.ensures.count file (inv.5 file shows).0 in
+    short_read c.args.from file c.args.into.now c.loop-done.done at (at / 4096) (at % 4096) c.min-taken.result c.in_ok-count.count refl (omega arith) counted
     (length c.args.into.now) c.if-count-skip.true (omega (arith, c.min-taken.ensures)) (omega (arith, inv.0, c.loop-done-test.true)) (omega (arith, inv.0, c.min-taken.ensures, c.loop-done-test.true))
 
 pub returns-then-count-skip-clause-agrees : goal.returns-then-count-skip-clause-agrees
-returns-then-count-skip-clause-agrees g c honest agrees =
+returns-then-count-skip-clause-agrees g c file shows =
     let inv = c.loop-done.invariant in
-    let file = (g.D.Disk.view c.args.disk.now).moments.state.now in
-    let same : (g.D.Disk.view c.loop-done.disk).moments.state.now ≡ file = ap (λ (m : Moments). m.state.now) (inv.3 honest) in
-    subst (AgreesWith c.read_within.new.cache) same (c.in_ok-count.ensures.agrees (inv.2.0 honest) (subst (AgreesWith c.loop-done.cache) (sym same) (inv.5 honest agrees).0))
+    c.in_ok-count.ensures.agrees file (inv.5 file shows).0
 
 pub returns-in_err-count-clause-agrees : goal.returns-in_err-count-clause-agrees
-returns-in_err-count-clause-agrees g c honest agrees =
+returns-in_err-count-clause-agrees g c file shows =
     let inv = c.loop-done.invariant in
-    let file = (g.D.Disk.view c.args.disk.now).moments.state.now in
-    let same : (g.D.Disk.view c.loop-done.disk).moments.state.now ≡ file = ap (λ (m : Moments). m.state.now) (inv.3 honest) in
-    subst (AgreesWith c.read_within.new.cache) same (c.in_err-count.ensures.agrees (inv.2.0 honest) (subst (AgreesWith c.loop-done.cache) (sym same) (inv.5 honest agrees).0))
+    c.in_err-count.ensures.agrees file (inv.5 file shows).0
 
 pub returns-in_err-count-clause-kept : goal.returns-in_err-count-clause-kept
 returns-in_err-count-clause-kept g c part =
@@ -60,7 +51,7 @@ loop-done-init g c = (
   (λ h. h, λ h. h),
   λ honest. refl,
   refl,
-  λ honest agrees. (agrees, none_read c.args.from (g.D.Disk.view c.args.disk.now).moments.state.now c.args.into.now),
+  λ file shows. (shows, none_read c.args.from file c.args.into.now),
   refl,
   λ part. (refl, λ q. refl),
   none_looked_up c.args.from (length c.args.into.now) c.args.cache.now (g.D.Disk.view c.args.disk.now).bytes_read,
@@ -71,7 +62,6 @@ pub loop-done-preserved : goal.loop-done-preserved
 unfolding looked_up_next
 loop-done-preserved g c =
     let inv = c.loop-done.invariant in
-    let file = (g.D.Disk.view c.args.disk.now).moments.state.now in
     let at = c.args.from + c.loop-done.done in
     let room : c.loop-done.done + c.min-taken.result ≤ length c.loop-done.into = omega (arith, inv.0, c.min-taken.ensures, c.loop-done-test.true) in
     let long : length c.read_within.new.into ≡ length c.loop-done.into = c.read_within.auto.into in (
@@ -80,15 +70,11 @@ loop-done-preserved g c =
       (λ up. c.in_ok-count.ensures.meters.honesty.0 (inv.2.0 up), λ down. inv.2.1 (c.in_ok-count.ensures.meters.honesty.1 down)),
       (λ honest. c.in_ok-count.ensures.meters.moments (inv.2.0 honest) ∙ inv.3 honest),
       c.in_ok-count.ensures.meters.failures ∙ inv.4,
-      (λ honest agrees.
-          let same : (g.D.Disk.view c.loop-done.disk).moments.state.now ≡ file = ap (λ (m : Moments). m.state.now) (inv.3 honest) in
-          let kept = subst (AgreesWith c.loop-done.cache) (sym same) (inv.5 honest agrees).0 in
-          let counted = c.in_ok-count.ensures.count (inv.2.0 honest) kept in (
-            subst (AgreesWith c.read_within.new.cache) same (c.in_ok-count.ensures.agrees (inv.2.0 honest) kept),
-            more_read c.args.from file c.loop-done.into c.loop-done.done at (at / 4096) (at % 4096) c.min-taken.result c.in_ok-count.count refl (omega arith) (counted ∙ ap (λ l. count_of l (at / 4096)) same)
-                c.read_within.new.into c.if-count-skip.false room
-                (c.in_ok-count.ensures.bytes (inv.2.0 honest) kept c.if-count-skip.false ∙ ap (λ (l : List ℕ). take c.loop-done.done c.loop-done.into ++ take c.min-taken.result (drop (4096 * (at / 4096) + at % 4096) l) ++ drop (c.loop-done.done + c.min-taken.result) c.loop-done.into) same)
-                (inv.5 honest agrees).1,
+      (λ file shows.
+          let so_far = inv.5 file shows in (
+            c.in_ok-count.ensures.agrees file so_far.0,
+            more_read c.args.from file c.loop-done.into c.loop-done.done at (at / 4096) (at % 4096) c.min-taken.result c.in_ok-count.count refl (omega arith) (c.in_ok-count.ensures.count file so_far.0)
+                c.read_within.new.into c.if-count-skip.false room (c.in_ok-count.ensures.bytes file so_far.0 c.if-count-skip.false) so_far.1,
           )),
       c.in_ok-count.ensures.capacity ∙ inv.6,
       (λ part.

@@ -28,7 +28,7 @@ loop-t-preserved g c =
           let w = zip_at (StandsIn lists a.i a.j) a.taken.now want l.t-index t stand c.loop-t-test.true c.t-item.is in
           let stands = subst (λ n. StandsAt lists n t.place w.0) (sym c.segment_number-segment.ensures) w.1 in
           let agrees_still = subst (λ (m : Moments). AgreesWith l.cache m.state.now) (sym (so_far.moments up)) (so_far.agrees up agrees) in
-          let same = read.found (so_far.honesty.0 up) agrees_still lists w.0 (subst (λ (m : Moments). AreThere a.entries.now lists m.state.now) (sym (so_far.moments up)) there) stands in
+          let same = read.found _ (g.met.D.Disk.honest_reads l.disk (so_far.honesty.0 up), agrees_still) lists w.0 (subst (λ (m : Moments). AreThere a.entries.now lists m.state.now) (sym (so_far.moments up)) there) stands in
           items ∙ ap (λ (xs : List StampedRow). xs ++ row ∷ []) (so_far.found up agrees lists want there stand) ∙ ap (λ (s : StampedRow). take l.t-index want ++ s ∷ []) same
           ∙ sym w.2 ∙ ap (λ k. take k want) (sym (add-one l.t-index));
       read =
@@ -37,7 +37,7 @@ loop-t-preserved g c =
           (subst (λ (x : List Taken). AllZip IsReadAt x (l.rows.items ++ row ∷ [])) (sym more) (zip_push IsReadAt (take l.t-index a.taken.now) l.rows.items t row so_far.read read.of_place));
       agrees = λ up agrees.
           let agrees_still = subst (λ (m : Moments). AgreesWith l.cache m.state.now) (sym (so_far.moments up)) (so_far.agrees up agrees) in
-          subst (λ (m : Moments). AgreesWith c.read_row.new.cache m.state.now) (so_far.moments up) (read.agrees (so_far.honesty.0 up) agrees_still);
+          subst (λ (m : Moments). AgreesWith c.read_row.new.cache m.state.now) (so_far.moments up) (read.agrees _ (g.met.D.Disk.honest_reads l.disk (so_far.honesty.0 up), agrees_still)).1;
       moments = λ up. read.meters.moments (so_far.honesty.0 up) ∙ so_far.moments up;
       honesty = (λ up. read.meters.honesty.0 (so_far.honesty.0 up), λ down. so_far.honesty.1 (read.meters.honesty.1 down));
       failures = read.meters.failures ∙ so_far.failures;
@@ -57,7 +57,7 @@ returns-in_err-row-clause-found g c = λ up agrees lists want there stand.
     let w = zip_at (StandsIn lists a.i a.j) a.taken.now want l.t-index t stand c.loop-t-test.true c.t-item.is in
     let stands = subst (λ n. StandsAt lists n t.place w.0) (sym c.segment_number-segment.ensures) w.1 in
     let agrees_still = subst (λ (m : Moments). AgreesWith l.cache m.state.now) (sym (so_far.moments up)) (so_far.agrees up agrees) in
-    let only = c.in_err-row.ensures.found (so_far.honesty.0 up) agrees_still lists w.0 (subst (λ (m : Moments). AreThere a.entries.now lists m.state.now) (sym (so_far.moments up)) there) stands in
+    let only = c.in_err-row.ensures.found _ (g.met.D.Disk.honest_reads l.disk (so_far.honesty.0 up), agrees_still) lists w.0 (subst (λ (m : Moments). AreThere a.entries.now lists m.state.now) (sym (so_far.moments up)) there) stands in
     search rules
 
 pub returns-clause-found : goal.returns-clause-found
@@ -71,13 +71,13 @@ pub returns-in_err-row-clause-agrees : goal.returns-in_err-row-clause-agrees
 returns-in_err-row-clause-agrees g c = λ up agrees.
     let so_far = c.loop-t.invariant in
     let agrees_still = subst (λ (m : Moments). AgreesWith c.loop-t.cache m.state.now) (sym (so_far.moments up)) (so_far.agrees up agrees) in
-    subst (λ (m : Moments). AgreesWith c.read_row.new.cache m.state.now) (so_far.moments up) (c.in_err-row.ensures.agrees (so_far.honesty.0 up) agrees_still)
+    subst (λ (m : Moments). AgreesWith c.read_row.new.cache m.state.now) (so_far.moments up) (c.in_err-row.ensures.agrees _ (g.met.D.Disk.honest_reads c.loop-t.disk (so_far.honesty.0 up), agrees_still)).1
 
 pub returns-in_err-push-clause-agrees : goal.returns-in_err-push-clause-agrees
 returns-in_err-push-clause-agrees g c = λ up agrees.
     let so_far = c.loop-t.invariant in
     let agrees_still = subst (λ (m : Moments). AgreesWith c.loop-t.cache m.state.now) (sym (so_far.moments up)) (so_far.agrees up agrees) in
-    subst (λ (m : Moments). AgreesWith c.read_row.new.cache m.state.now) (so_far.moments up) (c.in_ok-row.ensures.agrees (so_far.honesty.0 up) agrees_still)
+    subst (λ (m : Moments). AgreesWith c.read_row.new.cache m.state.now) (so_far.moments up) (c.in_ok-row.ensures.agrees _ (g.met.D.Disk.honest_reads c.loop-t.disk (so_far.honesty.0 up), agrees_still)).1
 
 pub returns-in_err-row-clause-looked_up : goal.returns-in_err-row-clause-looked_up
 returns-in_err-row-clause-looked_up g c = some_more (is_listed c.args.entries.now) c.args.cache.now c.loop-t.cache c.read_row.new.cache (g.D.Disk.view c.args.disk.now).bytes_read (g.D.Disk.view c.loop-t.disk).bytes_read (g.D.Disk.view c.read_row.new.disk).bytes_read c.loop-t.invariant.looked_up c.in_err-row.ensures.looked_up

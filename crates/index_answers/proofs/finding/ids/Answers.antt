@@ -9,3 +9,6 @@ returns-in-Ancestors c = rw c.in-Ancestors.is (IfOk-weaker c.ancestors.result _ 
 
 pub returns-in-Descendants : goal.returns-in-Descendants
 returns-in-Descendants c = rw c.in-Descendants.is (IfOk-weaker c.descendants.result _ _ (λ found is. is c.args.index.now c.places-places.ensures c.links-links.ensures) c.descendants.ensures.found)
+
+pub returns-in-Sources : goal.returns-in-Sources
+returns-in-Sources c = rw c.in-Sources.is (IfOk-weaker c.sources.result _ _ (λ found is. is c.args.index.now c.places-places.ensures c.links-links.ensures) c.sources.ensures.found)

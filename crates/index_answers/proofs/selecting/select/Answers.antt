@@ -51,3 +51,6 @@ returns-in-Values-clause-answer g c = rw c.in-Values.is (of_index c.args.index.n
 
 pub returns-in-Called-clause-answer : goal.returns-in-Called-clause-answer
 returns-in-Called-clause-answer g c = rw c.in-Called.is (of_index c.args.index.now c.called.ensures.answer (c.places-places.ensures, c.links-links.ensures))
+
+pub returns-in-AllRows-clause-answer : goal.returns-in-AllRows-clause-answer
+returns-in-AllRows-clause-answer g c = rw c.in-AllRows.is (of_index c.args.index.now c.rows_of_kind.ensures.answer c.places-places.ensures)

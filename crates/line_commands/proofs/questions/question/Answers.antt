@@ -50,3 +50,12 @@ returns-in-Called c = rw (c.in-Called.is, c.in-Some.is) c.called.ensures
 
 pub returns-in-Receipt : goal.returns-in-Receipt
 returns-in-Receipt c = rw (c.in-Receipt.is, c.in-Some.is) c.receipt.ensures
+
+pub returns-in-AllRows : goal.returns-in-AllRows
+returns-in-AllRows c = rw (c.in-AllRows.is, c.in-Some.is) c.all_rows.ensures
+
+pub returns-in-Sources : goal.returns-in-Sources
+returns-in-Sources c = rw (c.in-Sources.is, c.in-Some.is) c.sources.ensures
+
+pub returns-in-Added : goal.returns-in-Added
+returns-in-Added c = rw (c.in-Added.is, c.in-Some.is) c.added.ensures

@@ -18,5 +18,8 @@ returns-in-Digest g c = rw c.in-Digest.is c.answer_digest.ensures
 pub returns-in-Receipt : goal.returns-in-Receipt
 returns-in-Receipt g c = rw c.in-Receipt.is c.answer_receipt.ensures
 
+pub returns-in-Added : goal.returns-in-Added
+returns-in-Added g c = rw c.in-Added.is c.answer_added.ensures
+
 pub answer_receipt-requires-clause-first : goal.answer_receipt-requires-clause-first
 answer_receipt-requires-clause-first g c = (rw c.in-Receipt.is at c.requires.asked).1.0

@@ -23,7 +23,7 @@ returns-clause-answer g c =
     (λ lists. filter (is_replaced_by a.component) (snapshot (rows_seen a.as_of lists) a.as_of.date)) (λ lists. Lists a.index.now lists × EachPosted lists a.links.now)
     r.cost old (r.view c.select.new.reader) c.in_ok-rows.rows c.sort_by_referenced.new.rows
     (replaced_apart a.component a.as_of.date (rows_seen a.as_of old.lists) up)
-    (rw (c.asked_all-asked.ensures, c.value.ensures.value) at (c.in_ok-rows.ensures.answer (is_replaced_by a.component) (rw (c.asked_all-asked.ensures, c.value.ensures.value) (path_of_targets a.component))))
+    (rw (c.asked_for-asked.ensures, c.all_with.ensures, c.value.ensures.value) at (c.in_ok-rows.ensures.answer (is_replaced_by a.component) (rw (c.asked_for-asked.ensures, c.all_with.ensures, c.value.ensures.value) (path_of_targets a.component))))
     c.sort_by_referenced.ensures.same c.sort_by_referenced.ensures.sorted
 
 pub returns-in_err-rows-clause-answer : goal.returns-in_err-rows-clause-answer
@@ -39,4 +39,4 @@ returns-in_err-rows-clause-answer g c =
     (λ lists. filter (is_replaced_by a.component) (snapshot (rows_seen a.as_of lists) a.as_of.date)) (λ lists. Lists a.index.now lists × EachPosted lists a.links.now)
     r.cost old (r.view c.select.new.reader) c.in_err-rows.field-0.0
     (replaced_apart a.component a.as_of.date (rows_seen a.as_of old.lists) up)
-    (rw (c.asked_all-asked.ensures, c.value.ensures.value) at (c.in_err-rows.ensures.answer (is_replaced_by a.component) (rw (c.asked_all-asked.ensures, c.value.ensures.value) (path_of_targets a.component)))))
+    (rw (c.asked_for-asked.ensures, c.all_with.ensures, c.value.ensures.value) at (c.in_err-rows.ensures.answer (is_replaced_by a.component) (rw (c.asked_for-asked.ensures, c.all_with.ensures, c.value.ensures.value) (path_of_targets a.component)))))

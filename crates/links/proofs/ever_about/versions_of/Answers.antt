@@ -1,14 +1,14 @@
-use Rattle.std.proofs.Common.{◌≡◌, [], ◌∷◌, refl, Ok, ◌+◌, ◌++◌, List, ℕ, map, get_or, sym, ap, subst, ◌∙◌, take, take_all, rules, arith}
+use Rattle.std.proofs.Common.{◌≡◌, [], ◌∷◌, refl, Ok, ◌+◌, ◌++◌, List, ℕ, get_or, sym, ap, subst, ◌∙◌, take, take_all, rules, arith}
 use Rattle.std.specs.Prelude.{flat_map}
-use Rattle.std.specs.List.{sum_by}
+use Rattle.std.specs.List.{sum_by, AllZip}
 use Rattle.std.proofs.lemmas.List.Sums.{sum_by-append, sum_by-cons}
-use Rattle.std.proofs.lemmas.List.{map-append}
 use Rattle.rf2_values.specs.Row.{RowValue}
-use Rattle.rf2_values.specs.Key.{key_of}
 use Rattle.history_model.specs.History.{rows_at}
 use Rattle.history_model.specs.Lists.{listed}
 use Rattle.history_model.specs.Queries.{versions}
 use Rattle.as_of_index.specs.Places.{Lists}
+use Rattle.as_of_index.specs.Reader.{IsReadFor}
+use Rattle.as_of_index.proofs.Returned.{reads_on_to}
 use Rattle.as_of_index.proofs.Reading.{reads_on, has_read, read_so, fails_on}
 use Rattle.links.proofs.TimelineRows.{pieces_more, pieces_before}
 use Rattle.links.proofs.ever_about.versions_of.Goals as goal
@@ -39,23 +39,14 @@ loop-id-preserved g c =
           let sum = ap (sum_by f) (pieces_more piece a.ids.now c.loop-id.id-index c.loop-id-test.true) ∙ sum_by-append f (flat_map piece (take c.loop-id.id-index a.ids.now)) (piece (get_or a.ids.now c.loop-id.id-index 0)) in
           omega arith;
       stays = g.met.R.RowReader.stays_on a.reader.now _ _ so_far.stays found.ensures.stays;
-      rows = λ honest listed_so.
-          let same = (found.ensures.answer.rows (subst (λ ls. Lists a.index.now ls) (sym so_far.reader.lists) listed_so)).found (so_far.reader.honesty honest) in
-          c.in_ok-append.ensures.items
-          ∙ ap (λ xs. c.loop-id.rows.items ++ xs) same
-          ∙ ap (λ ls. c.loop-id.rows.items ++ versions a.kind (get_or a.ids.now c.loop-id.id-index 0) (rows_at a.pin (listed ls))) so_far.reader.lists
-          ∙ ap (λ xs. xs ++ piece (get_or a.ids.now c.loop-id.id-index 0)) (so_far.rows honest listed_so)
-          ∙ sym (pieces_more piece a.ids.now c.loop-id.id-index c.loop-id-test.true);
-      keys = λ listed_so.
+      each = λ listed_so.
           let id = get_or a.ids.now c.loop-id.id-index 0 in
+          let own = ap (λ ls. versions a.kind id (rows_at a.pin (listed ls))) so_far.reader.lists in
+          let read = (found.ensures.answer.rows (subst (λ ls. Lists a.index.now ls) (sym so_far.reader.lists) listed_so)).each in
           let before = flat_map piece (take c.loop-id.id-index a.ids.now) in
-          ap (map key_of) c.in_ok-append.ensures.items
-          ∙ map-append key_of c.loop-id.rows.items found.versions.items
-          ∙ ap (λ ks. ks ++ map key_of found.versions.items) (so_far.keys listed_so)
-          ∙ ap (λ ks. map key_of before ++ ks) ((found.ensures.answer.rows (subst (λ ls. Lists a.index.now ls) (sym so_far.reader.lists) listed_so)).keys
-          ∙ ap (λ ls. map key_of (versions a.kind id (rows_at a.pin (listed ls)))) so_far.reader.lists)
-          ∙ sym (map-append key_of before (piece id))
-          ∙ ap (map key_of) (sym (pieces_more piece a.ids.now c.loop-id.id-index c.loop-id-test.true));
+          rw c.in_ok-append.ensures.items
+          (subst (λ xs. AllZip (IsReadFor (g.R.RowReader.view a.reader.now)) (c.loop-id.rows.items ++ found.versions.items) xs) (ap (λ xs. before ++ xs) own ∙ sym (pieces_more piece a.ids.now c.loop-id.id-index c.loop-id-test.true))
+          (reads_on_to so_far.reader c.loop-id.rows.items before found.versions.items _ (so_far.each listed_so) read));
     }
 
 pub returns-in_err-versions-clause-answer : goal.returns-in_err-versions-clause-answer
@@ -74,8 +65,7 @@ returns-in_err-versions-clause-answer g c =
           let least = so_far.work_always listed_so in
           let more = read.work_always in
           record {
-            found = λ honest. search rules;
-            keys = search rules;
+            each = search rules;
             undamaged = λ honest. (let other = read.undamaged (so_far.reader.honesty honest) in search rules);
             causes = λ none.
                 let one : RowValue → ℕ = λ row. 1 in
@@ -107,8 +97,7 @@ returns-in_err-append-clause-answer g c =
           let least = so_far.work_always listed_so in
           let more = read.work_always in
           record {
-            found = λ honest. search rules;
-            keys = search rules;
+            each = search rules;
             undamaged = λ honest. search rules;
             causes = λ none. search rules;
             work_always = omega arith;
@@ -129,8 +118,7 @@ returns-clause-answer g c =
       rows = λ listed_so.
           let least = so_far.work_always listed_so in
           record {
-            found = λ honest. so_far.rows honest listed_so ∙ ap (flat_map piece) end;
-            keys = so_far.keys listed_so ∙ ap (λ ids. map key_of (flat_map piece ids)) end;
+            each = subst (λ ids. AllZip (IsReadFor (g.R.RowReader.view a.reader.now)) c.loop-id.rows.items (flat_map piece ids)) end (so_far.each listed_so);
             undamaged = λ honest. tt;
             causes = λ none. tt;
             work_always = omega arith;

@@ -1,7 +1,7 @@
 use Rattle.std.proofs.Common.{◌≡◌, Some, None, false, [], ◌∷◌, ◌++◌, get_or, refl, sym, ap, subst, ◌∙◌, take, take_all}
 use Rattle.std.proofs.lemmas.List.{take_more}
 use Rattle.segment.specs.declared.place.RowPlace.{RowPlace}
-use Rattle.links.specs.declared.posting.Tag.TheVariants.{Child}
+use Rattle.links.specs.declared.posting.Tag.TheVariants.{Source}
 use Rattle.links.specs.declared.posting.Posting.{Posting}
 use Rattle.links.specs.Private.{Takes}
 use Rattle.links.specs.Private.Asking.{GivesPlace, placed}
@@ -16,7 +16,7 @@ pub loop-p-preserved : goal.loop-p-preserved
 loop-p-preserved c = λ lists listed_so.
     let a = c.args in
     let i = c.loop-p.p-index in
-    let first : Posting = record { first = 0; second = 0; row = 0; tag = Child; active = false } in
+    let first : Posting = record { first = 0; second = 0; end = 0; row = 0; tag = Source; active = false } in
     let x = get_or a.postings.now i first in
     let now = c.row_at.ensures lists listed_so in
     let so_far = c.loop-p.invariant lists listed_so in

@@ -4,7 +4,7 @@ use Rattle.std.proofs.Common.{◌≡◌, [], Option, Some, None, sym, ap, ◌∙
 use Rattle.rf2_values.specs.Row.{RowValue}
 use Rattle.history_model.specs.declared.stamped.StampedRow.{StampedRow}
 use Rattle.as_of_index.proofs.Reading.{not_read, fails_on}
-use Rattle.as_of_index.proofs.SameKeys.{key_there, one_key}
+use Rattle.as_of_index.proofs.Returned.{reads_one}
 use Rattle.as_of_index.proofs.index.Index.get.Goals as goal
 
 wanted_row : (row : RowValue) (found : Option RowValue) → found ≡ Some row → option_to_list found ≡ [] → ⊥
@@ -20,8 +20,7 @@ returns-in_ok-stamped-in-Some-clause-answer g c =
           let more = read.ensures.work_always w.0 w.1 in
           let cost = ap (λ o. sum_by g.R.RowReader.cost (option_to_list o)) w.2 in
           record {
-            found = λ honest. ap (λ (s : StampedRow). option_to_list (Some s.row)) (read.ensures.found honest w.0 w.1) ∙ ap option_to_list (sym w.2);
-            keys = one_key read.stamped.row w.0.row _ (key_there lists c.in-Some.segment c.in-Some.at w.0 read.stamped.row w.1 read.ensures.keyed) w.2;
+            each = reads_one (not_read (g.R.RowReader.view c.args.reader.now)) w.1 read.ensures.returned _ w.2;
             undamaged = λ honest. tt;
             causes = λ none. tt;
             work_always = omega arith;
@@ -39,8 +38,7 @@ returns-in_err-stamped-in-Some-clause-answer g c =
           let more = read.ensures.work_always w.0 w.1 in
           let cost = ap (λ o. sum_by g.R.RowReader.cost (option_to_list o)) w.2 in
           record {
-            found = λ honest. search rules;
-            keys = search rules;
+            each = search rules;
             undamaged = λ honest. (let other = read.ensures.undamaged honest w.0 w.1 in search rules);
             causes = λ none. absurd (wanted_row w.0.row _ w.2 none);
             work_always = omega arith;

@@ -1,5 +1,5 @@
 use Rattle.std.specs.Prelude.{nat_le}
-use Rattle.std.specs.List.{sum_by}
+use Rattle.std.specs.List.{sum_by, AllZip}
 use Rattle.std.proofs.lemmas.Bool.Decides.{nat_tests}
 use Rattle.std.proofs.lemmas.List.Sums.{sum_by_push}
 use Rattle.std.proofs.Common.{Ok, ◌≡◌, ℕ, ◌<◌, ◌≤◌, true, false, [], ◌∷◌, ◌++◌, map, refl, sym, ap, subst, ◌∙◌, arith, rules}
@@ -9,8 +9,8 @@ use Rattle.history_model.proofs.Snapshots.{versions-above_none}
 use Rattle.segment.specs.Standing.{StandsAt}
 use Rattle.as_of_index.proofs.Standing.{are_lists}
 use Rattle.as_of_index.proofs.Later.{version_row, versions_push, versions_skip, versions_end, versions_cost, fewer_versions}
-use Rattle.rf2_values.specs.Key.{key_of}
-use Rattle.as_of_index.proofs.SameKeys.{key_there, keys_push}
+use Rattle.as_of_index.specs.Reader.{IsReadFor}
+use Rattle.as_of_index.proofs.Returned.{reads_more}
 use Rattle.as_of_index.proofs.Reading.{not_read, reads_on, has_read, read_so, fails_on, row_wanted}
 use Rattle.as_of_index.proofs.index.Index.versions.Goals as goal
 use Rattle.as_of_index.proofs.index.Index.versions.Goals.{then-is_shown+in_ok-version+in_ok-push, else-is_shown}
@@ -24,8 +24,7 @@ loop-segment-init g c = record {
   work = rw c.new-rows.ensures.items (omega arith);
   work_always = λ listed_so. (let all = ap (sum_by g.R.RowReader.cost) (versions-above_none c.args.kind c.args.id (rows_at c.args.pin (listed (g.R.RowReader.view c.args.reader.now).lists))) in omega arith);
   stays = g.met.R.RowReader.stays_still c.args.reader.now;
-  rows = λ honest listed_so. rw c.new-rows.ensures.items (sym (versions-above_none c.args.kind c.args.id (rows_at c.args.pin (listed (g.R.RowReader.view c.args.reader.now).lists))));
-  keys = λ listed_so. ([], ap (map key_of) c.new-rows.ensures.items, sym (versions-above_none c.args.kind c.args.id (rows_at c.args.pin (listed (g.R.RowReader.view c.args.reader.now).lists))));
+  each = λ listed_so. ([], rw c.new-rows.ensures.items tt, sym (versions-above_none c.args.kind c.args.id (rows_at c.args.pin (listed (g.R.RowReader.view c.args.reader.now).lists))));
 }
 
 pub loop-segment-smaller : goal.loop-segment-smaller
@@ -51,22 +50,13 @@ loop-segment-preserved g c =
             let sum = versions_cost a.kind a.id a.pin lists are g.R.RowReader.cost c.loop-segment.after (c.in-Some.segment, c.in-Some.at) r.0 next r.1 (c.is_shown.ensures.0 w.if-is_shown.true) in
             omega arith;
         stays = g.met.R.RowReader.stays_on a.reader.now _ _ so_far.stays w.in_ok-version.ensures.stays;
-        rows = λ honest listed_so.
+        each = λ listed_so.
             let are = are_lists lists (rw (c.self.view_is, listed_so) at c.self.invariant.places) in
             let next = rw (c.as_slice.ensures.value, c.self.view_is, listed_so) at c.in-Some.ensures in
             let r = version_row a.kind a.id a.pin lists are c.loop-segment.after (c.in-Some.segment, c.in-Some.at) next in
-            let stands = subst (λ ls. StandsAt ls c.in-Some.segment c.in-Some.at r.0) (sym (so_far.reader.lists)) r.1 in
-            let same = w.in_ok-version.ensures.found (so_far.reader.honesty honest) r.0 stands in
-            rw (w.in_ok-push.ensures.items, same)
-            (versions_push a.kind a.id a.pin lists are c.loop-segment.after (c.in-Some.segment, c.in-Some.at) c.loop-segment.rows.items _ r.0 next r.1 (c.is_shown.ensures.0 w.if-is_shown.true) (so_far.rows honest listed_so));
-        keys = λ listed_so.
-            let are = are_lists lists (rw (c.self.view_is, listed_so) at c.self.invariant.places) in
-            let next = rw (c.as_slice.ensures.value, c.self.view_is, listed_so) at c.in-Some.ensures in
-            let r = version_row a.kind a.id a.pin lists are c.loop-segment.after (c.in-Some.segment, c.in-Some.at) next in
-            let row = w.in_ok-version.version.row in
-            let k = so_far.keys listed_so in (
+            let k = so_far.each listed_so in (
               k.0 ++ r.0.row ∷ [],
-              ap (map key_of) w.in_ok-push.ensures.items ∙ keys_push c.loop-segment.rows.items k.0 row r.0.row k.1 (key_there lists c.in-Some.segment c.in-Some.at r.0 row r.1 w.in_ok-version.ensures.keyed),
+              rw w.in_ok-push.ensures.items (reads_more so_far.reader r.1 w.in_ok-version.ensures.returned c.loop-segment.rows.items k.0 k.1),
               versions_push a.kind a.id a.pin lists are c.loop-segment.after (c.in-Some.segment, c.in-Some.at) k.0 _ r.0 next r.1 (c.is_shown.ensures.0 w.if-is_shown.true) k.2,
             );
       })
@@ -81,14 +71,10 @@ loop-segment-preserved g c =
             let least = so_far.work_always listed_so in
             omega arith;
         stays = so_far.stays;
-        rows = λ honest listed_so.
+        each = λ listed_so.
             let are = are_lists lists (rw (c.self.view_is, listed_so) at c.self.invariant.places) in
             let next = rw (c.as_slice.ensures.value, c.self.view_is, listed_so) at c.in-Some.ensures in
-            versions_skip a.kind a.id a.pin lists are c.loop-segment.after (c.in-Some.segment, c.in-Some.at) c.loop-segment.rows.items _ next (beyond c.in-Some.at.import a.pin (λ le. let yes = c.is_shown.ensures.1 le in let no_yes = w.if-is_shown.false in absurd (cc))) (so_far.rows honest listed_so);
-        keys = λ listed_so.
-            let are = are_lists lists (rw (c.self.view_is, listed_so) at c.self.invariant.places) in
-            let next = rw (c.as_slice.ensures.value, c.self.view_is, listed_so) at c.in-Some.ensures in
-            let k = so_far.keys listed_so in
+            let k = so_far.each listed_so in
             (k.0, k.1, versions_skip a.kind a.id a.pin lists are c.loop-segment.after (c.in-Some.segment, c.in-Some.at) k.0 _ next (beyond c.in-Some.at.import a.pin (λ le. let yes = c.is_shown.ensures.1 le in let no_yes = w.if-is_shown.false in absurd (cc))) k.2);
       })
     ]
@@ -108,11 +94,10 @@ returns-in_err-version-clause-answer g c =
           let more = c.in_err-version.ensures.work_always r.0 stands in
           let sum = versions_cost a.kind a.id a.pin lists are g.R.RowReader.cost c.loop-segment.after (c.in-Some.segment, c.in-Some.at) r.0 next r.1 (c.is_shown.ensures.0 c.if-is_shown.true) in
           record {
-            found = λ honest. search rules;
-            keys = search rules;
+            each = search rules;
             undamaged = λ honest. (let other = c.in_err-version.ensures.undamaged (so_far.reader.honesty honest) r.0 stands in search rules);
             causes = λ none.
-                let k = so_far.keys listed_so in
+                let k = so_far.each listed_so in
                 absurd (row_wanted k.0 _ _ r.0.row (versions_push a.kind a.id a.pin lists are c.loop-segment.after (c.in-Some.segment, c.in-Some.at) k.0 _ r.0 next r.1 (c.is_shown.ensures.0 c.if-is_shown.true) k.2) none);
             work_always = omega arith;
           };
@@ -135,8 +120,7 @@ returns-in_err-push-clause-answer g c =
           let more = c.in_ok-version.ensures.work_always r.0 stands in
           let sum = versions_cost a.kind a.id a.pin lists are g.R.RowReader.cost c.loop-segment.after (c.in-Some.segment, c.in-Some.at) r.0 next r.1 (c.is_shown.ensures.0 c.if-is_shown.true) in
           record {
-            found = λ honest. search rules;
-            keys = search rules;
+            each = search rules;
             undamaged = λ honest. search rules;
             causes = λ none. search rules;
             work_always = omega arith;
@@ -154,11 +138,10 @@ returns-clause-answer g c =
       rows = λ listed_so.
           let are = are_lists lists (rw (c.self.view_is, listed_so) at c.self.invariant.places) in
           let last = rw (c.as_slice.ensures.value, c.self.view_is, listed_so) at c.in_default.ensures in
-          let k = so_far.keys listed_so in
+          let k = so_far.each listed_so in
           let least = so_far.work_always listed_so in
           record {
-            found = λ honest. versions_end a.kind a.id a.pin lists are c.loop-segment.after c.loop-segment.rows.items _ last (so_far.rows honest listed_so);
-            keys = k.1 ∙ ap (map key_of) (versions_end a.kind a.id a.pin lists are c.loop-segment.after k.0 _ last k.2);
+            each = subst (λ xs. AllZip (IsReadFor (g.R.RowReader.view a.reader.now)) c.loop-segment.rows.items xs) (versions_end a.kind a.id a.pin lists are c.loop-segment.after k.0 _ last k.2) k.1;
             undamaged = λ honest. tt;
             causes = λ none. tt;
             work_always = omega arith;

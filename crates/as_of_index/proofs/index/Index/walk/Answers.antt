@@ -1,6 +1,6 @@
 use Rattle.std.proofs.Common.{Ok, ◌≡◌, true, ◌-◌, [], ◌∷◌, ◌++◌, map, refl, Some, None, length, sym, ap, subst, ◌∙◌, arith, rules}
 use Rattle.std.proofs.lemmas.List.{length_push}
-use Rattle.std.specs.List.{sum_by}
+use Rattle.std.specs.List.{sum_by, AllZip}
 use Rattle.std.proofs.lemmas.List.Sums.{sum_by_push}
 use Rattle.history_model.specs.declared.stamped.StampedRow.{StampedRow}
 use Rattle.history_model.specs.Queries.{is_above}
@@ -11,8 +11,9 @@ use Rattle.as_of_index.specs.Private.Walk.{walked}
 use Rattle.as_of_index.proofs.Standing.{are_lists, change_from_pick}
 use Rattle.as_of_index.proofs.Walking.{id_above, versions_ahead, others_ahead}
 use Rattle.as_of_index.proofs.Paging.{walk_more, walk_cost, walk_same, walk_done, walk_full, fewer_left}
-use Rattle.rf2_values.specs.Key.{key_of}
-use Rattle.as_of_index.proofs.SameKeys.{key_there, keys_push, same_count}
+use Rattle.std.proofs.lemmas.Slice.Zip.{AllZip-long}
+use Rattle.as_of_index.specs.Reader.{IsReadFor}
+use Rattle.as_of_index.proofs.Returned.{reads_more}
 use Rattle.as_of_index.proofs.Reading.{not_read, reads_on, has_read, read_so, fails_on, row_wanted}
 use Rattle.as_of_index.proofs.index.Index.walk.Goals as goal
 use Rattle.as_of_index.specs.Current.{rows_seen}
@@ -52,21 +53,13 @@ loop-lists-preserved-in_ok-push-in-Some g c =
           let sum = walk_cost a.kind a.from a.as_of.now (g.R.RowReader.view a.reader.now).lists f c.loop-lists.last c.in-Some.id a.limit c.loop-lists.rows.items w.0.row found.found.row (omega arith) (rw (c.as_slice-lists.ensures.value, c.self.view_is, listed_so) at c.in-Some.ensures.next) w.2 w.3 in
           rw c.in_ok-push-in-Some.ensures.items (omega arith);
       stays = g.met.R.RowReader.stays_on c.args.reader.now _ _ so_far.stays found.ensures.stays;
-      rows = λ honest listed_so.
-          let w = change_from_pick c.args.kind c.in-Some.id c.args.from c.args.as_of.now (g.R.RowReader.view c.args.reader.now).lists (are_lists (g.R.RowReader.view c.args.reader.now).lists (rw (c.self.view_is, listed_so) at c.self.invariant.places)) (Some (c.in-Some-latest_on.segment, c.in-Some-latest_on.at)) (rw (c.as_slice-lists.ensures.value, c.self.view_is, listed_so) at c.in-Some-latest_on.ensures) in
-          let stands = subst (λ ls. StandsAt ls c.in-Some-latest_on.segment c.in-Some-latest_on.at w.0) (sym (so_far.reader.lists)) w.1 in
-          let same = found.ensures.found (so_far.reader.honesty honest) w.0 stands in
-          rw c.in_ok-push-in-Some.ensures.items
-          (walk_more a.kind a.from a.as_of.now (g.R.RowReader.view a.reader.now).lists c.loop-lists.last c.in-Some.id a.limit c.loop-lists.rows.items _ found.found.row (omega arith)
-          (rw (c.as_slice-lists.ensures.value, c.self.view_is, listed_so) at c.in-Some.ensures.next) (w.2 ∙ ap (λ (s : StampedRow). Some s.row) (sym same)) (subst (λ (s : StampedRow). is_above a.from s.row.time ≡ true) (sym same) w.3) (so_far.rows honest listed_so));
-      keys = λ listed_so.
+      each = λ listed_so.
           let lists = (g.R.RowReader.view a.reader.now).lists in
           let w = change_from_pick a.kind c.in-Some.id a.from a.as_of.now lists (are_lists lists (rw (c.self.view_is, listed_so) at c.self.invariant.places)) (Some (c.in-Some-latest_on.segment, c.in-Some-latest_on.at)) (rw (c.as_slice-lists.ensures.value, c.self.view_is, listed_so) at c.in-Some-latest_on.ensures) in
-          let row = found.found.row in
-          let k = so_far.keys listed_so in
-          let count = same_count c.loop-lists.rows.items k.0 k.1 in (
+          let k = so_far.each listed_so in
+          let count = AllZip-long _ _ _ k.1 in (
             k.0 ++ w.0.row ∷ [],
-            ap (map key_of) c.in_ok-push-in-Some.ensures.items ∙ keys_push c.loop-lists.rows.items k.0 row w.0.row k.1 (key_there lists c.in-Some-latest_on.segment c.in-Some-latest_on.at w.0 row w.1 found.ensures.keyed),
+            rw c.in_ok-push-in-Some.ensures.items (reads_more so_far.reader w.1 found.ensures.returned c.loop-lists.rows.items k.0 k.1),
             walk_more a.kind a.from a.as_of.now lists c.loop-lists.last c.in-Some.id a.limit k.0 _ w.0.row (omega arith)
                 (rw (c.as_slice-lists.ensures.value, c.self.view_is, listed_so) at c.in-Some.ensures.next) w.2 w.3 k.2,
           );
@@ -91,11 +84,8 @@ loop-lists-preserved g c =
           let least = so_far.work_always listed_so in
           omega arith;
       stays = so_far.stays;
-      rows = λ honest listed_so.
-          walk_same a.kind a.from a.as_of.now (g.R.RowReader.view a.reader.now).lists c.loop-lists.last c.in-Some.id (a.limit - length c.loop-lists.rows.items) c.loop-lists.rows.items _
-          (rw (c.as_slice-lists.ensures.value, c.self.view_is, listed_so) at c.in-Some.ensures.next) (change_from_pick c.args.kind c.in-Some.id c.args.from c.args.as_of.now (g.R.RowReader.view c.args.reader.now).lists (are_lists (g.R.RowReader.view c.args.reader.now).lists (rw (c.self.view_is, listed_so) at c.self.invariant.places)) None (rw (c.as_slice-lists.ensures.value, c.self.view_is, listed_so) at (rw c.in_default.is at c.latest_on.ensures))) (so_far.rows honest listed_so);
-      keys = λ listed_so.
-          let k = so_far.keys listed_so in (
+      each = λ listed_so.
+          let k = so_far.each listed_so in (
             k.0,
             k.1,
             walk_same a.kind a.from a.as_of.now (g.R.RowReader.view a.reader.now).lists c.loop-lists.last c.in-Some.id (a.limit - length k.0) k.0 _
@@ -121,8 +111,7 @@ loop-lists-init g c =
       work = omega arith;
       work_always = λ listed_so. omega (arith, sum);
       stays = g.met.R.RowReader.stays_still a.reader.now;
-      rows = λ honest listed_so. rw c.new-rows.ensures.items first;
-      keys = λ listed_so. ([], ap (map key_of) c.new-rows.ensures.items, first);
+      each = λ listed_so. ([], rw c.new-rows.ensures.items tt, first);
     }
 
 pub returns-in_err-found-in-Some-clause-answer : goal.returns-in_err-found-in-Some-clause-answer
@@ -141,12 +130,11 @@ returns-in_err-found-in-Some-clause-answer g c =
           let more = c.in_err-found-in-Some.ensures.work_always w.0 stands in
           let sum = walk_cost a.kind a.from a.as_of.now lists g.R.RowReader.cost c.loop-lists.last c.in-Some.id a.limit c.loop-lists.rows.items w.0.row w.0.row (omega arith) next w.2 w.3 in
           record {
-            found = λ honest. search rules;
-            keys = search rules;
+            each = search rules;
             undamaged = λ honest. (let other = c.in_err-found-in-Some.ensures.undamaged (so_far.reader.honesty honest) w.0 stands in search rules);
             causes = λ none.
-                let k = so_far.keys listed_so in
-                let count = same_count c.loop-lists.rows.items k.0 k.1 in
+                let k = so_far.each listed_so in
+                let count = AllZip-long _ _ _ k.1 in
                 absurd (row_wanted k.0 _ _ w.0.row (walk_more a.kind a.from a.as_of.now lists c.loop-lists.last c.in-Some.id a.limit k.0 _ w.0.row (omega arith) next w.2 w.3 k.2) none);
             work_always = omega arith;
           };
@@ -170,8 +158,7 @@ returns-in_err-push-in-Some-clause-answer g c =
           let more = c.in_ok-found-in-Some.ensures.work_always w.0 stands in
           let sum = walk_cost a.kind a.from a.as_of.now lists g.R.RowReader.cost c.loop-lists.last c.in-Some.id a.limit c.loop-lists.rows.items w.0.row w.0.row (omega arith) next w.2 w.3 in
           record {
-            found = λ honest. search rules;
-            keys = search rules;
+            each = search rules;
             undamaged = λ honest. search rules;
             causes = λ none. search rules;
             work_always = omega arith;
@@ -187,12 +174,11 @@ returns-in-None-clause-answer g c =
     let lists = (g.R.RowReader.view a.reader.now).lists in
     record {
       rows = λ listed_so.
-          let k = so_far.keys listed_so in
+          let k = so_far.each listed_so in
           let least = so_far.work_always listed_so in
           let none = rw (c.as_slice-lists.ensures.value, c.self.view_is, listed_so) at c.in-None.ensures.next in
           record {
-            found = λ honest. walk_done a.kind a.from a.as_of.now lists c.loop-lists.last _ c.loop-lists.rows.items _ none (so_far.rows honest listed_so);
-            keys = k.1 ∙ ap (map key_of) (walk_done a.kind a.from a.as_of.now lists c.loop-lists.last _ k.0 _ none k.2);
+            each = subst (λ xs. AllZip (IsReadFor (g.R.RowReader.view a.reader.now)) c.loop-lists.rows.items xs) (walk_done a.kind a.from a.as_of.now lists c.loop-lists.last _ k.0 _ none k.2) k.1;
             undamaged = λ honest. tt;
             causes = λ none. tt;
             work_always = omega arith;
@@ -208,12 +194,11 @@ returns-clause-answer g c =
     let lists = (g.R.RowReader.view a.reader.now).lists in
     record {
       rows = λ listed_so.
-          let k = so_far.keys listed_so in
+          let k = so_far.each listed_so in
           let least = so_far.work_always listed_so in
-          let count = same_count c.loop-lists.rows.items k.0 k.1 in
+          let count = AllZip-long _ _ _ k.1 in
           record {
-            found = λ honest. walk_full a.kind a.from a.as_of.now lists c.loop-lists.last a.limit c.loop-lists.rows.items _ (omega arith) (so_far.rows honest listed_so);
-            keys = k.1 ∙ ap (map key_of) (walk_full a.kind a.from a.as_of.now lists c.loop-lists.last a.limit k.0 _ (omega arith) k.2);
+            each = subst (λ xs. AllZip (IsReadFor (g.R.RowReader.view a.reader.now)) c.loop-lists.rows.items xs) (walk_full a.kind a.from a.as_of.now lists c.loop-lists.last a.limit k.0 _ (omega arith) k.2) k.1;
             undamaged = λ honest. tt;
             causes = λ none. tt;
             work_always = omega arith;

@@ -17,5 +17,5 @@ invariant_of-self-2 c =
       time = rw (c.min-self-inside.ensures, c.time_of.ensures, c.self.invariant.time, more, time) refl;
       last = rw (c.max-self-inside.ensures, c.time_of-2.ensures, c.self.invariant.last, more, last) refl;
       import = rw (c.min-self-inside-2.ensures, c.self.invariant.import, more, import) refl;
-      dates = rw more (c.in_ok-note.ensures.ok before count c.self.invariant.dates);
+      dates = rw more (c.in_ok-note_remembered.ensures.ok before count c.self.invariant.dates);
     }

@@ -1,7 +1,8 @@
 use Rattle.std.proofs.Common.{◌≡◌, refl}
 use Rattle.question_model.specs.Questions.{row_question_of}
 use Rattle.question_model.specs.Wanted.{rows_for}
-use Rattle.index_answers.specs.Keys.{SameKeysFor}
+use Rattle.index_answers.specs.Keys.{is_put_in_order}
+use Rattle.history_model.specs.History.{rows_at}
 use Rattle.history_store.proofs.Lent.{reader_honest, held_after}
 use Rattle.history_store.proofs.Querying.{row_items, rows_answered, closed_rows}
 use Rattle.history_store.proofs.store.Store.select.Goals as goal
@@ -19,14 +20,14 @@ returns g c = rw (← c.self.view_is) (
     let e = c.select-read.ensures in
     let a = c.answered.ensures in
     record {
-      answer = rows_answered g.D.Disk.view row_items (rows_for (row_question_of c.args.question.now)) c.args.pin
+      answer = rows_answered g.D.Disk.view row_items (λ rows. rows_for (row_question_of c.args.question.now) (rows_at c.args.pin rows))
           (λ ls. ls ≡ c.self.inside.index) _ c.answered.new.self c.self.inside.index c.new-reader.result.shown.now c.new-reader.result.entries.now
           c.new-reader.result.disk.now c.select-read.new.reader.disk.now c.new-reader.result.cache.now c.select-read.new.reader.cache.now c.select-read.result c.answered.result
-          (SameKeysFor (row_question_of c.args.question.now)) refl c.if-self.false r.disk r.cache r.entries r.shown
+          (is_put_in_order (row_question_of c.args.question.now)) refl c.if-self.false r.disk r.cache r.entries r.shown
           refl (λ up. reader_honest g.D.Disk.view _ _ _ _ _ _ _ _ _ _ c.self.invariant.0 r.disk r.cache r.entries r.shown up c.if-self.false (g.met.D.Disk.now_is_image c.self.inside.disk up))
           e.answer e.stays.0 e.stays.5 e.stays.6 a.same a.left a.disk a.cache a.acknowledged;
     })
 
 pub returns-then-self : goal.returns-then-self
 returns-then-self g c =
-    rw (← c.self.view_is) (record { answer = closed_rows g.D.Disk.view row_items (rows_for (row_question_of c.args.question.now)) c.args.pin (SameKeysFor (row_question_of c.args.question.now)) _ c.if-self.true })
+    rw (← c.self.view_is) (record { answer = closed_rows g.D.Disk.view row_items (λ rows. rows_for (row_question_of c.args.question.now) (rows_at c.args.pin rows)) (is_put_in_order (row_question_of c.args.question.now)) _ c.if-self.true })

@@ -1,0 +1,186 @@
+#!/usr/bin/env python3
+"""Measures what expressions of ECL take of the processor, in the gateway, the hub and the program.
+
+measure_expressions.py PROGRAM [--rows N] [--days N]
+
+A whole package of about N rows (2,350,000 if not said) is made and imported, which takes some
+minutes. Concepts are chosen that have the most, about 1,000 and about 100 below them. Each
+expression is expanded without a page, by a gateway that was just started, on each of the latest
+releases' days, so many (7 if not said), so that nothing of it is remembered. It prints a table: how
+many concepts there are on the last day, the medians of the milliseconds of the processor, in all
+processes and in each, and those by the wall. The last row is a set that is remembered.
+"""
+
+from __future__ import annotations
+
+import argparse
+import json
+import statistics
+import sys
+import tempfile
+import time
+from collections.abc import Callable, Mapping, Sequence
+from functools import partial
+from pathlib import Path
+from types import TracebackType
+from typing import NamedTuple
+from urllib.parse import urlencode
+
+import make_release as rf2
+from measure_gateway import (
+    HUB, MS, NOT_RUN, Process, UnixHttp, begin_gateway, begin_hub, concepts, make_store, options_of)
+from measure_harness import MANY_ROWS, child_of, made_release
+from needs import python_with
+
+SCT = "http://snomed.info/sct"
+DAYS = 7
+# How many concepts are to be below those that are chosen: a part of all, or a number; and among how
+# many they are looked for.
+THIRD, FEW, VALUES = 3, 1_000, 100
+CANDIDATES, LARGEST = 400, 40
+# The words behind `$`: X and V together have a third of all below them, or nearly, W has few, Y has
+# the values; S is a reference set.
+EXPRESSIONS = (
+    "*", "<< $W", "<< $X", "<< $X OR << $V", "<< $X MINUS << $W", "^ $S", "^ $S AND << $W",
+    "^ $S AND << $X", "* : $a = $Y", "* : $a = << $Y", "<< $W : $a = << $Y", "<< $X : $a = << $Y",
+    "(<< $X OR << $V) : $a = << $Y", "<< $X : { $a = << $Y }", "<< $X : { $a = << $Y , $b = * }",
+    "<< $X : $a = *", "<< $W . $a", "<< $Y : R $a = << $X", "* : R $a = << $W",
+    "<< $W {{ + HISTORY-MOD }}", "<< $W {{ C definitionStatus = defined }}")
+NANOSECONDS = 1e9
+HEAD = """| Expression | Concepts | processor ms: all; gateway / hub / program | by the wall, ms |
+|---|---|---|---|"""
+
+
+class Taken(NamedTuple):
+    """What one answer took: of the processor by process, and by the wall, in seconds. `total` is
+    how many concepts there are, or why the expression is refused."""
+
+    used: list[float]
+    wall: float
+    total: str
+
+
+class Asked:
+    """A gateway that was just started, and is asked for the sizes of sets."""
+
+    def __init__(self, python: str, hub: Process, hub_socket: str, options: argparse.Namespace,
+                 folder: str) -> None:
+        place = str(Path(folder, "http"))
+        self.gateway = begin_gateway(options, python, hub_socket, place)
+        self.client = UnixHttp(place)
+        self.pids = [self.gateway.pid, hub.pid, child_of(hub.pid)]
+
+    def __enter__(self) -> Asked:
+        return self
+
+    def __exit__(self, *_: type[BaseException] | BaseException | TracebackType | None) -> None:
+        self.client.close()
+        self.gateway.terminate()
+        self.gateway.wait()
+
+    def size(self, expression: str, day: str) -> str:
+        words = {"url": "%s?fhir_vs=ecl/%s" % (SCT, expression), "count": "0", "date": day}
+        self.client.request("GET", "/fhir/ValueSet/$expand?" + urlencode(words))
+        answer = self.client.getresponse()
+        said = json.loads(answer.read())
+        if answer.status != 200:
+            return "%d: %.60s" % (answer.status, said["issue"][0]["diagnostics"])
+        return str(said["expansion"]["total"])
+
+    def taken(self, expression: str, day: str) -> Taken:
+        before, begun = [*map(processor_seconds, self.pids)], time.perf_counter()
+        total = self.size(expression, day)
+        wall = time.perf_counter() - begun
+        after = map(processor_seconds, self.pids)
+        return Taken([last - first for first, last in zip(before, after)], wall, total)
+
+
+def processor_seconds(pid: int) -> float:
+    """What the threads of a process have used of the processor."""
+    threads = Path("/proc/%d/task" % pid).glob("*/schedstat")
+    return sum(int(one.read_text("ascii").split()[0]) for one in threads) / NANOSECONDS
+
+
+def chosen(asked: Asked, codes: Sequence[str], day: str) -> dict[str, str]:
+    """The concepts that stand in the expressions, by their words. Those that were made first have
+    the most below them."""
+    step = len(codes) ** (1 / CANDIDATES)
+    candidates = sorted({codes[int(step**number) - 1] for number in range(CANDIDATES)}, key=int)
+    sizes = {code: int(asked.size("<< " + code, day)) for code in candidates}
+    # Those that have the most below them, each with the one that has the most.
+    largest, *others = sorted(sizes, key=lambda code: -sizes[code])[:LARGEST]
+    both = {code: int(asked.size("<< %s OR << %s" % (largest, code), day)) for code in others}
+    first, second = rf2.ATTRIBUTES[:2]
+    return {
+        "X": largest, "V": nearest(both, len(codes) // THIRD), "W": nearest(sizes, FEW),
+        "Y": nearest(sizes, VALUES), "S": str(rf2.VALUE_SETS[0]), "a": str(first), "b": str(second)}
+
+
+def nearest(sizes: Mapping[str, int], count: int) -> str:
+    return min(sizes, key=lambda code: abs(sizes[code] - count))
+
+
+def add_attributes(folder: Path) -> None:
+    """Adds the concepts of the attributes to a made release, which has them as types alone."""
+    _, path = next(rf2.files_of(folder / "full", "C"))
+    with open(path, "a", encoding="utf-8", newline="") as file:
+        for code in rf2.ATTRIBUTES:
+            attribute = rf2.Component(code, "C", [rf2.PRIMITIVE])
+            file.write(rf2.line(attribute, rf2.DATES[0], 1) + "\r\n")
+
+
+def with_words(expression: str, words: Mapping[str, str]) -> str:
+    for name, code in words.items():
+        expression = expression.replace("$" + name, code)
+    return expression
+
+
+def row_of(name: str, found: Sequence[Taken]) -> str:
+    """A row of the table, with the medians."""
+    used = [statistics.median(times) * MS for times in zip(*(one.used for one in found))]
+    every = statistics.median(sum(one.used) for one in found) * MS
+    wall = statistics.median(one.wall for one in found) * MS
+    parts = " / ".join("%.1f" % one for one in used)
+    return "| `%s` | %s | %.1f; %s | %.0f |" % (name, found[-1].total, every, parts, wall)
+
+
+def measured(begin: Callable[[], Asked], codes: Sequence[str], dates: Sequence[str]) -> None:
+    with begin() as asked:
+        words = chosen(asked, codes, dates[-1])
+        below = asked.size("<< " + words["Y"], dates[-1])
+    print("%d concepts, %s of them below Y and Y itself" % (len(codes), below))
+    print(HEAD)
+    for expression in EXPRESSIONS:
+        text = with_words(expression, words)
+        with begin() as asked:
+            print(row_of(expression, [asked.taken(text, day) for day in dates]), flush=True)
+            if expression == EXPRESSIONS[-1]:
+                print(row_of("the same again", [asked.taken(text, day) for day in dates]))
+
+
+def main() -> int:
+    options = options_of(__doc__, rows=MANY_ROWS, days=DAYS).parse_args()
+    options.package, options.hub, python = True, HUB, python_with()
+    if python is None:
+        print("not run: a package that the gateway needs is missing")
+        return NOT_RUN
+    with tempfile.TemporaryDirectory() as folder:
+        store, hub_socket = str(Path(folder, "store")), str(Path(folder, "hub"))
+        made_release(folder, options.rows, is_package=True)
+        add_attributes(Path(folder))
+        make_store(options, folder, store)
+        codes = sorted(concepts(folder), key=int)
+        hub = begin_hub(options, folder, store, python, hub_socket)
+        days = rf2.DATES[-options.days :]
+        dates = ["%s-%s-%s" % (day[:4], day[4:6], day[6:]) for day in days]
+        try:
+            begin = partial(Asked, python, hub, hub_socket, options, folder)
+            measured(begin, codes, dates)
+        finally:
+            hub.terminate()
+            hub.wait()
+    return 0
+
+
+if __name__ == "__main__":
+    sys.exit(main())

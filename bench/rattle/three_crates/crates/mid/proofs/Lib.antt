@@ -1,0 +1,2 @@
+pub proof : IsSum
+proof = it

@@ -1,0 +1,274 @@
+"""Tries examples/export.py and examples/follow.py with the built program and the hub."""
+
+from __future__ import annotations
+
+import contextlib
+import hashlib
+import shutil
+import signal
+import socket
+import sqlite3
+import subprocess
+import sys
+import threading
+from collections import Counter
+from collections.abc import Iterator, Sequence
+from pathlib import Path
+
+import pytest
+
+import harness
+import make_release as rf2
+from harness import HUB_SECONDS, RELEASES, SECONDS, TOP, Hub, Place, concept, write_release
+from test_readers import CHAINS, Script
+
+EXPORT, FOLLOW, DIGEST = "examples/export.py", "examples/follow.py", "examples/digest.py"
+SEED, PACKAGE_ROWS = 3, 3_000
+# Rows of an import that takes a follower some time, one by one; and more than a pipe takes.
+MANY_ROWS = 4_000
+
+
+class Made:
+    """A store, a hub on it that keeps standing, and what it was made of."""
+
+    def __init__(self, place: Place, layout: int, releases: Sequence[Path]) -> None:
+        self.place, self.releases = place, releases
+        self.store = place.make_store(layout=layout)
+        place.import_all(self.store, releases)
+        self.hub = Hub(place, self.store, releases=place.releases, asks=True)
+
+
+@pytest.fixture(scope="module", params=(2, 3))
+def made(tried: Place, request: pytest.FixtureRequest) -> Iterator[Made]:
+    """Stores of layout 2 and 3 whose imports have several versions of components, rows that others
+    had, and terms with a CR."""
+    layout: int = request.param
+    place = tried.below(f"exports of layout {layout}")
+    package = rf2.Package(SEED)
+    rf2.write_package(str(place.releases / "full"), package, PACKAGE_ROWS)
+    new = rf2.delta(package, rf2.PACKAGE_DELTA_SORTS)
+    rf2.write(str(place.releases / "delta"), "Delta", rf2.DELTA_DATE, new)
+    write_release(place.releases / "chains", CHAINS)
+    shutil.copytree(place.releases / "delta", place.releases / "again")
+    names = ("full", "chains", "delta", "again")
+    found = Made(place, layout, [place.releases / name for name in names])
+    with found.hub:
+        yield found
+
+
+def printed(place: Place, hub: Hub, *words: str) -> bytes:
+    """What export.py prints, and that it says what it printed."""
+    done = place.run_script(EXPORT, hub.questions, *words)
+    told = done.stderr.decode()
+    rows, digest = done.stdout.count(b"\n"), hashlib.sha256(done.stdout).hexdigest()
+    assert done.returncode == 0, told
+    assert told.startswith("export: pin ") and told.endswith(f", {rows} rows, SHA-256 {digest}\n")
+    return done.stdout
+
+
+def digest_by_files(layout: int, releases: Sequence[Path]) -> str:
+    """What examples/digest.py computes from releases."""
+    words = [sys.executable, str(TOP / DIGEST), *["--all"] * (layout == 3), *map(str, releases)]
+    done = subprocess.run(words, stdout=subprocess.PIPE, timeout=SECONDS, check=True)
+    return done.stdout.decode().strip()
+
+
+# ---- export.py
+
+
+@pytest.mark.parametrize("pin", (1, 2, 3, 4))
+def test_exports(made: Made, pin: int) -> None:
+    """The rows are those of the releases, and their SHA-256 is the store's digest, whatever the
+    size of pages."""
+    found = printed(made.place, made.hub, "--pin", str(pin), "--check")
+    digest, layout = hashlib.sha256(found).hexdigest(), 3 if b"\nM " in found else 2
+    assert made.hub.asker().ask(f"AT {pin} DIGEST") == [f"OK {digest}"]
+    assert digest == digest_by_files(layout, made.releases[:pin])
+    for limit in ("7", "999"):
+        assert printed(made.place, made.hub, "--pin", str(pin), "--limit", limit) == found
+    if pin == len(made.releases):
+        assert printed(made.place, made.hub, "--limit", "1") == found
+
+
+def test_export_of_no_import(place: Place) -> None:
+    with Hub(place, place.make_store(), asks=True) as hub:
+        assert printed(place, hub, "--check") == b""
+
+
+def test_imports_beside_an_export(place: Place) -> None:
+    """What is imported meanwhile isn't printed."""
+    store = place.make_store()
+    many = {"C": [concept(number) for number in range(MANY_ROWS)]}
+    place.import_one(store, write_release(place.releases / "many", many))
+    write_release(place.releases / "late", {"C": [concept(MANY_ROWS)], "D": CHAINS["D"]})
+    before = place.digest(store)
+    with Hub(place, store, releases=place.releases, asks=True) as hub:
+        running = Script(place, EXPORT, hub.questions, "--limit", "10", "--check")
+        first = running.output.readline()
+        assert hub.client().ask("IMPORT late")[-1].startswith("OK 2 ")
+        found = first + running.output.read()
+        assert running.ended()[0] == 0
+        assert hashlib.sha256(found).hexdigest() == before
+        assert printed(place, hub, "--pin", "1") == found
+        assert printed(place, hub) != found
+
+
+@pytest.mark.parametrize("words, why", (
+    (["--pin", "9"], "PIN 9 was answered ERR 44 PinRange"),
+    (["--limit", "0"], "ROWS C - - 0 was answered ERR 43 Arguments"),
+    (["--limit", "1001"], "ROWS C - - 1001 was answered ERR 43 Arguments")))
+def test_refused_exports(made: Made, words: list[str], why: str) -> None:
+    done = made.place.run_script(EXPORT, made.hub.questions, *words)
+    assert (done.returncode, done.stdout, done.stderr.decode()) == (1, b"", f"export: {why}\n")
+
+
+def test_exports_that_nobody_reads(made: Made) -> None:
+    unread = Script(made.place, EXPORT, made.hub.questions)
+    unread.output.close()
+    assert unread.ended() == (1, "export: [Errno 32] Broken pipe\n")
+
+
+def answer(listener: socket.socket, replies: Sequence[bytes]) -> None:
+    """Is a hub for one client that answers one line after the other, and then hangs up."""
+    connection, _ = listener.accept()
+    with connection, connection.makefile("rb") as lines:
+        for reply in replies:
+            lines.readline()
+            connection.sendall(reply)
+
+
+@pytest.mark.parametrize("count, why", (
+    (3, "the hub has ended"),
+    (8, f"what was printed has another digest than the store: {'0' * 64}")))
+def test_exports_that_arent_whole(place: Place, count: int, why: str) -> None:
+    """A hub that ends too early, and one whose rows aren't those of the digest."""
+    replies = [b"OK 1\n", *[b"END 0\n"] * 6, b"OK %s\n" % (b"0" * 64)]
+    with socket.socket(socket.AF_UNIX) as listener:
+        listener.bind(str(place.path("false")))
+        listener.listen()
+        hub = threading.Thread(target=answer, args=(listener, replies[:count]))
+        hub.start()
+        done = place.run_script(EXPORT, place.path("false"), "--check")
+        hub.join(HUB_SECONDS)
+    assert (done.returncode, done.stdout, done.stderr.decode()) == (1, b"", f"export: {why}\n")
+
+
+# ---- follow.py
+
+
+def followed(place: Place, hub: Hub, name: str, *words: str) -> list[str]:
+    """The receipts that a run prints."""
+    done = place.run_script(FOLLOW, hub.questions, place.path(name), *words)
+    assert (done.returncode, done.stderr) == (0, b"")
+    return done.stdout.decode().splitlines()
+
+
+def rows_of(path: Path) -> list[tuple[str, str, int]]:
+    """The rows of a follower's file, with their kinds and imports."""
+    with contextlib.closing(sqlite3.connect(path)) as file:
+        return file.execute("select kind, row, import from rows").fetchall()
+
+
+def is_whole(path: Path, place: Place, hub: Hub) -> None:
+    """Each row of the store is there once, and each import has as many as its receipt says."""
+    found = rows_of(path)
+    # (A term may have a CR, at which `splitlines` ends a line, too.)
+    whole = printed(place, hub).split(b"\n")[:-1]
+    assert sorted(f"{kind} {row}".encode() for kind, row, _ in found) == sorted(whole)
+    with contextlib.closing(sqlite3.connect(path)) as file:
+        told = file.execute("select number, receipt from imports order by number").fetchall()
+    counts = Counter(number for _, _, number in found)
+    client = hub.asker()
+    imports = int(client.ask("STATUS")[0].split()[1])
+    assert [number for number, _ in told] == [*range(1, imports + 1)]
+    for number, receipt in told:
+        assert [receipt] == client.ask(f"RECEIPT {number}")
+        assert counts[number] == int(receipt.split()[2])
+
+
+@pytest.mark.parametrize("limit", ("1", "7", "1000"))
+def test_followers(made: Made, limit: int) -> None:
+    """All imports at once, whatever the size of pages; then there is nothing more."""
+    name = f"followed by {limit}"
+    assert len(followed(made.place, made.hub, name, "--limit", str(limit))) == len(made.releases)
+    is_whole(made.place.path(name), made.place, made.hub)
+    assert followed(made.place, made.hub, name) == []
+
+
+def test_followers_that_are_begun_again(place: Place) -> None:
+    """After each import, in the middle of one, and while imports are made."""
+    store, many = place.make_store(), [concept(number) for number in range(MANY_ROWS)]
+    write_release(place.releases / "many", {"C": many})
+    for name in ("r1", "r2", "r3"):
+        place.link_release(name)
+    path, journal = place.path("file"), place.path("file-journal")
+    with Hub(place, store, releases=place.releases, asks=True) as hub:
+        client = hub.client()
+        for name, new in (("r1", 6), ("r2", 4)):
+            assert client.ask(f"IMPORT {name}")[0].split()[2] == str(new)
+            assert len(followed(place, hub, "file")) == 1
+            is_whole(path, place, hub)
+        assert client.ask("IMPORT many")[0] == f"OK 3 {MANY_ROWS} 0"
+        for _ in range(3):
+            killed = Script(place, FOLLOW, hub.questions, path, "--limit", "1")
+            harness.until("a follower writes", journal.exists)
+            killed.process.kill()
+            assert killed.ended()[0] == -signal.SIGKILL
+            assert {number for _, _, number in rows_of(path)} == {1, 2}
+        assert client.ask("IMPORT r3")[0].startswith("OK 4 2 ")
+        assert len(followed(place, hub, "file")) == 2
+        is_whole(path, place, hub)
+
+
+def test_followers_that_stay(place: Place, store: Path) -> None:
+    """One is told of imports, and another one that is stopped has what was taken by then."""
+    place.link_release("r3")
+    with Hub(place, store, releases=place.releases, asks=True) as hub:
+        staying = Script(place, FOLLOW, hub.questions, place.path("file"), "--stay")
+        told = [staying.output.readline().split()[:3] for _ in range(2)]
+        assert told == [[b"OK", b"1", b"6"], [b"OK", b"2", b"4"]]
+        assert hub.client().ask("IMPORT r3")[0].startswith("OK 3 2 ")
+        assert staying.output.readline().startswith(b"OK 3 2 ")
+        staying.process.send_signal(signal.SIGINT)
+        assert staying.ended() == (-signal.SIGINT, "")
+        is_whole(place.path("file"), place, hub)
+        assert hub.client().ask("IMPORT r3")[0].startswith("OK 4 0 ")
+        left = Script(place, FOLLOW, hub.questions, place.path("file"), "--stay")
+        assert left.output.readline().startswith(b"OK 4 0 ")
+        assert hub.stop() == 0
+        assert left.ended() == (1, "follow: the hub has ended\n")
+
+
+@pytest.mark.parametrize("names", (["r2", "r1"], ["r1"], []))
+def test_followers_of_another_store(place: Place, store: Path, names: list[str]) -> None:
+    """Where the store has other imports by these numbers, or fewer, nothing is taken."""
+    other = place.make_store("other")
+    place.import_all(other, [RELEASES / name for name in names])
+    with Hub(place, store, asks=True) as hub:
+        assert len(followed(place, hub, "file")) == 2
+    before = rows_of(place.path("file"))
+    with Hub(place, other, asks=True) as hub:
+        done = place.run_script(FOLLOW, hub.questions, place.path("file"))
+    assert (done.returncode, done.stdout) == (1, b"")
+    assert done.stderr.startswith(b"follow: the file followed another store: its import 2 is OK 2 ")
+    assert rows_of(place.path("file")) == before
+
+
+@pytest.mark.parametrize("words, why", (
+    ([], "{}: No such file or directory"),
+    (["--limit", "0"], "ADDED 1 C - - 0 was answered ERR 43 Arguments"),
+    (["--limit", "1001"], "ADDED 1 C - - 1001 was answered ERR 43 Arguments")))
+def test_refused_followers(place: Place, store: Path, words: list[str], why: str) -> None:
+    with Hub(place, store, asks=True) as hub:
+        path = hub.questions if words else place.path("none")
+        done = place.run_script(FOLLOW, path, place.path("file"), *words)
+    assert done.returncode == 1 and done.stdout == b""
+    assert done.stderr.decode() == f"follow: {why.format(path)}\n"
+    assert rows_of(place.path("file")) == []
+
+
+def test_followers_whose_file_is_none(place: Place, store: Path) -> None:
+    """Of SQLite."""
+    with Hub(place, store, asks=True) as hub:
+        done = place.run_script(FOLLOW, hub.questions, store)
+    assert (done.returncode, done.stderr) == (1, b"follow: file is not a database\n")

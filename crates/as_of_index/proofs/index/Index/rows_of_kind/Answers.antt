@@ -1,0 +1,18 @@
+use Rattle.std.proofs.Common.{subst}
+use Rattle.history_model.specs.Lists.{listed}
+use Rattle.as_of_index.specs.Reader.{AnswersRows}
+use Rattle.as_of_index.proofs.KeyOrder.{order_is_of_kind}
+use Rattle.as_of_index.proofs.index.Index.rows_of_kind.Goals as goal
+
+pub returns-clause-answer : goal.returns-clause-answer
+returns-clause-answer g c =
+    let a = c.args in
+    let r = g.R.RowReader in
+    let old = r.view a.reader.now in
+    let e = c.in_key_order.ensures.answer in
+    record {
+      rows = λ listed_so. subst (λ xs. AnswersRows c.in_key_order.result (λ rows. rows.items) xs r.cost old (r.view c.in_key_order.new.reader))
+          (order_is_of_kind a.kind a.after a.limit a.pin (listed old.lists)) (e.rows listed_so);
+      work = e.work;
+      reader = e.reader;
+    }

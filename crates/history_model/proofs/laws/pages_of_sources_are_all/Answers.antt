@@ -1,0 +1,5 @@
+use Rattle.history_model.proofs.Relationships as relationships
+use Rattle.history_model.proofs.laws.pages_of_sources_are_all.Goals as goal
+
+pub returns : goal.returns
+returns c = relationships.pages_of_sources_are_all

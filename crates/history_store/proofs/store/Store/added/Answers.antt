@@ -1,0 +1,30 @@
+use Rattle.std.proofs.Common.{false, refl}
+use Rattle.history_model.specs.Exports.{added}
+use Rattle.as_of_index.specs.Places.{Lists}
+use Rattle.history_store.proofs.Lent.{reader_honest, held_after}
+use Rattle.history_store.proofs.Querying.{row_items, rows_answered, closed_rows}
+use Rattle.history_store.proofs.store.Store.added.Goals as goal
+
+pub invariant_of-self : goal.invariant_of-self
+invariant_of-self g c =
+    let r = c.new-reader.ensures in
+    let now = c.added-read.new.reader in
+    held_after g.D.Disk.view _ _ _ _ _ _ _ _ _ _ c.self.invariant.0 r.disk r.cache r.entries r.shown c.self.inside.merge now.disk.now now.cache.now now.entries.now now.shown.now c.self.invariant.1 c.added-read.ensures.stays.0
+    (g.met.D.Disk.now_is_image c.self.inside.disk) c.added-read.ensures.answer.reader.honesty
+
+pub returns : goal.returns
+returns g c = rw (← c.self.view_is) (
+    let r = c.new-reader.ensures in
+    let e = c.added-read.ensures in
+    let a = c.answered.ensures in
+    record {
+      answer = rows_answered g.D.Disk.view row_items (added c.args.number c.args.kind c.args.after c.args.limit)
+          (Lists c.places.result.now) _ c.answered.new.self c.self.inside.index c.new-reader.result.shown.now c.new-reader.result.entries.now
+          c.new-reader.result.disk.now c.added-read.new.reader.disk.now c.new-reader.result.cache.now c.added-read.new.reader.cache.now c.added-read.result c.answered.result
+          false refl c.if-self.false r.disk r.cache r.entries r.shown
+          c.places.ensures (λ up. reader_honest g.D.Disk.view _ _ _ _ _ _ _ _ _ _ c.self.invariant.0 r.disk r.cache r.entries r.shown up c.if-self.false (g.met.D.Disk.now_is_image c.self.inside.disk up))
+          e.answer e.stays.0 e.stays.5 e.stays.6 a.same a.left a.disk a.cache a.acknowledged;
+    })
+
+pub returns-then-self : goal.returns-then-self
+returns-then-self g c = rw (← c.self.view_is) (record { answer = closed_rows g.D.Disk.view row_items (added c.args.number c.args.kind c.args.after c.args.limit) false _ c.if-self.true })
