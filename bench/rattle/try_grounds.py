@@ -3,11 +3,12 @@
 
 try_grounds.py
 
-A record is written of the tree three_crates/ as it is, whose crates.txt is called uses.txt there:
-rt wants one crates.txt in a repository, at the top. Each change of its changes.txt puts a text in
-the place of another one, and names the edits that are stale by that record then, as grounds.py
-finds. A line tells each change that isn't so. The last line counts them; the status is 1 where
-there are any. Nothing is built, and the kit isn't asked for its version. Standard library alone.
+A record is written of the tree three_crates/. There crates.txt is called uses.txt, and sources have
+.txt behind their names, since rt takes each such file of a repository for one of its crates. Each
+change of changes.txt puts a text in the place of another one, and names the edits that are stale by
+that record then, as grounds.py finds. A line tells each change that isn't so. The last line counts
+them; the status is 1 where there are any. Nothing is built, and the kit isn't asked for its
+version. Standard library alone.
 """
 
 from __future__ import annotations
@@ -42,6 +43,8 @@ print(*sorted(it.name for it in every if grounds.why_stale(record, it)))
 def write_tree(top: Path) -> None:
     shutil.copytree(TREE, top, dirs_exist_ok=True)
     (top / "uses.txt").rename(top / "crates.txt")
+    for path in top.glob("crates/*/*/*.txt"):
+        path.rename(path.with_suffix(""))
     scripts = top / "bench" / "rattle"
     scripts.mkdir(parents=True)
     for name in SCRIPTS:
@@ -58,9 +61,11 @@ def ask(top: Path, *words: str) -> str:
 
 def after(top: Path, change: Fault) -> str:
     """The edits that are stale after a change, which is taken back."""
+    path = top / change.file
+    text = path.read_text("utf-8")
     change.put_in(top, change.new)
     found = ask(top)
-    shutil.copy(TREE / change.file, top / change.file)
+    path.write_text(text, encoding="utf-8")
     return found
 
 
