@@ -10,9 +10,8 @@ use Rattle.line_commands.specs.Spelling.{word_of_question, SpellsQuestion}
 use Rattle.question_model.specs.Questions.{Question}
 use Rattle.line_commands.specs.Commands.{Command, Ask, At}
 use Rattle.line_commands.specs.Requests.{with_rest}
-use Rattle.line_commands.specs.Private.{IsWord, text_of_question, behind, IsSpelledQuestion, IsSpelled, IsReadAs}
-use Rattle.line_commands.proofs.FirstWords.{decimal_word, question_is_word, no_space, peel, one_head, spaced_is, not_asked, some_question}
-use Rattle.line_commands.proofs.Forms.{told}
+use Rattle.line_commands.specs.Private.{IsWord, example, text_of_question, behind, IsSpelledQuestion, IsSpelled, IsReadAs}
+use Rattle.line_commands.proofs.FirstWords.{decimal_word, question_is_word, no_space, peel, one_head, spaced_is, not_asked, told}
 
 -- ---- a question as a command
 
@@ -21,7 +20,7 @@ asked word rest question s = record { word_is = s.word_is; arguments = s.argumen
 
 pub none_asked : (w : QuestionWord) (rest : Option (List ℕ)) → ((question : Question) → IsSpelledQuestion (text_of_question w) rest question → ⊥) → (command : Command) → IsSpelled (text_of_question w) rest command → ⊥
 none_asked w rest none (Ask question) s = none question (record { word_is = s.word_is; arguments = s.arguments; spelled = s.spelled; rest_is = s.rest_is })
-none_asked w rest none command s = let q = some_question w in not_asked q.0 command tt (q.1 ∙ sym s.word_is)
+none_asked w rest none command s = not_asked (example w) command tt (sym s.word_is)
 
 -- ---- AT
 

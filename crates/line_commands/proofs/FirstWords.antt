@@ -1,9 +1,10 @@
 -- Words, and what is read of a text that they begin.
 use Rattle.std.proofs.Common.{◌≡◌, ◌≢◌, ℕ, suc, ◌<◌, ◌^◌, Bool, true, false, ◌&&◌, eqb, Option, Some, None, List, [], ◌∷◌, ◌++◌, length, get_or, refl, sym, ap, subst, ◌∙◌, arith, inl, inr}
-use Rattle.std.specs.Prelude.{decimal, codes, not, nat_eq, if◌then◌else◌}
+use Rattle.std.specs.Prelude.{decimal, codes, not, if◌then◌else◌}
 use Rattle.std.specs.Int.{IsInRange}
 use Rattle.std.specs.Str.{bytes_eq}
 use Rattle.std.proofs.lemmas.Bool.{and_parts, false≢true, eq-eqb}
+use Rattle.std.proofs.lemmas.Option.{same_Some}
 use Rattle.std.proofs.lemmas.List.Elements.{All-from_get_or, All-cons}
 use Rattle.std.proofs.lemmas.Str.Parse.{not_in_digits}
 use Rattle.std.proofs.lemmas.Fmt.{digits_decimal}
@@ -12,16 +13,11 @@ use Rattle.rf2_values.specs.declared.row.Kind.TheVariants as kinds
 use Rattle.rf2_values.specs.Row.{IsIdOf, SpellsId}
 use Rattle.rf2_values.specs.Member.{IsMemberByte}
 use Rattle.rf2_values.proofs.Decimals.{own}
-use Rattle.line_commands.specs.declared.words.QuestionWord.{QuestionWord}
-use Rattle.line_commands.specs.declared.words.QuestionWord.TheVariants as asking
 use Rattle.line_commands.specs.Spelling.{word_of_question, letter}
-use Rattle.question_model.specs.Questions.{Question, Get, History, Children, Ancestors, Descendants}
-use Rattle.question_model.specs.Questions.{Terms, Search, Replaced, Replaces, About, Timeline, Page}
-use Rattle.question_model.specs.Questions.{Delta, Members, Values, Called, Dates, Digest, Receipt}
-use Rattle.question_model.specs.Questions.{ForRows, ForIds, AllRows, Sources, Added}
+use Rattle.question_model.specs.Questions.{Question, ForRows, Get, ForIds, Children}
 use Rattle.line_commands.specs.Commands.{Command, Ask, At, Import, Check, Pin, Unpin, Merge, Step, Publish, Abandon, Trim, Status, word_of}
 use Rattle.line_commands.specs.Requests.{with_rest, spaced}
-use Rattle.line_commands.specs.Private.{IsWord, IsOther, text_of_question, behind}
+use Rattle.line_commands.specs.Private.{IsWord, IsOther, behind}
 
 -- ---- what has no space
 
@@ -53,27 +49,8 @@ letter_word kinds.Member = from_test (codes "M") refl
 pub question_is_word : (question : Question) → IsWord (word_of_question question)
 unfolding test
 question_is_word (ForRows (Get kind id date)) = from_test (codes "GET") refl
-question_is_word (ForRows (History kind id)) = from_test (codes "HISTORY") refl
 question_is_word (ForIds (Children concept date)) = from_test (codes "CHILDREN") refl
-question_is_word (ForIds (Ancestors concept date)) = from_test (codes "ANCESTORS") refl
-question_is_word (ForIds (Descendants concept date)) = from_test (codes "DESCENDANTS") refl
-question_is_word (ForRows (Terms prefix date limit)) = from_test (codes "TERMS") refl
-question_is_word (ForRows (Search prefix date after limit)) = from_test (codes "SEARCH") refl
-question_is_word (ForRows (Replaced id date)) = from_test (codes "REPLACED") refl
-question_is_word (ForRows (Replaces id date)) = from_test (codes "REPLACES") refl
-question_is_word (ForRows (About kind id date)) = from_test (codes "ABOUT") refl
-question_is_word (ForRows (Timeline kind id)) = from_test (codes "TIMELINE") refl
-question_is_word (ForRows (Page kind date after limit)) = from_test (codes "PAGE") refl
-question_is_word (ForRows (Delta kind from date after limit)) = from_test (codes "DELTA") refl
-question_is_word (ForRows (Members refset date after limit)) = from_test (codes "MEMBERS") refl
-question_is_word (ForRows (Values refset date after limit)) = from_test (codes "VALUES") refl
-question_is_word (ForRows (Called concept date refset)) = from_test (codes "CALLED") refl
-question_is_word (ForRows (AllRows kind after limit)) = from_test (codes "ROWS") refl
-question_is_word (ForIds (Sources type_id destination date after limit)) = from_test (codes "SOURCES") refl
-question_is_word Dates = from_test (codes "DATES") refl
-question_is_word Digest = from_test (codes "DIGEST") refl
-question_is_word (Receipt number) = from_test (codes "RECEIPT") refl
-question_is_word (Added number kind after limit) = from_test (codes "ADDED") refl
+question_is_word question = from_test (word_of_question question) refl
 
 pub command_is_word : (command : Command) → IsWord (word_of command)
 unfolding test
@@ -138,99 +115,34 @@ pub spaced_is : (word : List ℕ) (texts : List (List ℕ)) → spaced (word ∷
 spaced_is word [] = refl
 spaced_is word (t ∷ ts) = refl
 
--- the words of questions for rows, and of those for identifiers
-row_words : List (List ℕ)
-row_words = codes "GET" ∷ codes "HISTORY" ∷ codes "TERMS" ∷ codes "SEARCH" ∷ codes "REPLACED" ∷ codes "REPLACES" ∷ codes "ABOUT" ∷ codes "TIMELINE" ∷ codes "PAGE" ∷ codes "DELTA" ∷ codes "MEMBERS" ∷ codes "VALUES" ∷ codes "CALLED" ∷ codes "ROWS" ∷ []
+pub told : (texts : List (List ℕ)) (arguments : List (List ℕ)) (text whole : List ℕ) → behind arguments ≡ Some text → arguments ≡ texts → behind texts ≡ Some whole → text ≡ whole
+told texts arguments text whole e f g = same_Some _ _ (sym e ∙ ap behind f ∙ g)
 
-id_words : List (List ℕ)
-id_words = codes "CHILDREN" ∷ codes "ANCESTORS" ∷ codes "DESCENDANTS" ∷ codes "SOURCES" ∷ []
+-- ---- which words are those of questions
+
+other_words : List (List ℕ)
+other_words = codes "AT" ∷ codes "IMPORT" ∷ codes "CHECK" ∷ codes "PIN" ∷ codes "UNPIN" ∷ codes "MERGE" ∷ codes "STEP" ∷ codes "PUBLISH" ∷ codes "ABANDON" ∷ codes "TRIM" ∷ codes "STATUS" ∷ []
 
 among : List ℕ → List (List ℕ) → Bool
 among word [] = false
 among word (one ∷ others) = if bytes_eq word one then true else among word others
 
--- the form of a question by its word; 0 for what is no question's word
-pub form : List ℕ → ℕ
-form word =
-    if among word row_words then 1 else if among word id_words then 2
-    else if bytes_eq word (codes "DATES") then 3 else if bytes_eq word (codes "DIGEST") then 4 else if bytes_eq word (codes "RECEIPT") then 5
-    else if bytes_eq word (codes "ADDED") then 6 else 0
-
-abbrev pub form_of : Question → ℕ
-form_of (ForRows question) = 1
-form_of (ForIds question) = 2
-form_of Dates = 3
-form_of Digest = 4
-form_of (Receipt number) = 5
-form_of (Added number kind after limit) = 6
-
-pub form_is : (question : Question) → form (word_of_question question) ≡ form_of question
-unfolding form among row_words id_words
-form_is (ForRows (Get kind id date)) = refl
-form_is (ForRows (History kind id)) = refl
-form_is (ForRows (Terms prefix date limit)) = refl
-form_is (ForRows (Search prefix date after limit)) = refl
-form_is (ForRows (Replaced id date)) = refl
-form_is (ForRows (Replaces id date)) = refl
-form_is (ForRows (About kind id date)) = refl
-form_is (ForRows (Timeline kind id)) = refl
-form_is (ForRows (Page kind date after limit)) = refl
-form_is (ForRows (Delta kind from date after limit)) = refl
-form_is (ForRows (Members refset date after limit)) = refl
-form_is (ForRows (Values refset date after limit)) = refl
-form_is (ForRows (Called concept date refset)) = refl
-form_is (ForRows (AllRows kind after limit)) = refl
-form_is (ForIds (Children concept date)) = refl
-form_is (ForIds (Ancestors concept date)) = refl
-form_is (ForIds (Descendants concept date)) = refl
-form_is (ForIds (Sources type_id destination date after limit)) = refl
-form_is Dates = refl
-form_is Digest = refl
-form_is (Receipt number) = refl
-form_is (Added number kind after limit) = refl
-
-some_form : (question : Question) → nat_eq 0 (form_of question) ≡ false
-some_form (ForRows question) = refl
-some_form (ForIds question) = refl
-some_form Dates = refl
-some_form Digest = refl
-some_form (Receipt number) = refl
-some_form (Added number kind after limit) = refl
+is_no_other : (question : Question) → among (word_of_question question) other_words ≡ false
+unfolding among other_words
+is_no_other (ForRows (Get kind id date)) = refl
+is_no_other (ForIds (Children concept date)) = refl
+is_no_other question = refl
 
 -- no other command has a question's word
 pub not_asked : (question : Question) (command : Command) → IsOther command → word_of_question question ≡ word_of command → ⊥
-unfolding form among row_words id_words
+unfolding among other_words
 not_asked question (Ask asked) h e = h
-not_asked question command h e = false≢true (sym (some_form question) ∙ ap (nat_eq 0) (sym (form_is question)) ∙ ap (λ (word : List ℕ). nat_eq 0 (form word)) e)
+not_asked question command h e = false≢true (sym (is_no_other question) ∙ ap (λ (word : List ℕ). among word other_words) e)
 
 -- what is the word neither of a question nor of another command is no command's
 pub no_command : (text : List ℕ) → ((question : Question) → text ≢ word_of_question question) → ((command : Command) → IsOther command → text ≢ word_of command) → (command : Command) → text ≢ word_of command
 no_command text none others (Ask question) e = none question e
 no_command text none others command e = others command tt e
-
-pub some_question : (w : QuestionWord) → (q : Question) × (word_of_question q ≡ text_of_question w)
-some_question asking.Get = (ForRows (Get kinds.Concept 0 0), refl)
-some_question asking.History = (ForRows (History kinds.Concept 0), refl)
-some_question asking.Children = (ForIds (Children 0 0), refl)
-some_question asking.Ancestors = (ForIds (Ancestors 0 0), refl)
-some_question asking.Descendants = (ForIds (Descendants 0 0), refl)
-some_question asking.Terms = (ForRows (Terms [] 0 0), refl)
-some_question asking.Search = (ForRows (Search [] 0 None 0), refl)
-some_question asking.Replaced = (ForRows (Replaced 0 0), refl)
-some_question asking.Replaces = (ForRows (Replaces 0 0), refl)
-some_question asking.About = (ForRows (About kinds.Concept 0 0), refl)
-some_question asking.Timeline = (ForRows (Timeline kinds.Concept 0), refl)
-some_question asking.Page = (ForRows (Page kinds.Concept 0 None 0), refl)
-some_question asking.Delta = (ForRows (Delta kinds.Concept 0 0 None 0), refl)
-some_question asking.Members = (ForRows (Members 0 0 None 0), refl)
-some_question asking.Values = (ForRows (Values 0 0 None 0), refl)
-some_question asking.Called = (ForRows (Called 0 0 0), refl)
-some_question asking.AllRows = (ForRows (AllRows kinds.Concept None 0), refl)
-some_question asking.Sources = (ForIds (Sources None 0 0 None 0), refl)
-some_question asking.Dates = (Dates, refl)
-some_question asking.Digest = (Digest, refl)
-some_question asking.Receipt = (Receipt 0, refl)
-some_question asking.Added = (Added 0 kinds.Concept None 0, refl)
 
 pub one_letter : (k l : Kind) → letter k ≡ letter l → k ≡ l
 one_letter kinds.Concept kinds.Concept e = refl

@@ -1,10 +1,9 @@
+pub mod ArgumentTexts
+pub mod Asked
 pub mod AtForms
-pub mod Dated
+pub mod Cuts
 pub mod FirstWords
-pub mod Forms
 pub mod Named
 pub mod NameTexts
 pub mod Readings
-pub mod Refsets
 pub mod Refusing
-mod RowWords

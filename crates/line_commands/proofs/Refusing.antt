@@ -8,12 +8,12 @@ use Rattle.line_commands.specs.declared.unread.Unread.TheVariants as unread
 use Rattle.question_model.specs.Questions.{Dates}
 use Rattle.line_commands.specs.Commands.{Command, Ask, At, Import, Check, Pin, Unpin, Merge, Step, Publish, Abandon, Trim, Status, word_of}
 use Rattle.line_commands.specs.Requests.{with_rest, sessions, request_limit, IsUnread, HasSession, HasCommand}
-use Rattle.line_commands.specs.Private.{IsWord, text_of_word, behind, IsSpelled}
-use Rattle.line_commands.proofs.FirstWords.{command_is_word, one_head, some_question}
+use Rattle.line_commands.specs.Private.{IsWord, example, text_of_word, behind, IsSpelled}
+use Rattle.line_commands.proofs.FirstWords.{command_is_word, one_head}
 use Rattle.line_commands.proofs.Readings.{session_word, begun, line_begins}
 
 pub some_command : (w : Word) → (c : Command) × (word_of c ≡ text_of_word w)
-some_command (words.Question w) = let q = some_question w in (Ask q.0, q.1)
+some_command (words.Question w) = (Ask (example w), refl)
 some_command words.At = (At 0 Dates, refl)
 some_command words.Import = (Import [], refl)
 some_command words.Check = (Check [], refl)

@@ -1,15 +1,22 @@
 -- Definitions for this crate's private functions. No public clause cites them.
-use Rattle.std.specs.Prelude.{◌≡◌, ◌≢◌, ℕ, List, [], ◌∷◌, ◌++◌, codes, Option, Some, None, All}
+use Rattle.std.specs.Prelude.{◌≡◌, ◌≢◌, ℕ, List, [], ◌∷◌, ◌++◌, length, codes, Option, Some, None}
+use Rattle.std.specs.Prelude.{All, take}
 use Rattle.rf2_values.specs.declared.row.Kind.{Kind}
+use Rattle.rf2_values.specs.declared.row.Kind.TheVariants as kinds
 use Rattle.rf2_values.specs.declared.key.Key.{Key}
 use Rattle.line_commands.specs.declared.command.Command.{Command as RustCommand}
 use Rattle.question_model.specs.declared.question.Question.{Question as RustQuestion}
+use Rattle.line_commands.specs.declared.words.Words.{Words}
 use Rattle.line_commands.specs.declared.words.Word.{Word}
 use Rattle.line_commands.specs.declared.words.Word.TheVariants as words
 use Rattle.line_commands.specs.declared.words.QuestionWord.{QuestionWord}
 use Rattle.line_commands.specs.declared.words.QuestionWord.TheVariants as asking
-use Rattle.line_commands.specs.Spelling.{word_of_question, SpellsRows, SpellsQuestion}
-use Rattle.question_model.specs.Questions.{Question, question_of}
+use Rattle.line_commands.specs.Spelling.{form, word_of_question, SpellsQuestion}
+use Rattle.question_model.specs.Questions.{Question, question_of, ForRows, ForIds, Dates, Digest}
+use Rattle.question_model.specs.Questions.{Receipt, Added, Get, History, Terms, Search, Replaced}
+use Rattle.question_model.specs.Questions.{Replaces, About}
+use Rattle.question_model.specs.Questions.{Timeline, Page, Delta, Members, Values, Called, AllRows}
+use Rattle.question_model.specs.Questions.{Children, Ancestors, Descendants, Sources}
 use Rattle.line_commands.specs.Commands.{Command, Ask, word_of, SpellsArguments}
 use Rattle.line_commands.specs.Requests.{command_of, spaced}
 
@@ -22,29 +29,70 @@ abbrev pub IsOther : Command → Type 0
 IsOther (Ask question) = ⊥
 IsOther command = Unit {0}
 
+-- a question with this word
+abbrev pub example : QuestionWord → Question
+example asking.Get = ForRows (Get kinds.Concept 0 0)
+example asking.History = ForRows (History kinds.Concept 0)
+example asking.Children = ForIds (Children 0 0)
+example asking.Ancestors = ForIds (Ancestors 0 0)
+example asking.Descendants = ForIds (Descendants 0 0)
+example asking.Terms = ForRows (Terms [] 0 0)
+example asking.Search = ForRows (Search [] 0 None 0)
+example asking.Replaced = ForRows (Replaced 0 0)
+example asking.Replaces = ForRows (Replaces 0 0)
+example asking.About = ForRows (About kinds.Concept 0 0)
+example asking.Timeline = ForRows (Timeline kinds.Concept 0)
+example asking.Page = ForRows (Page kinds.Concept 0 None 0)
+example asking.Delta = ForRows (Delta kinds.Concept 0 0 None 0)
+example asking.Members = ForRows (Members 0 0 None 0)
+example asking.Values = ForRows (Values 0 0 None 0)
+example asking.Called = ForRows (Called 0 0 0)
+example asking.AllRows = ForRows (AllRows kinds.Concept None 0)
+example asking.Sources = ForIds (Sources None 0 0 None 0)
+example asking.Dates = Dates
+example asking.Digest = Digest
+example asking.Receipt = Receipt 0
+example asking.Added = Added 0 kinds.Concept None 0
+
 abbrev pub text_of_question : QuestionWord → List ℕ
-text_of_question asking.Get = codes "GET"
-text_of_question asking.History = codes "HISTORY"
-text_of_question asking.Children = codes "CHILDREN"
-text_of_question asking.Ancestors = codes "ANCESTORS"
-text_of_question asking.Descendants = codes "DESCENDANTS"
-text_of_question asking.Terms = codes "TERMS"
-text_of_question asking.Search = codes "SEARCH"
-text_of_question asking.Replaced = codes "REPLACED"
-text_of_question asking.Replaces = codes "REPLACES"
-text_of_question asking.About = codes "ABOUT"
-text_of_question asking.Timeline = codes "TIMELINE"
-text_of_question asking.Page = codes "PAGE"
-text_of_question asking.Delta = codes "DELTA"
-text_of_question asking.Members = codes "MEMBERS"
-text_of_question asking.Values = codes "VALUES"
-text_of_question asking.Called = codes "CALLED"
-text_of_question asking.AllRows = codes "ROWS"
-text_of_question asking.Sources = codes "SOURCES"
-text_of_question asking.Dates = codes "DATES"
-text_of_question asking.Digest = codes "DIGEST"
-text_of_question asking.Receipt = codes "RECEIPT"
-text_of_question asking.Added = codes "ADDED"
+text_of_question word = word_of_question (example word)
+
+-- how many arguments the question has
+abbrev pub columns : QuestionWord → ℕ
+columns word = length (form (example word)).1
+
+-- what holds of each question with this word
+abbrev pub EachOf : QuestionWord → (Question → Type 0) → Type 0
+EachOf asking.Get P = (kind : Kind) (id date : ℕ) → P (ForRows (Get kind id date))
+EachOf asking.History P = (kind : Kind) (id : ℕ) → P (ForRows (History kind id))
+EachOf asking.Children P = (id date : ℕ) → P (ForIds (Children id date))
+EachOf asking.Ancestors P = (id date : ℕ) → P (ForIds (Ancestors id date))
+EachOf asking.Descendants P = (id date : ℕ) → P (ForIds (Descendants id date))
+EachOf asking.Terms P = (prefix : List ℕ) (date limit : ℕ) → P (ForRows (Terms prefix date limit))
+EachOf asking.Search P = (prefix : List ℕ) (date : ℕ) (after : Option ℕ) (limit : ℕ)
+    → P (ForRows (Search prefix date after limit))
+EachOf asking.Replaced P = (id date : ℕ) → P (ForRows (Replaced id date))
+EachOf asking.Replaces P = (id date : ℕ) → P (ForRows (Replaces id date))
+EachOf asking.About P = (kind : Kind) (id date : ℕ) → P (ForRows (About kind id date))
+EachOf asking.Timeline P = (kind : Kind) (id : ℕ) → P (ForRows (Timeline kind id))
+EachOf asking.Page P = (kind : Kind) (date : ℕ) (after : Option ℕ) (limit : ℕ)
+    → P (ForRows (Page kind date after limit))
+EachOf asking.Delta P = (kind : Kind) (from date : ℕ) (after : Option ℕ) (limit : ℕ)
+    → P (ForRows (Delta kind from date after limit))
+EachOf asking.Members P = (refset date : ℕ) (after : Option ℕ) (limit : ℕ)
+    → P (ForRows (Members refset date after limit))
+EachOf asking.Values P = (refset date : ℕ) (after : Option ℕ) (limit : ℕ)
+    → P (ForRows (Values refset date after limit))
+EachOf asking.Called P = (id date refset : ℕ) → P (ForRows (Called id date refset))
+EachOf asking.AllRows P = (kind : Kind) (after : Option Key) (limit : ℕ)
+    → P (ForRows (AllRows kind after limit))
+EachOf asking.Sources P = (type_id : Option ℕ) (to date : ℕ) (after : Option ℕ) (limit : ℕ)
+    → P (ForIds (Sources type_id to date after limit))
+EachOf asking.Dates P = P Dates
+EachOf asking.Digest P = P Digest
+EachOf asking.Receipt P = (number : ℕ) → P (Receipt number)
+EachOf asking.Added P = (number : ℕ) (kind : Kind) (after : Option Key) (limit : ℕ)
+    → P (Added number kind after limit)
 
 abbrev pub text_of_word : Word → List ℕ
 text_of_word (words.Question word) = text_of_question word
@@ -65,10 +113,32 @@ abbrev pub behind : List (List ℕ) → Option (List ℕ)
 behind [] = None
 behind (text ∷ texts) = Some (spaced (text ∷ texts))
 
--- the text consists of a kind, a key of the kind or none, and a limit
-abbrev pub IsRowsText : Kind → Option Key → ℕ → List ℕ → Type 0
-IsRowsText kind after limit text = (texts : List (List ℕ)) × SpellsRows kind after limit texts
-    × (behind texts ≡ Some text)
+-- a list of texts of which all but the last have no space
+abbrev pub AreWords : List (List ℕ) → Type 0
+AreWords [] = Unit {0}
+AreWords (text ∷ []) = Unit {0}
+AreWords (text ∷ other ∷ texts) = IsWord text × AreWords (other ∷ texts)
+
+-- the first of the words
+abbrev pub texts : ℕ → Words → List (List ℕ)
+texts count words = take count
+    (words.first.now ∷ words.second.now ∷ words.third.now ∷ words.fourth.now ∷ words.fifth.now ∷ [])
+
+-- the words are the text behind a question's word; and if there are none, it isn't as many words
+abbrev pub IsCutInto : ℕ → Option (List ℕ) → Option Words → Type 0
+IsCutInto count rest (Some words) =
+    AreWords (texts count words) × (length (texts count words) ≡ count)
+    × (behind (texts count words) ≡ rest)
+IsCutInto count rest None =
+    (found : List (List ℕ)) → length found ≡ count → AreWords found → behind found ≢ rest
+
+-- the question that was parsed is one that the words spell; and if none was, they spell none
+abbrev pub IsQuestionOf : QuestionWord → Words → Option RustQuestion → Type 0
+IsQuestionOf word words (Some question) =
+    (word_of_question (question_of question) ≡ text_of_question word)
+    × SpellsQuestion (question_of question) (texts (columns word) words)
+IsQuestionOf word words None =
+    EachOf word (λ question. SpellsQuestion question (texts (columns word) words) → ⊥)
 
 -- the word and the text after it spell the question
 pub record IsSpelledQuestion (word : List ℕ) (rest : Option (List ℕ)) (question : Question)

@@ -8,34 +8,9 @@ use Rattle.rf2_values.specs.declared.key.Key.{Key}
 use Rattle.rf2_values.specs.Row.{IsIdOf, SpellsId, IsConcept, IsComponent}
 use Rattle.rf2_values.specs.Time.{IsTime}
 use Rattle.question_model.specs.Questions.{Question, ForRows, ForIds, Dates, Digest, Receipt, Added}
-use Rattle.question_model.specs.Questions.{Get, History, Terms, Search, Replaced, Replaces, About, Timeline}
-use Rattle.question_model.specs.Questions.{Page, Delta, Members, Values, Called, AllRows}
+use Rattle.question_model.specs.Questions.{Get, History, Terms, Search, Replaced, Replaces, About}
+use Rattle.question_model.specs.Questions.{Timeline, Page, Delta, Members, Values, Called, AllRows}
 use Rattle.question_model.specs.Questions.{Children, Ancestors, Descendants, Sources}
-
--- the word of a question
-abbrev pub word_of_question : Question → List ℕ
-word_of_question (ForRows (Get kind id date)) = codes "GET"
-word_of_question (ForRows (History kind id)) = codes "HISTORY"
-word_of_question (ForIds (Children concept date)) = codes "CHILDREN"
-word_of_question (ForIds (Ancestors concept date)) = codes "ANCESTORS"
-word_of_question (ForIds (Descendants concept date)) = codes "DESCENDANTS"
-word_of_question (ForRows (Terms prefix date limit)) = codes "TERMS"
-word_of_question (ForRows (Search prefix date after limit)) = codes "SEARCH"
-word_of_question (ForRows (Replaced id date)) = codes "REPLACED"
-word_of_question (ForRows (Replaces id date)) = codes "REPLACES"
-word_of_question (ForRows (About kind id date)) = codes "ABOUT"
-word_of_question (ForRows (Timeline kind id)) = codes "TIMELINE"
-word_of_question (ForRows (Page kind date after limit)) = codes "PAGE"
-word_of_question (ForRows (Delta kind from date after limit)) = codes "DELTA"
-word_of_question (ForRows (Members refset date after limit)) = codes "MEMBERS"
-word_of_question (ForRows (Values refset date after limit)) = codes "VALUES"
-word_of_question (ForRows (Called concept date refset)) = codes "CALLED"
-word_of_question (ForRows (AllRows kind after limit)) = codes "ROWS"
-word_of_question (ForIds (Sources type_id destination date after limit)) = codes "SOURCES"
-word_of_question Dates = codes "DATES"
-word_of_question Digest = codes "DIGEST"
-word_of_question (Receipt number) = codes "RECEIPT"
-word_of_question (Added number kind after limit) = codes "ADDED"
 
 -- the greatest number of rows that can be asked for
 abbrev pub most_rows : ℕ
@@ -61,87 +36,114 @@ IsSubjectOf kinds.Association id = IsComponent id
 IsSubjectOf kinds.Concrete id = IsConcept id
 IsSubjectOf kinds.Member id = IsComponent id
 
--- an identifier of the kind, or `-` for none
-abbrev pub SpellsAfter : Kind → Option ℕ → List ℕ → Type 0
-SpellsAfter kind None text = text ≡ codes "-"
-SpellsAfter kind (Some id) text = IsIdOf kind id × SpellsId kind id text
+-- ---- one argument
 
--- the identifier of a component, or `-` for none
-abbrev pub SpellsComponentAfter : Option ℕ → List ℕ → Type 0
-SpellsComponentAfter None text = text ≡ codes "-"
-SpellsComponentAfter (Some id) text = IsComponent id × (text ≡ decimal id)
+-- which identifiers an argument is among
+pub data Ids : Type 0 where
+  OfKind : (kind : Kind) → Ids
+  OfComponents : Ids
+  OfSubjects : (kind : Kind) → Ids
 
--- the type of a relationship, or `-` for any type
-abbrev pub SpellsType : Option ℕ → List ℕ → Type 0
-SpellsType None text = text ≡ codes "-"
-SpellsType (Some id) text = IsConcept id × (text ≡ decimal id)
+-- an argument of a question: each is one word, but for a text, which may contain spaces
+pub data Argument : Type 0 where
+  ForKind : (kind : Kind) → Argument
+  Id : (ids : Ids) (id : ℕ) → Argument
+  IdOrNone : (ids : Ids) (id : Option ℕ) → Argument
+  -- a key, or none, is two arguments
+  KeyId : (kind : Kind) (key : Option Key) → Argument
+  KeyDate : (key : Option Key) → Argument
+  Date : (date : ℕ) → Argument
+  Limit : (limit : ℕ) → Argument
+  -- the number of an import, from 1 on; and any number of 32 bits
+  Imported : (number : ℕ) → Argument
+  Number : (number : ℕ) → Argument
+  Text : (text : List ℕ) → Argument
 
--- the identifier and the date of a key of the kind, or `-` twice for none
-abbrev pub SpellsKeyAfter : Kind → Option Key → (id day : List ℕ) → Type 0
-SpellsKeyAfter kind None id day = (id ≡ codes "-") × (day ≡ codes "-")
-SpellsKeyAfter kind (Some key) id day = (key.kind ≡ kind) × IsIdOf kind key.id
-    × SpellsId kind key.id id × IsTime key.time × (day ≡ decimal key.time)
+abbrev pub concept : ℕ → Argument
+concept id = Id (OfKind kinds.Concept) id
 
--- a kind, a key of the kind or none, and a limit
-abbrev pub SpellsRows : Kind → Option Key → ℕ → List (List ℕ) → Type 0
-SpellsRows kind after limit texts = (id : List ℕ) × (day : List ℕ)
-    × SpellsKeyAfter kind after id day × (1 ≤ limit) × (limit ≤ most_rows)
-    × (texts ≡ letter kind ∷ id ∷ day ∷ decimal limit ∷ [])
+-- the text spells the identifier, which is one of these
+abbrev pub SpellsIdOf : Ids → ℕ → List ℕ → Type 0
+SpellsIdOf (OfKind kind) id text = IsIdOf kind id × SpellsId kind id text
+SpellsIdOf OfComponents id text = IsComponent id × (text ≡ decimal id)
+SpellsIdOf (OfSubjects kind) id text = IsSubjectOf kind id × (text ≡ decimal id)
 
--- How the arguments of a question are spelled. The last one of TERMS and SEARCH may contain spaces.
+-- the text spells the argument; `-` is none
+abbrev pub Spells : Argument → List ℕ → Type 0
+Spells (ForKind kind) text = text ≡ letter kind
+Spells (Id ids id) text = SpellsIdOf ids id text
+Spells (IdOrNone ids None) text = text ≡ codes "-"
+Spells (IdOrNone ids (Some id)) text = SpellsIdOf ids id text
+Spells (KeyId kind None) text = text ≡ codes "-"
+Spells (KeyId kind (Some key)) text = (key.kind ≡ kind) × SpellsIdOf (OfKind kind) key.id text
+Spells (KeyDate None) text = text ≡ codes "-"
+Spells (KeyDate (Some key)) text = IsTime key.time × (text ≡ decimal key.time)
+Spells (Date date) text = IsTime date × (text ≡ decimal date)
+Spells (Limit limit) text = (1 ≤ limit) × (limit ≤ most_rows) × (text ≡ decimal limit)
+Spells (Imported number) text = (1 ≤ number) × (number < 2 ^ 32) × (text ≡ decimal number)
+Spells (Number number) text = (number < 2 ^ 32) × (text ≡ decimal number)
+Spells (Text value) text = (1 ≤ length value) × IsUtf8 value × (text ≡ value)
+
+-- the texts spell the arguments, each its own
+abbrev pub SpellsAll : List Argument → List (List ℕ) → Type 0
+SpellsAll [] [] = Unit {0}
+SpellsAll (argument ∷ arguments) (text ∷ texts) =
+    Spells argument text × SpellsAll arguments texts
+SpellsAll _ _ = ⊥
+
+-- ---- the questions
+
+-- where a page goes on, and how many rows it has at most
+abbrev pub page : Ids → Option ℕ → ℕ → List Argument
+page ids after limit = IdOrNone ids after ∷ Limit limit ∷ []
+
+-- the same of the rows of a kind in the order of their keys
+abbrev pub key_page : Kind → Option Key → ℕ → List Argument
+key_page kind after limit = ForKind kind ∷ KeyId kind after ∷ KeyDate after ∷ Limit limit ∷ []
+
+-- the word of each question, and its arguments
+abbrev pub form : Question → List ℕ × List Argument
+form (ForRows (Get kind id date)) =
+    (codes "GET", ForKind kind ∷ Id (OfKind kind) id ∷ Date date ∷ [])
+form (ForRows (History kind id)) = (codes "HISTORY", ForKind kind ∷ Id (OfKind kind) id ∷ [])
+form (ForIds (Children id date)) = (codes "CHILDREN", concept id ∷ Date date ∷ [])
+form (ForIds (Ancestors id date)) = (codes "ANCESTORS", concept id ∷ Date date ∷ [])
+form (ForIds (Descendants id date)) = (codes "DESCENDANTS", concept id ∷ Date date ∷ [])
+form (ForRows (Terms prefix date limit)) =
+    (codes "TERMS", Date date ∷ Limit limit ∷ Text prefix ∷ [])
+form (ForRows (Search prefix date after limit)) = (
+  codes "SEARCH",
+  Date date ∷ IdOrNone (OfKind kinds.Description) after ∷ Limit limit ∷ Text prefix ∷ [],
+)
+form (ForRows (Replaced id date)) = (codes "REPLACED", Id OfComponents id ∷ Date date ∷ [])
+form (ForRows (Replaces id date)) = (codes "REPLACES", Id OfComponents id ∷ Date date ∷ [])
+form (ForRows (About kind id date)) =
+    (codes "ABOUT", ForKind kind ∷ Id (OfSubjects kind) id ∷ Date date ∷ [])
+form (ForRows (Timeline kind id)) = (codes "TIMELINE", ForKind kind ∷ Id (OfSubjects kind) id ∷ [])
+form (ForRows (Page kind date after limit)) =
+    (codes "PAGE", ForKind kind ∷ Date date ∷ page (OfKind kind) after limit)
+form (ForRows (Delta kind from date after limit)) =
+    (codes "DELTA", ForKind kind ∷ Date from ∷ Date date ∷ page (OfKind kind) after limit)
+form (ForRows (Members refset date after limit)) =
+    (codes "MEMBERS", concept refset ∷ Date date ∷ page (OfKind kinds.Member) after limit)
+form (ForRows (Values refset date after limit)) =
+    (codes "VALUES", concept refset ∷ Date date ∷ page OfComponents after limit)
+form (ForRows (Called id date refset)) =
+    (codes "CALLED", concept id ∷ Date date ∷ concept refset ∷ [])
+form (ForRows (AllRows kind after limit)) = (codes "ROWS", key_page kind after limit)
+form (ForIds (Sources type_id to date after limit)) = (
+  codes "SOURCES",
+  IdOrNone (OfKind kinds.Concept) type_id ∷ concept to ∷ Date date ∷ page OfComponents after limit,
+)
+form Dates = (codes "DATES", [])
+form Digest = (codes "DIGEST", [])
+form (Receipt number) = (codes "RECEIPT", Imported number ∷ [])
+form (Added number kind after limit) = (codes "ADDED", Number number ∷ key_page kind after limit)
+
+-- the word of a question
+abbrev pub word_of_question : Question → List ℕ
+word_of_question question = (form question).0
+
+-- the texts are the arguments of the question
 abbrev pub SpellsQuestion : Question → List (List ℕ) → Type 0
-SpellsQuestion (ForRows (Get kind id date)) texts =
-    (text : List ℕ) × IsIdOf kind id × SpellsId kind id text × IsTime date
-    × (texts ≡ letter kind ∷ text ∷ decimal date ∷ [])
-SpellsQuestion (ForRows (History kind id)) texts =
-    (text : List ℕ) × IsIdOf kind id × SpellsId kind id text × (texts ≡ letter kind ∷ text ∷ [])
-SpellsQuestion (ForIds (Children concept date)) texts =
-    IsConcept concept × IsTime date × (texts ≡ decimal concept ∷ decimal date ∷ [])
-SpellsQuestion (ForIds (Ancestors concept date)) texts =
-    IsConcept concept × IsTime date × (texts ≡ decimal concept ∷ decimal date ∷ [])
-SpellsQuestion (ForIds (Descendants concept date)) texts =
-    IsConcept concept × IsTime date × (texts ≡ decimal concept ∷ decimal date ∷ [])
-SpellsQuestion (ForRows (Terms prefix date limit)) texts =
-    IsTime date × (1 ≤ limit) × (limit ≤ most_rows) × (1 ≤ length prefix) × IsUtf8 prefix
-    × (texts ≡ decimal date ∷ decimal limit ∷ prefix ∷ [])
-SpellsQuestion (ForRows (Search prefix date after limit)) texts =
-    (text : List ℕ) × SpellsAfter kinds.Description after text × IsTime date × (1 ≤ limit)
-    × (limit ≤ most_rows) × (1 ≤ length prefix) × IsUtf8 prefix
-    × (texts ≡ decimal date ∷ text ∷ decimal limit ∷ prefix ∷ [])
-SpellsQuestion (ForRows (Replaced id date)) texts =
-    IsComponent id × IsTime date × (texts ≡ decimal id ∷ decimal date ∷ [])
-SpellsQuestion (ForRows (Replaces id date)) texts =
-    IsComponent id × IsTime date × (texts ≡ decimal id ∷ decimal date ∷ [])
-SpellsQuestion (ForRows (About kind id date)) texts =
-    IsSubjectOf kind id × IsTime date × (texts ≡ letter kind ∷ decimal id ∷ decimal date ∷ [])
-SpellsQuestion (ForRows (Timeline kind id)) texts =
-    IsSubjectOf kind id × (texts ≡ letter kind ∷ decimal id ∷ [])
-SpellsQuestion (ForRows (Page kind date after limit)) texts =
-    (text : List ℕ) × SpellsAfter kind after text × IsTime date × (1 ≤ limit) × (limit ≤ most_rows)
-    × (texts ≡ letter kind ∷ decimal date ∷ text ∷ decimal limit ∷ [])
-SpellsQuestion (ForRows (Delta kind from date after limit)) texts =
-    (text : List ℕ) × SpellsAfter kind after text × IsTime from × IsTime date × (1 ≤ limit)
-    × (limit ≤ most_rows)
-    × (texts ≡ letter kind ∷ decimal from ∷ decimal date ∷ text ∷ decimal limit ∷ [])
-SpellsQuestion (ForRows (Members refset date after limit)) texts =
-    (text : List ℕ) × SpellsAfter kinds.Member after text × IsConcept refset × IsTime date
-    × (1 ≤ limit) × (limit ≤ most_rows)
-    × (texts ≡ decimal refset ∷ decimal date ∷ text ∷ decimal limit ∷ [])
-SpellsQuestion (ForRows (Values refset date after limit)) texts =
-    (text : List ℕ) × SpellsComponentAfter after text × IsConcept refset × IsTime date
-    × (1 ≤ limit) × (limit ≤ most_rows)
-    × (texts ≡ decimal refset ∷ decimal date ∷ text ∷ decimal limit ∷ [])
-SpellsQuestion (ForRows (Called concept date refset)) texts =
-    IsConcept concept × IsTime date × IsConcept refset
-    × (texts ≡ decimal concept ∷ decimal date ∷ decimal refset ∷ [])
-SpellsQuestion (ForRows (AllRows kind after limit)) texts = SpellsRows kind after limit texts
-SpellsQuestion (ForIds (Sources type_id destination date after limit)) texts =
-    (word : List ℕ) × (text : List ℕ) × SpellsType type_id word × SpellsComponentAfter after text
-    × IsConcept destination × IsTime date × (1 ≤ limit) × (limit ≤ most_rows)
-    × (texts ≡ word ∷ decimal destination ∷ decimal date ∷ text ∷ decimal limit ∷ [])
-SpellsQuestion Dates texts = texts ≡ []
-SpellsQuestion Digest texts = texts ≡ []
-SpellsQuestion (Receipt number) texts =
-    (1 ≤ number) × (number < 2 ^ 32) × (texts ≡ decimal number ∷ [])
-SpellsQuestion (Added number kind after limit) texts = (rest : List (List ℕ))
-    × (number < 2 ^ 32) × SpellsRows kind after limit rest × (texts ≡ decimal number ∷ rest)
+SpellsQuestion question texts = SpellsAll (form question).1 texts

@@ -5,8 +5,9 @@ ghost use Rattle.std.specs.Prelude.{length, Some};
 ghost use Rattle.std.specs.Str.{IsUtf8};
 ghost use Rattle.rf2_values.specs.Member.{SpellsMember};
 ghost use Rattle.rf2_values.specs.Row.{IsOfClass, IsComponent, IsIdOf, SpellsId};
-ghost use Rattle.line_commands.specs.Spelling.{letter, IsSubjectOf, SpellsAfter};
-ghost use Rattle.line_commands.specs.Spelling.{SpellsComponentAfter, SpellsType, SpellsKeyAfter};
+ghost use Rattle.rf2_values.specs.Time.{IsTime};
+ghost use Rattle.line_commands.specs.Spelling.{letter, IsSubjectOf, Spells, IdOrNone, OfKind};
+ghost use Rattle.line_commands.specs.Spelling.{OfComponents, KeyId, KeyDate};
 ghost use Rattle.rf2_values.specs.declared.key.Key.{Key};
 ghost use Rattle.line_commands.specs.Requests.{sessions};
 
@@ -24,9 +25,10 @@ pub(crate) fn session_number(text: &[u8]) -> Option<u16>
     }
 }
 
-/// The kind with this letter.
+/// The kind with this letter, and no other kind has it.
 pub(crate) fn kind(text: &[u8]) -> Option<Kind>
-    ensures { MatchOption result ((k : Kind) → text.now ≢ letter k) (λ k. text.now ≡ letter k) }
+    ensures { MatchOption result ((k : Kind) → text.now ≢ letter k)
+        (λ k. (text.now ≡ letter k) × ((l : Kind) → text.now ≡ letter l → l ≡ k)) }
 {
     match text {
         b"C" => Some(Kind::Concept),
@@ -119,6 +121,17 @@ pub(crate) fn subject(kind: Kind, text: &[u8]) -> Option<Sctid>
     }
 }
 
+/// A date.
+pub(crate) fn date(text: &[u8]) -> Option<EffectiveTime>
+    ensures { MatchOption result ((t : ℕ) → IsTime t → text.now ≢ decimal t)
+        (λ t. IsTime t × (text.now ≡ decimal t)) }
+{
+    match EffectiveTime::parse(text) {
+        Some(date) => Some(date),
+        None => None,
+    }
+}
+
 /// The beginning of a term: a text in UTF-8 that isn't empty.
 pub(crate) fn prefix(text: &[u8]) -> Option<&str>
     ensures { MatchOption result (1 ≤ length text.now → IsUtf8 text.now → ⊥)
@@ -135,8 +148,9 @@ pub(crate) fn prefix(text: &[u8]) -> Option<&str>
 
 /// The type of a relationship, or `-` for any type.
 pub(crate) fn type_of(text: &[u8]) -> Option<Option<Sctid>>
-    ensures { MatchOption result ((o : Option ℕ) → SpellsType o text.now → ⊥)
-        (λ o. SpellsType o text.now) }
+    ensures { MatchOption result
+        ((o : Option ℕ) → Spells (IdOrNone (OfKind Kind.Concept) o) text.now → ⊥)
+        (λ o. Spells (IdOrNone (OfKind Kind.Concept) o) text.now) }
 {
     if text == b"-".as_slice() {
         return Some(None);
@@ -149,18 +163,20 @@ pub(crate) fn type_of(text: &[u8]) -> Option<Option<Sctid>>
 
 /// A key of a kind, spelled by its identifier and its date.
 fn key(kind: Kind, id: &[u8], day: &[u8]) -> Option<Key>
-    ensures { MatchOption result ((k : Key) → SpellsKeyAfter kind (Some k) id.now day.now → ⊥)
-        (λ k. SpellsKeyAfter kind (Some k) id.now day.now) }
+    ensures { MatchOption result
+        ((k : Key) → Spells (KeyId kind (Some k)) id.now → Spells (KeyDate (Some k)) day.now → ⊥)
+        (λ k. Spells (KeyId kind (Some k)) id.now × Spells (KeyDate (Some k)) day.now) }
 {
     let id = identifier(kind, id)?;
-    let time = EffectiveTime::parse(day)?;
+    let time = date(day)?;
     Some(Key { id, time, kind })
 }
 
 /// A key of a kind, or `-` twice for none.
 pub(crate) fn key_after(kind: Kind, id: &[u8], day: &[u8]) -> Option<Option<Key>>
-    ensures { MatchOption result ((o : Option Key) → SpellsKeyAfter kind o id.now day.now → ⊥)
-        (λ o. SpellsKeyAfter kind o id.now day.now) }
+    ensures { MatchOption result
+        ((o : Option Key) → Spells (KeyId kind o) id.now → Spells (KeyDate o) day.now → ⊥)
+        (λ o. Spells (KeyId kind o) id.now × Spells (KeyDate o) day.now) }
 {
     if id == b"-".as_slice() && day == b"-".as_slice() {
         return Some(None);
@@ -173,8 +189,9 @@ pub(crate) fn key_after(kind: Kind, id: &[u8], day: &[u8]) -> Option<Option<Key>
 
 /// An identifier of a kind, or `-` for none.
 pub(crate) fn after(kind: Kind, text: &[u8]) -> Option<Option<u128>>
-    ensures { MatchOption result ((o : Option ℕ) → SpellsAfter kind o text.now → ⊥)
-        (λ o. SpellsAfter kind o text.now) }
+    ensures { MatchOption result
+        ((o : Option ℕ) → Spells (IdOrNone (OfKind kind) o) text.now → ⊥)
+        (λ o. Spells (IdOrNone (OfKind kind) o) text.now) }
 {
     if text == b"-".as_slice() {
         return Some(None);
@@ -187,8 +204,9 @@ pub(crate) fn after(kind: Kind, text: &[u8]) -> Option<Option<u128>>
 
 /// The identifier of a component, or `-` for none.
 pub(crate) fn component_after(text: &[u8]) -> Option<Option<u64>>
-    ensures { MatchOption result ((o : Option ℕ) → SpellsComponentAfter o text.now → ⊥)
-        (λ o. SpellsComponentAfter o text.now) }
+    ensures { MatchOption result
+        ((o : Option ℕ) → Spells (IdOrNone OfComponents o) text.now → ⊥)
+        (λ o. Spells (IdOrNone OfComponents o) text.now) }
 {
     if text == b"-".as_slice() {
         return Some(None);

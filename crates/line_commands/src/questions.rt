@@ -1,96 +1,68 @@
-//! Parses the arguments of each question. Each function takes what follows its question's word, and
-//! returns none if that isn't such a question.
+//! Parses the arguments of each question. Each function takes the words behind its question's word,
+//! and returns none if they don't spell such a question.
 
-ghost use Rattle.std.specs.Prelude.{◌≡◌, ◌≢◌, ◌++◌, ◌∷◌, ℕ, MatchOption, Some, codes};
-ghost use Rattle.std.specs.Prelude.{decimal, option_map, Option};
-ghost use Rattle.rf2_values.specs.Row.{IsConcept, IsComponent};
-ghost use Rattle.rf2_values.specs.Time.{IsTime};
-ghost use Rattle.line_commands.specs.Private.{IsQuestionReadAs, IsRowsText, text_of_question};
-ghost use Rattle.rf2_values.specs.declared.row.Kind.{Kind};
-ghost use Rattle.rf2_values.specs.declared.key.Key.{Key};
+ghost use Rattle.std.specs.Prelude.{◌≡◌, ◌≤◌, option_map};
+ghost use Rattle.line_commands.specs.Private.{IsQuestionReadAs, IsQuestionOf, columns};
+ghost use Rattle.line_commands.specs.Private.{text_of_question};
 
 use crate::columns::{
-    after, component, component_after, identifier, import_number, key_after, kind, limit, prefix,
-    sctid_of, subject, type_of,
+    after, component, component_after, date, identifier, import_number, key_after, kind, limit,
+    prefix, sctid_of, subject, type_of,
 };
-use crate::words::{QuestionWord, cut, cut_thrice, cut_twice};
+use crate::words::{QuestionWord, Words, cut_into};
 use question_model::{IdQuestion, Question, RowQuestion};
-use rf2_values::{Class, EffectiveTime, Key, Kind, Sctid};
+use rf2_values::{Class, Kind};
 
 /// The greatest number of rows that can be asked for.
 const MOST_ROWS: u32 = 1000;
 
-/// A concept and a date.
-fn concept_and_date(text: &[u8]) -> Option<(Sctid, EffectiveTime)>
-    ensures { MatchOption result
-        ((c t : ℕ) → IsConcept c → IsTime t → text.now ≢ decimal c ++ 32 ∷ decimal t)
-        (λ x. IsConcept x.0 × IsTime x.1 × (text.now ≡ decimal x.0 ++ 32 ∷ decimal x.1)) }
+fn get(words: Words<'_>) -> Option<Question<'_>>
+    ensures { IsQuestionOf QuestionWord.Get words.entry result }
 {
-    let (concept, day) = cut(text)?;
-    let concept = sctid_of(concept, Class::Concept)?;
-    let date = EffectiveTime::parse(day)?;
-    Some((concept, date))
-}
-
-/// A component and a date.
-fn component_and_date(text: &[u8]) -> Option<(Sctid, EffectiveTime)>
-    ensures { MatchOption result
-        ((n t : ℕ) → IsComponent n → IsTime t → text.now ≢ decimal n ++ 32 ∷ decimal t)
-        (λ x. IsComponent x.0 × IsTime x.1 × (text.now ≡ decimal x.0 ++ 32 ∷ decimal x.1)) }
-{
-    let (id, day) = cut(text)?;
-    let id = component(id)?;
-    let date = EffectiveTime::parse(day)?;
-    Some((id, date))
-}
-
-fn get(text: &[u8]) -> Option<Question<'_>>
-    ensures { IsQuestionReadAs (codes "GET") (Some text.now) result }
-{
-    let (letter, id, day) = cut_twice(text)?;
-    let kind = kind(letter)?;
-    let id = identifier(kind, id)?;
-    let date = EffectiveTime::parse(day)?;
+    let kind = kind(words.first)?;
+    let id = identifier(kind, words.second)?;
+    let date = date(words.third)?;
     Some(Question::ForRows(RowQuestion::Get { kind, id, date }))
 }
 
-fn history(text: &[u8]) -> Option<Question<'_>>
-    ensures { IsQuestionReadAs (codes "HISTORY") (Some text.now) result }
+fn history(words: Words<'_>) -> Option<Question<'_>>
+    ensures { IsQuestionOf QuestionWord.History words.entry result }
 {
-    let (letter, id) = cut(text)?;
-    let kind = kind(letter)?;
-    let id = identifier(kind, id)?;
+    let kind = kind(words.first)?;
+    let id = identifier(kind, words.second)?;
     Some(Question::ForRows(RowQuestion::History { kind, id }))
 }
 
-fn children(text: &[u8]) -> Option<Question<'_>>
-    ensures { IsQuestionReadAs (codes "CHILDREN") (Some text.now) result }
+fn children(words: Words<'_>) -> Option<Question<'_>>
+    ensures { IsQuestionOf QuestionWord.Children words.entry result }
 {
-    let (concept, date) = concept_and_date(text)?;
+    let concept = sctid_of(words.first, Class::Concept)?;
+    let date = date(words.second)?;
     Some(Question::ForIds(IdQuestion::Children { concept, date }))
 }
 
-fn ancestors(text: &[u8]) -> Option<Question<'_>>
-    ensures { IsQuestionReadAs (codes "ANCESTORS") (Some text.now) result }
+fn ancestors(words: Words<'_>) -> Option<Question<'_>>
+    ensures { IsQuestionOf QuestionWord.Ancestors words.entry result }
 {
-    let (concept, date) = concept_and_date(text)?;
+    let concept = sctid_of(words.first, Class::Concept)?;
+    let date = date(words.second)?;
     Some(Question::ForIds(IdQuestion::Ancestors { concept, date }))
 }
 
-fn descendants(text: &[u8]) -> Option<Question<'_>>
-    ensures { IsQuestionReadAs (codes "DESCENDANTS") (Some text.now) result }
+fn descendants(words: Words<'_>) -> Option<Question<'_>>
+    ensures { IsQuestionOf QuestionWord.Descendants words.entry result }
 {
-    let (concept, date) = concept_and_date(text)?;
+    let concept = sctid_of(words.first, Class::Concept)?;
+    let date = date(words.second)?;
     Some(Question::ForIds(IdQuestion::Descendants { concept, date }))
 }
 
-fn terms(text: &[u8]) -> Option<Question<'_>>
-    ensures { IsQuestionReadAs (codes "TERMS") (Some text.now) result }
+fn terms(words: Words<'_>) -> Option<Question<'_>>
+    ensures { IsQuestionOf QuestionWord.Terms words.entry result }
 {
-    let (day, most, rest) = cut_twice(text)?;
-    let date = EffectiveTime::parse(day)?;
-    let limit = limit(most, MOST_ROWS)?;
-    let prefix = prefix(rest)?;
+    let date = date(words.first)?;
+    let limit = limit(words.second, MOST_ROWS)?;
+    let prefix = prefix(words.third)?;
     Some(Question::ForRows(RowQuestion::Terms {
         prefix,
         date,
@@ -98,15 +70,13 @@ fn terms(text: &[u8]) -> Option<Question<'_>>
     }))
 }
 
-fn search(text: &[u8]) -> Option<Question<'_>>
-    ensures { IsQuestionReadAs (codes "SEARCH") (Some text.now) result }
+fn search(words: Words<'_>) -> Option<Question<'_>>
+    ensures { IsQuestionOf QuestionWord.Search words.entry result }
 {
-    let (day, from, rest) = cut_twice(text)?;
-    let (most, rest) = cut(rest)?;
-    let date = EffectiveTime::parse(day)?;
-    let after = after(Kind::Description, from)?;
-    let limit = limit(most, MOST_ROWS)?;
-    let prefix = prefix(rest)?;
+    let date = date(words.first)?;
+    let after = after(Kind::Description, words.second)?;
+    let limit = limit(words.third, MOST_ROWS)?;
+    let prefix = prefix(words.fourth)?;
     Some(Question::ForRows(RowQuestion::Search {
         prefix,
         date,
@@ -115,48 +85,46 @@ fn search(text: &[u8]) -> Option<Question<'_>>
     }))
 }
 
-fn replaced(text: &[u8]) -> Option<Question<'_>>
-    ensures { IsQuestionReadAs (codes "REPLACED") (Some text.now) result }
+fn replaced(words: Words<'_>) -> Option<Question<'_>>
+    ensures { IsQuestionOf QuestionWord.Replaced words.entry result }
 {
-    let (id, date) = component_and_date(text)?;
+    let id = component(words.first)?;
+    let date = date(words.second)?;
     Some(Question::ForRows(RowQuestion::Replaced { id, date }))
 }
 
-fn replaces(text: &[u8]) -> Option<Question<'_>>
-    ensures { IsQuestionReadAs (codes "REPLACES") (Some text.now) result }
+fn replaces(words: Words<'_>) -> Option<Question<'_>>
+    ensures { IsQuestionOf QuestionWord.Replaces words.entry result }
 {
-    let (id, date) = component_and_date(text)?;
+    let id = component(words.first)?;
+    let date = date(words.second)?;
     Some(Question::ForRows(RowQuestion::Replaces { id, date }))
 }
 
-fn about(text: &[u8]) -> Option<Question<'_>>
-    ensures { IsQuestionReadAs (codes "ABOUT") (Some text.now) result }
+fn about(words: Words<'_>) -> Option<Question<'_>>
+    ensures { IsQuestionOf QuestionWord.About words.entry result }
 {
-    let (letter, id, day) = cut_twice(text)?;
-    let kind = kind(letter)?;
-    let id = subject(kind, id)?;
-    let date = EffectiveTime::parse(day)?;
+    let kind = kind(words.first)?;
+    let id = subject(kind, words.second)?;
+    let date = date(words.third)?;
     Some(Question::ForRows(RowQuestion::About { kind, id, date }))
 }
 
-fn timeline(text: &[u8]) -> Option<Question<'_>>
-    ensures { IsQuestionReadAs (codes "TIMELINE") (Some text.now) result }
+fn timeline(words: Words<'_>) -> Option<Question<'_>>
+    ensures { IsQuestionOf QuestionWord.Timeline words.entry result }
 {
-    let (letter, id) = cut(text)?;
-    let kind = kind(letter)?;
-    let id = subject(kind, id)?;
+    let kind = kind(words.first)?;
+    let id = subject(kind, words.second)?;
     Some(Question::ForRows(RowQuestion::Timeline { kind, id }))
 }
 
-fn page(text: &[u8]) -> Option<Question<'_>>
-    ensures { IsQuestionReadAs (codes "PAGE") (Some text.now) result }
+fn page(words: Words<'_>) -> Option<Question<'_>>
+    ensures { IsQuestionOf QuestionWord.Page words.entry result }
 {
-    let (letter, day, rest) = cut_twice(text)?;
-    let (from, count) = cut(rest)?;
-    let kind = kind(letter)?;
-    let date = EffectiveTime::parse(day)?;
-    let after = after(kind, from)?;
-    let limit = limit(count, MOST_ROWS)?;
+    let kind = kind(words.first)?;
+    let date = date(words.second)?;
+    let after = after(kind, words.third)?;
+    let limit = limit(words.fourth, MOST_ROWS)?;
     Some(Question::ForRows(RowQuestion::Page {
         kind,
         date,
@@ -165,16 +133,14 @@ fn page(text: &[u8]) -> Option<Question<'_>>
     }))
 }
 
-fn delta(text: &[u8]) -> Option<Question<'_>>
-    ensures { IsQuestionReadAs (codes "DELTA") (Some text.now) result }
+fn delta(words: Words<'_>) -> Option<Question<'_>>
+    ensures { IsQuestionOf QuestionWord.Delta words.entry result }
 {
-    let (letter, from, rest) = cut_twice(text)?;
-    let (day, last, count) = cut_twice(rest)?;
-    let kind = kind(letter)?;
-    let from = EffectiveTime::parse(from)?;
-    let date = EffectiveTime::parse(day)?;
-    let after = after(kind, last)?;
-    let limit = limit(count, MOST_ROWS)?;
+    let kind = kind(words.first)?;
+    let from = date(words.second)?;
+    let date = date(words.third)?;
+    let after = after(kind, words.fourth)?;
+    let limit = limit(words.fifth, MOST_ROWS)?;
     Some(Question::ForRows(RowQuestion::Delta {
         kind,
         from,
@@ -184,14 +150,13 @@ fn delta(text: &[u8]) -> Option<Question<'_>>
     }))
 }
 
-fn members(text: &[u8]) -> Option<Question<'_>>
-    ensures { IsQuestionReadAs (codes "MEMBERS") (Some text.now) result }
+fn members(words: Words<'_>) -> Option<Question<'_>>
+    ensures { IsQuestionOf QuestionWord.Members words.entry result }
 {
-    let (refset, day, from, count) = cut_thrice(text)?;
-    let refset = sctid_of(refset, Class::Concept)?;
-    let date = EffectiveTime::parse(day)?;
-    let after = after(Kind::Member, from)?;
-    let limit = limit(count, MOST_ROWS)?;
+    let refset = sctid_of(words.first, Class::Concept)?;
+    let date = date(words.second)?;
+    let after = after(Kind::Member, words.third)?;
+    let limit = limit(words.fourth, MOST_ROWS)?;
     Some(Question::ForRows(RowQuestion::Members {
         refset,
         date,
@@ -200,14 +165,13 @@ fn members(text: &[u8]) -> Option<Question<'_>>
     }))
 }
 
-fn values(text: &[u8]) -> Option<Question<'_>>
-    ensures { IsQuestionReadAs (codes "VALUES") (Some text.now) result }
+fn values(words: Words<'_>) -> Option<Question<'_>>
+    ensures { IsQuestionOf QuestionWord.Values words.entry result }
 {
-    let (set, day, from, count) = cut_thrice(text)?;
-    let refset = sctid_of(set, Class::Concept)?;
-    let date = EffectiveTime::parse(day)?;
-    let after = component_after(from)?;
-    let limit = limit(count, MOST_ROWS)?;
+    let refset = sctid_of(words.first, Class::Concept)?;
+    let date = date(words.second)?;
+    let after = component_after(words.third)?;
+    let limit = limit(words.fourth, MOST_ROWS)?;
     Some(Question::ForRows(RowQuestion::Values {
         refset,
         date,
@@ -216,13 +180,12 @@ fn values(text: &[u8]) -> Option<Question<'_>>
     }))
 }
 
-fn called(text: &[u8]) -> Option<Question<'_>>
-    ensures { IsQuestionReadAs (codes "CALLED") (Some text.now) result }
+fn called(words: Words<'_>) -> Option<Question<'_>>
+    ensures { IsQuestionOf QuestionWord.Called words.entry result }
 {
-    let (named, day, language) = cut_twice(text)?;
-    let concept = sctid_of(named, Class::Concept)?;
-    let date = EffectiveTime::parse(day)?;
-    let refset = sctid_of(language, Class::Concept)?;
+    let concept = sctid_of(words.first, Class::Concept)?;
+    let date = date(words.second)?;
+    let refset = sctid_of(words.third, Class::Concept)?;
     Some(Question::ForRows(RowQuestion::Called {
         concept,
         date,
@@ -230,50 +193,23 @@ fn called(text: &[u8]) -> Option<Question<'_>>
     }))
 }
 
-/// The arguments of ROWS, which follow the number in those of ADDED: a kind, a key, and a limit.
-fn kind_key_and_limit(text: &[u8]) -> Option<(Kind, Option<Key>, u32)>
-    ensures { MatchOption result
-        ((k : Kind) (o : Option Key) (n : ℕ) → IsRowsText k o n text.now → ⊥)
-        (λ x. IsRowsText x.0 x.1 x.2 text.now) }
+fn all_rows(words: Words<'_>) -> Option<Question<'_>>
+    ensures { IsQuestionOf QuestionWord.AllRows words.entry result }
 {
-    let (letter, id, day, count) = cut_thrice(text)?;
-    let kind = kind(letter)?;
-    let after = key_after(kind, id, day)?;
-    let limit = limit(count, MOST_ROWS)?;
-    Some((kind, after, limit))
-}
-
-fn all_rows(text: &[u8]) -> Option<Question<'_>>
-    ensures { IsQuestionReadAs (codes "ROWS") (Some text.now) result }
-{
-    let (kind, after, limit) = kind_key_and_limit(text)?;
+    let kind = kind(words.first)?;
+    let after = key_after(kind, words.second, words.third)?;
+    let limit = limit(words.fourth, MOST_ROWS)?;
     Some(Question::ForRows(RowQuestion::AllRows { kind, after, limit }))
 }
 
-fn added(text: &[u8]) -> Option<Question<'_>>
-    ensures { IsQuestionReadAs (codes "ADDED") (Some text.now) result }
+fn sources(words: Words<'_>) -> Option<Question<'_>>
+    ensures { IsQuestionOf QuestionWord.Sources words.entry result }
 {
-    let (word, rest) = cut(text)?;
-    let number = import_number(word)?;
-    let (kind, after, limit) = kind_key_and_limit(rest)?;
-    Some(Question::Added {
-        number,
-        kind,
-        after,
-        limit,
-    })
-}
-
-fn sources(text: &[u8]) -> Option<Question<'_>>
-    ensures { IsQuestionReadAs (codes "SOURCES") (Some text.now) result }
-{
-    let (word, rest) = cut(text)?;
-    let (to, day, from, count) = cut_thrice(rest)?;
-    let type_id = type_of(word)?;
-    let destination = sctid_of(to, Class::Concept)?;
-    let date = EffectiveTime::parse(day)?;
-    let after = component_after(from)?;
-    let limit = limit(count, MOST_ROWS)?;
+    let type_id = type_of(words.first)?;
+    let destination = sctid_of(words.second, Class::Concept)?;
+    let date = date(words.third)?;
+    let after = component_after(words.fourth)?;
+    let limit = limit(words.fifth, MOST_ROWS)?;
     Some(Question::ForIds(IdQuestion::Sources {
         type_id,
         destination,
@@ -283,12 +219,79 @@ fn sources(text: &[u8]) -> Option<Question<'_>>
     }))
 }
 
-fn receipt(text: &[u8]) -> Option<Question<'_>>
-    ensures { IsQuestionReadAs (codes "RECEIPT") (Some text.now) result }
+fn receipt(words: Words<'_>) -> Option<Question<'_>>
+    ensures { IsQuestionOf QuestionWord.Receipt words.entry result }
 {
-    match limit(text, u32::MAX) {
-        Some(number) => Some(Question::Receipt { number }),
-        None => None,
+    let number = limit(words.first, u32::MAX)?;
+    Some(Question::Receipt { number })
+}
+
+fn added(words: Words<'_>) -> Option<Question<'_>>
+    ensures { IsQuestionOf QuestionWord.Added words.entry result }
+{
+    let number = import_number(words.first)?;
+    let kind = kind(words.second)?;
+    let after = key_after(kind, words.third, words.fourth)?;
+    let limit = limit(words.fifth, MOST_ROWS)?;
+    Some(Question::Added {
+        number,
+        kind,
+        after,
+        limit,
+    })
+}
+
+/// How many words the arguments of the question are.
+fn columns_of(word: QuestionWord) -> usize
+    ensures { result ≡ columns word }
+{
+    match word {
+        QuestionWord::Dates | QuestionWord::Digest => 0,
+        QuestionWord::Receipt => 1,
+        QuestionWord::History
+        | QuestionWord::Children
+        | QuestionWord::Ancestors
+        | QuestionWord::Descendants
+        | QuestionWord::Replaced
+        | QuestionWord::Replaces
+        | QuestionWord::Timeline => 2,
+        QuestionWord::Get | QuestionWord::Terms | QuestionWord::About | QuestionWord::Called => 3,
+        QuestionWord::Search
+        | QuestionWord::Page
+        | QuestionWord::Members
+        | QuestionWord::Values
+        | QuestionWord::AllRows => 4,
+        QuestionWord::Delta | QuestionWord::Sources | QuestionWord::Added => 5,
+    }
+}
+
+/// The question with this word and with these words behind it.
+fn read(word: QuestionWord, words: Words<'_>) -> Option<Question<'_>>
+    ensures { IsQuestionOf word words.entry result }
+{
+    match word {
+        QuestionWord::Get => get(words),
+        QuestionWord::History => history(words),
+        QuestionWord::Children => children(words),
+        QuestionWord::Ancestors => ancestors(words),
+        QuestionWord::Descendants => descendants(words),
+        QuestionWord::Terms => terms(words),
+        QuestionWord::Search => search(words),
+        QuestionWord::Replaced => replaced(words),
+        QuestionWord::Replaces => replaces(words),
+        QuestionWord::About => about(words),
+        QuestionWord::Timeline => timeline(words),
+        QuestionWord::Page => page(words),
+        QuestionWord::Delta => delta(words),
+        QuestionWord::Members => members(words),
+        QuestionWord::Values => values(words),
+        QuestionWord::Called => called(words),
+        QuestionWord::AllRows => all_rows(words),
+        QuestionWord::Sources => sources(words),
+        QuestionWord::Receipt => receipt(words),
+        QuestionWord::Added => added(words),
+        QuestionWord::Dates => Some(Question::Dates),
+        QuestionWord::Digest => Some(Question::Digest),
     }
 }
 
@@ -297,34 +300,8 @@ pub(crate) fn question<'a>(word: QuestionWord, rest: Option<&'a [u8]>) -> Option
     ensures { IsQuestionReadAs (text_of_question word) (option_map (λ text. text.now) rest.entry)
         result }
 {
-    match rest {
-        Some(text) => match word {
-            QuestionWord::Get => get(text),
-            QuestionWord::History => history(text),
-            QuestionWord::Children => children(text),
-            QuestionWord::Ancestors => ancestors(text),
-            QuestionWord::Descendants => descendants(text),
-            QuestionWord::Terms => terms(text),
-            QuestionWord::Search => search(text),
-            QuestionWord::Replaced => replaced(text),
-            QuestionWord::Replaces => replaces(text),
-            QuestionWord::About => about(text),
-            QuestionWord::Timeline => timeline(text),
-            QuestionWord::Page => page(text),
-            QuestionWord::Delta => delta(text),
-            QuestionWord::Members => members(text),
-            QuestionWord::Values => values(text),
-            QuestionWord::Called => called(text),
-            QuestionWord::AllRows => all_rows(text),
-            QuestionWord::Sources => sources(text),
-            QuestionWord::Receipt => receipt(text),
-            QuestionWord::Added => added(text),
-            QuestionWord::Dates | QuestionWord::Digest => None,
-        },
-        None => match word {
-            QuestionWord::Dates => Some(Question::Dates),
-            QuestionWord::Digest => Some(Question::Digest),
-            _ => None,
-        },
+    match cut_into(columns_of(word), rest) {
+        Some(words) => read(word, words),
+        None => None,
     }
 }

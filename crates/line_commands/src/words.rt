@@ -1,11 +1,12 @@
 //! Words, separated by single spaces.
 
-ghost use Rattle.std.specs.Prelude.{◌≡◌, ◌≢◌, ◌++◌, ◌∷◌, List, ℕ, MatchOption, option_map};
+ghost use Rattle.std.specs.Prelude.{◌≡◌, ◌≢◌, ◌≤◌, ◌++◌, ◌∷◌, MatchOption, Some, option_map};
 ghost use Rattle.line_commands.specs.Spelling.{word_of_question};
 ghost use Rattle.question_model.specs.Questions.{Question as Asked};
 ghost use Rattle.line_commands.specs.Commands.{Command as Commanded, word_of};
 ghost use Rattle.line_commands.specs.Requests.{with_rest};
-ghost use Rattle.line_commands.specs.Private.{IsWord, IsOther, text_of_question, text_of_word};
+ghost use Rattle.line_commands.specs.Private.{IsWord, IsOther, IsCutInto};
+ghost use Rattle.line_commands.specs.Private.{text_of_question, text_of_word};
 
 use bstr::ByteSlice;
 
@@ -73,28 +74,69 @@ pub(crate) fn cut(text: &[u8]) -> Option<(&[u8], &[u8])>
     Some((&text[..at], &text[at + 1..]))
 }
 
-/// Two words, and the text after the spaces that follow them.
-pub(crate) fn cut_twice(text: &[u8]) -> Option<(&[u8], &[u8], &[u8])>
-    ensures { MatchOption result
-        ((a b x : List ℕ) → IsWord a → IsWord b → text.now ≢ a ++ 32 ∷ (b ++ 32 ∷ x))
-        (λ x. IsWord x.0.now × IsWord x.1.now
-        × (text.now ≡ x.0.now ++ 32 ∷ (x.1.now ++ 32 ∷ x.2.now))) }
-{
-    let (first, rest) = cut(text)?;
-    let (second, rest) = cut(rest)?;
-    Some((first, second, rest))
+/// The words of a question's arguments, in their order. Behind the last one they are empty.
+#[derive(Clone, Copy)]
+pub(crate) struct Words<'a> {
+    pub first: &'a [u8],
+    pub second: &'a [u8],
+    pub third: &'a [u8],
+    pub fourth: &'a [u8],
+    pub fifth: &'a [u8],
 }
 
-/// Three words, and the text after the spaces that follow them.
-pub(crate) fn cut_thrice(text: &[u8]) -> Option<(&[u8], &[u8], &[u8], &[u8])>
-    ensures { MatchOption result ((a b c x : List ℕ) → IsWord a → IsWord b → IsWord c
-        → text.now ≢ a ++ 32 ∷ (b ++ 32 ∷ (c ++ 32 ∷ x)))
-        (λ x. IsWord x.0.now × IsWord x.1.now × IsWord x.2.now
-        × (text.now ≡ x.0.now ++ 32 ∷ (x.1.now ++ 32 ∷ (x.2.now ++ 32 ∷ x.3.now)))) }
+/// The text as this many words. The last one is all that is left, and may have spaces.
+fn cut_text(count: usize, text: &[u8]) -> Option<Words<'_>>
+    requires some { 1 ≤ count }
+    requires few { count ≤ 5 }
+    ensures { IsCutInto count (Some text.now) result }
 {
+    if count == 1 {
+        return Some(Words {
+            first: text,
+            second: b"",
+            third: b"",
+            fourth: b"",
+            fifth: b"",
+        });
+    }
     let (first, rest) = cut(text)?;
-    let (second, third, rest) = cut_twice(rest)?;
-    Some((first, second, third, rest))
+    let later = cut_text(count - 1, rest)?;
+    Some(Words {
+        first,
+        second: later.first,
+        third: later.second,
+        fourth: later.third,
+        fifth: later.fourth,
+    })
+}
+
+/// What follows a question's word as this many words.
+pub(crate) fn cut_into<'a>(count: usize, rest: Option<&'a [u8]>) -> Option<Words<'a>>
+    requires { count ≤ 5 }
+    ensures { IsCutInto count (option_map (λ text. text.now) rest.entry) result }
+{
+    match rest {
+        Some(text) => {
+            if count == 0 {
+                None
+            } else {
+                cut_text(count, text)
+            }
+        }
+        None => {
+            if count == 0 {
+                Some(Words {
+                    first: b"",
+                    second: b"",
+                    third: b"",
+                    fourth: b"",
+                    fifth: b"",
+                })
+            } else {
+                None
+            }
+        }
+    }
 }
 
 /// The question that the text names.

@@ -1,5 +1,6 @@
 use Rattle.std.proofs.Common.{subst}
 use Rattle.question_model.specs.Questions.{question_of}
+use Rattle.line_commands.proofs.Asked.{asked_import}
 use Rattle.line_server.specs.Private.{QuestionCanBeAsked}
 use Rattle.line_server.proofs.asking.ask.Goals as goal
 
@@ -22,4 +23,4 @@ pub returns-in-Added : goal.returns-in-Added
 returns-in-Added g c = rw c.in-Added.is c.answer_added.ensures
 
 pub answer_receipt-requires-clause-first : goal.answer_receipt-requires-clause-first
-answer_receipt-requires-clause-first g c = (rw c.in-Receipt.is at c.requires.asked).1.0
+answer_receipt-requires-clause-first g c = let asked = rw c.in-Receipt.is at c.requires.asked in asked_import _ asked.0 asked.1
