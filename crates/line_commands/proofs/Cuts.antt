@@ -60,3 +60,8 @@ none_of_text text (x ∷ xs) l e = omega arith
 pub some_of_none : (count : ℕ) → 1 ≤ count → (found : List (List ℕ)) → length found ≡ count → behind found ≢ None
 some_of_none count low [] l e = omega arith
 some_of_none count low (x ∷ xs) l e = none-some _ (sym e)
+
+-- what holds if no words are found
+pub no_cut : (count : ℕ) (rest : Option (List ℕ)) (found : Option Words) → found ≡ None → ((words : List (List ℕ)) → length words ≡ count → AreWords words → behind words ≢ rest) → IsCutInto count rest found
+no_cut count rest None e h = h
+no_cut count rest (Some words) e h = absurd (none-some words (sym e))
