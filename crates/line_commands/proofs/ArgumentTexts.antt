@@ -1,5 +1,5 @@
 -- What arguments are spelled by: a text spells one argument of each sort, and has no space.
-use Rattle.std.proofs.Common.{◌≡◌, ℕ, ◌≤◌, ◌<◌, ◌^◌, Bool, true, false, ◌&&◌, Option, Some, None, List, [], ◌∷◌, length, refl, sym, ap, subst, ◌∙◌, arith}
+use Rattle.std.proofs.Common.{◌≡◌, ℕ, ◌<◌, ◌^◌, Bool, true, false, ◌&&◌, Option, Some, None, List, [], ◌∷◌, length, refl, sym, ap, subst, ◌∙◌, arith}
 use Rattle.std.specs.Prelude.{decimal, codes}
 use Rattle.std.proofs.lemmas.Bool.{and_parts, false≢true}
 use Rattle.std.proofs.lemmas.Fmt.{decimal_injective}
@@ -10,7 +10,7 @@ use Rattle.rf2_values.specs.Time.{IsTime}
 use Rattle.rf2_values.specs.Row.{IsIdOf, SpellsId}
 use Rattle.rf2_values.proofs.Ids.{same_ids}
 use Rattle.rf2_values.proofs.Decimals.{time_below}
-use Rattle.line_commands.specs.Spelling.{most_rows, letter, IsSubjectOf, Ids, OfKind, OfComponents, OfSubjects, Argument, ForKind, Id, IdOrNone, KeyId, KeyDate, Date, Limit, Imported, Number, Text, Spells, SpellsIdOf, SpellsAll}
+use Rattle.line_commands.specs.Spelling.{IsSubjectOf, Ids, OfKind, OfComponents, OfSubjects, Argument, ForKind, Id, IdOrNone, KeyId, KeyDate, Date, Limit, Imported, Number, Text, Spells, SpellsIdOf, SpellsAll}
 use Rattle.line_commands.specs.Private.{IsWord, AreWords, behind}
 use Rattle.line_commands.proofs.FirstWords.{decimal_word, letter_word, none_word, id_word, one_letter, not_dash, no_dash_number}
 use Rattle.line_commands.proofs.Cuts.{same_split}

@@ -1,9 +1,9 @@
 -- What a line asks: each question with a word, and the one question that a line spells.
-use Rattle.std.proofs.Common.{◌≡◌, ◌≢◌, ℕ, ◌≤◌, true, Option, Some, None, List, [], ◌∷◌, length, refl, sym, ap, subst, ◌∙◌, arith, rules}
+use Rattle.std.proofs.Common.{◌≡◌, ℕ, ◌≤◌, true, Option, Some, None, List, [], ◌∷◌, length, refl, sym, ap, subst, ◌∙◌, arith, rules}
 use Rattle.std.specs.Str.{bytes_eq}
 use Rattle.std.proofs.lemmas.Bool.{false≢true}
 use Rattle.question_model.specs.declared.question.Question.{Question as RustQuestion}
-use Rattle.question_model.specs.Questions.{Question, question_of, Get, History, Children, Ancestors, Descendants}
+use Rattle.question_model.specs.Questions.{Question, Get, History, Children, Ancestors, Descendants}
 use Rattle.question_model.specs.Questions.{Terms, Search, Replaced, Replaces, About, Timeline, Page}
 use Rattle.question_model.specs.Questions.{Delta, Members, Values, Called, Dates, Digest, Receipt}
 use Rattle.question_model.specs.Questions.{ForRows, ForIds, AllRows, Sources, Added}

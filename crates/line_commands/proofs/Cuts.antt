@@ -1,9 +1,9 @@
 -- A text as a number of words.
-use Rattle.std.proofs.Common.{◌≡◌, ◌≢◌, ℕ, zero, suc, ◌+◌, ◌-◌, ◌≤◌, Option, Some, None, List, [], ◌∷◌, ◌++◌, length, take, refl, sym, ap, subst, ◌∙◌, arith}
+use Rattle.std.proofs.Common.{◌≡◌, ◌≢◌, ℕ, zero, suc, ◌-◌, ◌≤◌, Option, Some, None, List, [], ◌∷◌, ◌++◌, length, take, refl, sym, ap, subst, ◌∙◌, arith}
 use Rattle.std.proofs.lemmas.Option.{same_Some, none-some}
 use Rattle.line_commands.specs.declared.words.Words.{Words}
 use Rattle.line_commands.specs.Requests.{spaced}
-use Rattle.line_commands.specs.Private.{IsWord, AreWords, IsCutInto, behind, texts}
+use Rattle.line_commands.specs.Private.{IsWord, AreWords, IsCutInto, behind}
 use Rattle.line_commands.proofs.FirstWords.{no_space, peel}
 
 -- as many texts that are one text are the same texts
