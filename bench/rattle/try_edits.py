@@ -212,9 +212,9 @@ class Report:
         """Takes what a line says of an answer that doesn't prove its goal, or of those on it."""
         answer, dependents = OF_ANSWER.match(line), OF_DEPENDENTS.match(line)
         if answer and not LOST.search(answer[3]):
-            self.answers.setdefault(answer[1].replace("/", "::"), set()).add(answer[2])
+            self.answers.setdefault(function_of_folder(answer[1]), set()).add(answer[2])
         elif dependents:
-            known = self.answers.get(dependents[1].replace("/", "::"), set())
+            known = self.answers.get(function_of_folder(dependents[1]), set())
             known |= set(dependents[3].split(", ")) if dependents[2] in known else set()
 
     def take_function(self, name: str, said: str, noted: list[str]) -> None:
@@ -257,7 +257,7 @@ class Report:
             if lemma and not LOST.search(lemma[2]):
                 lemmas[lemma[1]] = lemma[1]
             elif resting and resting[2] in lemmas:
-                function = resting[1].rpartition("/")[0].replace("/", "::")
+                function = function_of_folder(resting[1].rpartition("/")[0])
                 names = resting[3].split(", ")
                 goals = goals_answered(proofs, function).intersection(names)
                 if function and goals:
@@ -276,9 +276,23 @@ def is_unproved(said: str) -> bool:
     return said.startswith(UNPROVED) and "did not admit" not in said
 
 
+def function_of_folder(folder: str) -> str:
+    """The function whose proofs a folder of proofs/ has. That of one that calls itself begins with
+    a plus sign."""
+    return folder.replace("/", "::").replace("::+", "::")
+
+
+def folder_of(proofs: str, function: str) -> str | None:
+    """The folder of a function's proofs, if it has one."""
+    *around, own = function.split("::")
+    folders = [os.path.join(proofs, *around, name) for name in (own, "+" + own)]
+    return next((it for it in folders if os.path.isdir(it)), None)
+
+
 def goals_answered(proofs: str, function: str) -> set[str]:
     """The goals of a function that have an answer."""
-    path = os.path.join(proofs, *function.split("::"), "Answers.antt")
+    folder = folder_of(proofs, function)
+    path = os.path.join(folder, "Answers.antt") if folder else ""
     return set(re.findall(r"goal\.(\S+)", read(path))) if os.path.isfile(path) else set()
 
 
@@ -395,7 +409,7 @@ class Trial:
         return [(path, function) for *_, path, function in sorted(found, key=lambda it: it[:2])]
 
     def has_proof(self, name: str) -> bool:
-        return os.path.isdir(os.path.join(self.folder, "proofs", *name.split("::")))
+        return folder_of(os.path.join(self.folder, "proofs"), name) is not None
 
     def planted(self, texts: dict[str, str], path: str, function: Function) -> dict[str, str]:
         """The texts with the statement that does nothing at the beginning of this function."""
