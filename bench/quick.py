@@ -1,29 +1,14 @@
-#!/usr/bin/env python3
 """Runs every test and the trials of the program on this tree, and proves nothing.
 
 quick.py [--only WORD]
 
 The tests, the programs of the crates and `sctd` itself are built by the kit's `rt try`
-(bench/unproved.py says how), two at a time and never more, or one where this process may use one
-processor alone (`taskset`). A line tells when each part begins, and one what came of it and how
-many seconds it took; below it stands what failed. The parts are:
-
-- the checks of the documents, with which `.ci/run` begins;
-- `sctd`, and the trials of it: a soak of 20 seconds, the guide's examples, mistakes, syncs, the
-  hub, an operator's year, the gateway, and a failed sync. A trial that needs what this machine
-  lacks says so, and is skipped;
-- the tests of the crates that no other crate uses, built as one crate;
-- the tests of each other crate that has any;
-- each program of the crates, `bench_store` too, which measures: what it writes has to be its file
-  `stdout`, or nothing where it has none.
-
-The last line is `N passed, M failed`, and `, K skipped` where there are any: of tests, scripts and
-programs. The status is 0 where nothing failed. WORD takes the parts with this text in their name.
-It needs the kit's `rt` on the path, and ten minutes of two processors. Standard library alone; some
-trials need pytest, and are skipped without it.
+(bench/unproved.py says how), two at a time and never more. The parts are: `sctd`, and the trials of
+it; the tests of the crates that no other crate uses, built as one crate; the tests of each other
+crate that has any; each program of the crates, whose output has to be its file `stdout`, or nothing
+where it has none; and the checks with which `.ci/run` begins. The last line is `N passed, M
+failed`, and `, K skipped` where there are any. WORD takes the parts with this text in their name.
 """
-
-from __future__ import annotations
 
 import argparse
 import os
@@ -35,6 +20,7 @@ import tempfile
 import threading
 import time
 from concurrent.futures import ThreadPoolExecutor
+from functools import partial
 from itertools import zip_longest
 from pathlib import Path
 from typing import Callable, Iterator, NamedTuple
@@ -181,31 +167,25 @@ class Tree:
         apart = [name for name in uses if tested[name] and name not in joined]
         run = [name for name in uses if self.crates.is_program(name)]
         count = sum(tested[name] for name in joined)
-        parts = [self.part_of_program(name) for name in run if name == PROGRAM]
+        parts = [self.part_of_program(PROGRAM)]
         if joined:
             folder = Together(self.crates, joined).folder
-            parts.append(self.part_of_tests("tests of %d crates" % len(joined), folder, count))
+            name = "tests of %d crates" % len(joined)
+            parts.append(Part(name, partial(self.run_tests, folder, count)))
         trials = [script for script in SCRIPTS if script[0] != SOAK]
-        parts += [self.part_of_trial(words) for words in (LONG_SOAK, *trials, *OTHER_TRIALS)]
+        parts += [Part("bench/" + " ".join(words), partial(self.run_trial, words), is_trial=True)
+                  for words in (LONG_SOAK, *trials, *OTHER_TRIALS)]
         parts += [self.part_of_program(name) for name in run if name != PROGRAM]
-        parts += [self.part_of_tests("tests of " + name, self.crates.folder(name), tested[name])
+        parts += [Part("tests of " + name,
+                       partial(self.run_tests, self.crates.folder(name), tested[name]))
                   for name in apart]
         text = (TOP / ".ci" / "run").read_text(encoding="utf-8")
-        return parts + [self.part_of_check(words) for words in DOCUMENT_CHECK.findall(text)]
-
-    def part_of_tests(self, name: str, folder: Path, count: int) -> Part:
-        return Part(name, lambda: self.run_tests(folder, count))
+        return parts + [Part("bench/" + words.split()[0],
+                             partial(run_script, words.split(), LINES_TOLD))
+                        for words in DOCUMENT_CHECK.findall(text)]
 
     def part_of_program(self, name: str) -> Part:
-        return Part(PROGRAM_OF + name, lambda: self.run_program(name))
-
-    def part_of_trial(self, words: tuple[str, ...]) -> Part:
-        name = "bench/" + " ".join(words)
-        return Part(name, lambda: self.run_trial(words), is_trial=True)
-
-    def part_of_check(self, text: str) -> Part:
-        words = text.split()
-        return Part("bench/" + words[0], lambda: run_script(words, LINES_TOLD))
+        return Part(PROGRAM_OF + name, partial(self.run_program, name))
 
     def run_tests(self, folder: Path, count: int) -> Outcome:
         """Runs the tests of a crate, which has to have so many."""

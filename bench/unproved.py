@@ -1,14 +1,11 @@
 """Builds a crate by the kit's `rt try`, which proves nothing, and keeps the program that it makes.
 
-`rt try` removes what it has built and run, builds it with a sanitizer that makes it ten times as
-slow, and looks beside the build for names that a later check would refuse, which takes as long
-again. So it is run here from a folder of links to the kit, in which clang builds without the
-sanitizer, the linker leaves a copy of the program behind, and the look for names is left out. What
-is built stops, as by `rt try` itself, at an index out of bounds, at a sum that overflows and where
-`prove!` fails. It needs the kit's `rt` on the path. Standard library alone.
+`rt try` removes what it has built, builds it with a sanitizer that makes it ten times as slow, and
+looks for names that a later check would refuse. So it is run here from a folder of links to the
+kit, in which clang builds without the sanitizer, the linker leaves a copy of the program behind,
+and the look for names is left out. What is built stops, as by `rt try` itself, at an index out of
+bounds, at a sum that overflows and where `prove!` fails.
 """
-
-from __future__ import annotations
 
 import os
 import shlex

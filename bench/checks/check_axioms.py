@@ -1,17 +1,12 @@
-#!/usr/bin/env python3
 """Compares what the build of the program takes for granted with what PROMISES.md says of it.
 
 check_axioms.py FILE
 
-FILE is what `rt ci` printed. The statements about C functions that a program takes as they are
-written are its axioms: of the crate sctd it has a line `axioms LIBRARY: ..` for each library with
-the number of its functions, and a last line with `axioms=` and the number of all. PROMISES has the
-same three numbers. Where an earlier run on the machine proved sctd, `rt ci` prints none of these
-lines, and there is nothing to compare: this is said. What isn't so is said on standard error, and
-the status is 1 then. Standard library alone.
+FILE is what `rt ci` printed: of the crate sctd a line `axioms LIBRARY: ..` for each library with
+the number of its C functions that are taken as they are written, and a last line with `axioms=` and
+the number of all. PROMISES has the same three numbers. Where an earlier run on the machine proved
+sctd none of these lines is printed, and there is nothing to compare: this is said.
 """
-
-from __future__ import annotations
 
 import re
 import sys

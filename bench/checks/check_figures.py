@@ -1,19 +1,10 @@
-#!/usr/bin/env python3
-"""Checks the figures of the documents that don't depend on the machine, and renews them.
+"""Checks the figures of the documents that don't depend on the machine, or writes them (--renew).
 
-check_figures.py [--renew]
-
-figures.txt names each of them with the command that prints it: the document, the text around the
-number, and the command, which bash runs at the top of the repository. The text stands in its
-document just once, and its number has to be the one that is printed. TABLES names commands that
-print rows of a table: each row has to stand in its document as it is printed. And a number of
-edits, tests, cases in files or crates that stands in a document without being in there is an
-error, but for the rows of dated measurements. --renew writes what the commands print into the
-documents. Nothing is built, and it takes a second or two; what there is to say goes to standard
-error. The status is 1 where a figure isn't so. Standard library alone.
+figures.txt names each of them: its document, the text around the number, which stands there just
+once, and the command that prints it, which bash runs at the top of the repository. TABLES names
+commands that print rows of a table. A number of edits, tests, cases in files or crates that stands
+in a document without being in figures.txt is an error, but for the rows of dated measurements.
 """
-
-from __future__ import annotations
 
 import os
 import re
@@ -76,8 +67,9 @@ def printed(command: str, known: dict[str, str | None]) -> str | None:
 
 
 def pattern_of(figure: Figure) -> re.Pattern[str]:
-    """The text of a figure, with a group for its number."""
-    front, behind = (re.escape(part) for part in figure.text.split("{}"))
+    """The text of a figure, in which a line may end, with a group for its number."""
+    front, behind = (r"\s+".join(map(re.escape, part.split(" ")))
+                     for part in figure.text.split("{}"))
     return re.compile("(%s)([0-9][0-9,]*)(?=%s)" % (front, behind))
 
 
@@ -97,7 +89,7 @@ def checked(name: str, text: str, known: dict[str, str | None], wrong: list[str]
     for figure in FIGURES:
         if figure.document != name:
             continue
-        found = pattern_of(figure).findall(text)
+        found = list(pattern_of(figure).finditer(text))
         if len(found) != 1:
             wrong.append("%s: %r stands there %d times" % (name, figure.text, len(found)))
             continue
@@ -106,11 +98,11 @@ def checked(name: str, text: str, known: dict[str, str | None], wrong: list[str]
             wrong.append("%s: %r: no number is printed by: %s"
                          % (name, figure.text, figure.command))
             continue
-        before, after = (figure.text.replace("{}", one) for one in (found[0][1], number))
-        if before != after:
+        first, last = found[0].span(2)
+        if text[first:last] != number:
             wrong.append("%s: %r, and %s is printed by: %s"
-                         % (name, before, number, figure.command))
-        text = text.replace(before, after)
+                         % (name, found[0].group(), number, figure.command))
+        text = text[:first] + number + text[last:]
     for line, count in unlisted(name, text):
         wrong.append("%s:%d: %r has no command" % (name, line, count))
     return text

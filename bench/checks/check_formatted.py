@@ -1,15 +1,7 @@
 #!/usr/bin/env python3
-"""Checks that every crate's files are as `rt fmt` writes them.
-
-check_formatted.py
-
-`rt ci` refuses a crate whose files aren't, after it has proved the crates below, and `rt check`
-proves it as it is. So this is asked first: it takes some seconds and proves nothing. Each file that
-isn't is named in a line of standard error, and the status is 1 where there is any. It needs the
-kit's `rt` on the path. Standard library alone.
+"""Checks that every crate's files are as `rt fmt` writes them, which `rt ci` does only once it has
+proved the crates below. It needs the kit's `rt` on the path.
 """
-
-from __future__ import annotations
 
 import shutil
 import subprocess
@@ -35,10 +27,7 @@ def faults_of(rattle: str, crate: Path) -> list[str]:
     return said.stdout.splitlines() or [f"{crate}: not formatted"] if said.returncode else []
 
 
-def main(words: list[str]) -> int:
-    if words:
-        print((__doc__ or "").strip(), file=sys.stderr)
-        return 2
+def main() -> int:
     kit = Path(shutil.which("rt") or sys.exit("rt is not on the path")).resolve().parent
     crates = [path for path in sorted((TOP / "crates").iterdir()) if files_of(path)]
     faults = [fault for crate in crates for fault in faults_of(str(kit / "rattle"), crate)]
@@ -49,4 +38,4 @@ def main(words: list[str]) -> int:
 
 
 if __name__ == "__main__":
-    sys.exit(main(sys.argv[1:]))
+    sys.exit(main())

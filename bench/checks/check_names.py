@@ -1,21 +1,12 @@
-#!/usr/bin/env python3
-"""Checks that the documents name only what is there: functions and types as `crate::name`, and
-files of this repository by their paths.
+"""Checks that what the documents name and link to is there.
 
-check_names.py
-
-It also checks that no module, type or trait of the sources has the name of a crate, and that no
-folder of proofs/ stands for what is gone, both of which `rt ci` refuses only once it comes to that
-crate; and that bench/README.md has each script of bench/.
-
-It reads README.md, CHANGELOG.md, bench/README.md and all pages of docs/. A link has to lead to a
-file of the repository and, behind `#`, to one of its headings. Of each text between backquotes that
-begins with the name of a crate and `::`, each further word has to stand in that crate's src/ or
-specs/, where `crate::{one, other}` names two. Each text that ends with .rt, .antt, .py, .md, .rs or
-.service and has a slash has to be the path of a file, from the top of the repository, from crates/
-or from a crate's folder. What isn't there is said in a line of its own on standard error, and the
-status is 1 then. PROMISES.md is checked further by check_promises.py. Nothing is built. Standard
-library alone.
+A link has to lead to a file of the repository and, behind `#`, to one of its headings. Of each text
+between backquotes that begins with the name of a crate and `::`, each further word has to stand in
+that crate's src/ or specs/, where `crate::{one, other}` names two. Each text that ends with .rt,
+.antt, .py, .md, .rs or .service and has a slash has to be a path from the top of the repository,
+from crates/ or from a crate's folder. And no module, type or trait of the sources may have the name
+of a crate, and no folder of proofs/ stand for what is gone, both of which `rt ci` refuses only once
+it comes to that crate; and bench/README.md has to have each script of bench/.
 """
 
 import functools

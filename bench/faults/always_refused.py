@@ -1,27 +1,19 @@
-#!/usr/bin/env python3
 """Tries, for each public call that may run out of memory, a body that always is.
 
 always_refused.py [--only WORD] [--tests CRATE] [--keep FOLDER] [--table]
 
 A contract allows such a refusal at any time, so such a body could be proved: a test has to fail.
 Each call of refused_calls.txt gets a first line that gives its refusal while the call's number is
-in a byte of the built program. All of them stand in one copy of this repository; there each crate
-of tests is built once by `rt try`, which proves nothing and needs no library, and the built program
-is run once as it is and once with each call's number in the byte. A line for each call says what
-failed, and what the table names has to be among it: a test, or, in a crate whose program runs
-cases, one that isn't told to be `ok` as in its file `stdout`, or a case of bench/cases/, of which
-sctd is asked. The last line counts the calls, and those that were not caught: the status is 1 where
-there are any.
+in a byte of the built program, in one copy of this repository; there each crate of tests is built
+once by `rt try`, and run once as it is and once with each call's number in the byte. What fails has
+to have what the table names: a test, or, in a crate whose program runs cases, one that isn't told
+to be `ok` as in its file `stdout`, or a case of bench/cases/, of which sctd is asked.
 
 WORD takes the calls with this text in their crate and name, CRATE those that its tests are to
-catch. The copy lies in a temporary folder, or in FOLDER, and then it stays. What fails as it is
-catches nothing. A build takes about two minutes of one processor, a run some seconds. Before all
-that it looks if each call and each test of the table stands in the sources, and if each refusal is
-one that the call's file can name, which takes no time; with --table it does that alone, and prints
-the rows that bench/README.md has of it. Standard library alone.
+catch. The copy lies in a temporary folder, or in FOLDER, and then it stays. With --table it only
+looks if each call, refusal and test of the table stands in the sources, and prints the row that
+bench/README.md has of it. A build takes about two minutes of one processor, a run some seconds.
 """
-
-from __future__ import annotations
 
 import argparse
 import re
@@ -37,6 +29,7 @@ from typing import Iterable, Iterator, NamedTuple
 TOP = Path(__file__).resolve().parents[2]
 sys.path += [str(TOP / "bench" / folder) for folder in ("", "trials", "rattle")]
 from case_texts import names_of_cases  # noqa: E402
+from fault_tables import print_row  # noqa: E402
 from source import Item, function_around  # noqa: E402
 from unproved import Builder, bytes_of, kit_folder, run_program, status_of  # noqa: E402
 
@@ -345,13 +338,6 @@ def try_calls(kit: Path, top: Path, name: str, numbers: dict[Call, int]) -> int:
         return sum(not is_caught(call, number, tests) for call, number in numbers.items())
 
 
-def print_rows(calls: list[Call]) -> None:
-    """A row for each crate whose tests catch calls."""
-    for tests, count in sorted(Counter(call.tests for call in calls).items()):
-        print(f"| `{tests}` | {count} public calls that always run out of memory"
-              f" | `always_refused.py --tests {tests}` |")
-
-
 def main() -> int:
     assert __doc__
     parser = argparse.ArgumentParser(description=__doc__.strip().split("\n", maxsplit=1)[0])
@@ -365,7 +351,8 @@ def main() -> int:
                and asked.tests in (None, call.tests)}
     is_right = is_in_sources(list(numbers))
     if asked.table or not is_right:
-        print_rows(list(numbers))
+        print_row("always_refused.py [--tests NAME]", "a public call always runs out of memory",
+                  Counter(call.tests for call in numbers))
         return 0 if numbers and is_right else 1
     with copied(asked.keep) as top:
         plant_all(top, numbers)

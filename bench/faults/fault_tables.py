@@ -1,8 +1,7 @@
 """Isn't started: reads the tables of faults, the files *_faults.txt beside it, and the changes in
 rattle/three_crates/."""
 
-from __future__ import annotations
-
+from collections import Counter
 from collections.abc import Iterator
 from pathlib import Path
 from typing import NamedTuple
@@ -35,3 +34,9 @@ def faults_in(path: Path) -> Iterator[Fault]:
             field, _, text = line.partition(":")
             found.setdefault(field, []).append(text.removeprefix(" "))
         yield Fault(*map("\n".join, found.values()))
+
+
+def print_row(command: str, what: str, counts: Counter[str]) -> None:
+    """Prints a script's row of bench/README.md: what fails with its faults, and with how many."""
+    told = ", ".join(f"`{name}` {count}" for name, count in sorted(counts.items()))
+    print(f"| `{command}` | {what} | {told} |")

@@ -1,18 +1,13 @@
-#!/usr/bin/env python3
 """Puts faults into a copy of the gateway and the hub, one at a time, and says which tests fail.
 
 gateway_faults.py PROGRAM [NUMBER|TESTS ..]
 gateway_faults.py --table
 
-PROGRAM is the built `sctd`. Each fault of gateway_faults.txt, page_faults.txt, expression_faults.txt
-and hub_faults.txt is a text of a file that is exchanged, and the tests that are run with it: TESTS,
-such as `test_hub`, stands for all faults that are tried with these. One that no test fails for is
-said to be NOT SEEN, and the status is 1 then. It takes some minutes. With --table it prints the
-rows that bench/README.md has of it, and tries nothing. Standard library alone; the gateway and its
-tests need their packages.
+Each fault of the files in TABLES is a text of a file that is exchanged, and the tests that are run
+with it: TESTS, such as `test_hub`, stands for all faults that are tried with these. One that no
+test fails for is said to be NOT SEEN, and the status is 1 then. With --table it prints the row that
+bench/README.md has of it, and tries nothing.
 """
-
-from __future__ import annotations
 
 import os
 import re
@@ -24,7 +19,7 @@ from collections import Counter
 from collections.abc import Sequence
 from pathlib import Path
 
-from fault_tables import Fault, faults_in
+from fault_tables import Fault, faults_in, print_row
 
 ROOT = os.path.dirname(os.path.dirname(os.path.dirname(os.path.abspath(__file__))))
 sys.path[:0] = [os.path.join(ROOT, "bench", "trials"), os.path.join(ROOT, "packaging")]
@@ -93,17 +88,10 @@ def names_of(fault: Fault) -> list[str]:
     return [test.partition(":")[0] for test in fault.tests.split()]
 
 
-def print_rows() -> None:
-    """A row for each file of tests that faults are tried with."""
-    counts = Counter(test for fault in FAULTS for test in names_of(fault))
-    for test, count in sorted(counts.items()):
-        print(f"| `{test.removesuffix('.py')}` | {count} of the gateway, the page and the hub"
-              f" | `gateway_faults.py PROGRAM {test}` |")
-
-
 def main(words: Sequence[str]) -> int:
     if words == ["--table"]:
-        print_rows()
+        counts = Counter(test for fault in FAULTS for test in names_of(fault))
+        print_row("gateway_faults.py PROGRAM [NAME]", "of gateway, page and hub", counts)
         return 0
     if not words:
         print((__doc__ or "").strip(), file=sys.stderr)

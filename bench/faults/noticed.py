@@ -1,22 +1,14 @@
-#!/usr/bin/env python3
 """Tells which cases, tests and programs notice an edit: what fails with the wrong body built in.
 
 noticed.py [--by CRATE,..] [--keep FOLDER] [--alone] CRATE[/EDIT] ..
 
-An edit of must-fail/ or edits/ is refused by the prover. It may leave must-fail/ once something
-that CI runs is seen to fail with it too. So the functions that the edits change get a copy each
-with the edit, in a copy of this repository; a function calls its copy while the edit's number is in
-a byte of the built program. There each crate of `--by` (default: the programs of cases, and the
-tests of the program, and sctd) is built once by `rt try`, which proves nothing, and run once as it
-is and once with each edit's number in the byte. A line for each edit tells what failed.
-An edit of what is no function of its own (a constant, a function of a trait) can't be planted so,
-which is told: put it in by hand. `try_cases` stands in `--by` for the transcripts of bench/cases/,
-of which the program of sctd is asked. The last line counts the edits, and those that nothing
-noticed; the status is 1 where there are any. A build takes about two minutes of one processor.
-Standard library alone.
+The functions that the edits change get a copy each with the edit, in a copy of this repository; a
+function calls its copy while the edit's number is in a byte of the built program. There each crate
+of `--by` is built once by `rt try`, which proves nothing, and run once as it is and once with each
+edit's number in the byte. An edit of what is no function of its own (a constant, a function of a
+trait) can't be planted so, which is told: put it in by hand. `try_cases` stands in `--by` for the
+transcripts of bench/cases/. The status is 1 where an edit isn't noticed.
 """
-
-from __future__ import annotations
 
 import argparse
 import re

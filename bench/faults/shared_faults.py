@@ -1,25 +1,20 @@
-#!/usr/bin/env python3
 """Puts faults into what the tests share that run out of memory in each call: one has to fail.
 
 shared_faults.py [--keep FOLDER] [--table]
 
-The faults of shared_faults.txt stand in one copy of this repository, each of them switched on by a
-byte of the built tests, as always_refused.py has it. A line for each tells which tests fail, and
-below it stands what these say, with how many refusals there were. The status is 1 where nothing
-fails. The copy lies in a temporary folder, or in FOLDER, and then it stays. With --table it only
-looks if each text stands in the sources, and prints the row that bench/README.md has of it. A build
-takes about two minutes of one processor, a run some seconds. Standard library alone.
+The faults of shared_faults.txt are planted and switched as always_refused.py does it. A line for
+each tells which tests fail, and below it what these say, with how many refusals there were. With
+--table it only looks if each text stands in the sources, and prints the row of bench/README.md.
 """
-
-from __future__ import annotations
 
 import argparse
 import sys
 import tempfile
+from collections import Counter
 from pathlib import Path
 
 from always_refused import SWITCH, TOP, Tests, add_switch, build, copied
-from fault_tables import Fault, faults_in
+from fault_tables import Fault, faults_in, print_row
 from unproved import kit_folder  # always_refused.py looks for it.
 
 FAULTS = dict(enumerate(faults_in(Path(__file__).with_suffix(".txt")), 1))
@@ -76,7 +71,7 @@ def main() -> int:
     asked = parser.parse_args()
     wrong = lost()
     if asked.table or wrong:
-        print(f"| `{TESTS}` | {FIRST_COUNTING - 1} of what the tests share | `shared_faults.py` |")
+        print_row("shared_faults.py", "what the tests share", Counter({TESTS: FIRST_COUNTING - 1}))
         return 1 if wrong else 0
     with copied(asked.keep) as top:
         return 0 if tried(top) else 1

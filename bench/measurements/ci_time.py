@@ -1,4 +1,3 @@
-#!/usr/bin/env python3
 """Prints where the time of a CI run goes: minutes a crate, for its library, its tests and its
 must-fail edits.
 
@@ -7,14 +6,10 @@ ci_time.py --pid NUMBER   watches a run that goes on already, until it ends
 ci_time.py --last         says what CI does and how long its last run took, and runs nothing
 
 Each second it reads from /proc what the processes below the run have used, and adds it to the crate
-that their command line names. Minutes are the processor's, and wall minutes those from the first
-sight of a crate's part to the last. What isn't of a crate, as scripts and the run itself, stands
-under "other". Last comes the line of this run for the table of CI's runs in PERFORMANCE.md,
-from which --last reads. It needs Linux, and ends with the status of the command. Standard library
-alone.
+that their command line names; what isn't of a crate stands under "other". Wall minutes are those
+from the first sight of a crate's part to the last. Last comes the line of this run for the table in
+PERFORMANCE.md, from which --last reads.
 """
-
-from __future__ import annotations
 
 import glob
 import os

@@ -1,29 +1,14 @@
-#!/usr/bin/env python3
-"""Measures sctd on whole packages beside SQLite's own shell.
+"""Measures sctd on whole packages beside SQLite's own shell, as compare_shell.py on basic files.
 
 compare_package.py PROGRAM FOLDER [ROWS ..]
 
-PROGRAM is the built program sctd. For each number of rows (235000, if none is given) a package is
-made in FOLDER by make_release.py, if it isn't there: of all sorts of files in the proportions of an
-international edition. Both sides import the Full release, sctd into a store of layout 3 and the
-shell into a table a sort of files, keyed by id and date, with indexes for the questions that it
-makes after the rows; then the Delta. Both are asked the same, each kind of question in a process of
-its own, and their answers have to be the same lines:
-
-- members of all reference sets by their ids (GET M);
-- 100,000 members of a language reference set, active or not, in pages of 1,000 (MEMBERS), or all
-  that there are;
-- as many that are active, in pages of 1,000 by the component (VALUES); a description has one member
-  of a language at most, so a page is as long for the shell;
-- what 10,000 concepts were called (CALLED), of which the shell's answer is a join.
-
-As in compare_shell.py, a table is printed: wall and processor seconds and peaks of both sides.
-Behind it stand the bytes of both files, what an open store takes in memory more than an empty one,
-and the same of a store that took only what layout 2 keeps. The status is 1 where an answer is
-another one. Standard library, and the command sqlite3.
+Both sides import the Full release, sctd into a store of layout 3 and the shell into a table a sort
+of files; then the Delta. Both are asked for members by their ids (GET M), for 100,000 members of a
+language, or all that there are, in pages of 1,000 (MEMBERS), as many that are active, by the
+component (VALUES), and what 10,000 concepts were called (CALLED), of which the shell's answer is a
+join. Behind the table stand the bytes of both files, what an open store takes in memory more than
+an empty one, and the same of a store that took only what layout 2 keeps.
 """
-
-from __future__ import annotations
 
 import os
 import random
@@ -32,9 +17,8 @@ from pathlib import Path
 from typing import Iterable, NamedTuple, Sequence
 
 import make_release as rf2
-from compare import DAYS, Sctd, Served
-from compare_shell import HEAD, Shell, Table, rows_alone
-from measure_harness import ROWS, asked_for, by_itself, made_release
+from compare_shell import DAYS, HEAD, Shell, Table, rows_alone
+from measure_harness import ROWS, Sctd, Served, asked_for, by_itself, made_release
 
 KEPT_SORTS = {**rf2.BASIC_SORTS, **rf2.FURTHER_SORTS}
 # The columns that the shell keeps as numbers, beside those of SCTIDs.
@@ -176,7 +160,7 @@ def ask_both(table: Table, served: Served, shell: Shell, title: str,
 
 def held_by(sctd: Sctd) -> int:
     """How many bytes the program holds in memory once it has opened a store."""
-    served = Served(sctd)
+    served = sctd.served()
     held = served.held()
     served.end()
     return held
@@ -211,7 +195,7 @@ def compare(program: str, folder: Path, count: int) -> bool:
     rows = rows_in(told)
     told, ours = sctd.take("delta")
     table.show("import a Delta of 100 rows", ours, shell.take(rf2.files_of(delta, KEPT_SORTS)))
-    served = Served(sctd)
+    served = sctd.served()
     table.show("open", served.opening, None)
     shell.kept = served.held()
     drawn = Questions(full)

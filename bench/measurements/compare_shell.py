@@ -1,29 +1,22 @@
-#!/usr/bin/env python3
 """Measures sctd beside SQLite's own shell, which is what one would use without sctd.
 
 compare_shell.py PROGRAM FOLDER [ROWS ..]
 
-PROGRAM is the built program sctd. For each number of rows (235000, if none is given) the releases
-of make_release.py are made in FOLDER, if they aren't there. Both sides import the Full release: the
-shell by `.import` into a table a kind, keyed by id and date, and makes its indexes after the rows.
-Then both import the same release once more, which brings nothing new, and the Delta; and both are
-asked the same questions, each kind in a process of its own, whose answers have to be the same
-lines. Before those of an audit the shell makes indexes for them, with nothing of sctd's beside
-them. Then the two segments of sctd's store are merged, line by line. Last, both import a release by
-which all concepts are a tree below the root, and are asked for all of them, and for what is above
-some.
+Both sides import the Full release: the shell by `.import` into a table a kind, keyed by id and
+date, and makes its indexes after the rows. Then both import the same release once more, and the
+Delta; and both are asked the same questions, each kind in a process of its own, whose answers have
+to be the same lines; so have those of `AT 1` and of the shell from before the Delta, since its
+tables have no number of an import. Before those of an audit the shell makes indexes for them. Then
+the two segments of sctd's store are merged, line by line. Last, both import a release by which all
+concepts are a tree below the root, and are asked for all of them, and for what is above some.
 
-The tables of the shell have no number of an import, so that no question is pinned, and terms are
-searched without regard to case in ASCII alone. It may keep as many bytes of pages in memory as
-`sctd` holds. Processor seconds are of the whole process for the shell; those of sctd's questions
-are what the system says of a process that has opened the store and answered a STATUS before. A peak
-is the greatest resident size of the process, which the system counts from this script's own on: so
-only those are told of what runs before it holds rows, and each size has a process of its own. The
-replies to the imports have to count the rows as this script does. The status is 1 where a reply or
-an answer is another one. Standard library, and the command sqlite3.
+Terms are searched without regard to case in ASCII alone. The shell may keep as many bytes of pages
+in memory as `sctd` holds. Processor seconds are of the whole process for the shell, and of sctd's
+questions from behind its opening on. A peak is the greatest resident size of the process, which the
+system counts from this script's own on: so only those are told of what runs before it holds rows,
+and each size has a process of its own. The replies to the imports have to count the rows as this
+script does. The status is 1 where a reply or an answer is another one.
 """
-
-from __future__ import annotations
 
 import itertools
 import os
@@ -31,13 +24,30 @@ import random
 import sys
 import time
 from collections.abc import Callable, Iterable, Iterator, Mapping, Sequence
+from functools import partial
 from pathlib import Path
 from typing import Optional
 
 import make_release as rf2
-from compare import COLUMNS, IS_A, SUBJECTS, TABLES, TEXTS, Drawn, Rows, Sctd, Served
-from measure_harness import ROWS, Cost, asked_for, by_itself, made_release, ran
+from make_release import IS_A
+from measure_harness import ROWS, Cost, Sctd, Served, asked_for, by_itself, made_release, ran
 
+# The columns of each kind as they stand in a release, in SQLite's names.
+COLUMNS = {
+    "C": ("id", "time", "active", "module", "status"),
+    "D": ("id", "time", "active", "module", "concept", "language", "type", "term", "significance"),
+    "R": ("id", "time", "active", "module", "source", "destination", "part", "type",
+          "characteristic", "modifier"),
+    "A": ("id", "time", "active", "module", "refset", "referenced", "target"),
+    "V": ("id", "time", "active", "module", "source", "value", "part", "type",
+          "characteristic", "modifier"),
+}
+TABLES = {"C": "concept", "D": "description", "R": "relationship", "A": "association",
+          "V": "concrete"}
+# The column that says what a row is about, of the kinds that questions ask.
+SUBJECTS = {"D": "concept", "R": "source"}
+TEXTS = ("language", "term", "value")
+DAYS = ("20120731", "20191231", "20251231", "20261231")
 # So many rows of a kind are held at most, of which the questions are drawn.
 MOST_DRAWN = 100000
 
@@ -69,6 +79,8 @@ HEAD = """| Rows | Work | sctd: wall | processor | peak, MB | SQLite's shell: wa
 | peak, MB | processor, SQLite / sctd |
 |---|---|---|---|---|---|---|---|---|"""
 
+# The rows of a release by their kinds, each as its columns.
+Rows = dict[str, list[list[str]]]
 # A list of lines, with its title.
 Asked = tuple[str, list[str]]
 SHELL = "compared.shell"
@@ -141,70 +153,83 @@ def take_again(shell: Shell, folder: str) -> Cost:
     return shell.run([*lines, "COMMIT;"])[1]
 
 
+def selected(kind: str, where: str, behind: str = "") -> str:
+    """The query for the rows of a kind of which something holds."""
+    return "SELECT %s FROM %s x WHERE %s%s;" % (
+        ", ".join(COLUMNS[kind]), TABLES[kind], where, behind)
+
+
+def newest(kind: str, date: str) -> str:
+    """What holds of the latest version up to a date."""
+    return NEWEST.format(date=date, table=TABLES[kind])
+
+
+def named(kind: str, name: str) -> str:
+    return "x.id = " + (repr(name) if kind == "A" else name)
+
+
 def query_of(line: str) -> str:
     """The query of a line of the protocol."""
-    words = line.split(" ")
-    command = words[1]
-    if command in AUDITS:
-        return AUDITS[command](*words[2:])
-    kind = words[2]
-    if command == "GET":
-        return ("SELECT %s FROM %s x WHERE id = %s AND time <= %s ORDER BY time DESC LIMIT 1;"
-                % (", ".join(COLUMNS[kind]), TABLES[kind], words[3], words[4]))
-    if command == "ABOUT":
-        newest = NEWEST.format(date=words[4], table=TABLES[kind])
-        return ("SELECT %s FROM %s x WHERE x.active = 1 AND x.%s = %s%s ORDER BY x.id;"
-                % (", ".join(COLUMNS[kind]), TABLES[kind], SUBJECTS[kind], words[3], newest))
-    if command == "PAGE":
-        date, after, limit = words[3:6]
-        newest = NEWEST.format(date=date, table=TABLES[kind])
-        return ("SELECT %s FROM %s x WHERE x.id > %s%s ORDER BY x.id LIMIT %s;"
-                % (", ".join(COLUMNS[kind]), TABLES[kind], after, newest, limit))
-    date, limit, prefix = words[2], words[3], " ".join(words[4:])
-    newest = NEWEST.format(date=date, table="description")
-    return ("SELECT %s FROM description x WHERE x.active = 1 AND x.term LIKE '%s%%'%s"
-            " ORDER BY x.id LIMIT %s;"
-            % (", ".join(COLUMNS["D"]), prefix.replace("'", "''"), newest, limit))
+    _, command, *words = line.split(" ")
+    return QUERIES[command](*words)
+
+
+def get_query(kind: str, name: str, date: str) -> str:
+    return selected(kind, named(kind, name) + " AND time <= " + date, " ORDER BY time DESC LIMIT 1")
+
+
+def history_query(kind: str, name: str) -> str:
+    return selected(kind, named(kind, name), " ORDER BY time")
+
+
+def about_query(kind: str, concept: str, date: str) -> str:
+    where = "x.active = 1 AND x.%s = %s%s" % (SUBJECTS[kind], concept, newest(kind, date))
+    return selected(kind, where, " ORDER BY x.id")
+
+
+def page_query(kind: str, date: str, after: str, limit: str) -> str:
+    where = "x.id > %s%s" % (after, newest(kind, date))
+    return selected(kind, where, " ORDER BY x.id LIMIT " + limit)
+
+
+def terms_query(date: str, limit: str, *prefix: str) -> str:
+    like = " ".join(prefix).replace("'", "''")
+    where = "x.active = 1 AND x.term LIKE '%s%%'%s" % (like, newest("D", date))
+    return selected("D", where, " ORDER BY x.id LIMIT " + limit)
+
+
+def children_query(concept: str, date: str) -> str:
+    return ("SELECT DISTINCT x.source FROM relationship x WHERE x.active = 1 AND x.type = %d"
+            " AND x.destination = %s%s ORDER BY x.source;" % (IS_A, concept, newest("R", date)))
+
+
+def associations_query(column: str, order: str, component: str, date: str) -> str:
+    where = "x.active = 1 AND x.%s = %s%s" % (column, component, newest("A", date))
+    return selected("A", where, " ORDER BY x.refset, x.%s, x.id" % order)
 
 
 def delta_query(kind: str, begin: str, date: str, after: str, limit: str) -> str:
     """By the better of the shell's two ways: the index on dates for few rows, and for many, which
     a plus tells it, the order of the table."""
-    newest = NEWEST.format(date=date, table=TABLES[kind])
-    time = "x.time"
+    time, latest = "x.time", newest(kind, date)
     if int(date) - int(begin) > 2 * YEAR:
-        time, newest = "+x.time", newest.replace("x.time <=", "+x.time <=", 1)
-    return ("SELECT %s FROM %s x WHERE %s > %s AND x.id > %s%s ORDER BY x.id LIMIT %s;"
-            % (", ".join(COLUMNS[kind]), TABLES[kind], time, begin, after, newest, limit))
+        time, latest = "+x.time", latest.replace("x.time <=", "+x.time <=", 1)
+    where = "%s > %s AND x.id > %s%s" % (time, begin, after, latest)
+    return selected(kind, where, " ORDER BY x.id LIMIT " + limit)
 
 
 def timeline_query(kind: str, concept: str) -> str:
-    table = TABLES[kind]
-    return ("SELECT %s FROM %s WHERE id IN (SELECT id FROM %s WHERE active = 1 AND %s = %s)"
-            " ORDER BY id, time;"
-            % (", ".join(COLUMNS[kind]), table, table, SUBJECTS[kind], concept))
-
-
-def replaces_query(target: str, date: str) -> str:
-    newest = NEWEST.format(date=date, table="association")
-    return ("SELECT %s FROM association x WHERE x.active = 1 AND x.target = %s%s"
-            " ORDER BY x.refset, x.referenced, x.id;" % (", ".join(COLUMNS["A"]), target, newest))
+    ever = "SELECT id FROM %s WHERE active = 1 AND %s = %s" % (
+        TABLES[kind], SUBJECTS[kind], concept)
+    return selected(kind, "id IN (%s)" % ever, " ORDER BY id, time")
 
 
 def reach_query(here: str, there: str, concept: str, date: str) -> str:
     """What is reached from a concept, from one column of a relationship to the other."""
-    is_a = "x.active = 1 AND x.type = %d%s" % (IS_A, NEWEST.format(date=date, table="relationship"))
+    is_a = "x.active = 1 AND x.type = %d%s" % (IS_A, newest("R", date))
     return ("WITH RECURSIVE met (id) AS (SELECT x.{1} FROM relationship x WHERE x.{0} = {2} AND {3}"
             " UNION SELECT x.{1} FROM met JOIN relationship x ON x.{0} = met.id WHERE {3})"
             " SELECT id FROM met ORDER BY id;").format(here, there, concept, is_a)
-
-
-def ancestors_query(concept: str, date: str) -> str:
-    return reach_query("source", "destination", concept, date)
-
-
-def descendants_query(concept: str, date: str) -> str:
-    return reach_query("destination", "source", concept, date)
 
 
 def dates_query() -> str:
@@ -216,13 +241,13 @@ def dates_query() -> str:
     return " UNION ".join(steps) + " ORDER BY day;"
 
 
-AUDITS: dict[str, Callable[..., str]] = {
-    "DELTA": delta_query,
-    "TIMELINE": timeline_query,
-    "REPLACES": replaces_query,
-    "ANCESTORS": ancestors_query,
-    "DESCENDANTS": descendants_query,
-    "DATES": dates_query,
+QUERIES: dict[str, Callable[..., str]] = {
+    "GET": get_query, "HISTORY": history_query, "ABOUT": about_query, "PAGE": page_query,
+    "TERMS": terms_query, "CHILDREN": children_query, "DELTA": delta_query,
+    "TIMELINE": timeline_query, "REPLACED": partial(associations_query, "referenced", "target"),
+    "REPLACES": partial(associations_query, "target", "referenced"),
+    "ANCESTORS": partial(reach_query, "source", "destination"),
+    "DESCENDANTS": partial(reach_query, "destination", "source"), "DATES": dates_query,
 }
 
 
@@ -231,11 +256,42 @@ def is_plain(term: str) -> bool:
     return term.isascii() and "%" not in term and "_" not in term
 
 
-class Questions(Drawn):
-    """The questions that both sides are asked."""
+class Questions:
+    """The questions that both sides are asked, drawn by chance from the rows of a release."""
+
+    def __init__(self, rows: Rows, chance: random.Random) -> None:
+        self.rows, self.chance = rows, chance
+
+    def date(self) -> str:
+        return self.chance.choice(DAYS)
+
+    def column(self, kind: str, place: int) -> str:
+        return self.chance.choice(self.rows[kind])[place]
+
+    def of_any_kind(self, word: str) -> str:
+        kind = self.chance.choice("CDVRA")
+        return "%s %s %s" % (word, kind, self.column(kind, 0))
+
+    def of_each_kind(self) -> Iterator[Asked]:
+        """The questions that are asked as of the first import, too."""
+        yield "10,000 rows of any kind", [
+            "%s %s" % (self.of_any_kind("GET"), self.date()) for _ in range(10000)]
+        yield "10,000 histories", [self.of_any_kind("HISTORY") for _ in range(10000)]
+        for word, kind, place in (("CHILDREN", "R", 5), ("REPLACED", "A", 5), ("ABOUT D", "D", 4),
+                                  ("ABOUT R", "R", 4)):
+            yield "1,000 times %s" % word, ["%s %s %s" % (word, self.column(kind, place),
+                                                          self.date()) for _ in range(1000)]
+        yield "1,000 pages of 100", ["PAGE C %s %s 100" % (self.date(), self.column("C", 0))
+                                     for _ in range(1000)]
+        terms = filter(is_plain, (self.column("D", 7) for _ in range(1000)))
+        yield "searches of two or three words", [
+            "TERMS %s 10 %s" % (self.date(), " ".join(term.split(" ")[:number % 2 + 2]).upper())
+            for number, term in enumerate(terms)]
 
     def questions(self) -> Iterator[Asked]:
         """Lists of lines, each with its title."""
+        yield from ((title, ["0 " + line for line in lines])
+                    for title, lines in self.of_each_kind())
         for kind, title in (("C", "100,000 concepts"), ("D", "100,000 descriptions")):
             yield title, ["0 GET %s %s %s" % (kind, self.column(kind, 0), self.date())
                           for _ in range(100000)]
@@ -376,23 +432,37 @@ def ask_in_a_tree(table: Table, sctd: Sctd, shell: Shell, asked: Iterable[Asked]
     ours = sctd.take("tree")[1]
     theirs = shell.take(tables_and_files(os.path.join(sctd.place, "tree")))
     table.show("import other parents of each concept", ours, theirs)
-    served = Served(sctd)
+    served = sctd.served()
     ask_both(table, served, shell, asked)
     served.end()
 
 
-def import_all(table: Table, sctd: Sctd, shell: Shell) -> dict[int, bytes]:
-    """Lets both sides import the Full release, that once more, and the Delta: the replies."""
-    full, delta = (os.path.join(sctd.place, name) for name in ("full", "delta"))
+def import_full(table: Table, sctd: Sctd, shell: Shell) -> dict[int, bytes]:
+    """Lets both sides import the Full release, and that once more: the replies."""
+    full = os.path.join(sctd.place, "full")
     told: dict[int, bytes] = {}
     told[1], ours = sctd.take("full")
     theirs = shell.take(tables_and_files(full), INDEXES)
     table.show("import the Full release, with its indexes", ours, theirs)
     told[2], ours = sctd.take("full")
     table.show("import it over itself", ours, take_again(shell, full))
-    told[3], ours = sctd.take("delta")
-    table.show("import a Delta of 100 rows", ours, shell.take(tables_and_files(delta)))
     return told
+
+
+def import_delta(table: Table, sctd: Sctd, shell: Shell) -> bytes:
+    """The same of the Delta."""
+    told, ours = sctd.take("delta")
+    theirs = shell.take(tables_and_files(os.path.join(sctd.place, "delta")))
+    ours.peak = theirs.peak = None
+    table.show("import a Delta of 100 rows", ours, theirs)
+    return told
+
+
+def ask_of_the_first(table: Table, served: Served, before: Iterable[tuple[Asked, bytes]]) -> None:
+    """Asks what the shell was asked before the Delta, as of the first import."""
+    for (title, lines), answered in before:
+        told, ours = served.timed(["0 AT 1 " + line for line in lines])
+        table.show("%s, as of the first import" % title, ours, None, rows_alone(told) == answered)
 
 
 def compare(program: str, folder: str, count: int) -> bool:
@@ -401,14 +471,19 @@ def compare(program: str, folder: str, count: int) -> bool:
     made_release(place, count)
     table, sctd = Table(count), Sctd(program, place)
     shell = Shell(place, SHELL, map(table_of, TABLES))
-    told = import_all(table, sctd, shell)
+    told = import_full(table, sctd, shell)
     chance = random.Random(SEED)
     of_full, rows = draw_rows(os.path.join(place, "full"), chance)
     of_delta, _ = draw_rows(os.path.join(place, "delta"), chance)
+    drawn = Questions(rows, chance)
+    before = [(one, shell.asked(query_of("0 " + line) for line in one[1])[0])
+              for one in drawn.of_each_kind()]
+    told[3] = import_delta(table, sctd, shell)
     table.check_imports(told, of_full, of_delta)
-    served, drawn = Served(sctd), Questions(rows, chance)
+    served = sctd.served()
     table.show("open", served.opening, None)
     shell.kept = served.held()
+    ask_of_the_first(table, served, before)
     ask_both(table, served, shell, drawn.questions())
     table.show("the shell's indexes for an audit", None, shell.run(AUDIT_INDEXES)[1])
     ask_both(table, served, shell, drawn.audits())

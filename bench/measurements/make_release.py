@@ -1,22 +1,16 @@
-#!/usr/bin/env python3
 """Makes a Full release and a Delta of a made terminology, in RF2, for measurements and trials.
 
 make_release.py [--package] FOLDER ROWS [SEED]
 
-FOLDER/full holds a Full release of about ROWS rows, several versions of many of them, and
-FOLDER/delta a Delta of 100 rows: new versions and new components. The rows are of concepts,
-descriptions, relationships, associations and concrete values. With --package they are of all sorts
-of files that an international edition has, with their names, folders and column names: to a concept
-three descriptions, seven relationships and twelve members of reference sets. Each concept has a
-fully specified name there and a parent that was made before it, and each description is preferred
-or acceptable in two languages. The sorts that no store keeps are there too.
-
-The same words give the same bytes. Seeds from 1 to 7 give releases that share no component.
-Standard library alone.
+FOLDER/full holds a Full release of about ROWS rows of the five kinds, several versions of many of
+them, and FOLDER/delta a Delta of 100 rows. With --package they are of all sorts of files that an
+international edition has: to a concept three descriptions, seven relationships and twelve members
+of reference sets. Each concept has a fully specified name there and a parent that was made before
+it, and each description is preferred or acceptable in two languages. The same words give the same
+bytes. Seeds from 1 to 7 give releases that share no component.
 """
 
-from __future__ import annotations
-
+import argparse
 import os
 import random
 import sys
@@ -478,21 +472,20 @@ def write_package(folder: str, package: Package, count: int) -> dict[str, int]:
 
 
 def main(words: Sequence[str]) -> int:
-    assert __doc__
-    is_package = list(words[:1]) == ["--package"]
-    words = words[1:] if is_package else words
-    if len(words) not in (2, 3):
-        print(__doc__.strip(), file=sys.stderr)
-        return 2
-    seed = int(words[2]) if len(words) == 3 else 1
-    to_full, to_delta = (os.path.join(words[0], name) for name in ("full", "delta"))
-    if is_package:
-        package = Package(seed)
-        counts = write_package(to_full, package, int(words[1]))
+    parser = argparse.ArgumentParser(description=(__doc__ or "").partition("\n")[0])
+    parser.add_argument("--package", action="store_true", help="all sorts of files")
+    parser.add_argument("folder")
+    parser.add_argument("rows", type=int)
+    parser.add_argument("seed", type=int, nargs="?", default=1)
+    asked = parser.parse_args(words)
+    to_full, to_delta = (os.path.join(asked.folder, name) for name in ("full", "delta"))
+    if asked.package:
+        package = Package(asked.seed)
+        counts = write_package(to_full, package, asked.rows)
         new = delta(package, PACKAGE_DELTA_SORTS)
     else:
-        edition = Edition(seed)
-        rows = full(edition, int(words[1]))
+        edition = Edition(asked.seed)
+        rows = full(edition, asked.rows)
         write(to_full, "Full", FULL_DATE, rows)
         counts = {kind: len(rows[kind]) for kind in KINDS}
         new = delta(edition)

@@ -1,18 +1,12 @@
-#!/usr/bin/env python3
 """Measures a store in a file on releases that make_release.py made.
 
 measure.py PROGRAM FOLDER [ROWS ..]
 
-PROGRAM is the built crate bench_store. For each number of rows (235000 and 2350000, if none is
-given) a Full release and a Delta are made in FOLDER, if they aren't there, and each piece of work
-is run as a process of its own on a store in a file: its seconds of processor and wall, and the
-peak of its resident memory less that of opening an empty store. Questions come through a pipe,
-which the program opens once it has opened the store, and their seconds begin there; the
-processor's are in hundredths of a second, as the system says them of that process. The Delta's
-hold an opening. It needs Linux and GNU time. Standard library alone.
+PROGRAM is the built crate bench_store. For each number of rows each piece of work is run as a
+process of its own: its seconds of processor and wall, and the peak of its resident memory less that
+of opening an empty store. Questions come through a pipe, which the program opens once it has opened
+the store, and their seconds begin there. The Delta's hold an opening.
 """
-
-from __future__ import annotations
 
 import os
 import random

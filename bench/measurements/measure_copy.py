@@ -1,27 +1,19 @@
-#!/usr/bin/env python3
 """Measures the copy and the digest of a store beside an opening of it.
 
 measure_copy.py PROGRAM FOLDER [ROWS ..]
 
-PROGRAM is the built `sctd`. For each number of rows (235000 and 2350000, if none is given) a Full
-release is made in FOLDER by make_release.py, if it isn't there, and imported into a store of
-layout 2 and into one of layout 3; of the fewest rows, also dealt out at random to 128 releases,
-into one of layout 3. Each of `sctd status`, which is an opening, `sctd copy` and
-`sctd digest` is run five times by turns, and examples/digest.py once; the least seconds of the
-processor and of wall are printed as a table, those of the processor for a million rows too, and the
-peak of memory in bytes a row. A digest that differs from that of examples/digest.py ends it. GNU
-time starts each process and says its peak, as in measure.py. Standard library alone.
+For each number of rows a Full release is imported into a store of layout 2 and into one of layout
+3; of the fewest rows, also dealt out at random to 128 releases. Each of `sctd status`, which is an
+opening, `sctd copy` and `sctd digest` is run five times by turns, of which the least counts, and
+examples/digest.py once, whose digest has to be the same.
 """
 
-from __future__ import annotations
-
 import random
-import subprocess
 import sys
 from collections.abc import Sequence
 from pathlib import Path
 
-from measure_harness import MANY_ROWS, ROWS, Cost, asked_for, least, made_release, timed
+from measure_harness import MANY_ROWS, ROWS, Cost, Sctd, asked_for, least, made_release, timed
 
 DIGEST = Path(__file__).resolve().parents[2] / "examples" / "digest.py"
 TIMES = 5
@@ -50,16 +42,13 @@ class Measured:
 
     def store(self, layout: int, names: Sequence[str]) -> Path:
         """A store into which the releases of these names were imported."""
-        store = self.place / ("layout%d.store" % layout)
-        store.unlink(missing_ok=True)
-        timed([self.program, "init", "--store", str(store), "--layout", str(layout)])
-        words = ["serve", "--store", str(store), "--releases", str(self.place)]
-        lines = "".join("0 IMPORT %s\n" % name for name in names)
-        done = subprocess.run([self.program, *words], input=lines.encode(), stdout=subprocess.PIPE,
-                              stderr=subprocess.DEVNULL, check=True)
-        if done.stdout.count(b"OK ") != len(names):
-            raise SystemExit("imports: %r" % done.stdout)
-        return store
+        sctd = Sctd(self.program, str(self.place), "layout%d.store" % layout, layout)
+        served = sctd.served()
+        told = served.replies(["0 IMPORT " + name for name in names])
+        if told.count(b"OK ") != len(names):
+            raise SystemExit("imports: %r" % told)
+        served.end()
+        return Path(sctd.path)
 
     def dealt_out(self, count: int) -> list[str]:
         """The names of so many releases, to which the rows of the release are dealt out."""

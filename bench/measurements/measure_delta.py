@@ -1,66 +1,36 @@
-#!/usr/bin/env python3
-"""Measures what a Delta of 100 rows costs a store that is being served.
+"""Measures what a Delta costs a store that is being served.
 
 measure_delta.py PROGRAM FOLDER [ROWS ..]
 
-PROGRAM is the built sctd. For each number of rows (235000 and 2350000, if none is given) a release
-is made in FOLDER by make_release.py, if it isn't there, and its Full part is imported into a store
-in a file. Then the store is served, once for each of ten tries, on a copy of that file: once STATUS
-is answered, the Delta is imported as a line, and its seconds of wall and of the program's processor
-are taken. Standard library alone.
+For each number of rows (235000 and 2350000, if none is given) the Full release and the Delta of
+make_release.py are made in FOLDER, if they aren't there. The Delta is imported ten times, each time
+into a new copy of a store that has the Full release, and that answered a STATUS before. Linux alone.
 """
-
-from __future__ import annotations
 
 import os
 import shutil
-import subprocess
 import sys
 import time
 from collections.abc import Sequence
-from pathlib import Path
 
-from measure_harness import MANY_ROWS, ROWS, asked_for, made_release
+from measure_harness import (
+    MANY_ROWS, ROWS, Sctd, Served, asked_for, made_release, processor_seconds)
 
 TRIES = 10
 
 
-def processor(pid: int) -> float:
-    """Seconds of the processor that a process has taken, as the scheduler counts them."""
-    return int(Path("/proc/%d/schedstat" % pid).read_text("ascii").split()[0]) / 1e9
-
-
-def ask(served: subprocess.Popen[bytes], line: bytes) -> bytes:
-    """The line that a server answers."""
-    assert served.stdin and served.stdout
-    served.stdin.write(line + b"\n")
-    served.stdin.flush()
-    return served.stdout.readline()
-
-
-def delta(program: str, store: str, place: str) -> tuple[float, float]:
+def delta(sctd: Sctd) -> tuple[float, float]:
     """Seconds of wall and processor of one import of the Delta."""
-    copy = store + ".copy"
-    shutil.copyfile(store, copy)
-    words = [program, "serve", "--store", copy, "--releases", place]
-    with subprocess.Popen(words, stdin=subprocess.PIPE, stdout=subprocess.PIPE) as served:
-        assert ask(served, b"0 STATUS").startswith(b"OK 1 ")
-        wall, busy = time.perf_counter(), processor(served.pid)
-        reply = ask(served, b"0 IMPORT delta")
-        wall, busy = time.perf_counter() - wall, processor(served.pid) - busy
-        assert reply.startswith(b"OK 2 "), reply
+    copy = sctd.path + ".copy"
+    shutil.copyfile(sctd.path, copy)
+    served = Served(sctd.program, copy, sctd.place)
+    wall, busy = time.perf_counter(), processor_seconds(served.pid)
+    reply = served.replies(["0 IMPORT delta"])
+    wall, busy = time.perf_counter() - wall, processor_seconds(served.pid) - busy
+    assert reply.startswith(b"OK 2 "), reply
+    served.end()
     os.remove(copy)
     return wall, busy
-
-
-def served_store(program: str, place: str) -> str:
-    """A store that has the Full release."""
-    store = os.path.join(place, "served.store")
-    Path(store).unlink(missing_ok=True)
-    importing = ["import", "--store", store, "--releases", place, "full"]
-    for words in (["init", "--store", store], importing):
-        subprocess.run([program, *words], stdout=subprocess.DEVNULL, check=True)
-    return store
 
 
 def shown(numbers: Sequence[float]) -> str:
@@ -71,15 +41,15 @@ def shown(numbers: Sequence[float]) -> str:
 def main() -> int:
     asked = asked_for(__doc__, (ROWS, MANY_ROWS))
     print("| Rows | Milliseconds of processor, least and most"
-          " | Milliseconds of wall, least and most |")
-    print("|---|---|---|")
+          " | Milliseconds of wall, least and most |\n|---|---|---|")
     for rows in asked.rows:
         place = os.path.join(asked.folder, str(rows))
         made_release(place, rows)
-        store = served_store(asked.program, place)
-        walls, busies = zip(*(delta(asked.program, store, place) for _ in range(TRIES)))
+        sctd = Sctd(asked.program, place, "served.store", layout=3)
+        assert sctd.take("full")[0].startswith(b"OK 1 ")
+        walls, busies = zip(*(delta(sctd) for _ in range(TRIES)))
         print("| %d | %s | %s |" % (rows, shown(busies), shown(walls)), flush=True)
-        os.remove(store)
+        os.remove(sctd.path)
     return 0
 
 

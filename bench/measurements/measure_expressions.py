@@ -1,17 +1,11 @@
-#!/usr/bin/env python3
 """Measures what expressions of ECL take of the processor, in the gateway, the hub and the program.
 
 measure_expressions.py PROGRAM [--rows N] [--days N]
 
-A whole package of about N rows (2,350,000 if not said) is made and imported, which takes some
-minutes. Concepts are chosen that have the most, about 1,000 and about 100 below them. Each
-expression is expanded without a page, by a gateway that was just started, on each of the latest
-releases' days, so many (7 if not said), so that nothing of it is remembered. It prints a table: how
-many concepts there are on the last day, the medians of the milliseconds of the processor, in all
-processes and in each, and those by the wall. The last row is a set that is remembered.
+In a whole package of about N rows concepts are chosen that have the most, about 1,000 and about 100
+below them. Each expression is expanded without a page, by a gateway that was just started, on each
+of the latest releases' days, so that nothing of it is remembered; the last row is a set that is.
 """
-
-from __future__ import annotations
 
 import argparse
 import json
@@ -22,15 +16,14 @@ import time
 from collections.abc import Callable, Mapping, Sequence
 from functools import partial
 from pathlib import Path
-from types import TracebackType
-from typing import NamedTuple
+from typing import NamedTuple, Self
 from urllib.parse import urlencode
 
 import make_release as rf2
 from measure_gateway import (
-    HUB, MS, NOT_RUN, Process, UnixHttp, begin_gateway, begin_hub, concepts, make_store, options_of)
-from measure_harness import MANY_ROWS, child_of, made_release
-from needs import python_with
+    HUB, MS, UnixHttp, begin_gateway, begin_hub, concepts, make_store, options_of)
+from measure_harness import MANY_ROWS, child_of, made_release, processor_seconds
+from proxy_harness import NOT_RUN, Process, missing, stop  # measure_gateway.py looks for it.
 
 SCT = "http://snomed.info/sct"
 DAYS = 7
@@ -46,7 +39,6 @@ EXPRESSIONS = (
     "(<< $X OR << $V) : $a = << $Y", "<< $X : { $a = << $Y }", "<< $X : { $a = << $Y , $b = * }",
     "<< $X : $a = *", "<< $W . $a", "<< $Y : R $a = << $X", "* : R $a = << $W",
     "<< $W {{ + HISTORY-MOD }}", "<< $W {{ C definitionStatus = defined }}")
-NANOSECONDS = 1e9
 HEAD = """| Expression | Concepts | processor ms: all; gateway / hub / program | by the wall, ms |
 |---|---|---|---|"""
 
@@ -63,20 +55,18 @@ class Taken(NamedTuple):
 class Asked:
     """A gateway that was just started, and is asked for the sizes of sets."""
 
-    def __init__(self, python: str, hub: Process, hub_socket: str, options: argparse.Namespace,
-                 folder: str) -> None:
-        place = str(Path(folder, "http"))
-        self.gateway = begin_gateway(options, python, hub_socket, place)
+    def __init__(self, hub: Process, hub_socket: str, options: argparse.Namespace) -> None:
+        place = str(Path(hub_socket).with_name("http"))
+        self.gateway = begin_gateway(options, hub_socket, place)
         self.client = UnixHttp(place)
         self.pids = [self.gateway.pid, hub.pid, child_of(hub.pid)]
 
-    def __enter__(self) -> Asked:
+    def __enter__(self) -> Self:
         return self
 
-    def __exit__(self, *_: type[BaseException] | BaseException | TracebackType | None) -> None:
+    def __exit__(self, *_: object) -> None:
         self.client.close()
-        self.gateway.terminate()
-        self.gateway.wait()
+        stop(self.gateway)
 
     def size(self, expression: str, day: str) -> str:
         words = {"url": "%s?fhir_vs=ecl/%s" % (SCT, expression), "count": "0", "date": day}
@@ -93,12 +83,6 @@ class Asked:
         wall = time.perf_counter() - begun
         after = map(processor_seconds, self.pids)
         return Taken([last - first for first, last in zip(before, after)], wall, total)
-
-
-def processor_seconds(pid: int) -> float:
-    """What the threads of a process have used of the processor."""
-    threads = Path("/proc/%d/task" % pid).glob("*/schedstat")
-    return sum(int(one.read_text("ascii").split()[0]) for one in threads) / NANOSECONDS
 
 
 def chosen(asked: Asked, codes: Sequence[str], day: str) -> dict[str, str]:
@@ -160,9 +144,9 @@ def measured(begin: Callable[[], Asked], codes: Sequence[str], dates: Sequence[s
 
 def main() -> int:
     options = options_of(__doc__, rows=MANY_ROWS, days=DAYS).parse_args()
-    options.package, options.hub, python = True, HUB, python_with()
-    if python is None:
-        print("not run: a package that the gateway needs is missing")
+    options.package, options.hub = True, HUB
+    if (lacks := missing(())) is not None:
+        print("not run: there is no %s" % lacks)
         return NOT_RUN
     with tempfile.TemporaryDirectory() as folder:
         store, hub_socket = str(Path(folder, "store")), str(Path(folder, "hub"))
@@ -170,15 +154,13 @@ def main() -> int:
         add_attributes(Path(folder))
         make_store(options, folder, store)
         codes = sorted(concepts(folder), key=int)
-        hub = begin_hub(options, folder, store, python, hub_socket)
+        hub = begin_hub(options, folder, store, hub_socket)
         days = rf2.DATES[-options.days :]
         dates = ["%s-%s-%s" % (day[:4], day[4:6], day[6:]) for day in days]
         try:
-            begin = partial(Asked, python, hub, hub_socket, options, folder)
-            measured(begin, codes, dates)
+            measured(partial(Asked, hub, hub_socket, options), codes, dates)
         finally:
-            hub.terminate()
-            hub.wait()
+            stop(hub)
     return 0
 
 

@@ -1,23 +1,15 @@
-#!/usr/bin/env python3
 """Measures the gateway, the hub and the program below them while clients ask.
 
-measure_gateway.py PROGRAM [--rows N] [--seconds N] [--hub PATH] [--raw-only] [--package]
+measure_gateway.py PROGRAM [--rows N] [--seconds N] [--hub PATH] [--raw-only] [--package] [--nginx]
 
-A release of about N rows (2,350,000 if not said) is made and imported, which takes a minute or two.
-Then $lookup is asked by 1 and by 16 clients, of random codes on random days, and of 200 codes on
-one day, whose replies are remembered; and the hub alone is asked the questions of a $lookup by 8
-clients, one by one and four in one write. Each takes some seconds (5 if not said). It prints a
-table: how many a second, the median, and the microseconds of the processor a request in gateway,
-hub and program. --hub takes another hub than service/sctd-hub. Clients are two processes, which
-need a processor of their own.
-
-With --package the release is a whole package in a store of layout 3, and the gateway has a
-language, so $lookup asks for preferred terms and members too. Then the reference set that has each
-concept is expanded page by page on the last day, twice, by one client: it prints how many codes
-there are, what the first page takes, for which all members are read, and what the others take.
+$lookup is asked by 1 and by 16 clients, of random codes on random days, and of 200 codes on one
+day, whose replies are remembered; and the hub alone is asked the questions of a $lookup by 8
+clients, one by one and four in one write. Clients are two processes, which need a processor of
+their own. With --package the release is a whole package in a store of layout 3, and the gateway has
+a language, so $lookup asks for preferred terms and members too. Then the reference set that has
+each concept is expanded page by page on the last day, twice, by one client. With --nginx $lookup is
+asked by 64 clients with a certificate of three gateways behind nginx, as packaging/ has it.
 """
-
-from __future__ import annotations
 
 import argparse
 import functools
@@ -29,35 +21,34 @@ import random
 import select
 import socket
 import statistics
+import ssl
 import subprocess
 import sys
-import tempfile
 import time
 from collections.abc import Callable, Sequence
 from multiprocessing.queues import Queue
-from typing import Any
+from pathlib import Path
 
 import make_release as rf2
 from measure_harness import absolute, child_of, made_release, seconds_used
 
-BENCH = os.path.dirname(os.path.dirname(os.path.abspath(__file__)))
-sys.path += [os.path.join(BENCH, "trials"), os.path.join(os.path.dirname(BENCH), "packaging")]
-from needs import python_with  # noqa: E402
-from try_gateway import SERVICE  # noqa: E402
+sys.path.append(str(Path(__file__).resolve().parents[1] / "trials"))
+from proxy_harness import (  # noqa: E402
+    EDITION, HOST, NOT_RUN, SERVICE, Process, Proxy, free_ports, gateway_words, hub_words, missing,
+    open_folder, ready, stop)
 
 PROCESSES = 2
 FEW_CODES = 200
 YEARS = range(2016, 2026)
 READ_BYTES = 1 << 18
-EDITION = "900000000000207008"
+GATEWAYS, MANY_CLIENTS = 3, 64
 VERSION = "http://snomed.info/sct/%s/version/" % EDITION
 US_ENGLISH, MAP_OF_ALL = "900000000000509007", "900000000000497000"
 PAGE = 1_000
 # What is measured where nothing else is said: rows, and seconds a line of the table.
 DEFAULT_ROWS, DEFAULT_SECONDS = 2_350_000, 5
-HUB = os.path.join(SERVICE, "sctd-hub")
+HUB = str(SERVICE / "sctd-hub")
 MS, US = 1e3, 1e6
-NOT_RUN = 3
 LAST_LINES = (b"OK", b"END", b"ERR")
 # The ends of an HTTP head, and what says how long its body is.
 END_OF_HEAD, LENGTH = b"\r\n\r\n", b"Content-Length: "
@@ -67,7 +58,6 @@ HEAD = """| Asked | Clients | a second | median ms | processor us: gateway / hub
 
 # What a process of clients puts: how long each answer was waited for, and how many were refused.
 Waits = tuple[list[float], int]
-Process = subprocess.Popen[bytes]
 
 
 class Connection:
@@ -114,6 +104,25 @@ class HttpClient(Connection):
         return True
 
 
+class TlsClient(HttpClient):
+    """A client of nginx. Its path is a port, an authority and a certificate."""
+
+    @staticmethod
+    def connected(path: str) -> socket.socket:
+        port, authority, certificate = path.split(",")
+        around = ssl.create_default_context(cafile=authority)
+        around.load_cert_chain(certificate, str(Path(certificate).with_suffix(".key")))
+        plain = socket.create_connection((HOST, int(port)))
+        return around.wrap_socket(plain, server_hostname=HOST)
+
+    def is_done(self) -> bool:
+        assert isinstance(self.socket, ssl.SSLSocket)
+        is_whole = super().is_done()
+        while not is_whole and self.socket.pending():
+            is_whole = super().is_done()
+        return is_whole
+
+
 class HubClient(Connection):
     """Four questions in one write."""
 
@@ -150,7 +159,7 @@ def question(codes: Sequence[str], days: Sequence[str]) -> bytes:
 
 
 def run(client: type[Connection], path: str, make: Callable[[], bytes], clients: int, seconds: int,
-        seed: int, out: Queue[Waits]) -> None:
+        seed: int, out: "Queue[Waits]") -> None:
     """One process of clients. It puts the waits of all of them, and how many were refused."""
     random.seed(seed)
     connections: dict[socket.socket, Connection] = {}
@@ -172,7 +181,7 @@ class Asked:
 
     def __init__(self, client: type[Connection], path: str, make: Callable[[], bytes], clients: int,
                  seconds: int) -> None:
-        self.out: Queue[Waits] = multiprocessing.Queue()
+        self.out: "Queue[Waits]" = multiprocessing.Queue()
         processes = min(PROCESSES, clients)
         words = (client, path, make, clients // processes, seconds)
         self.runs = [multiprocessing.Process(target=run, args=(*words, seed, self.out))
@@ -252,15 +261,6 @@ def expanded(path: str, day: str) -> None:
     print(line % (len(codes), PAGE, waits[0], *shown), flush=True)
 
 
-def begun(words: Sequence[str], **more: Any) -> Process:
-    process = subprocess.Popen(words, stdout=subprocess.PIPE, **more)
-    assert process.stdout
-    said = process.stdout.readline()
-    if said != b"OK ready\n":
-        raise SystemExit("%s says %r" % (words[1], said))
-    return process
-
-
 def concepts(folder: str) -> list[str]:
     return sorted({row[0] for row in rf2.rows_of(os.path.join(folder, "full"), "C")})
 
@@ -273,30 +273,46 @@ def make_store(options: argparse.Namespace, folder: str, store: str) -> None:
         subprocess.run([options.program, *words], check=True, stdout=subprocess.DEVNULL)
 
 
-def begin_hub(options: argparse.Namespace, folder: str, store: str, python: str,
-              path: str) -> Process:
-    words = ["--program", options.program, "--store", store, "--releases", folder]
-    return begun([python, options.hub, *words, "--socket", path])
+def begin_hub(options: argparse.Namespace, folder: str, store: str, path: str) -> Process:
+    python, _, *words = hub_words(options.program, Path(store), Path(folder), "--socket", path)
+    return ready([python, options.hub, *words], Path(folder, "log"))
 
 
-def begin_gateway(options: argparse.Namespace, python: str, hub: str, path: str) -> Process:
-    words = ["--socket", hub, "--edition", EDITION, "--listen", path]
+def begin_gateway(options: argparse.Namespace, hub: str, path: str) -> Process:
     languages = ["--languages", US_ENGLISH] if options.package else []
-    return begun([python, "-m", "sctd_service.gateway", *words, *languages], cwd=SERVICE)
+    return ready(gateway_words(Path(hub), path, *languages), Path(hub).with_name("log"))
 
 
-def tried(options: argparse.Namespace, folder: str, python: str) -> None:
+def behind_nginx(options: argparse.Namespace, folder: str, hub: str, below: Sequence[int],
+                 make: Callable[[], bytes]) -> None:
+    """Asks three gateways of a hub behind nginx."""
+    addresses = ["%s:%d" % (HOST, port) for port in free_ports(GATEWAYS)]
+    proxy = Proxy(Path(folder), addresses)
+    gateways = [begin_gateway(options, hub, address) for address in addresses]
+    try:
+        proxy.start()
+        assert proxy.process
+        pids = [child_of(proxy.process.pid), *(one.pid for one in gateways), *below]
+        path = "%d,%s,%s" % (proxy.port, proxy.server.path, proxy.user)
+        measured("$lookup by nginx", pids, TlsClient, path, make, MANY_CLIENTS, options.seconds)
+    finally:
+        proxy.end()
+        for one in gateways:
+            stop(one)
+
+
+def tried(options: argparse.Namespace, folder: str) -> None:
     store, hub_socket, place = (os.path.join(folder, name) for name in ("store", "hub", "http"))
     make_store(options, folder, store)
     codes, days = concepts(folder), ["%d0731" % year for year in YEARS]
-    hub = begin_hub(options, folder, store, python, hub_socket)
-    gateway = begin_gateway(options, python, hub_socket, place)
+    hub = begin_hub(options, folder, store, hub_socket)
+    gateway = begin_gateway(options, hub_socket, place)
     try:
         below, seconds = [hub.pid, child_of(hub.pid)], options.seconds
         every = [gateway.pid, *below]
+        any_code = functools.partial(lookup, codes, days)
         print(HEAD)
         if not options.raw_only:
-            any_code = functools.partial(lookup, codes, days)
             few = random.Random(1).sample(codes, min(FEW_CODES, len(codes)))
             one_day = functools.partial(lookup, few, days[-1:])
             measured("$lookup", every, HttpClient, place, any_code, 1, seconds)
@@ -305,14 +321,15 @@ def tried(options: argparse.Namespace, folder: str, python: str) -> None:
         one, four = (functools.partial(make, codes, days) for make in (question, questions))
         measured("the hub, one question", below, SlowHubClient, hub_socket, one, 8, seconds)
         measured("the hub, four at once", below, HubClient, hub_socket, four, 8, seconds)
+        if options.nginx:
+            behind_nginx(options, folder, hub_socket, below, any_code)
         if options.package and not options.raw_only:
             # (The second time the codes are remembered.)
             for _ in range(2):
                 expanded(place, days[-1])
     finally:
-        for process in (gateway, hub):
-            process.terminate()
-            process.wait()
+        stop(gateway)
+        stop(hub)
 
 
 def options_of(doc: str | None, **numbers: int) -> argparse.ArgumentParser:
@@ -328,15 +345,14 @@ def options_of(doc: str | None, **numbers: int) -> argparse.ArgumentParser:
 def main() -> int:
     words = options_of(__doc__, rows=DEFAULT_ROWS, seconds=DEFAULT_SECONDS)
     words.add_argument("--hub", type=absolute, default=HUB)
-    words.add_argument("--raw-only", action="store_true")
-    words.add_argument("--package", action="store_true")
+    for name in ("--raw-only", "--package", "--nginx"):
+        words.add_argument(name, action="store_true")
     options = words.parse_args()
-    python = python_with()
-    if python is None:
-        print("not run: a package that the gateway needs is missing")
+    if (lacks := missing(("nginx", "openssl") if options.nginx else ())) is not None:
+        print("not run: there is no %s" % lacks)
         return NOT_RUN
-    with tempfile.TemporaryDirectory() as folder:
-        tried(options, folder, python)
+    with open_folder() as folder:
+        tried(options, str(folder))
     return 0
 
 

@@ -1,6 +1,5 @@
-"""What measurements share: their words, releases that are made once, and what processes take."""
-
-from __future__ import annotations
+"""What measurements share: their words, releases that are made once, what processes take, and a
+server that is asked."""
 
 import argparse
 import os
@@ -8,6 +7,7 @@ import shutil
 import subprocess
 import sys
 import tempfile
+import threading
 import time
 from collections.abc import Sequence
 from dataclasses import dataclass
@@ -23,6 +23,8 @@ ROWS, MANY_ROWS = 235_000, 2_350_000
 # How many seconds are between looks if a pipe was opened.
 BETWEEN_LOOKS = 0.0005
 GNU_TIME = shutil.which("time")
+NANOSECONDS = 1e9
+STORE = "compared.store"
 
 
 @dataclass
@@ -138,3 +140,81 @@ def seconds_used(pid: int) -> float:
     """The seconds of the processor that a process has used, which the system says in hundredths."""
     words = Path("/proc/%d/stat" % pid).read_text("ascii").rpartition(")")[2].split()
     return (int(words[11]) + int(words[12])) / os.sysconf("SC_CLK_TCK")
+
+
+def processor_seconds(pid: int) -> float:
+    """What the threads that a process has have used of the processor, as the scheduler counts it,
+    which is to the nanosecond."""
+    threads = Path("/proc/%d/task" % pid).glob("*/schedstat")
+    return sum(int(one.read_text("ascii").split()[0]) for one in threads) / NANOSECONDS
+
+
+class Sctd:
+    """The program, on a new store in a file of the folder that has its releases."""
+
+    def __init__(self, program: str, place: str, name: str = STORE, layout: int = 2) -> None:
+        self.program, self.place = program, place
+        self.path = os.path.join(place, name)
+        Path(self.path).unlink(missing_ok=True)
+        self.run("init", "--layout", str(layout))
+
+    def run(self, command: str, *words: str) -> tuple[bytes, Cost]:
+        """What the program writes, and what that cost."""
+        return ran([self.program, command, "--store", self.path, *words], b"", self.place)
+
+    def take(self, name: str) -> tuple[bytes, Cost]:
+        """Imports the release of this name."""
+        return self.run("import", "--quiet", "--releases", self.place, name)
+
+    def served(self) -> "Served":
+        return Served(self.program, self.path, self.place)
+
+
+class Served:
+    """The program, serving a store. It is made once its opening has ended."""
+
+    def __init__(self, program: str, path: str, releases: str) -> None:
+        start = time.monotonic()
+        self.child = subprocess.Popen(
+            [program, "serve", "--store", path, "--releases", releases],
+            stdin=subprocess.PIPE, stdout=subprocess.PIPE)
+        assert self.child.stdin and self.child.stdout
+        self.input, self.output, self.pid = self.child.stdin, self.child.stdout, self.child.pid
+        self.replies(["0 STATUS"])
+        self.opening = Cost(time.monotonic() - start, seconds_used(self.pid), self.held())
+
+    def held(self) -> int:
+        """How many bytes it holds in memory."""
+        words = Path("/proc/%d/statm" % self.pid).read_text("ascii").split()
+        return int(words[1]) * os.sysconf("SC_PAGE_SIZE")
+
+    def replies(self, lines: Sequence[str]) -> bytes:
+        """What it writes for lines. They are sent beside the reading, since it answers at once."""
+        text = "".join(line + "\n" for line in lines).encode()
+        sender = threading.Thread(target=self.send, args=(text,))
+        sender.start()
+        told: list[bytes] = []
+        left = len(lines)
+        while left:
+            piece = self.output.readline()
+            if not piece:
+                raise SystemExit("sctd ended with %d replies to come" % left)
+            told.append(piece)
+            left -= not piece.startswith((b"ROW ", b"ID ", b"DATE "))
+        sender.join()
+        return b"".join(told)
+
+    def send(self, text: bytes) -> None:
+        self.input.write(text)
+        self.input.flush()
+
+    def timed(self, lines: Sequence[str]) -> tuple[bytes, Cost]:
+        """The same, with what it cost."""
+        start, used = time.monotonic(), seconds_used(self.pid)
+        told = self.replies(lines)
+        return told, Cost(time.monotonic() - start, seconds_used(self.pid) - used)
+
+    def end(self) -> None:
+        self.input.close()
+        if self.child.wait() != 0:
+            raise SystemExit("sctd serve: status %d" % self.child.returncode)

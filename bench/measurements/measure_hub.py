@@ -1,18 +1,10 @@
-#!/usr/bin/env python3
 """Measures how many questions a second a hub answers, and how long each is waited for.
 
 measure_hub.py PROGRAM [--hub PATH ..] [--rows N] [--seconds N] [--rounds N]
 
-PROGRAM is the built `sctd`. A store is made of a release of N rows. Then 1, 8 and 64 clients ask
-one question at a time, each as soon as it has the reply to the one before: GET C, ABOUT D, ABOUT R
-or ABOUT V of any concept on any day. With several hubs (service/sctd-hub if none is said) these are
-measured in turn, so that they meet the same machine. Each line of the table is of one hub, number
-of clients and round: questions a second, the median and the 99th of 100 waits in milliseconds, and
-the microseconds of the processor a question in hub and program. Clients are two processes. Linux;
-standard library alone.
+1, 8 and 64 clients ask one question at a time, each as soon as it has the reply to the one before.
+Several hubs are measured in turn, so that they meet the same machine. Clients are two processes.
 """
-
-from __future__ import annotations
 
 import functools
 import os
@@ -24,6 +16,7 @@ from measure_gateway import (
     DEFAULT_ROWS, HUB, YEARS, SlowHubClient, Taken, begin_hub, concepts, make_store, options_of,
     question)
 from measure_harness import absolute, child_of
+from proxy_harness import stop  # measure_gateway.py looks for it.
 
 CLIENTS = (1, 8, 64)
 DEFAULT_SECONDS, DEFAULT_ROUNDS = 3, 2
@@ -53,13 +46,12 @@ def main() -> int:
         for clients in CLIENTS:
             for hub in hubs * options.rounds:
                 options.hub = hub
-                process = begin_hub(options, folder, store, sys.executable, path)
+                process = begin_hub(options, folder, store, path)
                 try:
                     pids = [process.pid, child_of(process.pid)]
                     measured(hub, path, pids, make, clients, options.seconds)
                 finally:
-                    process.terminate()
-                    process.wait()
+                    stop(process)
     return 0
 
 

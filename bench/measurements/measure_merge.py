@@ -1,21 +1,13 @@
-#!/usr/bin/env python3
 """Measures a merge of two segments in a file against writing the same bytes, and lookups beside it.
 
 measure_merge.py PROGRAM FOLDER [ROWS [TIMES]]
 
-PROGRAM is the built crate bench_store. Two releases of ROWS rows each (100000, if not given) that
-share no component are made in FOLDER and imported into a store, a segment each. Each piece of work
-is run TIMES times (5) on a copy of that store's file as a process of its own, and the least seconds
-of processor and of wall are taken.
-
-Then concepts are looked up, fifty for each step that the merge has, in groups of fifty: without a
-merge, with half of the rows of one taken, with a step before each group, and without a merge but
-with a page of as many rows as a step takes before each group. The program reads its processor's
-clock before and after each group, so that what stands between the groups is not in what the lookups
-took. The ways are run in turn, TIMES times each. Standard library alone.
+PROGRAM is the built crate bench_store. Two releases of ROWS rows each that share no component are
+imported into a store, a segment each. Each piece of work is run TIMES times on a copy of that
+store's file, and the least seconds are taken. Then concepts are looked up in groups of fifty, one
+for each step that the merge has, in the ways of WAYS, by turns. The program reads its processor's
+clock before and after each group, so that what stands between them is not in what lookups took.
 """
-
-from __future__ import annotations
 
 import os
 import random

@@ -1,19 +1,13 @@
-#!/usr/bin/env python3
 """Measures stores whose rows lie in many segments against stores of the same rows in one.
 
 measure_segments.py PROGRAM FOLDER [TIMES]
 
-PROGRAM is the built crate bench_store. 250 releases of 40 rows each are made in FOLDER: rows of all
-kinds, dealt out at random, so that a component's versions and its neighbours come in releases of
-their own. The first 128 of them are imported into one store, all 250 into another one, a segment
-each; and the rows of as many into a store each by one release, which is one segment. Each store is
-opened TIMES times (20) by one process, which then looks up 10,000 concepts that all stores have and
-reads 1,000 pages of 100; and that is done five times, the stores in turn. What is printed is the
-least, by the clocks of the process itself: of the processor and, for an opening, of the wall too.
-Standard library alone.
+PROGRAM is the built crate bench_store. Rows of all kinds are dealt out at random to 250 releases of
+40 rows, of which the first 128 are imported into one store, all 250 into another one, and the rows
+of as many into a store each by one release. Each store is opened TIMES times by one process, which
+then looks up 10,000 concepts that all stores have and reads 1,000 pages of 100; and that is done
+five times, the stores in turn. What is printed is the least, by the clocks of the process itself.
 """
-
-from __future__ import annotations
 
 import os
 import random

@@ -1,25 +1,18 @@
-#!/usr/bin/env python3
 """Checks that each edit fits the sources, and that those of edits/ were tried as they stand.
 
-check_edits.py
-
 CONTRIBUTING says under "Edits" what an edit is, and what the record edits/tried of a crate has. A
-crate that has edits in edits/ has to have this record, with a line for each of them as it stands
-and of its grounds as they stand; and no line may name what is no edit. What isn't so is said in a
-line of its own on standard error, with the names of the edits, and the status is 1 then. How many
-lines were made with another version of the kit than the one on the path is said, and is no fault: a
-new kit proves the crates anew, and nobody can try all edits on that day. Nothing is built. Standard
-library alone.
+crate that has edits in edits/ has to have this record, with a line for each of them and of its
+grounds as they stand; and no line may name what is no edit. How many lines were made with another
+version of the kit than the one on the path is said, and is no fault: nobody can try all edits on
+the day of a new kit.
 """
-
-from __future__ import annotations
 
 import glob
 import os
 import sys
 from collections.abc import Iterator
 
-from edits import EDITS, ENDING, FOLDERS, RECORD, Edit, Misfit, Record
+from edits import EDITS, ENDING, FOLDERS, RECORD, Edit, Misfit
 from edits import all_edits, edits_of, record_of, texts_with
 from grounds import Stale, kit_version, why_stale
 from source import TOP, folder_of
@@ -72,20 +65,7 @@ def faults_of_record(crate: str, edits: list[Edit]) -> Iterator[str]:
         yield f"{RECORD} has a line for {name}, which is no edit"
 
 
-def count_of_other_kit(record: Record | None) -> int:
-    """How many lines of a record were made with another version of the kit."""
-    return len(record.lines) if record and record.kit not in (None, kit_version()) else 0
-
-
-def count_of_unknown_kit(record: Record | None) -> int:
-    """How many lines of a record don't say with which version of the kit they were made."""
-    return len(record.lines) if record and record.kit is None else 0
-
-
-def main(words: list[str]) -> int:
-    if words:
-        print((__doc__ or "").strip(), file=sys.stderr)
-        return 2
+def main() -> int:
     count, wrong, other, unknown = 0, 0, 0, 0
     for crate in sorted(os.listdir(os.path.join(TOP, "crates"))):
         edits = all_edits(crate)
@@ -95,8 +75,11 @@ def main(words: list[str]) -> int:
             wrong += 1
             print(f"{crate}: {fault}", file=sys.stderr)
         count += len(edits)
-        other += count_of_other_kit(record_of(crate))
-        unknown += count_of_unknown_kit(record_of(crate))
+        record = record_of(crate)
+        if record and record.kit is None:
+            unknown += len(record.lines)
+        elif record and record.kit != kit_version():
+            other += len(record.lines)
     print(f"{other} lines are of another version of the kit", file=sys.stderr)
     print(f"{unknown} lines don't say with which version of the kit", file=sys.stderr)
     print(f"{count} edits, {wrong} not so", file=sys.stderr)
@@ -104,4 +87,4 @@ def main(words: list[str]) -> int:
 
 
 if __name__ == "__main__":
-    sys.exit(main(sys.argv[1:]))
+    sys.exit(main())

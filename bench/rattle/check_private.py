@@ -1,7 +1,6 @@
-#!/usr/bin/env python3
 """Checks that the words of specs/ which no public contract reaches stand apart.
 
-check_private.py [--list] [--count] [--why CRATE.WORD]
+check_private.py [--list] [--why CRATE.WORD]
 
 A word is a definition of a crate's specs/. It is reached if a public contract cites it, or the
 definition of a word that is reached. Public contracts are the clauses of functions and traits that
@@ -11,14 +10,10 @@ Value and the view of the types in their fields. Proofs cite words too, and reac
 ghost member cites a definition whose body is shut, that is a proof, and isn't reached.
 
 A module is private if its name, or that of a module around it, begins or ends with `Private`. A
-word that is reached and stands in one is said in a line of its own on standard error, with the path
-by which it is reached, and the status is 1 then; `--list` does the same for a word that isn't
-reached and stands in no such module. `--count` prints a table of the counts, and `--why` the path
-to a word. A name that a term binds itself counts as the word of that name: so a word may be taken
-for a reached one, and never the other way round. Nothing is built. Standard library alone.
+word that is reached and stands in one is a fault; with `--list` so is one that isn't reached and
+stands in no such module. `--why` prints the path to a word. A name that a term binds itself counts
+as the word of that name: so a word may be taken for a reached one, and never the other way round.
 """
-
-from __future__ import annotations
 
 import argparse
 import os
@@ -191,26 +186,10 @@ def is_of_value(member: Item) -> bool:
     return member.name in ("Value", "view", "inverse")
 
 
-def print_counts(project: Reached) -> None:
-    """A line for each crate with specs/: its words, those that are private, and their modules."""
-    print("%-18s %6s %8s %6s" % ("crate", "words", "private", "apart"))
-    total = [0, 0, 0]
-    for crate in project.crates.values():
-        words = [word for module in crate.specs.values() for word in module.words]
-        private = [word for word in words if word.key not in project.why]
-        apart = [word for word in private if is_private_name(word.module)]
-        counts = len(words), len(private), len(apart)
-        total = [a + b for a, b in zip(total, counts)]
-        if words:
-            print("%-18s %6d %8d %6d" % ((crate.name,) + counts))
-    print("%-18s %6d %8d %6d" % ("all", total[0], total[1], total[2]))
-
-
 def main() -> int:
     assert __doc__
     parser = argparse.ArgumentParser(description=__doc__.split("\n", maxsplit=1)[0])
     parser.add_argument("--list", action="store_true", help="those that belong apart, too")
-    parser.add_argument("--count", action="store_true", help="print a table of the counts")
     parser.add_argument("--why", nargs="+", default=[], metavar="CRATE.WORD")
     asked = parser.parse_args()
     project, wrong = Reached(), 0
@@ -222,8 +201,6 @@ def main() -> int:
             path = os.path.relpath(project.crates[word.crate].specs[word.module].path, TOP)
             what = project.path_to(key) if key in project.why else "no public contract reaches it"
             print(f"{path}:{word.line}: {word.name}: {what}", file=sys.stderr)
-    if asked.count:
-        print_counts(project)
     print(f"{len(project.words)} words, {wrong} not so", file=sys.stderr)
     return 1 if wrong or not project.words else 0
 

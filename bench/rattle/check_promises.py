@@ -1,19 +1,13 @@
-#!/usr/bin/env python3
 """Checks the promises of docs/internals/PROMISES.md against the sources.
-
-check_promises.py
 
 promises.py says what a promise is, how clauses name it and what its list has. Here each promise has
 to have a name of its own, a clause, and an edit, a test, a case or a trial; where it has edits
-alone, one of them has to be in must-fail/, whose edits CI tries. Each name behind `Shown by` has to
-be that of an edit, a test, a case or a text in a trial that CI makes. Each line `// promise:` of
-the sources has to stand directly above a clause, and to name promises. What README names as
-`crate::function` or `crate::laws::law` has to have such a line, and the list in PROMISES has to be
-the one that promises.py makes now. What isn't so is said in a line of its own on standard error,
-and the status is 1 then. Nothing is built. Standard library alone.
+alone, one of them has to be in must-fail/, whose edits CI tries. Each name in shown_by.txt has to
+be that of a promise, and each below it that of an edit, a test, a case or a text in a trial that CI
+makes. Each line `// promise:` of the sources has to stand directly above a clause, and to name
+promises. What README names as `crate::function` or `crate::laws::law` has to have such a line, and
+the list in PROMISES has to be the one that promises.py makes now.
 """
-
-from __future__ import annotations
 
 import functools
 import os
@@ -24,8 +18,8 @@ from collections.abc import Iterator
 import edits
 import grounds
 from edits import MUST_FAIL
-from promises import DOCUMENT, Clause, Promise, clauses, label, made_list, promises, rows
-from promises import written_list
+from promises import DOCUMENT, SHOWN, Clause, Promise, clauses, label, made_list, promises, rows
+from promises import shown_by, written_list
 from source import TOP, files_of, functions_of, read
 
 TRIALS = os.path.join(TOP, "bench", "trials")
@@ -120,15 +114,13 @@ def faults() -> Iterator[str]:
     for clause in clauses():
         place = f"{os.path.relpath(clause.path, TOP)}:{clause.line}"
         yield from (f"{place}: {fault}" for fault in faults_of_clause(clause, names))
+    yield from (f"{SHOWN}: there is no promise {name}" for name in shown_by() if name not in names)
     yield from faults_of_readme()
     if written_list() != made_list():
         yield f"{DOCUMENT}: the list isn't that of the sources: promises.py --renew"
 
 
-def main(words: list[str]) -> int:
-    if words:
-        print((__doc__ or "").strip(), file=sys.stderr)
-        return 2
+def main() -> int:
     wrong = list(faults())
     for fault in wrong:
         print(fault, file=sys.stderr)
@@ -138,4 +130,4 @@ def main(words: list[str]) -> int:
 
 
 if __name__ == "__main__":
-    sys.exit(main(sys.argv[1:]))
+    sys.exit(main())

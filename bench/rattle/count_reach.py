@@ -1,20 +1,16 @@
-#!/usr/bin/env python3
 """Counts what a reader of a contract has to trust, and how large the house is.
 
 count_reach.py [CRATE::PATH ..]
 
-For each function or law that is named, such as `store_life::laws::each_life_is_opened` or
-`history_store::Store::open`, it prints how many words of specs/ the contract cites, itself or
-through other words, and how many lines their definitions have. Without a name it prints the table
-that ARCHITECTURE has: the reach of the contracts in CONTRACTS, the words and lines of specs/, the
-clauses that are meters, and the lines of sources and proofs.
+For each function or law that is named, such as `history_store::Store::open`, it prints how many
+words of specs/ the contract cites, itself or through other words, and how many lines their
+definitions have. Without a name it prints the table that ARCHITECTURE has.
 
 A word is reached as `check_private.py` says, and for a function that is no law also by what the
 traits in its head ensure. Lines of a definition are those that have text besides a comment. A
 clause is a meter if it is called `meters`, or if it counts reads, calls or failures, or says what
 becomes of the blocks in memory, and hands none of that on to a word that says more. Product crates
-are those that `sctd` uses, by crates.txt; the others count for specs and proofs alone. Nothing is
-built. Standard library alone.
+are those that `sctd` uses, by crates.txt; the others count for specs and proofs alone.
 """
 
 import argparse

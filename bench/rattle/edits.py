@@ -9,8 +9,6 @@ the kit that tried it, if it is known for all lines, and a line for each edit th
 a checksum of its file and one of its grounds, as grounds.py says. Standard library alone.
 """
 
-from __future__ import annotations
-
 import glob
 import hashlib
 import os

@@ -1,8 +1,6 @@
-#!/usr/bin/env python3
 """Says what a refusal of an edit rests on: its grounds.
 
 grounds.py [CRATE[/EDIT] ..]
-grounds.py --between OLD NEW
 
 Whether a changed body of a function meets its contract is decided by these texts, which are the
 edit's grounds: that of the function; the contracts of the functions that it calls; the declarations
@@ -20,26 +18,17 @@ types among the grounds have. What std and other crates of the kit say goes with
 
 A checksum is made of the texts, of their places and of what each name in them is said of. Without
 words a line is printed for each edit, with the checksum of its file and that of its grounds; for
-the edits that are named the grounds themselves. With --between a line for each crate counts its
-edits in commit NEW, those of them that stood in OLD as they are and whose grounds have changed
-since, and those that the checksums of whole crates say have. Nothing is built. Standard library
-alone.
+the edits that are named the grounds themselves.
 """
-
-from __future__ import annotations
 
 import argparse
 import enum
 import functools
 import hashlib
-import io
 import os
 import re
-import shutil
 import subprocess
 import sys
-import tarfile
-import tempfile
 from collections.abc import Iterable, Iterator
 from typing import NamedTuple, Union
 
@@ -318,59 +307,7 @@ def why_stale(record: Record, edit: Edit) -> Stale | None:
     return None if record.kit in (None, kit_version()) else Stale.OTHER_KIT
 
 
-# ---- other commits
-
-
-class Sums(NamedTuple):
-    """The checksums of an edit's file, of its grounds, and of the whole crate with what is
-    below."""
-
-    edit: str
-    grounds: str
-    whole: str
-
-
-def sums() -> dict[str, Sums]:
-    """The checksums of each edit as the sources stand."""
-    return {str(edit): Sums(edits.checksum_of(edit), tree().checksum(edit), ".".join(whole(crate)))
-            for crate in tree().crates for edit in edits.all_edits(crate)}
-
-
-@functools.lru_cache(maxsize=None)
-def sums_at(commit: str) -> dict[str, Sums]:
-    """The same of a commit, as these scripts find them there."""
-    with tempfile.TemporaryDirectory(prefix="grounds-") as folder:
-        archive = output("git", "-C", TOP, "archive", commit, "crates", "crates.txt")
-        with tarfile.open(fileobj=io.BytesIO(archive)) as files:
-            files.extractall(folder)
-        scripts = os.path.join(folder, "bench", "rattle")
-        shutil.copytree(os.path.dirname(os.path.abspath(__file__)), scripts)
-        lines = output(sys.executable, os.path.join(scripts, os.path.basename(__file__)))
-    named = (line.split() for line in lines.decode().splitlines())
-    return {name: Sums(*found) for name, *found in named}
-
-
-def output(*words: str) -> bytes:
-    return subprocess.run(words, stdout=subprocess.PIPE, check=True).stdout
-
-
 # ---- what is printed
-
-
-def print_between(old: str, new: str) -> None:
-    """A line for each crate: its edits in a commit, and those that are stale since another one."""
-    before, after = sums_at(old), sums_at(new)
-    print(f"{'crate':16} {'edits':>6} {'by grounds':>10} {'by crate':>10}")
-    total = [0, 0, 0]
-    for crate in sorted({name.partition("/")[0] for name in after}):
-        named = [it for it in after if it.startswith(f"{crate}/")]
-        pairs = [(before[it], after[it]) for it in named if it in before]
-        same = [(one, other) for one, other in pairs if one.edit == other.edit]
-        counts = [len(same), sum(one.grounds != other.grounds for one, other in same),
-                  sum(one.whole != other.whole for one, other in same)]
-        total = [one + other for one, other in zip(total, counts)]
-        print(f"{crate:16} {counts[0]:6} {counts[1]:10} {counts[2]:10}")
-    print(f"{'all':16} {total[0]:6} {total[1]:10} {total[2]:10}")
 
 
 def print_grounds(name: str) -> None:
@@ -388,15 +325,12 @@ def main() -> int:
     assert __doc__
     parser = argparse.ArgumentParser(description=__doc__.split("\n", maxsplit=1)[0])
     parser.add_argument("names", nargs="*", metavar="CRATE[/EDIT]")
-    parser.add_argument("--between", nargs=2, metavar=("OLD", "NEW"), help="two commits")
     asked = parser.parse_args()
-    if asked.between:
-        print_between(*asked.between)
-        return 0
     for name in asked.names:
         print_grounds(name)
-    for name, found in {} if asked.names else sums().items():
-        print(name, *found)
+    for crate in () if asked.names else tree().crates:
+        for edit in edits.all_edits(crate):
+            print(edit, edits.checksum_of(edit), tree().checksum(edit))
     return 0
 
 

@@ -1,24 +1,21 @@
-#!/usr/bin/env python3
 """Makes the list of clauses at the end of docs/internals/PROMISES.md.
 
 promises.py [--renew]
 promises.py PROMISE ..
 
-Each promise is an item of PROMISES under "Proved" that begins with its name, and may end with
-`Shown by` and names of edits (`crate/edit`), tests (`crate::test`), cases of the files in a crate's
-data/cases (`crate: case`) and trials (`script: a text of the script`). The clauses behind it are
-those of the sources with its name directly above them, in a line `// promise: NAME`, which may have
-several names with commas: a clause of a function, a law too; or an impl, which is what its trait's
-clauses say of one type.
+Each promise is an item of PROMISES under "Proved" that begins with its name. shown_by.txt names
+below it edits (`crate/edit`), tests (`crate::test`), cases of the files in a crate's data/cases
+(`crate: case`) and trials (`script: a text of the script`). The clauses behind it are those of the
+sources with its name directly above them, in a line `// promise: NAME`, which may have several
+names with commas: a clause of a function, a law too; or an impl, which is what its trait's clauses
+say of one type.
 
 The list has a row for each promise: of each crate the clauses, and how many edits change the body
 of one of their functions, or of one that these call in the same crate (taken by name, as grounds.py
-takes names). With --renew it is written into PROMISES, and otherwise it is printed. With names the
+takes names); and what shown_by.txt names. With --renew it is written into PROMISES, and otherwise it is printed. With names the
 edits of these promises are printed, and what each promise itself names. Nothing is built. Standard
 library alone.
 """
-
-from __future__ import annotations
 
 import argparse
 import functools
@@ -37,21 +34,22 @@ DOCUMENT = os.path.join("docs", "internals", "PROMISES.md")
 PROVED, LIST = "## Proved", "## The clauses"
 LAWS = "laws"
 ENTRY = re.compile(r"- `(?P<name>\w+)`: ")
-SHOWN = re.compile(r"\bShown\s+by\s(?P<names>.*?)\.?$", re.S)
+SHOWN = os.path.join("bench", "rattle", "shown_by.txt")
 MARK = re.compile(r"^ *// promise: (?P<names>.+)\n", re.M)
 CLAUSE = re.compile(r" *ensures (?:(?P<name>\w+) )?\{| *impl\b")
 HEAD = """
 Each row has the clauses of a promise, crate by crate, and how many edits change the body of one of
-their functions, or of a function that these call there. `python3 bench/rattle/promises.py` makes
-it, and with the name of a promise prints these edits.
+their functions, or of a function that these call there; and the cases, tests, trials and other
+edits that show it. `python3 bench/rattle/promises.py` makes it from the sources and
+`bench/rattle/shown_by.txt`, and with the name of a promise prints these edits.
 
-| Promise | Clauses |
-|---|---|
+| Promise | Clauses | Shown by |
+|---|---|---|
 """
 
 
 class Promise(NamedTuple):
-    """A promise: its name, the line in which it begins, and what it says that it is shown by."""
+    """A promise: its name, the line in which it begins, and what it is shown by."""
 
     name: str
     line: int
@@ -80,6 +78,14 @@ def document() -> str:
     return read(os.path.join(TOP, DOCUMENT))
 
 
+@functools.lru_cache(maxsize=None)
+def shown_by() -> dict[str, list[str]]:
+    """What shown_by.txt has below the name of each promise."""
+    blocks = read(os.path.join(TOP, SHOWN)).rstrip("\n").split("\n\n")[1:]
+    lines = ([line.strip() for line in block.split("\n")] for block in blocks)
+    return {name: shown for name, *shown in lines}
+
+
 def promises() -> list[Promise]:
     """The promises, in their order."""
     front, _, proved = document().partition(f"\n{PROVED}\n")
@@ -88,9 +94,7 @@ def promises() -> list[Promise]:
     for part in re.split(r"\n(?=- |#|\n)", proved.partition("\n## ")[0]):
         entry = ENTRY.match(part)
         if entry:
-            shown = SHOWN.search(part)
-            names = re.findall(r"`([^`]+)`", shown["names"]) if shown else []
-            found.append(Promise(entry["name"], begin, [" ".join(it.split()) for it in names]))
+            found.append(Promise(entry["name"], begin, shown_by().get(entry["name"], [])))
         begin += part.count("\n") + 1
     return found
 
@@ -262,7 +266,9 @@ def made_list() -> str:
     for it in rows():
         count = f" (edits: {len(it.edits)})" if it.edits else ""
         cells.setdefault(it.promise, []).append(f"**{it.crate}**{count}: {it.clauses}")
-    lines = [f"| `{name}` | {'<br>'.join(parts)} |\n" for name, parts in cells.items()]
+    lines = [f"| `{name}` | {'<br>'.join(parts)} | "
+             f"{', '.join(f'`{shown}`' for shown in shown_by().get(name, []))} |\n"
+             for name, parts in cells.items()]
     return LIST + "\n" + HEAD + "".join(lines)
 
 

@@ -1,15 +1,13 @@
-#!/usr/bin/env python3
 """Lists the lemmas of proofs/ that state the same under other names, in groups.
 
-    python3 bench/rattle/same_statements.py [--loose] [--std FOLDER] [--only CRATE]
+same_statements.py [--loose] [--std FOLDER] [--only CRATE]
 
 Two statements are the same if they are but for the names of what they bind, for braces in place of
-parentheses, and for the names that a file gives to what it imports. The parameters of a module
-that a lemma stands in are a part of its statement where it uses them. `--loose` also lists those
-whose arguments are in another order, and `--std` those that a page of the folder of the standard
+parentheses, and for the names that a file gives to what it imports. The parameters of a module that
+a lemma stands in are a part of its statement where it uses them. `--loose` also lists those whose
+arguments are in another order, and `--std` those that a page of the folder of the standard
 library's lemmas (as KIT/rattle/std/lemmas) states already. `--only` takes the groups that have a
-lemma of this crate. Each line is a lemma, with its file, its line and how many lines it has, which
-are 0 on a page; the last line counts the groups. Nothing is built. Standard library alone.
+lemma of this crate. Each line is a lemma, with its file, its line and how many lines it has.
 """
 
 import argparse

@@ -1,4 +1,3 @@
-#!/usr/bin/env python3
 """Tries the edits of crates, many in one check, each by the goals of its own function.
 
 try_edits.py [--jobs N] [--must-fail] [--anew] [--logs FOLDER] CRATE[/EDIT]..
@@ -21,8 +20,6 @@ kept, as `rt check` leaves it in out/. N checks go on at once, of whichever crat
 1 where none is given. What each check printed is written to FOLDER. It reads the kit's own scripts.
 Standard library alone.
 """
-
-from __future__ import annotations
 
 import argparse
 import datetime

@@ -1,16 +1,12 @@
-#!/usr/bin/env python3
 """Makes trials of the built program by pytest.
 
 by_pytest.py PROGRAM [--tree FOLDER] [--only TRIAL] [NAME ..]
 
-PROGRAM is the built `sctd`. NAME is that of a file `test_NAME.py` beside this one, all if none is
-given; TRIAL takes the trials with this text in their names. With --tree the hub and the clients of
-another tree are tried. Where this Python has no pytest the system's is taken; where neither has it,
-that is said. The last line is `N passed, M failed`, and `, K skipped` where there are any. The
-status is 1 where something failed, and 3 where nothing could be tried on this machine.
+NAME is that of a file `test_NAME.py` beside this one, all if none is given; TRIAL takes the trials
+with this text in their names. With --tree the hub and the clients of another tree are tried. Where
+this Python has no pytest the system's is taken. The last line is `N passed, M failed`, and
+`, K skipped` where there are any; the status is 3 where nothing could be tried on this machine.
 """
-
-from __future__ import annotations
 
 import argparse
 import os

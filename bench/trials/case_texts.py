@@ -1,8 +1,6 @@
 """Reads the transcripts of bench/cases/, which docs/internals/CASES.md describes: cases, and the
 parts and releases that they name. A part of try_cases.py."""
 
-from __future__ import annotations
-
 import re
 import sys
 from collections.abc import Iterator, Mapping

@@ -1,7 +1,5 @@
 """A headless Chromium, driven over two pipes by its DevTools protocol. Standard library alone."""
 
-from __future__ import annotations
-
 import json
 import os
 import select

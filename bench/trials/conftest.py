@@ -1,7 +1,5 @@
 """Which program, hub and clients are tried by pytest, and a folder for each trial."""
 
-from __future__ import annotations
-
 import itertools
 import resource
 import shutil

@@ -1,8 +1,6 @@
 """What refuse_growths.py and its parts share: a library that refuses requests for memory, and how
 the program is run with it. Standard library alone."""
 
-from __future__ import annotations
-
 import itertools
 import os
 import subprocess

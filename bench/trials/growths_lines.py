@@ -1,19 +1,17 @@
 """Part of refuse_growths.py: lines that are served with little memory, and the model's replies."""
 
-from __future__ import annotations
-
 import hashlib
 import re
 import shutil
 from pathlib import Path
-from typing import NamedTuple, Optional, Sequence
+from typing import Iterable, NamedTuple, Optional, Sequence
 
 import soak
 from case_texts import FOLDER
 from growths_harness import (ALL_BEHIND, ALONE, OUT_OF_MEMORY, Program, Ran, Refusals, replies_in,
                              try_each, ways_to_be_refused)
 from harness import RELEASES, Wrong
-from soak_model import KINDS, SUBJECTS, Columns, File, Model, Reply
+from soak_model import KINDS, SUBJECTS, File, Model, Reply
 
 import make_release as rf2  # soak.py looks for it.
 
@@ -50,45 +48,32 @@ class Session:
     def questions(self) -> list[str]:
         """What is asked behind the random lines, by a session that they don't pin."""
         model, day = self.made.model, soak.LAST_DATE
-        shown = {kind: self.versions(kind) for kind in KINDS}
-        letters = sorted({columns[7][0].casefold() for columns in shown["D"]})
-        parents = sorted({columns[5] for columns in shown["R"]})
-        children = sorted({columns[4] for columns in shown["R"]})
-        replaced = sorted({columns[5] for columns in shown["A"]})
-        replacing = sorted({columns[6] for columns in shown["A"]})
-        lines = ["10 TERMS %s 1000 %s" % (day, letter) for letter in letters]
-        lines += ["10 CHILDREN %s %s" % (parent, day) for parent in parents]
-        lines += ["10 DESCENDANTS %s %s" % (parent, day) for parent in parents[:5]]
-        lines += ["10 ANCESTORS %s %s" % (child, day) for child in children[:5]]
-        lines += ["10 REPLACED %s %s" % (component, day) for component in replaced]
-        lines += ["10 REPLACES %s %s" % (component, day) for component in replacing[:5]]
+        concepts, refsets, imports = self.column("D", 4), self.column("M", 4), model.state.imports
+        forms: list[tuple[str, Iterable[object]]] = [
+            ("TERMS {day} 1000 {}", sorted({term[0].casefold() for term in self.column("D", 7)})),
+            ("CHILDREN {} {day}", self.column("R", 5)),
+            ("DESCENDANTS {} {day}", self.column("R", 5)[:5]),
+            ("ANCESTORS {} {day}", self.column("R", 4)[:5]),
+            ("REPLACED {} {day}", self.column("A", 5)),
+            ("REPLACES {} {day}", self.column("A", 6)[:5]),
+            ("MEMBERS {} {day} - 10", refsets), ("VALUES {} {day} - 3", refsets),
+            ("RECEIPT {}", range(1, imports + 1)), ("AT {} DATES", (0, imports))]
+        forms += [(f"CALLED {{}} {{day}} {language}", concepts[:20]) for language in rf2.LANGUAGES]
         for kind, place in SUBJECTS.items():
-            subjects = sorted({columns[place] for columns in shown[kind]})
-            lines += ["10 ABOUT %s %s %s" % (kind, subject, day) for subject in subjects[:20]]
-            lines += ["10 TIMELINE %s %s" % (kind, subject) for subject in subjects[:5]]
-        lines += self.of_reference_sets(shown)
+            forms += [(f"ABOUT {kind} {{}} {{day}}", self.column(kind, place)[:20]),
+                      (f"TIMELINE {kind} {{}}", self.column(kind, place)[:5])]
         for kind in KINDS:
-            lines += ["10 HISTORY %s %s" % (kind, name) for name in self.made.names(kind)[:20]]
-            lines.append("10 DELTA %s 20191231 %s - 10" % (kind, day))
-        lines += ["10 RECEIPT %d" % number for number in range(1, model.state.imports + 1)]
-        lines += ["10 AT %d DATES" % number for number in (0, model.state.imports)]
+            forms += [(f"HISTORY {kind} {{}}", self.made.names(kind)[:20]),
+                      (f"DELTA {kind} 20191231 {{}} - 10", [day])]
+        lines = ["10 " + form.format(value, day=day) for form, values in forms for value in values]
         for line in lines:
             model.reply(line)
         return lines
 
-    def of_reference_sets(self, shown: dict[str, list[Columns]]) -> list[str]:
-        """The members of each reference set and its values, and what some concepts were called."""
-        day, refsets = soak.LAST_DATE, sorted({columns[4] for columns in shown["M"]})
-        concepts = sorted({columns[4] for columns in shown["D"]})
-        lines = ["10 MEMBERS %s %s - 10" % (refset, day) for refset in refsets]
-        lines += ["10 VALUES %s %s - 3" % (refset, day) for refset in refsets]
-        return lines + ["10 CALLED %s %s %d" % (concept, day, language)
-                        for concept in concepts[:20] for language in rf2.LANGUAGES]
-
-    def versions(self, kind: str) -> list[Columns]:
-        """The columns of each version of each component."""
+    def column(self, kind: str, place: int) -> list[str]:
+        """What a column of a kind has, in any version of a component."""
         of = self.made.model.kinds[kind].of
-        return [columns for dates in of.values() for _, columns in dates.values()]
+        return sorted({columns[place] for dates in of.values() for _, columns in dates.values()})
 
 
 class Served(NamedTuple):

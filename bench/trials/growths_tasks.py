@@ -1,7 +1,5 @@
 """Part of refuse_growths.py: each task of the command line with little memory."""
 
-from __future__ import annotations
-
 from collections import Counter
 from pathlib import Path
 from typing import Mapping, NamedTuple, Optional

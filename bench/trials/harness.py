@@ -73,10 +73,6 @@ class Wrong(Exception):
     """Something isn't as it has to be."""
 
 
-class Skipped(Exception):
-    """Something can't be tried on this machine."""
-
-
 def same(what: str, found: object, wanted: object) -> None:
     if found != wanted:
         raise Wrong(f"{what}: {found!r}, not {wanted!r}")
@@ -321,12 +317,7 @@ class Hub:
 
     def programs(self) -> list[int]:
         """The processes that it has started."""
-        number = self.process.pid
-        try:
-            children = Path(f"/proc/{number}/task/{number}/children").read_text("ascii")
-        except OSError:
-            return []
-        return list(map(int, children.split()))
+        return list(children(self.process.pid))
 
     def close(self) -> None:
         """Ends it and its program, whatever they do."""
@@ -424,12 +415,21 @@ def mode(path: Path) -> int:
     return stat.S_IMODE(path.lstat().st_mode)
 
 
-def until(what: str, is_so: Callable[[], object]) -> None:
+def children(number: int) -> set[int]:
+    """The processes that a process has started; none where it has ended."""
+    try:
+        text = Path(f"/proc/{number}/task/{number}/children").read_text("ascii")
+    except OSError:
+        return set()
+    return set(map(int, text.split()))
+
+
+def until(what: str, is_so: Callable[[], object], seconds: float = HUB_SECONDS) -> None:
     """Waits until something is so."""
-    end = time.monotonic() + HUB_SECONDS
+    end = time.monotonic() + seconds
     while not is_so():
         if time.monotonic() > end:
-            raise Wrong(f"{what}: not after {HUB_SECONDS} seconds")
+            raise Wrong(f"{what}: not after {seconds} seconds")
         time.sleep(0.02)
 
 

@@ -2,8 +2,6 @@
 brings back one of them, and adds a term of the first day, so that the same day looks otherwise at
 each pin, and an answer with rows of two imports shows that."""
 
-from __future__ import annotations
-
 import re
 import sys
 from functools import cache

@@ -2,8 +2,6 @@
 LD_PRELOAD, moments.c, which needs a C compiler (`cc`). A part of test_files.py; test_syncs.py and
 growths_harness.py compile theirs by it."""
 
-from __future__ import annotations
-
 import os
 import subprocess
 from collections.abc import Sequence

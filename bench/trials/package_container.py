@@ -2,14 +2,9 @@
 there. A part of test_package.py, which starts it.
 
 systemd-nspawn boots a container on this machine's own files; what is changed there stays in memory
-and is dropped, and the network is the container's. The package is installed there by dpkg as it
-stands, asked, imported into, upgraded to a second package, removed and purged. Each user may
-connect to what the units say and to nothing else, no process may write beside its own folders, and
-what is killed has to be started again. It needs root, overlayfs, systemd-nspawn and curl, and what
-the package depends on. Standard library alone.
+and is dropped, and the network is the container's. package_steps.txt has what is done and looked at
+there. It needs root, overlayfs, systemd-nspawn and curl, and what the package depends on.
 """
-
-from __future__ import annotations
 
 import os
 import shutil

@@ -4,8 +4,6 @@ The rules are those of WCAG 2.2 at level AA that can be decided by a program. `b
 of a page breaks one of them. Standard library alone; axe isn't needed.
 """
 
-from __future__ import annotations
-
 from collections.abc import Iterator
 from pathlib import Path
 from typing import Any

@@ -1,8 +1,6 @@
 """What try_proxy.py and try_machines.py share: certificates, clients that have one, and a proxy
 with its configuration in packaging/."""
 
-from __future__ import annotations
-
 import contextlib
 import http.client
 import os
@@ -15,12 +13,11 @@ import subprocess
 import sys
 import tempfile
 import threading
-import time
 from collections.abc import Callable, Iterator, Mapping, Sequence
 from pathlib import Path
 from typing import NamedTuple, Optional, Self
 
-from harness import Wrong, same
+from harness import Wrong, children, same, until
 
 ROOT = Path(__file__).resolve().parents[2]
 SERVICE = ROOT / "service"
@@ -156,7 +153,7 @@ class Proxy:
         with open(output, "ab") as to, open(self.place / "log", "ab") as faults:
             self.process = subprocess.Popen(words.split(), stdin=subprocess.DEVNULL, stdout=to,
                                             stderr=faults, start_new_session=True)
-        wait(self.is_ready, self.kind.name)
+        until(self.kind.name, self.is_ready, SECONDS)
 
     def is_ready(self) -> bool:
         assert self.process
@@ -172,25 +169,12 @@ class Proxy:
         assert self.process
         pid, before = self.process.pid, children(self.process.pid)
         self.process.send_signal(self.kind.anew)
-        wait(lambda: bool(children(pid)) and not children(pid) & before, "process in their place")
+        until("a process in their place",
+              lambda: children(pid) and not children(pid) & before, SECONDS)
 
     def end(self) -> None:
         if self.process:
             stop(self.process)
-
-
-def children(pid: int) -> set[int]:
-    """The processes that a process has started."""
-    path = Path("/proc/%d/task/%d/children" % (pid, pid))
-    return {int(one) for one in path.read_text("ascii").split()}
-
-
-def wait(condition: Callable[[], bool], what: str) -> None:
-    end = time.monotonic() + SECONDS
-    while not condition():
-        if time.monotonic() > end:
-            raise Wrong("there is no %s after %d seconds" % (what, SECONDS))
-        time.sleep(LOOK_SECONDS)
 
 
 class Client:

@@ -1,4 +1,3 @@
-#!/usr/bin/env python3
 """Runs the built program with its requests for memory refused, each in turn.
 
 refuse_growths.py PROGRAM [LINES [SEED]]
@@ -6,26 +5,17 @@ refuse_growths.py PROGRAM script
 refuse_growths.py PROGRAM tasks
 
 In the Nth run the Nth call of malloc, calloc or realloc gets no memory, for N = 1, 2, .. until a
-run makes fewer calls. RELIABILITY says what has to hold of each run, under "Memory runs out". Where
-nothing was refused that had to be, nothing was tried, and the status is 1.
+run makes fewer calls. RELIABILITY says what has to hold of each run, under "Memory runs out".
 
-LINES random lines (40 where none are given), as those of soak.py, are served again and again on a
-copy of a store, of layout 3 where the rest of SEED divided by 3 is 2 (SEED is 2 where none is
-given) and else of layout 2; behind them it asks for all that a refusal might have made the program
-forget. With `script` the lines are those of the demonstration, with a second step of its merge and
-further questions: all of them on a store without rows, and then its questions on the store that
-they leave. In each tenth run the line that is refused comes a second time: then it is answered. In
-further runs from each seventh call on 40 in a row are refused, and from each tenth on all. With
-`tasks` each task of the command line is done so, on stores that were made before, and so are words
-that are none, and helps; `demo`, whose disk is in memory, and fails where that runs out, gives each
-line a reply.
-
-It needs Linux, glibc and a C compiler (`cc`; without one the status is 3), builds a library of a
-few lines for LD_PRELOAD, and ends by itself. Where there is /dev/shm its files lie there, since
-syncs take most of the time otherwise. Standard library alone.
+LINES random lines, as those of soak.py, are served again and again on a copy of a store; behind
+them it asks for all that a refusal might have made the program forget. With `script` the lines are
+those of the demonstration, with a second step of its merge and further questions: all of them on a
+store without rows, and then its questions on the store that they leave. In each tenth run the line
+that is refused comes a second time: then it is answered. In further runs from each seventh call on
+40 in a row are refused, and from each tenth on all. With `tasks` each task of the command line is
+done so, and so are words that are none, and helps. It needs Linux, glibc and a C compiler. Where
+there is /dev/shm its files lie there, since syncs take most of the time otherwise.
 """
-
-from __future__ import annotations
 
 import shutil
 import sys

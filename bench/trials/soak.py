@@ -1,23 +1,17 @@
-#!/usr/bin/env python3
 """Runs the built program on a real file for some seconds, and kills it at random moments.
 
 soak.py PROGRAM [SECONDS [SEED [FOLDER]]]
 
-PROGRAM is the built `sctd` (crates/sctd/out/sctd). It serves a store in FOLDER (a fresh folder
-below the system's temporary one, where none is given) for SECONDS (60 where none are given), as
-RELIABILITY says under "The soak", and the model in soak_model.py answers each line too: each reply
-has to be the model's, and after a kill the store what the model is after the first so many lines.
-
-It ends by itself, prints its figures, and has the status 1 at the first reply that is another one
-and at bytes behind the last reply, and 3 where no import or no publication was cut short, or no
-MEMBERS, VALUES or CALLED was answered by a row: until all were, a run goes on for up to four times
-SECONDS, and its store is copied in layout 3 after SECONDS. The same SEED gives the same lines up to
-the first kill: the moments of the kills are those of the machine, and what comes behind one goes on
-from what it left. Standard library alone.
+It serves a store in FOLDER, as RELIABILITY says under "The soak", and the model in soak_model.py
+answers each line too: each reply has to be the model's, and after a kill the store what the model
+is after the first so many lines. The status is 3 where no import or no publication was cut short,
+or no MEMBERS, VALUES or CALLED was answered by a row: until all were, a run goes on for up to four
+times SECONDS, and its store is copied in layout 3 after SECONDS. The same SEED gives the same lines
+up to the first kill.
 """
 
-from __future__ import annotations
-
+import argparse
+import contextlib
 import os
 import random
 import re
@@ -29,6 +23,7 @@ import tempfile
 import time
 import uuid
 from collections.abc import Callable, Sequence
+from pathlib import Path
 from typing import Optional
 
 BENCH = os.path.dirname(os.path.dirname(os.path.abspath(__file__)))
@@ -271,23 +266,20 @@ class Program:
 
     def __init__(self, words: list[str]) -> None:
         self.process = subprocess.Popen(
-            words, stdin=subprocess.PIPE, stdout=subprocess.PIPE, stderr=subprocess.DEVNULL
-        )
+            words, stdin=subprocess.PIPE, stdout=subprocess.PIPE, stderr=subprocess.DEVNULL)
         assert self.process.stdin and self.process.stdout
         self.input, self.output = self.process.stdin, self.process.stdout
         self.came = b""
 
     def send(self, data: bytes) -> None:
-        try:
+        with contextlib.suppress(BrokenPipeError):
             self.input.write(data)
             self.input.flush()
-        except BrokenPipeError:
-            pass
 
-    def read(self, wanted: int, until: float) -> None:
-        """Reads up to so many bytes, until a moment or the end."""
+    def read(self, wanted: int, until: float, end: bytes = b"\xff") -> None:
+        """Reads up to so many bytes, or one that ends it (0xff is in no reply), until a moment."""
         out = self.output.fileno()
-        while len(self.came) < wanted:
+        while len(self.came) < wanted and end not in self.came:
             left = until - time.monotonic()
             if left <= 0 or not select.select([out], [], [], left)[0]:
                 return
@@ -296,17 +288,13 @@ class Program:
                 return
             self.came += piece
 
-    def read_line(self, until: float) -> None:
-        """Reads until there is an LF, until a moment or the end."""
-        before = -1
-        while b"\n" not in self.came and len(self.came) != before:
-            before = len(self.came)
-            self.read(before + 1, until)
-
     def kill(self) -> None:
         self.process.kill()
         self.came += self.output.read()
-        self.close_pipes()
+        with contextlib.suppress(BrokenPipeError):
+            self.input.close()
+        self.output.close()
+        self.process.wait()
 
     def end(self) -> tuple[int, bytes]:
         """Ends the input, and gives the status and what came behind the last reply."""
@@ -318,14 +306,6 @@ class Program:
             raise Wrong("the program doesn't end behind the last line") from None
         self.output.close()
         return status, self.came
-
-    def close_pipes(self) -> None:
-        try:
-            self.input.close()
-        except BrokenPipeError:
-            pass
-        self.output.close()
-        self.process.wait()
 
 
 def fields(line: str) -> Columns:
@@ -531,7 +511,7 @@ class Soak:
             self.counts["kills_in_openings"] += 1
         self.start()
         self.served.send(b"0 STATUS\n")
-        self.served.read_line(time.monotonic() + SECONDS)
+        self.served.read(sys.maxsize, time.monotonic() + SECONDS, b"\n")
         came, self.served.came = self.served.came.decode(errors="replace"), b""
         if not came:
             raise Wrong("after a kill: no reply to STATUS, with %d lines answered" % answered)
@@ -682,8 +662,7 @@ class Soak:
             time.sleep(self.chance.random() * 0.02)
             cut.kill()
             self.counts["copies_cut"] += 1
-            if os.path.exists(made):
-                os.unlink(made)
+            Path(made).unlink(missing_ok=True)
         done = self.ended(words)
         if (done.returncode, done.stdout) != (0, b"OK\n"):
             raise Wrong("copy: %r, status %d" % (done.stdout, done.returncode))
@@ -695,13 +674,11 @@ class Soak:
     def second_import(self) -> None:
         """A second program on the file is refused, and changes nothing."""
         self.check("0 STATUS")
-        with open(self.store, "rb") as file:
-            before = file.read()
+        before = Path(self.store).read_bytes()
         name = self.releases.make()
         done = self.ended(
             ["import", "--store", self.store, "--releases", self.releases.folder, name])
-        with open(self.store, "rb") as file:
-            after = file.read()
+        after = Path(self.store).read_bytes()
         if (done.returncode, done.stdout) != (1, b"ERR 2 DiskFault\n") or before != after:
             raise Wrong("a second program: %r, status %d" % (done.stdout, done.returncode))
         self.counts["seconds_refused"] += 1
@@ -754,16 +731,17 @@ PARTS: dict[str, Callable[[Soak], object]] = {
 }
 
 
-def main(words: Sequence[str]) -> int:
-    if not 1 <= len(words) <= 4:
-        print((__doc__ or "").strip(), file=sys.stderr)
-        return 2
-    seconds = int(words[1]) if len(words) > 1 else RUN_SECONDS
-    seed = int(words[2]) if len(words) > 2 else 1
-    folder = words[3] if len(words) > 3 else tempfile.mkdtemp(prefix="sctd-soak-")
-    soak = Soak(os.path.abspath(words[0]), seed, folder)
+def main() -> int:
+    parser = argparse.ArgumentParser(description=(__doc__ or "").partition("\n")[0])
+    parser.add_argument("program", help="the built sctd")
+    parser.add_argument("seconds", type=int, nargs="?", default=RUN_SECONDS)
+    parser.add_argument("seed", type=int, nargs="?", default=1)
+    parser.add_argument("folder", nargs="?", help="of the store and the releases, which stays")
+    asked = parser.parse_args()
+    folder = asked.folder or tempfile.mkdtemp(prefix="sctd-soak-")
+    soak = Soak(os.path.abspath(asked.program), asked.seed, folder)
     try:
-        soak.run(seconds)
+        soak.run(asked.seconds)
     except Wrong as wrong:
         print("WRONG: %s" % wrong)
         print("the files are in %s" % folder)
@@ -771,8 +749,8 @@ def main(words: Sequence[str]) -> int:
     finally:
         if soak.serving is not None and soak.serving.process.poll() is None:
             soak.serving.process.kill()
-    soak.figures(seconds)
-    if len(words) <= 3:
+    soak.figures(asked.seconds)
+    if not asked.folder:
         shutil.rmtree(folder)
     for what in soak.untried():
         print("NOT TRIED: %s" % what)
@@ -780,4 +758,4 @@ def main(words: Sequence[str]) -> int:
 
 
 if __name__ == "__main__":
-    sys.exit(main(sys.argv[1:]))
+    sys.exit(main())

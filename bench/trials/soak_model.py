@@ -1,8 +1,6 @@
 """What each line is answered, by the definitions: slow and plain. Part of soak.py and of
 refuse_growths.py. It shares nothing with the program. Standard library alone."""
 
-from __future__ import annotations
-
 import bisect
 import hashlib
 import inspect
@@ -103,15 +101,16 @@ class Merge(NamedTuple):
     both: int
 
 
-class State:
+class State(NamedTuple):
     """What a store shows beside its rows; plain values, so that it can be kept for each line."""
 
-    def __init__(self, imports: int = 0, rows: int = 0, segments: tuple[int, ...] = (),
-                 merge: Optional[Merge] = None) -> None:
-        self.imports, self.rows, self.segments, self.merge = imports, rows, segments, merge
+    imports: int = 0
+    rows: int = 0
+    segments: tuple[int, ...] = ()
+    merge: Optional[Merge] = None
 
-    def reopened(self) -> State:
-        return State(self.imports, self.rows, self.segments)
+    def reopened(self) -> "State":
+        return self._replace(merge=None)
 
     def counts(self) -> tuple[int, int, int]:
         return (self.imports, self.rows, len(self.segments))
@@ -427,8 +426,7 @@ class Model:
         said, new = self.judged(name)
         if said[0].startswith("ERR "):
             return said
-        old = self.state
-        number = old.imports + 1
+        old, number = self.state, self.state.imports + 1
         for (kind, ident, date), columns in new.items():
             self.kinds[kind].add(ident, date, number, columns)
         segments = old.segments + ((len(new),) if new else ())
@@ -444,7 +442,7 @@ class Model:
         order = sorted(range(len(old.segments)), key=lambda place: (old.segments[place], place))
         i, j = sorted(order[:2])
         left = old.segments[i] + old.segments[j]
-        self.state = State(old.imports, old.rows, old.segments, Merge(i, j, left, left))
+        self.state = old._replace(merge=Merge(i, j, left, left))
         return ["OK %d" % left]
 
     def do_step(self, _session: int, words: str) -> Reply:
@@ -454,7 +452,7 @@ class Model:
         if old.merge is None:
             return ["ERR 11 NoMerge"]
         left = old.merge.left - min(old.merge.left, int(words))
-        self.state = State(old.imports, old.rows, old.segments, old.merge._replace(left=left))
+        self.state = old._replace(merge=old.merge._replace(left=left))
         return ["OK %d" % left]
 
     def do_publish(self, _session: int, _words: str) -> Reply:
@@ -466,14 +464,13 @@ class Model:
         segments = list(old.segments)
         segments[old.merge.first] = old.merge.both
         del segments[old.merge.second]
-        self.state = State(old.imports, old.rows, tuple(segments))
+        self.state = old._replace(segments=tuple(segments), merge=None)
         return ["OK"]
 
     def do_abandon(self, _session: int, _words: str) -> Reply:
-        old = self.state
-        if old.merge is None:
+        if self.state.merge is None:
             return ["ERR 11 NoMerge"]
-        self.state = State(old.imports, old.rows, old.segments)
+        self.state = self.state.reopened()
         return ["OK"]
 
     def do_trim(self, _session: int, _words: str) -> Reply:

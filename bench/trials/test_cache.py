@@ -6,8 +6,6 @@ none may lead to a read of the store's file: beside the lines of the questions t
 nothing, as the system counts for its process (`/proc/PID/io`). A store that kept half as many
 blocks would read all of them again, since the oldest always gives way."""
 
-from __future__ import annotations
-
 from pathlib import Path
 
 import pytest

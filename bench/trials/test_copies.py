@@ -1,7 +1,5 @@
 """Tries the copies of the hub: what BACKUP makes, and what goes on while it does."""
 
-from __future__ import annotations
-
 import os
 import resource
 import shutil

@@ -1,8 +1,6 @@
 """Tries the hub with many clients: that each is told its own replies, who is told of imports, whom
 the hub hangs up on, what it logs of slow lines, and a file that is replaced."""
 
-from __future__ import annotations
-
 import os
 import random
 import shutil

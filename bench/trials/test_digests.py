@@ -1,8 +1,6 @@
 """Tries DIGEST through the hub, which is made of pages of rows between the lines of others: that it
 is the program's own, at each pin, whatever goes on meanwhile."""
 
-from __future__ import annotations
-
 import signal
 from pathlib import Path
 

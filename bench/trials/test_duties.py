@@ -1,8 +1,6 @@
 """Tries what the hub does with the built program beside answering: its socket for questions, the
 rights of its sockets, its log, its merges, and the units."""
 
-from __future__ import annotations
-
 import grp
 import os
 import re

@@ -1,7 +1,5 @@
 """Tries examples/export.py and examples/follow.py with the built program and the hub."""
 
-from __future__ import annotations
-
 import contextlib
 import hashlib
 import shutil

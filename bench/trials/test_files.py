@@ -4,8 +4,6 @@ files and folders that are moved, cut, or put in another's place at a chosen mom
 a moment within the program is done by a library for LD_PRELOAD (moments.py), for which a C compiler
 (`cc`) is needed: without one those trials are skipped."""
 
-from __future__ import annotations
-
 import errno
 import os
 import resource

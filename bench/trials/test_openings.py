@@ -1,8 +1,6 @@
 """Tries how the hub begins: its settings, a first start, and what it does before the program opens
 the store."""
 
-from __future__ import annotations
-
 import shutil
 from pathlib import Path
 

@@ -7,8 +7,6 @@ settings, and each key of the settings has to be an option. Then it is installed
 (package_container.py). What this machine lacks is skipped.
 """
 
-from __future__ import annotations
-
 import hashlib
 import os
 import re

@@ -1,7 +1,5 @@
 """Tries examples/client.py and examples/read_records.py with the built program and the hub."""
 
-from __future__ import annotations
-
 import contextlib
 import csv
 import io

@@ -2,8 +2,6 @@
 ends. Its other trials are in test_duties.py, test_crowds.py, test_digests.py, test_copies.py and
 test_openings.py, and those of the clients in examples/ in test_readers.py."""
 
-from __future__ import annotations
-
 import contextlib
 import fcntl
 import os

@@ -1,26 +1,15 @@
 """Looks at the system calls of the built program: is each write to its file synced before the next?
 
 No proof speaks of a real file: that `OK` comes after what was imported is on the disk is seen here.
-`sctd init` makes a store, and `sctd serve` imports four small releases into it, line by line; each
-call that writes, cuts or syncs is taken down. What has to hold of each import, in this order:
-
-- its rows are written behind the slots, and the file is synced;
-- the gate of the slot that is not current is closed, or nothing is written, and the file is synced;
-- that slot's content is written whole, and the file is synced;
-- that gate is opened, and the file is synced;
-- its reply is written, and nothing but the reply since the last sync.
-
-Of a release without new rows the first step is left out. And of `init`: the slots are written, the
-content of the first one, and its gate, each with a sync before the next; and the folder in which
-the file was made is synced, before `OK`. Of `sctd copy`: all rows of the copy are on the disk before
-the content of its first slot, that before its gate, and that before `OK`; its folder is synced
-before its first byte is written, and of the store nothing is written.
-
-The calls are those that strace prints, where it runs, and those of a library of a few lines for
-LD_PRELOAD, where there is a C compiler (`cc`).
+Each call that writes, cuts or syncs is taken down, by strace, where it runs, and by a library of a
+few lines for LD_PRELOAD, where there is a C compiler. Of an import the rows are written behind the
+slots (if there are new ones), the gate of the slot that isn't current is closed, or nothing
+written, its content is written whole, and its gate opened, each with a sync before the next, and
+then its reply is written. Of `init`: the slots, the content of the first one, and its gate; and the
+folder in which the file was made is synced, before `OK`. Of `sctd copy`: all rows before the
+content of its first slot, that before its gate, and that before `OK`; its folder is synced before
+its first byte is written, and of the store nothing is written.
 """
-
-from __future__ import annotations
 
 import os
 import re

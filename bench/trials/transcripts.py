@@ -1,8 +1,6 @@
 """Runs commands of the built program, and tells how what they write differs from what they have to.
 A part of check_guide.py and of try_cases.py."""
 
-from __future__ import annotations
-
 import difflib
 import os
 import signal

@@ -1,22 +1,15 @@
-#!/usr/bin/env python3
 """Compares answers over HTTP with what a program says that reads the releases' own files.
 
 try_answers.py PROGRAM [--answers N] [--rows N] [--seed N] [--hub HUB]
 try_answers.py --address URL --edition MODULE --files FOLDER [--files FOLDER ..]
                [--languages REFSET,..] [--answers N] [--seed N]
 
-With PROGRAM, the built `sctd`, two Full releases of about so many rows are made and imported, the
-second one a whole package, and half of the answers are compared of each: lookups, codes and
-displays that are validated, subsumptions, expansions and translations, on days that are drawn. With
---address a gateway is asked that runs, with the releases that its store has: FOLDER has a folder
-Terminology, as the folders Full of a release have. The gateway's edition has to be named, and its
-languages if it has any. For a whole edition that takes some gigabytes of memory. Nothing of the
-program is used to read the files. The last line is `N answers, 0 differ`, behind how many of each
-kind there were; at the first one that differs it is told, and the status is 1. It is 3 where a
-package of the gateway is missing.
+With PROGRAM two Full releases of about so many rows are made and imported, the second one a whole
+package, and half of the answers are compared of each, on days that are drawn. With --address a
+gateway is asked that runs, with the releases that its store has: FOLDER has a folder Terminology,
+as the folders Full of a release have. For a whole edition that takes some gigabytes of memory.
+Nothing of the program is used to read the files. It ends at the first answer that differs.
 """
-
-from __future__ import annotations
 
 import argparse
 import http.client

@@ -1,18 +1,13 @@
-#!/usr/bin/env python3
 """Takes a first look, as `./try` offers it in a new clone, and does what it says.
 
 try_first_look.py [--build] PROGRAM
 
-PROGRAM is the built `sctd`, which stands in for the one that ./try builds without a proof; with
-`--build` that is built, which takes minutes, and its time is printed. The page, the FHIR request
-and the line that ./try prints are tried as they are printed, the page also by Chromium where there
-is one. It has to say that the program isn't proved, to end with all that it started at Ctrl-C, to
-keep its store for the next time, to take another port where the usual one is taken, and to name
-what is missing. The status is 1 where something isn't as it has to be, and 3 where the kit or what
-the gateway imports is missing here. Standard library alone.
+PROGRAM stands in for the one that ./try builds without a proof; with `--build` that is built, which
+takes minutes. The page, the FHIR request and the line that ./try prints are tried as they are
+printed, the page also by Chromium where there is one. It has to say that the program isn't proved,
+to end with all that it started at Ctrl-C, to keep its store for the next time, to take another port
+where the usual one is taken, and to name what is missing.
 """
-
-from __future__ import annotations
 
 import contextlib
 import os

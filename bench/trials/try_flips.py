@@ -1,25 +1,15 @@
-#!/usr/bin/env python3
 """Turns over single bits of a store of layout 3, and looks at what the built program answers.
 
 try_flips.py PROGRAM [ROWS [BITS [SEED]]]
 
-PROGRAM is the built `sctd`. It makes a store of layout 3 of a whole package, a Full release of
-ROWS rows (20,000 where none are given) of all sorts of files, and of a Delta. Each bit of the
-directory's epoch is turned over by itself, and each of some random bits of both directories and of
-BITS random ones of the file (200 where none are given): the program is asked, and the bit is turned
-back. What has to hold:
-
-- a store of which a bit that is read was changed is refused with ERR 8, whichever command opens it:
-  one of the directory with its epoch, of a record, or of the older directory in the other slot;
-- where a gate was closed, it may be opened as it was before its last import, whole;
-- where the bit is none of those that are read, each answer is what it was.
-
-Then the store is served, the bits of records are turned over while it is open, and the row of each
-is asked for: the answer is the right one, from a block in memory, or ERR 8. It prints its figures,
-and has the status 1 where an answer is another one. Standard library alone.
+The store has a whole package, a Full release of ROWS rows and a Delta. Each bit of the directory's
+epoch is turned over by itself, and each of some random bits of both directories and of BITS random
+ones of the file: the program is asked, and the bit is turned back. A store of which a bit that is
+read was changed has to be refused with ERR 8; where a gate was closed, it may be opened as it was
+before its last import, whole; and where the bit isn't read, each answer is what it was. Then the
+store is served, the bits of records are turned over while it is open, and the row of each is asked
+for: the answer is the right one, from a block in memory, or ERR 8.
 """
-
-from __future__ import annotations
 
 import argparse
 import random

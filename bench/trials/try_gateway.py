@@ -1,17 +1,13 @@
-#!/usr/bin/env python3
 """Tries the gateway with the built program and the hub: its own tests, in service/tests, by pytest.
 
 try_gateway.py PROGRAM [HUB]
 
-PROGRAM is the built `sctd`; HUB is another hub than service/sctd-hub. Several runs go on beside
-each other, since some tests mostly wait for a limit of time. They need the packages of OF_TESTS,
-which are looked for in this Python and then in the system's; where neither has them all, that is
-said and the status is 3, so that it counts as skipped. Where mypy is installed it checks the types
-too, and where there is a Chromium try_page.py looks at the page. The last line is
-`N passed, M failed`, with `, K skipped` where something was. The status is 1 where something failed.
+Several runs go on beside each other, since some tests mostly wait for a limit of time. The packages
+of OF_TESTS are looked for in this Python and then in the system's; where neither has them all the
+status is 3. Where mypy is installed it checks the types too, and where there is a Chromium
+try_page.py looks at the page. The last line is `N passed, M failed`, with `, K skipped` where
+something was.
 """
-
-from __future__ import annotations
 
 import os
 import re

@@ -1,27 +1,17 @@
-#!/usr/bin/env python3
 """Tries one machine that imports and two that are fed by its backups, behind a proxy.
 
 try_machines.py PROGRAM [--long] [--minutes N] [--haproxy] [--processes]
 
-PROGRAM is the built `sctd`. Each machine is a network of its own, with a hub, its store and a
-gateway; nginx stands before them as packaging/nginx.conf has it, or with --haproxy haproxy as
-haproxy.cfg has it. While clients ask, releases are imported on the first machine, and every few
-imports its BACKUP is fetched over the network by the two others, one after the other, and put in
-place by examples/take_copy.py. Meanwhile the machine that imports is killed in an import, another
-one is killed, one is left behind, and the proxy is started again. Each answer has to be what the
-releases themselves say of the pin that it names, as service/tests reads them. One that isn't is
-counted as mixed where it has rows of several imports, and as wrong otherwise. What was refused is
-counted. A request may be refused only where no machine that ran all the time has its pin, or the
-proxy was started again.
+RELIABILITY says what is done, under "Three machines". Each answer has to be what the releases
+themselves say of the pin that it names, as service/tests reads them. One that isn't is counted as
+mixed where it has rows of several imports, and as wrong otherwise. A request may be refused only
+where no machine that ran all the time has its pin, or the proxy was started again.
 
 With --long 200 imports and 100,000 requests are made in place of 20 and 3,000, or as many of these
 as N minutes allow. Where no networks can be made, as without root, or with --processes, the
-machines are processes with an address each on the loopback, and a line says so. It needs the proxy,
-openssl, curl and what the gateway imports; where one of them is missing it says "not run" and ends
-with status 3. The status is 1 where something isn't as it has to be.
+machines are processes with an address each on the loopback, and a line says so. Where the proxy,
+openssl, curl or what the gateway imports is missing the status is 3.
 """
-
-from __future__ import annotations
 
 import argparse
 import contextlib
@@ -45,10 +35,10 @@ from typing import Any, NamedTuple, Optional
 from urllib.parse import urlencode
 
 from machines_releases import CODES, TOP, days_of, rows_of, wording_of, write
-from harness import Wrong, same
+from harness import Wrong, children, same, until
 from proxy_harness import (
-    HAPROXY, LOOK_SECONDS, NGINX, NOT_RUN, ROOT, Client, Clients, Process, Proxy, children,
-    gateway_words, hub_words, missing, open_folder, ready, run, stop, wait)
+    HAPROXY, LOOK_SECONDS, NGINX, NOT_RUN, ROOT, SECONDS, Client, Clients, Process, Proxy,
+    gateway_words, hub_words, missing, open_folder, ready, run, stop)
 from sctd_service.protocol import HubClient, HubFailed
 from tests.compare_releases import Comparison, Differs
 from tests.fixtures import SCT, Json, version
@@ -114,7 +104,7 @@ class Network:
     def connect(self, pid: int, number: int) -> None:
         own = os.readlink("/proc/self/ns/net")
         path = "/proc/%d/ns/net" % pid
-        wait(lambda: os.readlink(path) != own, "a network of its own")
+        until("a network of its own", lambda: os.readlink(path) != own, SECONDS)
         outer, inner = "out%d" % number, "in%d" % number
         run("ip", "link", "add", outer, "type", "veth", "peer", "name", inner, "netns", str(pid))
         run("ip", "link", "set", outer, "master", "bridge", "up")

@@ -1,19 +1,14 @@
-#!/usr/bin/env python3
 """Opens the gateway's pages in a headless Chromium, and looks at them.
 
 try_page.py PROGRAM [PICTURE]
 
-PROGRAM is the built `sctd`. Records, a retired concept, hostile terms, a search, refusals, what
-changed between two days and a list of records are opened at 390 and at 1,280 pixels, in light and
-in dark colours, and at 320 pixels. The rules of page_rules.py hold of each: contrast, names,
-labels, headings, sizes, a console that says nothing. Most are also gone through by the keyboard
-alone. Forms are filled in by it, a file is chosen, a record, changes and a list are printed, and a
-record is read without the page's script. PICTURE is written with the page of a record. Where there
-is no Chromium, or something that the gateway imports is missing, that is said and the status is 3;
-it is 1 where something is wrong.
+Records, a retired concept, hostile terms, a search, refusals, what changed between two days and a
+list of records are opened at 390 and at 1,280 pixels, in light and in dark colours, and at 320
+pixels. The rules of page_rules.py hold of each. Most are also gone through by the keyboard alone.
+Forms are filled in by it, a file is chosen, a record, changes and a list are printed, and a record
+is read without the page's script. PICTURE is written with the page of a record. Where there is no
+Chromium, or something that the gateway imports is missing, the status is 3.
 """
-
-from __future__ import annotations
 
 import base64
 import os

@@ -1,16 +1,12 @@
-#!/usr/bin/env python3
 """Tries the built program as its users do: examples, transcripts, mistakes, many clients, kills.
 
 try_program.py PROGRAM [PASSED FAILED]
 
-Each script of the list below is run with PROGRAM, the built `sctd`. One that counts what it tried
-ends with a line `N passed, M failed`, and every other one counts as one. One that can't be run on
-this machine says why and ends with status 3: it is skipped, and not counted as passed. PASSED and
-FAILED are what `rt ci` counted; the last line is `N passed, M failed` of both together, and the
-status is 1 where something failed. Standard library alone; by_pytest.py needs pytest.
+Each of SCRIPTS is run with PROGRAM. One that counts what it tried ends with a line `N passed, M
+failed`, and every other one counts as one. One that can't be run on this machine says why and ends
+with status 3: it is skipped, and not counted as passed. PASSED and FAILED are what `rt ci` counted;
+the last line is `N passed, M failed` of both together.
 """
-
-from __future__ import annotations
 
 import argparse
 import os

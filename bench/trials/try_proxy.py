@@ -1,21 +1,14 @@
-#!/usr/bin/env python3
 """Puts three gateways behind nginx and haproxy as packaging/ does, and asks them with certificates.
 
 try_proxy.py PROGRAM [--long]
 
-PROGRAM is the built `sctd`. Two hubs have stores with the same imports: two gateways ask the first
-one, and one asks the second. Only who has a certificate of the authority is let in, and the proxy's
-log has the user's name, the pin and the gateway. While clients ask, gateways are started again, the
+Two hubs have stores with the same imports: two gateways ask the first one, and one asks the second.
+Only who has a certificate of the authority is let in, and the proxy's log has the user's name, the
+pin and the gateway. While clients ask, gateways are started again (with --long 100 times), the
 proxy reads its configuration anew, only the second hub has the pin that is asked for, and that hub
-is ended: no request may be refused, and all answers have to be the same.
-
-With --long gateways are started again 100 times in place of three. It needs nginx, haproxy, openssl
-and what the gateway imports. Where only a proxy is missing it tries the other one, says which is
-skipped, and ends with status 3, as it does where it can try neither. The status is 1 where
-something isn't as it has to be. Standard library alone.
+is ended: no request may be refused, and all answers have to be the same. Where only a proxy is
+missing it tries the other one, says which is skipped, and ends with status 3.
 """
-
-from __future__ import annotations
 
 import argparse
 import http.client
