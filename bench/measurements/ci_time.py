@@ -1,8 +1,7 @@
 """Prints where the time of a CI run goes: minutes a crate, for its library, its tests and its
 must-fail edits.
 
-ci_time.py COMMAND..      runs the command, as .ci/run, and watches the processes below it
-ci_time.py --pid NUMBER   watches a run that goes on already, until it ends
+ci_time.py --pid NUMBER   watches the processes below a run that goes on, until it ends
 ci_time.py --last         says what CI does and how long its last run took, and runs nothing
 
 Each second it reads from /proc what the processes below the run have used, and adds it to the crate
@@ -14,7 +13,6 @@ PERFORMANCE.md, from which --last reads.
 import glob
 import os
 import re
-import subprocess
 import sys
 import time
 from collections import defaultdict
@@ -185,17 +183,16 @@ class Watch:
 def main(words: list[str]) -> int:
     if words == ["--last"]:
         return tell_last()
-    if not words or (words[0] == "--pid" and len(words) != 2):
+    if len(words) != 2 or words[0] != "--pid":
         print((__doc__ or "").strip(), file=sys.stderr)
         return 2
-    run = None if words[0] == "--pid" else subprocess.Popen(words)
-    watch = Watch(run.pid if run else int(words[1]))
-    while watch.look() and (run is None or run.poll() is None):
+    watch = Watch(int(words[1]))
+    while watch.look():
         time.sleep(BETWEEN_LOOKS)
     print("\n".join(watch.table()))
     print("%.1f minutes by the wall" % ((time.monotonic() - watch.begun) / 60))
     print("For the table of CI's runs in PERFORMANCE.md:\n" + watch.as_line().line())
-    return run.returncode if run else 0
+    return 0
 
 
 if __name__ == "__main__":

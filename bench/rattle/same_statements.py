@@ -1,13 +1,12 @@
 """Lists the lemmas of proofs/ that state the same under other names, in groups.
 
-same_statements.py [--loose] [--std FOLDER] [--only CRATE]
+same_statements.py [--loose] [--only CRATE]
 
 Two statements are the same if they are but for the names of what they bind, for braces in place of
 parentheses, and for the names that a file gives to what it imports. The parameters of a module that
 a lemma stands in are a part of its statement where it uses them. `--loose` also lists those whose
-arguments are in another order, and `--std` those that a page of the folder of the standard
-library's lemmas (as KIT/rattle/std/lemmas) states already. `--only` takes the groups that have a
-lemma of this crate. Each line is a lemma, with its file, its line and how many lines it has.
+arguments are in another order. `--only` takes the groups that have a lemma of this crate. Each line
+is a lemma, with its file, its line and how many lines it has.
 """
 
 import argparse
@@ -33,7 +32,6 @@ NAMED = r"(?P<sort>(?:pub |abbrev |unfoldable )*)(?P<name>[^\s:(){}]+) : "
 # A module with parameters, what has a name and a type, or another line that isn't a comment.
 ITEM = re.compile(r"^(?P<indent> *)(?!--)(?:module _ (?P<parameters>(?s:.*?))where$|" + NAMED
                   + r"(?P<said>.*(?:\n(?P=indent) +\S.*)*)|\S)", re.M)
-ON_PAGE = re.compile(r"^pub (?P<name>[^\s:]+) : (?P<said>.*)", re.M)
 # How a line begins that isn't a part of the proof above it.
 NEXT = r"--|module |record |pub record|data |use |" + NAMED
 WORD = re.compile(r"[()\[\],;]|[^\s()\[\],;]+")
@@ -158,15 +156,6 @@ def lemmas_of(path: Path) -> Iterator[Lemma]:
                         numbered(trees, known, numbers()))
 
 
-def lemmas_on(page: Path) -> Iterator[Lemma]:
-    """The lemmas of a page of the library."""
-    text = page.read_text(encoding="utf-8")
-    known = imported(text)
-    for found in ON_PAGE.finditer(text):
-        trees = trees_of(words_of(found["said"]))
-        yield Lemma(found["name"], page, line_of(text, found), 0, numbered(trees, known, numbers()))
-
-
 # ---- what is stated
 
 
@@ -263,7 +252,7 @@ def groups_of(lemmas: Iterable[Lemma], is_loose: bool) -> dict[str, list[Lemma]]
 
 def is_told(group: list[Lemma], crate: str) -> bool:
     """Whether it states something twice, where this crate, or any if none is asked, has one."""
-    has_one = any(crate in ("", lemma.path.parts[1]) for lemma in group if lemma.length)
+    has_one = any(crate in ("", lemma.path.parts[1]) for lemma in group)
     return len(group) > 1 and has_one and is_statement(group[0].statement)
 
 
@@ -280,14 +269,11 @@ def tell(group: list[Lemma], said: str) -> None:
 def main() -> None:
     parser = argparse.ArgumentParser(description=__doc__.strip().split("\n", maxsplit=1)[0])
     parser.add_argument("--loose", action="store_true", help="with arguments in any order")
-    parser.add_argument("--std", metavar="FOLDER", help="pages of the library's lemmas")
     parser.add_argument("--only", metavar="CRATE", default="", help="with a lemma of this crate")
     asked = parser.parse_args()
     files = sorted(ROOT.glob("crates/*/proofs/**/*.antt"))
     lemmas = [lemma for file in files if file.name not in ANSWERS for lemma in lemmas_of(file)]
-    pages = sorted(Path(asked.std).rglob("*.md")) if asked.std else []
-    stated = [lemma for page in pages for lemma in lemmas_on(page)]
-    groups = groups_of(lemmas + stated, asked.loose)
+    groups = groups_of(lemmas, asked.loose)
     told = [(said, group) for said, group in groups.items() if is_told(group, asked.only)]
     told.sort(key=lambda one: (-len(one[1]), -lines_in(one[1]), one[0]))
     for said, group in told:

@@ -1,11 +1,11 @@
 """Makes trials of the built program by pytest.
 
-by_pytest.py PROGRAM [--tree FOLDER] [--only TRIAL] [NAME ..]
+by_pytest.py PROGRAM [--only TRIAL] [NAME ..]
 
 NAME is that of a file `test_NAME.py` beside this one, all if none is given; TRIAL takes the trials
-with this text in their names. With --tree the hub and the clients of another tree are tried. Where
-this Python has no pytest the system's is taken. The last line is `N passed, M failed`, and
-`, K skipped` where there are any; the status is 3 where nothing could be tried on this machine.
+with this text in their names. Where this Python has no pytest the system's is taken. The last line
+is `N passed, M failed`, and `, K skipped` where there are any; the status is 3 where nothing could
+be tried on this machine.
 """
 
 import argparse
@@ -43,7 +43,6 @@ def arguments() -> argparse.Namespace:
     parser.add_argument("program", type=Path, help="the built sctd")
     parser.add_argument("names", nargs="*", metavar="NAME", help="as in test_NAME.py")
     parser.add_argument("--only", metavar="TRIAL", default="", help="a text in names of trials")
-    parser.add_argument("--tree", type=Path, default=TOP, help="whose hub and clients are tried")
     return parser.parse_intermixed_args()
 
 
@@ -51,8 +50,8 @@ def words_of(asked: argparse.Namespace) -> list[str]:
     """What pytest is asked."""
     here = Path(__file__).resolve().parent
     files = [str(here / f"test_{name}.py") for name in asked.names] or [str(here)]
-    paths = [f"--program={asked.program.resolve()}", f"--tree={asked.tree.resolve()}"]
-    return ["-q", "-rfEs", "--tb=short", "-p", "no:cacheprovider", "-k", asked.only, *paths, *files]
+    return ["-q", "-rfEs", "--tb=short", "-p", "no:cacheprovider", "-k", asked.only,
+            f"--program={asked.program.resolve()}", *files]
 
 
 def main() -> int:

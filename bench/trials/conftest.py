@@ -1,4 +1,4 @@
-"""Which program, hub and clients are tried by pytest, and a folder for each trial."""
+"""Which program is tried by pytest, and a folder for each trial."""
 
 import itertools
 import resource
@@ -10,7 +10,7 @@ from collections.abc import Iterator
 from pathlib import Path
 
 import pytest
-from harness import RELEASES, TOP, Place, Wrong
+from harness import RELEASES, Place, Wrong
 
 # How long a trial may take: no longer than ten seconds on a machine that has nothing else to do.
 TRIAL_SECONDS = 280
@@ -21,7 +21,6 @@ NUMBERS = itertools.count(1)
 
 def pytest_addoption(parser: pytest.Parser) -> None:
     parser.addoption("--program", required=True, type=Path, help="the built sctd")
-    parser.addoption("--tree", default=TOP, type=Path, help="whose hub and clients are tried")
 
 
 def pytest_configure() -> None:
@@ -44,10 +43,10 @@ def pytest_runtest_setup() -> None:
 @pytest.fixture(scope="session")
 def tried(request: pytest.FixtureRequest) -> Iterator[Place]:
     """The program, and a folder for what trials share, in which another user may reach sockets."""
-    program, tree = map(request.config.getoption, ("--program", "--tree"))
+    program = request.config.getoption("--program")
     with tempfile.TemporaryDirectory(prefix="sctd-") as folder:
         Path(folder).chmod(0o711)
-        yield Place(program.resolve(), Path(folder), tree.resolve())
+        yield Place(program.resolve(), Path(folder))
 
 
 @pytest.fixture
