@@ -1,14 +1,13 @@
 """Measures the gateway, the hub and the program below them while clients ask.
 
-measure_gateway.py PROGRAM [--rows N] [--seconds N] [--hub PATH] [--raw-only] [--package] [--nginx]
+measure_gateway.py PROGRAM [--rows N] [--seconds N] [--hub PATH] [--raw-only] [--package]
 
 $lookup is asked by 1 and by 16 clients, of random codes on random days, and of 200 codes on one
 day, whose replies are remembered; and the hub alone is asked the questions of a $lookup by 8
 clients, one by one and four in one write. Clients are two processes, which need a processor of
 their own. With --package the release is a whole package in a store of layout 3, and the gateway has
 a language, so $lookup asks for preferred terms and members too. Then the reference set that has
-each concept is expanded page by page on the last day, twice, by one client. With --nginx $lookup is
-asked by 64 clients with a certificate of three gateways behind nginx, as packaging/ has it.
+each concept is expanded page by page on the last day, twice, by one client.
 """
 
 import argparse
@@ -21,7 +20,6 @@ import random
 import select
 import socket
 import statistics
-import ssl
 import subprocess
 import sys
 import time
@@ -34,14 +32,12 @@ from measure_harness import absolute, child_of, made_release, seconds_used
 
 sys.path.append(str(Path(__file__).resolve().parents[1] / "trials"))
 from proxy_harness import (  # noqa: E402
-    EDITION, HOST, NOT_RUN, SERVICE, Process, Proxy, free_ports, gateway_words, hub_words, missing,
-    open_folder, ready, stop)
+    EDITION, NOT_RUN, SERVICE, Process, gateway_words, hub_words, missing, open_folder, ready, stop)
 
 PROCESSES = 2
 FEW_CODES = 200
 YEARS = range(2016, 2026)
 READ_BYTES = 1 << 18
-GATEWAYS, MANY_CLIENTS = 3, 64
 VERSION = "http://snomed.info/sct/%s/version/" % EDITION
 US_ENGLISH, MAP_OF_ALL = "900000000000509007", "900000000000497000"
 PAGE = 1_000
@@ -102,25 +98,6 @@ class HttpClient(Connection):
             return False
         self.wrong += head[9:12] not in (b"200", b"404")
         return True
-
-
-class TlsClient(HttpClient):
-    """A client of nginx. Its path is a port, an authority and a certificate."""
-
-    @staticmethod
-    def connected(path: str) -> socket.socket:
-        port, authority, certificate = path.split(",")
-        around = ssl.create_default_context(cafile=authority)
-        around.load_cert_chain(certificate, str(Path(certificate).with_suffix(".key")))
-        plain = socket.create_connection((HOST, int(port)))
-        return around.wrap_socket(plain, server_hostname=HOST)
-
-    def is_done(self) -> bool:
-        assert isinstance(self.socket, ssl.SSLSocket)
-        is_whole = super().is_done()
-        while not is_whole and self.socket.pending():
-            is_whole = super().is_done()
-        return is_whole
 
 
 class HubClient(Connection):
@@ -283,24 +260,6 @@ def begin_gateway(options: argparse.Namespace, hub: str, path: str) -> Process:
     return ready(gateway_words(Path(hub), path, *languages), Path(hub).with_name("log"))
 
 
-def behind_nginx(options: argparse.Namespace, folder: str, hub: str, below: Sequence[int],
-                 make: Callable[[], bytes]) -> None:
-    """Asks three gateways of a hub behind nginx."""
-    addresses = ["%s:%d" % (HOST, port) for port in free_ports(GATEWAYS)]
-    proxy = Proxy(Path(folder), addresses)
-    gateways = [begin_gateway(options, hub, address) for address in addresses]
-    try:
-        proxy.start()
-        assert proxy.process
-        pids = [child_of(proxy.process.pid), *(one.pid for one in gateways), *below]
-        path = "%d,%s,%s" % (proxy.port, proxy.server.path, proxy.user)
-        measured("$lookup by nginx", pids, TlsClient, path, make, MANY_CLIENTS, options.seconds)
-    finally:
-        proxy.end()
-        for one in gateways:
-            stop(one)
-
-
 def tried(options: argparse.Namespace, folder: str) -> None:
     store, hub_socket, place = (os.path.join(folder, name) for name in ("store", "hub", "http"))
     make_store(options, folder, store)
@@ -321,8 +280,6 @@ def tried(options: argparse.Namespace, folder: str) -> None:
         one, four = (functools.partial(make, codes, days) for make in (question, questions))
         measured("the hub, one question", below, SlowHubClient, hub_socket, one, 8, seconds)
         measured("the hub, four at once", below, HubClient, hub_socket, four, 8, seconds)
-        if options.nginx:
-            behind_nginx(options, folder, hub_socket, below, any_code)
         if options.package and not options.raw_only:
             # (The second time the codes are remembered.)
             for _ in range(2):
@@ -345,10 +302,10 @@ def options_of(doc: str | None, **numbers: int) -> argparse.ArgumentParser:
 def main() -> int:
     words = options_of(__doc__, rows=DEFAULT_ROWS, seconds=DEFAULT_SECONDS)
     words.add_argument("--hub", type=absolute, default=HUB)
-    for name in ("--raw-only", "--package", "--nginx"):
+    for name in ("--raw-only", "--package"):
         words.add_argument(name, action="store_true")
     options = words.parse_args()
-    if (lacks := missing(("nginx", "openssl") if options.nginx else ())) is not None:
+    if (lacks := missing(())) is not None:
         print("not run: there is no %s" % lacks)
         return NOT_RUN
     with open_folder() as folder:

@@ -1,11 +1,13 @@
-"""Makes the mistakes that people make with the built program, beside those of bench/cases/, and
-looks at what it does: wrong paths, folders that are no release, files that never end, names with
+"""Makes the mistakes that people make with the built program, and looks at what it does. It is
+given wrong paths, folders that are no release, whole packages, files that never end, names with
 control characters, a full disk, too few files that may be open, a store that is in use and one
 whose file is replaced. Each time its reply, its status and the line on standard error have to be as
 wanted within ten seconds, and the store has to be left as it was. Then four imports run on one
 store at once, and again beside a server: each release that was answered OK has to be there after
 the next opening, and no other. The lines in the help of `serve` have to be requests, and the
 demonstration what a case of bench/cases/ says."""
+
+from __future__ import annotations
 
 import os
 import pty
@@ -46,12 +48,18 @@ ROWS = COLUMNS + ROW
 HOLDER = re.compile(r"in use by another process, whose id is (\d+)\n$")
 # The number of a user who owns nothing.
 OTHER_USER = 65534
-# A row of a language reference set.
+# A row of a language reference set, and one of a text definition, of the root concept.
 LANGUAGE = "der2_cRefset_LanguageDelta-en_INT_20200131.txt"
 LANGUAGE_ROWS = (
     "id\teffectiveTime\tactive\tmoduleId\trefsetId\treferencedComponentId\tacceptabilityId\n"
     "0b6a0c2e-5d0f-4c53-9f6e-8d9d2a7b1c01\t20200131\t1\t900000000000207008\t900000000000509007\t"
     "1000015\t900000000000548007\n")
+DEFINITIONS = "sct2_TextDefinition_Delta-en_INT_20200131.txt"
+DEFINITION_ROWS = (
+    "id\teffectiveTime\tactive\tmoduleId\tconceptId\tlanguageCode\ttypeId\tterm\t"
+    "caseSignificanceId\n"
+    "1000015\t20200131\t1\t900000000000207008\t138875005\ten\t900000000000550004\tAll of it.\t"
+    "900000000000448009\n")
 ASSOCIATIONS = "Refset/Content/der2_cRefset_AssociationFull_INT_20200131.txt"
 ASSOCIATION_COLUMNS = ("id\teffectiveTime\tactive\tmoduleId\trefsetId\treferencedComponentId\t"
                        "targetComponentId\n")
@@ -129,14 +137,21 @@ class Folder(NamedTuple):
     layout: int = 2
 
 
+def package(inner: str) -> Folder:
+    """A package's top folder."""
+    path = f"{inner}/Terminology/{CONCEPTS}"
+    return Folder({f"package/{path}": ROWS}, "package", f"{PARTS}; its folder {inner}",
+                  warnings=[OUT_OF_PLACE % path])
+
+
 def half(part: str, whole: str) -> Folder:
     """A release of which one folder is a link that leads nowhere."""
     return Folder({f"half/{whole}/{CONCEPTS}": ROWS, f"half/{part}": dangling}, "half",
                   "leads nowhere")
 
 
-def in_terminology(made: Made, why: str) -> Folder:
-    return Folder({f"r/Terminology/{CONCEPTS}": made}, "r", why)
+def in_terminology(made: Made, why: str, reply: str = MISSING) -> Folder:
+    return Folder({f"r/Terminology/{CONCEPTS}": made}, "r", why, reply)
 
 
 def in_refset(path: str, made: Made, why: str) -> Folder:
@@ -148,15 +163,20 @@ def in_refset(path: str, made: Made, why: str) -> Folder:
 
 FOLDERS = {
     "a wrong name": Folder({}, "absent", "releases/absent: no such folder"),
-    "a package's top folder": Folder(
-        {f"package/Delta/Terminology/{CONCEPTS}": ROWS}, "package", f"{PARTS}; its folder Delta",
-        warnings=[OUT_OF_PLACE % f"Delta/Terminology/{CONCEPTS}"]),
+    "a package's top folder, Full": package("Full"),
+    "a package's top folder, Delta": package("Delta"),
     "a zip": Folder({"packed.zip": "PK"}, "packed.zip", "unpack the release"),
     "a slash before it": Folder({}, "/r1", "one / between", "ERR 43 Arguments"),
     "a lower-case folder": Folder(
         {f"small/terminology/{CONCEPTS}": COLUMNS}, "small", "releases/small: " + PARTS,
         warnings=[OUT_OF_PLACE % f"terminology/{CONCEPTS}"]),
     "no file to take": Folder({"none/Terminology/readme.txt": ""}, "none", "no file to take"),
+    "a faulty line": in_terminology(COLUMNS + "?\n", f"{CONCEPTS}, line 2: ",
+                                    "ERR 23 Columns 1 2"),
+    "two rows of one id and date": in_terminology(
+        ROWS + ROW + ROW.replace("\t1\t", "\t0\t"),
+        f"{CONCEPTS}, line 4: the row differs from another one of the same id and date: "
+        f"{CONCEPTS}, line 2\n", "ERR 32 Contradiction 1 4"),
     "a FIFO": in_terminology(os.mkfifo, "not a regular file"),
     "an endless device": in_terminology(endless, "not a regular file"),
     "a dangling file": in_terminology(dangling, "leads nowhere"),
@@ -185,6 +205,18 @@ def test_folders(place: Place, folder: Folder) -> None:
     assert place.path("store").read_bytes() == before
 
 
+@pytest.mark.parametrize("words", (
+    ["--releases", "releases", "package/Full/"], ["releases/package/Full"],
+    ["./releases//package/Full//"], ["alone"], ["alone/"], ["{}/releases/package/Full"]))
+def test_names(place: Place, store: Path, words: Sequence[str]) -> None:
+    """Names as people type them: with slashes at the end, and paths without a folder of
+    releases."""
+    for folder in ("releases/package/Full", "alone"):
+        write(place.path(folder), {f"Terminology/{CONCEPTS}": ROWS})
+    named = [word.format(place.folder) for word in words]
+    assert place.run("import", "--quiet", "--store", store, *named) == (0, "OK 1 1 0\n", "")
+
+
 @pytest.mark.parametrize("path, told", (("absent/", "./absent"),
                                         ("releases/absent", "releases/absent")))
 def test_wrong_paths(place: Place, store: Path, path: str, told: str) -> None:
@@ -196,11 +228,30 @@ def test_wrong_paths(place: Place, store: Path, path: str, told: str) -> None:
 # ---- What an import tells
 
 
+@pytest.mark.parametrize("is_quiet", (False, True))
+def test_telling(place: Place, store: Path, is_quiet: bool) -> None:
+    """What an import tells beside its reply."""
+    near = "xsct2_Concept_full_INT_20200131.txt"
+    write(place.releases / "told", {
+        f"Terminology/{CONCEPTS}": ROWS, f"Terminology/{near}": COLUMNS,
+        "Terminology/readme.txt": "", "Refset/Map/map.txt": "", "notes\nsctd: forged": ""})
+    words = ["--quiet"] if is_quiet else []
+    status, output, faults = place.run("import", "--store", store, "releases/told", *words)
+    assert status == 0 and output.startswith("OK ")
+    lines = faults.splitlines()
+    warning = f"sctd: warning: passed over Terminology/{near}, "
+    assert any(line.startswith(warning) for line in lines), lines
+    for line in ("reading " + CONCEPTS, f"took {CONCEPTS}: Concept, rows: 1",
+                 "passed over Terminology/readme.txt", "passed over Refset/Map/map.txt",
+                 "passed over notes\\nsctd: forged", "importing"):
+        assert ("sctd: " + line in lines) != is_quiet, (line, lines)
+    assert not any(line.startswith("sctd: forged") for line in lines)
+
+
 def test_few_kinds(place: Place, store: Path) -> None:
-    """A release that is named by a path of one word."""
-    write(place.path("few"), {ASSOCIATIONS: ASSOCIATION_COLUMNS})
+    write(place.releases / "few", {ASSOCIATIONS: ASSOCIATION_COLUMNS})
     told = "sctd: warning: no Concept, Description or Relationship file was taken\n"
-    assert place.run("import", "--quiet", "--store", store, "few")[::2] == (0, told)
+    assert place.run("import", "--quiet", "--store", store, "releases/few")[::2] == (0, told)
 
 
 def test_lacking(place: Place, store: Path) -> None:
@@ -226,12 +277,35 @@ def import_told(place: Place, store: Path, files: Files, reply: str, *lines: str
     return [line for line in told if "warning" in line]
 
 
+WHOLE = {f"Refset/Language/{LANGUAGE}": LANGUAGE_ROWS,
+         f"Terminology/{DEFINITIONS}": DEFINITION_ROWS}
+PASSED_OVER = [f"passed over {name}" for name in WHOLE]
+TAKEN = [f"took {LANGUAGE}: Refset, rows: 1", f"took {DEFINITIONS}: Description, rows: 1"]
+
+
+@pytest.mark.parametrize("layout, reply, told", (
+    (2, "OK 1 1 0", PASSED_OVER), (3, "OK 1 3 0", TAKEN)))
+def test_packages(place: Place, layout: int, reply: str, told: Sequence[str]) -> None:
+    """A whole package, which a store of layout 2 takes in part."""
+    store = place.make_store(layout=layout)
+    assert import_told(place, store, WHOLE, reply, *told) == []
+    if layout == 2:
+        copied = place.copy(store, "copied", layout=3)
+        assert import_told(place, copied, WHOLE, "OK 2 2 1") == []
+
+
 @pytest.mark.parametrize("folder", ("Refset", "refset/Language", "Language", "Refset/Language/en"))
 def test_misplaced(place: Place, folder: str) -> None:
     """Files of a package in a folder in which no package has them."""
     path = f"{folder}/{LANGUAGE}"
     warned = import_told(place, place.make_store(layout=3), {path: LANGUAGE_ROWS}, "OK 1 1 0")
     assert [line.startswith(OUT_OF_PLACE % path) for line in warned] == [True]
+
+
+def test_beta_release(place: Place) -> None:
+    path = f"Refset/Language/x{LANGUAGE}"
+    warned = import_told(place, place.make_store(layout=3), {path: LANGUAGE_ROWS}, "OK 1 1 0")
+    assert any(line.startswith(f"sctd: warning: passed over {path}, ") for line in warned), warned
 
 
 def test_no_folder_in_refset(place: Place) -> None:
@@ -369,7 +443,10 @@ def test_stores(place: Place, words: str, what: str) -> None:
 
 
 @pytest.mark.parametrize("words, reply, why", (
+    (["serve", "--store", "store", "--releases", "relaeses"], MISSING,
+     "sctd: relaeses: No such file"),
     (["serve", "--store", "store", "--releases", "text"], MISSING, "sctd: text: not a folder"),
+    (["init", "--store", "store"], "ERR 4 NotEmpty", "store: the file isn't empty"),
     (["serve", "--store", "text", "--releases", "releases"], "ERR 7 NotAStore",
      "text: the file is no store")))
 def test_wrong_words(place: Place, store: Path, words: Sequence[str], reply: str, why: str) -> None:

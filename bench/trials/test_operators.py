@@ -5,6 +5,8 @@ such as don't, and damage under a served store. What many clients and a year of 
 stands in test_duties.py; other files in the store's place, forged names and locks, in
 test_mistakes.py."""
 
+from __future__ import annotations
+
 import collections
 import hashlib
 import itertools
@@ -103,6 +105,15 @@ def digest_of(*releases: Path | str) -> str:
 # ---- A release that is tried before it counts
 
 
+def write_faulty(place: Place) -> None:
+    """Releases that are refused: a column too few, a row that contradicts one of r1, no release."""
+    short = concept(1, DATE).rpartition("\t")[0]
+    write_release(place.releases / "faulty", {"C": [concept(2, DATE), short]}, DATE)
+    other = f"1000004\t20200131\t0\t{rf2.CORE}\t{rf2.PRIMITIVE}"
+    write_release(place.releases / "contradicting", {"C": [concept(3, DATE), other]}, DATE)
+    (place.releases / "empty").mkdir()
+
+
 def check_told(place: Place, store: Path, name: str) -> Ran:
     """What `import --check` says of a release; it leaves the file as it is."""
     before = store.read_bytes()
@@ -110,6 +121,34 @@ def check_told(place: Place, store: Path, name: str) -> Ran:
                      name)
     assert store.read_bytes() == before
     return told
+
+
+def checked_is_imported(place: Place, store: Path, name: str, wanted: str) -> None:
+    """A check, as a command and as a line, is answered as the import that follows."""
+    told = check_told(place, store, name)
+    with Server(place, store, place.releases) as server:
+        before = store.read_bytes()
+        replies = [server.ask("CHECK " + name) for _ in range(2)]
+        assert store.read_bytes() == before
+        replies.append(server.ask("IMPORT " + name))
+    assert replies == [[wanted]] * 3
+    assert told[:2] == (0 if wanted.startswith("OK") else 1, wanted + "\n")
+
+
+@pytest.mark.parametrize("layout", (2, 3))
+def test_checks(place: Place, layout: int) -> None:
+    """What CHECK answers IMPORT answers next, and CHECK leaves the store as it is."""
+    for name in ("r1", "r2", "r3"):
+        place.link_release(name)
+    write_faulty(place)
+    store = place.make_store(layout=layout)
+    for name, wanted in (
+            ("r1", "OK 1 6 0"), ("r2", "OK 2 4 0"), ("r1", "OK 3 0 6"), ("r3", "OK 4 2 1"),
+            ("faulty", "ERR 23 Columns 1 3"), ("contradicting", "ERR 32 Contradiction 1 3"),
+            ("empty", "ERR 45 NoFolder"), ("absent", "ERR 45 NoFolder"),
+            ("../r1", "ERR 43 Arguments")):
+        checked_is_imported(place, store, name, wanted)
+    assert place.status(store) == "OK 4 12 3 -"
 
 
 def store_of_halves(place: Place, first: range, second: range) -> Path:
