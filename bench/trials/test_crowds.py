@@ -157,7 +157,8 @@ def test_slow_lines(place: Place, two_imports: Path) -> None:
         client = hub.client()
         client.send(b"RECEIPT 1\nRECEIPT 2\nRECEIPT 1\n")
         assert [client.read()[0].split(" ")[1] for _ in range(3)] == ["1", "2", "1"]
-        told = [line.partition(" s for ")[2] for line in hub.logged()]
+        # (The hub's own STATUS may take long, too, where the machine has much to do.)
+        told = [line.partition(" s for ")[2] for line in hub.logged() if "STATUS" not in line]
         assert told == [f"RECEIPT 2 of user {os.getuid()}"]
 
 
