@@ -16,7 +16,8 @@ use Rattle.import_check.specs.declared.contradicting.Contradictions.{Contradicti
 use Rattle.import_check.specs.declared.fault.ImportFault.{ImportFault}
 use Rattle.import_check.specs.declared.fault.ImportFault.TheVariants as importfault
 use Rattle.import_check.specs.Known.{IsUnknown}
-use Rattle.import_check.specs.Release.{SpellFiles, placed_lines, rows_of}
+use Rattle.import_check.specs.Release.{SpellFiles, placed_lines, rows_of, row_of}
+use Rattle.import_check.specs.Release.{IsPossibleContradiction}
 use Rattle.import_check.specs.NewRows.{IsRefusal}
 
 -- the order of lines in the release: by file, then by line
@@ -26,10 +27,6 @@ place_cmp a b = ordering_then (nat_cmp a.file b.file) (nat_cmp a.line b.line)
 -- the order of lines by key, then by file and line
 abbrev pub rank_cmp : PlacedLine → PlacedLine → Ordering
 rank_cmp a b = ordering_then (row_cmp a.row b.row) (place_cmp a b)
-
-abbrev pub row_of : OtherRow → RowValue
-row_of (others.Known row) = row
-row_of (others.Line first) = first.row
 
 -- The row counts for its key: either it is known, or it is that of a line, and its key is neither
 -- known nor on an earlier line.
@@ -56,6 +53,19 @@ pub record AreContradictionsOf (known : List RowValue) (release : Release) (limi
   pub all : List ContradictingLine
   pub ascending : IsAscending (λ a b. rank_cmp a.line b.line) all
   pub each : (c : ContradictingLine) → Has all c ↔ IsContradiction known (placed_lines lists) c
+  pub listed : found.listed.items ≡ take limit all
+  pub further : found.further ≡ length all - limit
+
+-- The same whatever rows are returned for known keys: of lines that may contradict, in the order of
+-- keys, files and lines, the first are listed, up to the limit, and the others are counted.
+pub record ArePossibleContradictions (known : List RowValue) (may_be : RowValue → Type 0)
+    (release : Release) (limit : ℕ) (found : Contradictions) : Type 0 where
+  pub lists : List (List RowValue)
+  pub spelled : SpellFiles release.files.items lists
+  pub all : List ContradictingLine
+  pub ascending : IsAscending (λ a b. rank_cmp a.line b.line) all
+  pub each : (c : ContradictingLine) → Has all c
+      → IsPossibleContradiction known may_be (placed_lines lists) c
   pub listed : found.listed.items ≡ take limit all
   pub further : found.further ≡ length all - limit
 
