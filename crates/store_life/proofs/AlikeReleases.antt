@@ -23,7 +23,7 @@ use Rattle.history_store.specs.declared.refusal.Refusal.TheVariants as store
 use Rattle.history_store.specs.Catalog.{Catalog}
 use Rattle.history_store.specs.StoreValue.{StoreValue}
 use Rattle.history_store.specs.Prepared.{IsForLater, IsAdmitted}
-use Rattle.history_store.specs.Answers.{IsTaken, WouldBeTakenBut, IsImportOf}
+use Rattle.history_store.specs.Answers.{IsTakenAs, WouldBeTakenBut, IsImportOf}
 use Rattle.history_store.specs.Checking.{HasFailed}
 
 abbrev FileBytes : Type 0
@@ -143,7 +143,7 @@ module _ (release other : Release) (same : files_of release ≡ files_of other) 
   abbrev accepted_alike : {known : List RowValue} → IsAccepted known release → IsAccepted known other
   accepted_alike a = record { rows = a.rows; is_release = release_alike a.is_release; consistent = a.consistent }
 
-  taken_alike : {h after : History} {catalog next : Catalog} {receipt : Receipt} → IsTaken h after catalog next release receipt → IsTaken h after catalog next other receipt
+  taken_alike : {h after : History} {catalog next : Catalog} {receipt : Receipt} → IsTakenAs h after catalog next release receipt → IsTakenAs h after catalog next other receipt
   taken_alike t = record { room = admitted_alike t.room; accepted = accepted_alike t.accepted; history = t.history; receipt_is = t.receipt_is; catalog_is = t.catalog_is }
 
   unplaced_alike : {h : History} {catalog : Catalog} {Lacks : List StampedRow → Catalog → Type 0} → WouldBeTakenBut h catalog release Lacks → WouldBeTakenBut h catalog other Lacks

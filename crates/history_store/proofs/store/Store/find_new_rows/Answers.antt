@@ -7,7 +7,10 @@ use Rattle.import_check.specs.NewRows.{IsAcceptedAs, IsRefusal, IsRefusalByKey}
 use Rattle.import_check.specs.NewRows.{BringsByKey}
 use Rattle.history_store.specs.StoreValue.{StoreValue}
 use Rattle.history_store.specs.Answers.{CountsRefusal}
-use Rattle.history_store.specs.Private.Reading.{rows_of}
+use Rattle.import_check.proofs.MoreStored.{more_brought, more_refused}
+use Rattle.history_store.specs.Stored.{MayBe}
+use Rattle.history_store.specs.Private.Reading.{rows_of, MayBeRead}
+use Rattle.history_store.proofs.Returned.{stored_so}
 use Rattle.history_store.proofs.Refusing.{refused_less}
 use Rattle.history_store.proofs.Held.{lent_sound}
 use Rattle.history_store.proofs.Lent.{reader_honest, held_left}
@@ -34,7 +37,12 @@ returns-in-Ok-clause-accepted g c =
 
 pub returns-in-Ok-clause-brings : goal.returns-in-Ok-clause-brings
 returns-in-Ok-clause-brings g c =
-    rw (← c.self.view_is) (subst (λ l. BringsByKey (rows_of l) c.args.release c.in-Ok.fresh) c.new-reader.ensures.shown (c.in-Ok.ensures.brings (lent_sound _ _ _ _ _ _ _ c.self.invariant.0 c.places.result.now c.new-reader.result.shown.now c.imports-pin.result c.places.ensures c.new-reader.ensures.shown c.imports-pin.ensures).0 (lent_sound _ _ _ _ _ _ _ c.self.invariant.0 c.places.result.now c.new-reader.result.shown.now c.imports-pin.result c.places.ensures c.new-reader.ensures.shown c.imports-pin.ensures).1))
+    let sound = lent_sound _ _ _ _ _ _ _ c.self.invariant.0 c.places.result.now c.new-reader.result.shown.now c.imports-pin.result c.places.ensures c.new-reader.ensures.shown c.imports-pin.ensures in
+    let r = c.new-reader.ensures in
+    let lent = c.new-reader.result in
+    let Lent = MayBeRead (MayBe (g.D.Disk.view lent.disk.now).reads_as lent.cache.now lent.entries.now) in
+    rw (← c.self.view_is) (more_brought _ Lent _ (stored_so g.D.Disk.view _ lent.disk.now lent.cache.now lent.entries.now r.disk r.cache r.entries) c.args.release c.in-Ok.fresh
+    (subst (λ l. BringsByKey (rows_of l) Lent c.args.release c.in-Ok.fresh) r.shown (c.in-Ok.ensures.brings sound.0 sound.1)))
 
 pub returns-after-matches-clause-refused : goal.returns-after-matches-clause-refused
 returns-after-matches-clause-refused g c =
@@ -45,7 +53,11 @@ returns-after-matches-clause-refused g c =
       subst (λ l. IsRefusal (g.D.Disk.view c.self.inside.disk).is_honest (rows_of l) c.args.release c.in-Err.fault) c.new-reader.ensures.shown
           (refused_less _ _ _ _ c.in-Err.fault (λ up. ((reader_honest g.D.Disk.view _ _ _ _ _ _ _ _ _ _ c.self.invariant.0 c.new-reader.ensures.disk c.new-reader.ensures.cache c.new-reader.ensures.entries c.new-reader.ensures.shown up still (g.met.D.Disk.now_is_image c.self.inside.disk up)), (lent_sound _ _ _ _ _ _ _ c.self.invariant.0 c.places.result.now c.new-reader.result.shown.now c.imports-pin.result c.places.ensures c.new-reader.ensures.shown c.imports-pin.ensures).0, (lent_sound _ _ _ _ _ _ _ c.self.invariant.0 c.places.result.now c.new-reader.result.shown.now c.imports-pin.result c.places.ensures c.new-reader.ensures.shown c.imports-pin.ensures).1)) c.in-Err.ensures.refused),
       (let sound = lent_sound _ _ _ _ _ _ _ c.self.invariant.0 c.places.result.now c.new-reader.result.shown.now c.imports-pin.result c.places.ensures c.new-reader.ensures.shown c.imports-pin.ensures in
-          subst (λ l. IsRefusalByKey (rows_of l) c.args.release c.in-Err.fault) c.new-reader.ensures.shown (c.in-Err.ensures.causes sound.0 sound.1)),
+          let r = c.new-reader.ensures in
+          let lent = c.new-reader.result in
+          let Lent = MayBeRead (MayBe (g.D.Disk.view lent.disk.now).reads_as lent.cache.now lent.entries.now) in
+          more_refused _ Lent _ (stored_so g.D.Disk.view _ lent.disk.now lent.cache.now lent.entries.now r.disk r.cache r.entries) c.args.release c.in-Err.fault
+          (subst (λ l. IsRefusalByKey (rows_of l) Lent c.args.release c.in-Err.fault) r.shown (c.in-Err.ensures.causes sound.0 sound.1))),
     )
 
 pub returns-in-Ok-clause-meters : goal.returns-in-Ok-clause-meters
