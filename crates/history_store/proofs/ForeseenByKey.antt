@@ -22,7 +22,7 @@ use Rattle.disk_model.specs.View.{DiskView}
 use Rattle.history_store.specs.Stored.{IsStored}
 use Rattle.history_store.specs.StoreValue.{StoreValue, last_import, last_epoch}
 use Rattle.history_store.specs.Prepared.{IsNotSpent, IsForLater, IsAdmitted}
-use Rattle.history_store.specs.Answers.{IsTakenByKey, IsNotTakenByKey, LacksByKey, IsRefusedFor, IsImportOnAnyDisk, WouldBeTakenByKey}
+use Rattle.history_store.specs.Answers.{AnyRow, IsTakenByKey, IsNotTakenByKey, LacksByKey, IsRefusedFor, IsImportOnAnyDisk, WouldBeTakenByKey}
 use Rattle.history_store.specs.Checking.{DependsOnReading, CheckedIsImportedOnAnyDisk}
 use Rattle.history_store.proofs.Foreseen.{not_both, was_read, has_entry, has_place}
 
@@ -38,11 +38,7 @@ one_fresh {few} {other} known release first second is also =
 
 -- ---- at one history and one catalog a release has one answer, whatever is read
 
--- whatever may be stored
-abbrev AnyRow : RowValue → Type 0
-AnyRow row = Unit {0}
-
-lacks_any : {may_be : RowValue → Type 0} {h : History} {catalog : Catalog} {release : Release} {Lacks : List StampedRow → Catalog → Type 0} → LacksByKey may_be h catalog release Lacks → LacksByKey AnyRow h catalog release Lacks
+pub lacks_any : {may_be : RowValue → Type 0} {h : History} {catalog : Catalog} {release : Release} {Lacks : List StampedRow → Catalog → Type 0} → LacksByKey may_be h catalog release Lacks → LacksByKey AnyRow h catalog release Lacks
 lacks_any {may_be} {h} {catalog} {release} why = record { room = why.room; fresh = why.fresh; brings = more_brought (full h) may_be AnyRow (λ row may. tt) release why.fresh why.brings; lacks = why.lacks }
 
 -- why it is refused

@@ -118,6 +118,10 @@ pub record IsTakenAs (h after : History) (catalog next : Catalog) (release : Rel
   pub receipt_is : ReceiptOf h accepted.rows receipt.number receipt.new receipt.repeated
   pub catalog_is : IsCatalogAfter (new_rows h accepted.rows) catalog next
 
+-- any row may be stored: it isn't said which
+abbrev pub AnyRow : RowValue → Type 0
+AnyRow row = Unit {0}
+
 -- A release that is accepted, as far as that can be said on every disk: each file is a valid
 -- release file, the next history has the rows whose keys are new, which the receipt counts, and the
 -- next catalog has a segment of these if there are any. Each other row may be stored.

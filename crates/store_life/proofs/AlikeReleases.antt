@@ -15,9 +15,10 @@ use Rattle.directory.specs.declared.layout.Layout.{Layout}
 use Rattle.directory.specs.declared.layout.Layout.TheVariants as layouts
 use Rattle.import_check.specs.declared.release.ReleaseFile.{ReleaseFile}
 use Rattle.import_check.specs.declared.release.Release.{Release}
-use Rattle.import_check.specs.Release.{IsAccepted, SpellFiles, IsReleaseOf, IsFaultOfRelease, HasContradiction}
+use Rattle.import_check.specs.declared.found.NewRows.{NewRows}
+use Rattle.import_check.specs.Release.{IsAccepted, SpellFiles, IsReleaseOf, IsFaultOfRelease, HasContradiction, HasPossibleContradiction}
 use Rattle.import_check.specs.Release.{files_of}
-use Rattle.import_check.specs.NewRows.{IsRead}
+use Rattle.import_check.specs.NewRows.{IsRead, BringsByKey}
 use Rattle.history_store.specs.declared.refusal.Refusal.{Refusal}
 use Rattle.history_store.specs.declared.refusal.Refusal.TheVariants as store
 use Rattle.history_store.specs.Catalog.{Catalog}
@@ -112,6 +113,20 @@ module _ (release other : Release) (same : files_of release ≡ files_of other) 
 
   contradiction_alike : {known : List RowValue} {file line : ℕ} {key : Key} → HasContradiction known release file line key → HasContradiction known other file line key
   contradiction_alike c = record { lists = c.lists; spelled = spell_alike release.files.items other.files.items c.lists same c.spelled; first = c.first }
+
+  pub brought_alike : {known : List RowValue} {may_be : RowValue → Type 0} {fresh : NewRows} → BringsByKey known may_be release fresh → BringsByKey known may_be other fresh
+  brought_alike b = record { rows = b.rows; rows_are = release_alike b.rows_are; new_by_key = b.new_by_key }
+
+  pub possible_alike : {known : List RowValue} {may_be : RowValue → Type 0} {file line : ℕ} {key : Key} → HasPossibleContradiction known may_be release file line key → HasPossibleContradiction known may_be other file line key
+  possible_alike c = record {
+    lists = c.lists;
+    spelled = spell_alike release.files.items other.files.items c.lists same c.spelled;
+    contradiction = c.contradiction;
+    possible = c.possible;
+    file_is = c.file_is;
+    line_is = c.line_is;
+    key_is = c.key_is;
+  }
 
   fault_alike : {file line : ℕ} {fault : LineFault} → IsFaultOfRelease release file line fault → IsFaultOfRelease other file line fault
   fault_alike {file} {line} {fault} f =
