@@ -25,16 +25,17 @@ use Rattle.import_check.specs.declared.contradicting.OtherRow.{OtherRow}
 use Rattle.import_check.specs.declared.contradicting.OtherRow.TheVariants as others
 use Rattle.import_check.specs.declared.contradicting.ContradictingLine.{ContradictingLine}
 use Rattle.import_check.specs.declared.contradicting.Contradictions.{Contradictions}
-use Rattle.import_check.specs.Release.{rows_of, row_of, IsReleaseOf, MayCount, IsPossibleContradiction}
+use Rattle.import_check.specs.Release.{rows_of, row_of, IsReleaseOf, MayCount, MayContradict, IsPossibleContradiction}
 use Rattle.import_check.specs.NewRows.{IsRefusalByKey}
-use Rattle.import_check.specs.Contradictions.{place_cmp, rank_cmp, ArePossibleContradictions}
+use Rattle.import_check.specs.Contradictions.{place_cmp, rank_cmp, MayAgree, ArePossibleContradictions}
 use Rattle.import_check.specs.Private.Parsed.{IsParsed, IsParseFault}
-use Rattle.import_check.specs.Private.Sweep.{IsRising, IsGathered, GoesOn, GoesOnWithKey, IsVerdict, IsEarlierOf, MayCountFor, IsBlameable, IsOutcome, IsCutShort, IsWithoutRead, HasPossible, IsRefusalOfByKey, contradiction_at, standing_row, standing_of}
+use Rattle.import_check.specs.Private.Sweep.{IsRising, IsGathered, GoesOn, GoesOnWithKey, IsVerdict, IsEarlierOf, MayCountFor, IsBlameable, IsOutcome, IsCutShort, IsWithoutRead, IsRefusalOfByKey, contradiction_at, standing_row, standing_of}
 use Rattle.import_check.specs.Private.Contradictions.{CountsAmong, Sifted, AreSifted}
 use Rattle.import_check.proofs.Asking.{has_from, has_to, more_rows}
 use Rattle.import_check.proofs.Sweeping.{rank_split, rising_before}
 use Rattle.import_check.proofs.Uniting.{split_at, ascending_before, ascending_after, not_after}
 use Rattle.import_check.proofs.Gathered.{LastIs, last_with}
+use Rattle.import_check.proofs.Differing.{to, first_there}
 use Rattle.import_check.proofs.Receipts.{one_list}
 use Rattle.import_check.proofs.Refusals.{of_release}
 
@@ -126,7 +127,7 @@ module _ (known : List RowValue) (may_be : RowValue → Type 0) (lines sorted : 
     ]
   ]
 
-  contradicts : (line : PlacedLine) (other : OtherRow) → Has sorted line → MayCountFor known may_be sorted line other → key_of (row_of other) ≡ key_of line.row → row_of other ≢ line.row → IsPossibleContradiction known may_be lines (record { line = line; other = other })
+  contradicts : (line : PlacedLine) (other : OtherRow) → Has sorted line → MayCountFor known may_be sorted line other → key_of (row_of other) ≡ key_of line.row → row_of other ≢ line.row → MayContradict known may_be lines (record { line = line; other = other })
   contradicts line other there counts same differs =
       let cut = split_at lines line (from line there) in
       let up : IsAscending place_cmp (cut.0 ++ line ∷ cut.1) = subst (λ ls. IsAscending place_cmp ls) cut.2 placed in
@@ -139,10 +140,10 @@ module _ (known : List RowValue) (may_be : RowValue → Type 0) (lines sorted : 
         differs = differs;
       }
 
-  possible : (c : Contradiction) → IsBlameable known may_be sorted c → HasPossible known may_be lines c.file c.line c.key
+  possible : (c : Contradiction) → IsBlameable known may_be sorted c → IsPossibleContradiction known may_be lines c.file c.line c.key
   possible c b = record {
     contradiction = record { line = b.line; other = b.other };
-    possible = contradicts b.line b.other b.there b.counts b.same_key b.differs;
+    may_contradict = contradicts b.line b.other b.there b.counts b.same_key b.differs;
     file_is = ap (λ (d : Contradiction). d.file) b.is;
     line_is = ap (λ (d : Contradiction). d.line) b.is;
     key_is = ap (λ (d : Contradiction). d.key) b.is;
@@ -162,10 +163,22 @@ module _ (known : List RowValue) (may_be : RowValue → Type 0) (lines sorted : 
 
   -- what a pass over all lines lists
   counts_for : (line : PlacedLine) (other : OtherRow) → Has sorted line → CountsAmong (MayBeKnown known may_be) known sorted other → key_of (row_of other) ≡ key_of line.row → MayCountFor known may_be sorted line other
-  counts_for line (others.Known row) there counts same = counts
-  counts_for line (others.Line first) there counts same = (counts.1.there, counts.1.least line there (sym same))
+  counts_for line (others.Known row) h counts same = counts
+  counts_for line (others.Line first) h counts same = (counts.1.there, counts.1.least line h (sym same))
 
-  each_possible : (all : List ContradictingLine) → Sifted (MayBeKnown known may_be) known sorted sorted all → (c : ContradictingLine) → Has all c → IsPossibleContradiction known may_be lines c
+  agree : (row : RowValue) (o : OtherRow) → CountsAmong (MayBeKnown known may_be) known sorted o → row_of o ≡ row → MayAgree known may_be lines row
+  agree row (others.Known other) counts same = inl (subst (λ (r : RowValue). MayBeKnown known may_be r) same counts)
+  agree row (others.Line first) counts same = inr (first, first_there known lines sorted placed permuted first counts, same)
+
+  rest_agrees : (all : List ContradictingLine) → Sifted (MayBeKnown known may_be) known sorted sorted all → (line : PlacedLine) → Has lines line → ((c : ContradictingLine) × Has all c × (c.line ≡ line)) ⊎ MayAgree known may_be lines line.row
+  rest_agrees all sifted line there =
+      let e = sifted.each line (to known lines sorted placed permuted line there) in
+      elim e.3 [
+        | inl agrees ↦ inr (agree line.row e.0 e.1 agrees)
+        | inr listed ↦ inl (record { line = line; other = e.0 }, listed, refl)
+      ]
+
+  each_possible : (all : List ContradictingLine) → Sifted (MayBeKnown known may_be) known sorted sorted all → (c : ContradictingLine) → Has all c → MayContradict known may_be lines c
   each_possible all sifted c h = let f = sifted.from c h in contradicts c.line c.other f.0 (counts_for c.line c.other f.0 f.1 f.2) f.2 f.3
 
   pub listed_possible : (release : Release) (limit : ℕ) → IsParsed release lines → (r : Result Contradictions ImportFault) → IfOk r (AreSifted (MayBeKnown known may_be) known limit sorted) → IfOk r (ArePossibleContradictions known may_be release limit)
@@ -174,7 +187,8 @@ module _ (known : List RowValue) (may_be : RowValue → Type 0) (lines sorted : 
     spelled = parsed.spelled;
     all = all;
     ascending = sifted.ascending;
-    each = subst (λ ls. (c : ContradictingLine) → Has all c → IsPossibleContradiction known may_be ls c) parsed.lines_are (each_possible all sifted);
+    each = subst (λ ls. (c : ContradictingLine) → Has all c → MayContradict known may_be ls c) parsed.lines_are (each_possible all sifted);
+    rest = subst (λ ls. (line : PlacedLine) → Has ls line → ((c : ContradictingLine) × Has all c × (c.line ≡ line)) ⊎ MayAgree known may_be ls line.row) parsed.lines_are (rest_agrees all sifted);
     listed = listed.0;
     further = listed.1;
   }
@@ -223,15 +237,7 @@ module _ (known : List RowValue) (may_be : RowValue → Type 0) (release : Relea
     by_key_of importfault.OutOfMemory h = tt
     by_key_of (importfault.Known f) h = λ rows are none. h (subst (λ rs. already_known known rs ≡ []) (one_list release rows (rows_of lines) are (of_release ⊥ known release lines parsed)) none)
     by_key_of (importfault.Row n l f) h = tt
-    by_key_of (importfault.Contradiction n l k) h = record {
-      lists = parsed.lists;
-      spelled = parsed.spelled;
-      contradiction = h.contradiction;
-      possible = subst (λ ls. IsPossibleContradiction known may_be ls h.contradiction) parsed.lines_are h.possible;
-      file_is = h.file_is;
-      line_is = h.line_is;
-      key_is = h.key_is;
-    }
+    by_key_of (importfault.Contradiction n l k) h = record { lists = parsed.lists; spelled = parsed.spelled; possible = subst (λ ls. IsPossibleContradiction known may_be ls n l k) parsed.lines_are h }
 
     pub refused_by_key : {T : Type 0} (r : Result T ImportFault) → IfErr r (IsRefusalOfByKey known may_be lines) → IfErr r (IsRefusalByKey known may_be release)
     refused_by_key (Ok x) h = tt

@@ -228,24 +228,15 @@ more_counting Knows More known line last c each (key, inr (other, found)) = (key
 
 -- ---- the same lines in the order of their places
 
-module _ (known : List RowValue) (lines sorted : List PlacedLine) (consistent : IsConsistent known) (placed : IsAscending place_cmp lines) (permuted : IsPermutation lines sorted) where
-  to : (l : PlacedLine) → Has lines l → Has sorted l
+module _ (known : List RowValue) (lines sorted : List PlacedLine) (placed : IsAscending place_cmp lines) (permuted : IsPermutation lines sorted) where
+  pub to : (l : PlacedLine) → Has lines l → Has sorted l
   to l h = Has-permuted sorted lines (IsPermutation-sym lines sorted permuted) l h
 
-  from : (l : PlacedLine) → Has sorted l → Has lines l
+  pub from : (l : PlacedLine) → Has sorted l → Has lines l
   from l h = Has-permuted lines sorted permuted l h
 
-  one_counts : (a b : OtherRow) → CountsAmong (Has known) known sorted a → CountsAmong (Has known) known sorted b → key_of (row_of a) ≡ key_of (row_of b) → a ≡ b
-  one_counts (others.Known a) (others.Known b) p q same = ap others.Known (consistent a b p q same)
-  one_counts (others.Known a) (others.Line b) p q same = absurd (q.0 a p same)
-  one_counts (others.Line a) (others.Known b) p q same = absurd (p.0 b q (sym same))
-  one_counts (others.Line a) (others.Line b) p q same =
-      let ties = tie_from a b (p.1.least b q.1.there (sym same)) (q.1.least a p.1.there same) in
-      ap others.Line (tie_is_same places_total lines a b placed (from a p.1.there) (from b q.1.there) ties)
-
-  counts_there : (o : OtherRow) → CountsAmong (Has known) known sorted o → CountsForKey known lines o
-  counts_there (others.Known row) is = is
-  counts_there (others.Line first) is =
+  pub first_there : (first : PlacedLine) → IsUnknown known (key_of first.row) × IsEarliest sorted first → CountsForKey known lines (others.Line first)
+  first_there first is =
       let cut = split_at lines first (from first is.1.there) in
       let up : IsAscending place_cmp (cut.0 ++ first ∷ cut.1) = subst (λ ls. IsAscending place_cmp ls) cut.2 placed in (
         cut.0,
@@ -260,14 +251,27 @@ module _ (known : List RowValue) (lines sorted : List PlacedLine) (consistent : 
         ],
       )
 
+module _ (known : List RowValue) (lines sorted : List PlacedLine) (consistent : IsConsistent known) (placed : IsAscending place_cmp lines) (permuted : IsPermutation lines sorted) where
+  one_counts : (a b : OtherRow) → CountsAmong (Has known) known sorted a → CountsAmong (Has known) known sorted b → key_of (row_of a) ≡ key_of (row_of b) → a ≡ b
+  one_counts (others.Known a) (others.Known b) p q same = ap others.Known (consistent a b p q same)
+  one_counts (others.Known a) (others.Line b) p q same = absurd (q.0 a p same)
+  one_counts (others.Line a) (others.Known b) p q same = absurd (p.0 b q (sym same))
+  one_counts (others.Line a) (others.Line b) p q same =
+      let ties = tie_from a b (p.1.least b q.1.there (sym same)) (q.1.least a p.1.there same) in
+      ap others.Line (tie_is_same places_total lines a b placed (from known lines sorted placed permuted a p.1.there) (from known lines sorted placed permuted b q.1.there) ties)
+
+  counts_there : (o : OtherRow) → CountsAmong (Has known) known sorted o → CountsForKey known lines o
+  counts_there (others.Known row) is = is
+  counts_there (others.Line first) is = first_there known lines sorted placed permuted first is
+
   counts_here : (o : OtherRow) → CountsForKey known lines o → CountsAmong (Has known) known sorted o
   counts_here (others.Known row) is = is
   counts_here (others.Line first) (before, after, lines_are, unknown) =
       let up : IsAscending place_cmp (before ++ first ∷ after) = subst (λ ls. IsAscending place_cmp ls) lines_are placed in (
         λ row h. unknown row (Has-append_left known (rows_of before) row h),
         record {
-          there = to first (subst (λ ls. Has ls first) (sym lines_are) (Has-append_right before (first ∷ after) first (inl refl)));
-          least = λ l h same. elim (Has-append_cases before (first ∷ after) l (subst (λ ls. Has ls l) lines_are (from l h))) [
+          there = to known lines sorted placed permuted first (subst (λ ls. Has ls first) (sym lines_are) (Has-append_right before (first ∷ after) first (inl refl)));
+          least = λ l h same. elim (Has-append_cases before (first ∷ after) l (subst (λ ls. Has ls l) lines_are (from known lines sorted placed permuted l h))) [
             | inl b ↦ absurd (unknown l.row (Has-append_right known (rows_of before) l.row (Has-map_from (λ (m : PlacedLine). m.row) before l b)) same)
             | inr t ↦ elim t [
               | inl e ↦ subst (λ (m : PlacedLine). StandsBy first.file first.line m.file m.line) e (stands_by_itself first.file first.line)
@@ -279,9 +283,9 @@ module _ (known : List RowValue) (lines sorted : List PlacedLine) (consistent : 
 
   pub each_there : (all : List ContradictingLine) → Sifted (Has known) known sorted sorted all → (c : ContradictingLine) → Has all c ↔ IsContradiction known lines c
   each_there all sifted c = (
-    λ h. let f = sifted.from c h in record { there = from c.line f.0; counts = counts_there c.other f.1; same_key = f.2; differs = f.3 },
+    λ h. let f = sifted.from c h in record { there = from known lines sorted placed permuted c.line f.0; counts = counts_there c.other f.1; same_key = f.2; differs = f.3 },
     λ is.
-        let e = sifted.each c.line (to c.line is.there) in
+        let e = sifted.each c.line (to known lines sorted placed permuted c.line is.there) in
         let same : e.0 ≡ c.other = one_counts e.0 c.other e.1 (counts_here c.other is.counts) (e.2 ∙ sym is.same_key) in
         elim e.3 [
           | inl agrees ↦ absurd (is.differs (ap row_of (sym same) ∙ agrees))

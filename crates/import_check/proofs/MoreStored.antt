@@ -1,6 +1,6 @@
 -- What holds if some rows may be stored holds if more may be.
-use Rattle.std.specs.Prelude.{◌⊎◌, ℕ, Result, Ok, Err, IfOk, IfErr, inl, inr}
-use Rattle.std.proofs.Common.{List}
+use Rattle.std.specs.Prelude.{◌⊎◌, ℕ, Result, Ok, Err, IfOk, IfErr}
+use Rattle.std.proofs.Common.{List, inl, inr}
 use Rattle.rf2_values.specs.Row.{RowValue}
 use Rattle.rf2_values.specs.Key.{key_of}
 use Rattle.history_model.specs.InOrder.{Has}
@@ -14,8 +14,8 @@ use Rattle.import_check.specs.declared.found.NewRows.{NewRows}
 use Rattle.import_check.specs.declared.fault.ImportFault.{ImportFault}
 use Rattle.import_check.specs.declared.fault.ImportFault.TheVariants as importfault
 use Rattle.import_check.specs.Known.{IsUnknown, MayBeKnown}
-use Rattle.import_check.specs.Release.{MayCount, IsPossibleContradiction}
-use Rattle.import_check.specs.Contradictions.{ArePossibleContradictions}
+use Rattle.import_check.specs.Release.{MayCount, MayContradict}
+use Rattle.import_check.specs.Contradictions.{MayAgree, ArePossibleContradictions}
 use Rattle.import_check.specs.NewRows.{AreNewByKey, BringsByKey, IsRefusalByKey}
 
 -- a row of a release whose key is unknown is new
@@ -46,8 +46,8 @@ module _ (known : List RowValue) (few more : RowValue → Type 0) (each : (row :
   more_counts before (others.Known row) may = more_known row may
   more_counts before (others.Line first) there = there
 
-  more_possible : (lines : List PlacedLine) (c : ContradictingLine) → IsPossibleContradiction known few lines c → IsPossibleContradiction known more lines c
-  more_possible lines c is = record {
+  more_contradicts : (lines : List PlacedLine) (c : ContradictingLine) → MayContradict known few lines c → MayContradict known more lines c
+  more_contradicts lines c is = record {
     before = is.before;
     after = is.after;
     lines_are = is.lines_are;
@@ -56,13 +56,18 @@ module _ (known : List RowValue) (few more : RowValue → Type 0) (each : (row :
     differs = is.differs;
   }
 
+  more_agrees : (lines : List PlacedLine) (row : RowValue) → MayAgree known few lines row → MayAgree known more lines row
+  more_agrees lines row (inl may) = inl (more_known row may)
+  more_agrees lines row (inr first) = inr first
+
   pub more_listed : (release : Release) (limit : ℕ) (r : Result Contradictions ImportFault) → IfOk r (ArePossibleContradictions known few release limit) → IfOk r (ArePossibleContradictions known more release limit)
   more_listed release limit (Ok found) are = record {
     lists = are.lists;
     spelled = are.spelled;
     all = are.all;
     ascending = are.ascending;
-    each = λ c there. more_possible _ c (are.each c there);
+    each = λ c there. more_contradicts _ c (are.each c there);
+    rest = λ line there. elim (are.rest line there) [ inl listed ↦ inl listed | inr agrees ↦ inr (more_agrees _ line.row agrees) ];
     listed = are.listed;
     further = are.further;
   }
@@ -75,11 +80,13 @@ module _ (known : List RowValue) (few more : RowValue → Type 0) (each : (row :
   more_refused release (importfault.Contradiction file line key) why = record {
     lists = why.lists;
     spelled = why.spelled;
-    contradiction = why.contradiction;
-    possible = more_possible _ why.contradiction why.possible;
-    file_is = why.file_is;
-    line_is = why.line_is;
-    key_is = why.key_is;
+    possible = record {
+      contradiction = why.possible.contradiction;
+      may_contradict = more_contradicts _ why.possible.contradiction why.possible.may_contradict;
+      file_is = why.possible.file_is;
+      line_is = why.possible.line_is;
+      key_is = why.possible.key_is;
+    };
   }
 
   pub more_refusals : {T : Type 0} (release : Release) (r : Result T ImportFault) → IfErr r (IsRefusalByKey known few release) → IfErr r (IsRefusalByKey known more release)

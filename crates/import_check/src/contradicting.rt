@@ -226,7 +226,8 @@ pub fn find_contradictions<K: Known>(
     ensures found { (K.view known.old).is_honest
         → IfOk result (AreContradictionsOf (K.view known.old).rows release limit) }
     // Whatever rows are returned for known keys: each line that is listed or counted differs from a
-    // row with its key that may be stored, or from that of an earlier line.
+    // row with its key that may be stored, or from that of an earlier line; and each other line has
+    // a row that may be stored, or that of the first line with its key.
     // promise: all_contradictions_are_listed, no_damage_is_invented
     ensures possible { (K.view known.old).is_sound → IfOk result (ArePossibleContradictions
         (K.view known.old).rows (K.view known.old).may_be release limit) }

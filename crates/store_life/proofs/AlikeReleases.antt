@@ -121,11 +121,7 @@ module _ (release other : Release) (same : files_of release ≡ files_of other) 
   possible_alike c = record {
     lists = c.lists;
     spelled = spell_alike release.files.items other.files.items c.lists same c.spelled;
-    contradiction = c.contradiction;
     possible = c.possible;
-    file_is = c.file_is;
-    line_is = c.line_is;
-    key_is = c.key_is;
   }
 
   fault_alike : {file line : ℕ} {fault : LineFault} → IsFaultOfRelease release file line fault → IsFaultOfRelease other file line fault

@@ -24,7 +24,6 @@ use Rattle.fault_counts.specs.declared.fault.ReadFault.TheVariants as readfault
 use Rattle.import_check.specs.Release.{IsFirstContradiction, IsPossibleContradiction, row_of}
 use Rattle.import_check.specs.declared.contradicting.OtherRow.{OtherRow}
 use Rattle.import_check.specs.declared.contradicting.OtherRow.TheVariants as others
-use Rattle.import_check.specs.declared.contradicting.ContradictingLine.{ContradictingLine}
 use Rattle.import_check.specs.Contradictions.{rank_cmp}
 use Rattle.import_check.specs.Known.{IsUnknown, MayBeKnown, already_known}
 use Rattle.import_check.specs.Release.{rows_of}
@@ -264,20 +263,11 @@ abbrev pub IsWithoutRead : ImportFault → Type 0
 IsWithoutRead (importfault.Known fault) = fault ≡ readfault.OutOfMemory
 IsWithoutRead _ = ⊤
 
--- one of the lines may contradict
-pub record HasPossible (known : List RowValue) (may_be : RowValue → Type 0) (lines : List PlacedLine)
-    (file line : ℕ) (key : Key) : Type 0 where
-  pub contradiction : ContradictingLine
-  pub possible : IsPossibleContradiction known may_be lines contradiction
-  pub file_is : file ≡ contradiction.line.file
-  pub line_is : line ≡ contradiction.line.line
-  pub key_is : key ≡ key_of contradiction.line.row
-
 -- why lines give no new rows, whatever rows are returned for known keys
 abbrev pub IsRefusalOfByKey : List RowValue → (RowValue → Type 0) → List PlacedLine → ImportFault
     → Type 0
 IsRefusalOfByKey known may_be lines (importfault.Known fault) =
     already_known known (rows_of lines) ≡ [] → fault ≡ readfault.OutOfMemory
 IsRefusalOfByKey known may_be lines (importfault.Contradiction file line key) =
-    HasPossible known may_be lines file line key
+    IsPossibleContradiction known may_be lines file line key
 IsRefusalOfByKey known may_be lines _ = ⊤
