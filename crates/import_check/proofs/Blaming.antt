@@ -1,16 +1,13 @@
 -- Which lines are taken for contradictions, whatever rows are returned for known keys.
-use Rattle.std.proofs.Common.{◌≡◌, ◌≢◌, ◌⊎◌, ℕ, Bool, true, false, List, [], ◌∷◌, ◌++◌, refl, sym, ap, subst, inl, inr, ◌∙◌}
+use Rattle.std.proofs.Common.{◌≡◌, ◌≢◌, ◌⊎◌, ℕ, List, [], ◌∷◌, ◌++◌, refl, sym, ap, subst, inl, inr, ◌∙◌}
 use Rattle.std.specs.Prelude.{Option, Some, None, MatchOption, IfSome, IsSomeAnd, Result, Ok, Err, IfOk, IfErr, IsOkAnd, ◌-◌, length}
-use Rattle.std.specs.List.{filter}
 use Rattle.std.specs.List.Sorted.{IsPermutation}
-use Rattle.std.proofs.lemmas.List.Sorted.{IsPermutation-sym}
 use Rattle.rf2_values.specs.declared.key.Key.{Key}
 use Rattle.rf2_values.specs.Row.{RowValue}
 use Rattle.rf2_values.specs.Key.{key_of}
-use Rattle.fault_counts.specs.declared.fault.ReadFault.TheVariants as readfault
 use Rattle.history_model.specs.InOrder.{Has, IsAscending}
 use Rattle.history_model.proofs.InOrder.{Has-append_left, Has-append_right, Has-append_cases}
-use Rattle.history_model.proofs.Filtered.{Has-map_from, Has-filter, Has-filter_from}
+use Rattle.history_model.proofs.Filtered.{Has-filter, Has-filter_from}
 use Rattle.history_model.proofs.Items.{Has-permuted}
 use Rattle.history_model.proofs.Keys.{tie_of_same}
 use Rattle.import_check.specs.declared.release.Release.{Release}
@@ -25,7 +22,7 @@ use Rattle.import_check.specs.declared.contradicting.OtherRow.{OtherRow}
 use Rattle.import_check.specs.declared.contradicting.OtherRow.TheVariants as others
 use Rattle.import_check.specs.declared.contradicting.ContradictingLine.{ContradictingLine}
 use Rattle.import_check.specs.declared.contradicting.Contradictions.{Contradictions}
-use Rattle.import_check.specs.Release.{rows_of, row_of, IsReleaseOf, MayCount, MayContradict, IsPossibleContradiction}
+use Rattle.import_check.specs.Release.{rows_of, row_of, MayCount, MayContradict, IsPossibleContradiction}
 use Rattle.import_check.specs.NewRows.{IsRefusalByKey}
 use Rattle.import_check.specs.Contradictions.{place_cmp, rank_cmp, MayAgree, ArePossibleContradictions}
 use Rattle.import_check.specs.Private.Parsed.{IsParsed, IsParseFault}
@@ -33,8 +30,8 @@ use Rattle.import_check.specs.Private.Sweep.{IsRising, IsGathered, GoesOn, GoesO
 use Rattle.import_check.specs.Private.Contradictions.{CountsAmong, Sifted, AreSifted}
 use Rattle.import_check.proofs.Asking.{has_from, has_to, more_rows}
 use Rattle.import_check.proofs.Sweeping.{rank_split, rising_before}
-use Rattle.import_check.proofs.Uniting.{split_at, ascending_before, ascending_after, not_after}
-use Rattle.import_check.proofs.Gathered.{LastIs, last_with}
+use Rattle.import_check.proofs.Uniting.{split_at, ascending_after, not_after}
+use Rattle.import_check.proofs.Gathered.{last_with}
 use Rattle.import_check.proofs.Differing.{to, first_there}
 use Rattle.import_check.proofs.Receipts.{one_list}
 use Rattle.import_check.proofs.Refusals.{of_release}

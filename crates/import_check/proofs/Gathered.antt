@@ -15,7 +15,7 @@ use Rattle.import_check.specs.declared.release.PlacedLine.{PlacedLine}
 use Rattle.import_check.specs.declared.found.NewRows.{NewRows}
 use Rattle.import_check.specs.declared.fault.ImportFault.{ImportFault}
 use Rattle.import_check.specs.declared.fault.ImportFault.TheVariants as importfault
-use Rattle.import_check.specs.Known.{IsUnknown, MayBeKnown}
+use Rattle.import_check.specs.Known.{MayBeKnown}
 use Rattle.import_check.specs.Release.{rows_of}
 use Rattle.import_check.specs.NewRows.{AreNewByKey}
 use Rattle.import_check.specs.Private.Sweep.{IsApart, IsGathered, GoesOn, GoesOnWithKey, GoesOnWithKnown, GoesOnWithNew, IsOutcome, IsVerdict, standing_row, standing_of}

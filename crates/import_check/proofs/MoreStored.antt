@@ -1,5 +1,5 @@
 -- What holds if some rows may be stored holds if more may be.
-use Rattle.std.specs.Prelude.{◌⊎◌, ℕ, Result, Ok, Err, IfOk, IfErr}
+use Rattle.std.specs.Prelude.{ℕ, Result, Ok, Err, IfOk, IfErr}
 use Rattle.std.proofs.Common.{List, inl, inr}
 use Rattle.rf2_values.specs.Row.{RowValue}
 use Rattle.rf2_values.specs.Key.{key_of}
