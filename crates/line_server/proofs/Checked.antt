@@ -75,7 +75,7 @@ module _ {D : Type 0} (source : SourceView) (view : D → DiskView) (name : List
         let same : new.history.imports ≡ old.history.imports = ap (λ (h : History). h.imports) c.kept.1.history in
         let words = import_words receipt in
         let any = check_any (IsStored view old) (Ok receipt) old new release c.kept in
-        let compared = (c.kept.0.2.fresh, c.kept.0.2.brings) in
+        let compared : IsComparedWith (full old.history) (IsStored view old) release (Ok (Done words)) = (c.kept.0.2.fresh, c.kept.0.2.brings) in
         carried_out source view (Ok reply) session (Check name) (Ok (Done (import_words receipt))) Other (server state old) (server state new) (λ k n. Some (files_of release)) told
         (λ line asks. record {
           replies = inl (session, Check name, asks, inr (inr (record { free = free; has_layout = λ later. later; comes_out = (receipt, record { release = release; has = refl; at_all = any; checked = c.answer; pins = refl }, refl); damage = refl })));
