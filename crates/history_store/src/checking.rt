@@ -73,7 +73,7 @@ impl<D: Disk> Store<D> {
     /// refuses a write.
     pub fn check(&mut self, release: Release) -> Result<Receipt, Refusal>
         // promise: a_refusal_names_its_cause, a_check_foretells_the_import, members_need_layout_3
-        // promise: a_failed_disk_is_told
+        // promise: a_failed_disk_is_told, no_damage_is_invented
         ensures answer { IsChecking result release D.view self.old self.new }
     {
         let ready = self.make_ready(release)?;
