@@ -52,7 +52,7 @@ module _ {D : Type 0} (may_be : RowValue → Type 0) (s : StoreValue D) (release
   refused_any _ why = absurd why.1
 
 pub import_any : {D : Type 0} (may_be : RowValue → Type 0) (result : Result Receipt Refusal) (old new : StoreValue D) (release : Release) → IsImportOnAnyDisk may_be result old new release → IsImportOnAnyDisk AnyRow result old new release
-import_any may_be (Ok receipt) old new release is = (taken_any is.0, is.1)
+import_any may_be (Ok receipt) old new release is = (taken_any is.0, is.1, is.2)
 import_any may_be (Err e) old new release is = (refused_any may_be old release (WouldBeTakenByKey may_be old.history old.catalog release) (WouldBeTakenByKey AnyRow old.history old.catalog release) would_be_any e is.0, is.1)
 
 pub check_any : {D : Type 0} (may_be : RowValue → Type 0) (result : Result Receipt Refusal) (old new : StoreValue D) (release : Release) → IsCheckingOnAnyDisk may_be result old new release → IsCheckingOnAnyDisk AnyRow result old new release
