@@ -18,8 +18,6 @@ use Rattle.import_check.proofs.Deciding.{one_fault, read_has_no_fault}
 use Rattle.history_store.specs.declared.refusal.Refusal.{Refusal}
 use Rattle.history_store.specs.declared.refusal.Refusal.TheVariants as refusals
 use Rattle.history_store.specs.Catalog.{Catalog, HasNoEntry, HasNoPlace}
-use Rattle.disk_model.specs.View.{DiskView}
-use Rattle.history_store.specs.Stored.{IsStored}
 use Rattle.history_store.specs.StoreValue.{StoreValue, last_import, last_epoch}
 use Rattle.history_store.specs.Prepared.{IsNotSpent, IsForLater, IsAdmitted}
 use Rattle.history_store.specs.Answers.{AnyRow, IsTakenByKey, IsNotTakenByKey, LacksByKey, IsRefusedFor, IsImportOnAnyDisk, WouldBeTakenByKey}
@@ -165,18 +163,18 @@ module _ {D : Type 0} (may_be : RowValue → Type 0) (checked new : StoreValue D
     ]
   ]
 
-pub checked_is_imported_on_any_disk : {D : Type 0} (view : D → DiskView) → CheckedIsImportedOnAnyDisk view
-checked_is_imported_on_any_disk {D} view old checked new release (Ok receipt) result is imported =
-    let P : History → Catalog → Type 0 = λ h catalog. IsTakenByKey (IsStored view old) h is.0.0 catalog is.0.1 release receipt in
+pub checked_is_imported_on_any_disk : {D : Type 0} → CheckedIsImportedOnAnyDisk D
+checked_is_imported_on_any_disk {D} old checked new release (Ok receipt) result is imported =
+    let P : History → Catalog → Type 0 = λ h catalog. IsTakenByKey AnyRow h is.0.0 catalog is.0.1 release receipt in
     let taken : P checked.history checked.catalog = subst (λ (h : History). P h checked.catalog) (sym is.1.history) (subst (λ (x : Catalog). P old.history x) (sym is.1.catalog) is.0.2) in
-    taken_then (IsStored view checked) checked new release is.0.0 is.0.1 receipt is.1.open_still taken result imported
-checked_is_imported_on_any_disk {D} view old checked new release (Err e) result is imported = elim (disk_or e) [
+    taken_then AnyRow checked new release is.0.0 is.0.1 receipt is.1.open_still taken result imported
+checked_is_imported_on_any_disk {D} old checked new release (Err e) result is imported = elim (disk_or e) [
   | inl read ↦ inr (inl read)
-  | inr other ↦ each (is.1.still other) (cause (IsStored view old) ⊥ old release e is.0)
+  | inr other ↦ each (is.1.still other) (cause AnyRow ⊥ old release e is.0)
 ] where
   each : checked.needs_reopen ≡ old.needs_reopen → Cause old release e → (result ≡ Err e) ⊎ (DependsOnReading (Err e) ⊎ DependsOnReading result)
-  each same (inl closed) = subst (λ (x : Refusal). (result ≡ Err x) ⊎ (DependsOnReading (Err x) ⊎ DependsOnReading result)) (sym closed.0) (closed_then (IsStored view checked) checked new release (same ∙ closed.1) result imported)
+  each same (inl closed) = subst (λ (x : Refusal). (result ≡ Err x) ⊎ (DependsOnReading (Err x) ⊎ DependsOnReading result)) (sym closed.0) (closed_then AnyRow checked new release (same ∙ closed.1) result imported)
   each same (inr (still, inl why)) =
       let moved : IsOutByKey e checked.history checked.catalog release = subst (λ (h : History). IsOutByKey e h checked.catalog release) (sym is.1.history) (subst (λ (x : Catalog). IsOutByKey e old.history x release) (sym is.1.catalog) why) in
-      out_then (IsStored view checked) checked new release e (same ∙ still) moved result imported
+      out_then AnyRow checked new release e (same ∙ still) moved result imported
   each same (inr (still, inr read)) = inr (inl read)

@@ -2,15 +2,13 @@
 use Rattle.std.proofs.Common.{◌≡◌, ◌↔◌, inl, inr, Result, Ok, Err, false, true, refl, sym, ap, ◌∙◌}
 use Rattle.std.specs.Prelude.{Bool}
 use Rattle.std.proofs.lemmas.Bool.{false≢true}
-use Rattle.disk_model.specs.View.{DiskView}
 use Rattle.rf2_values.specs.Row.{RowValue}
 use Rattle.history_model.specs.declared.receipt.Receipt.{Receipt}
 use Rattle.import_check.specs.declared.release.Release.{Release}
 use Rattle.history_store.specs.declared.refusal.Refusal.{Refusal}
 use Rattle.history_store.specs.declared.refusal.Refusal.TheVariants as refusals
 use Rattle.history_store.specs.StoreValue.{StoreValue}
-use Rattle.history_store.specs.Stored.{IsStored}
-use Rattle.history_store.specs.Answers.{IsRefusedFor, IsNotTakenByKey, IsImportOnAnyDisk, WouldBeTakenByKey}
+use Rattle.history_store.specs.Answers.{AnyRow, IsRefusedFor, IsNotTakenByKey, IsImportOnAnyDisk, WouldBeTakenByKey}
 use Rattle.history_store.specs.Checking.{IsCheckingOnAnyDisk, IsTooEarly, LaterIsRefused}
 use Rattle.history_store.proofs.Foreseen.{not_both}
 
@@ -78,6 +76,6 @@ checked : {D : Type 0} (may_be : RowValue → Type 0) (old new : StoreValue D) (
 checked may_be old new release (Ok receipt) is = (λ later. absurd (false≢true (ap is_refusal later)), λ early. absurd (is.0.2.room.not_later early.2))
 checked may_be old new release (Err e) is = (λ later. why old release may_be ⊥ e (ap is_later_answer later) is.0, λ early. ap Err (that old release may_be ⊥ e early is.0))
 
-pub later_is_refused : {D : Type 0} (view : D → DiskView) → LaterIsRefused view
-later_is_refused {D} view old new release result (inl imports) = imported (IsStored view old) old new release result imports
-later_is_refused {D} view old new release result (inr checks) = checked (IsStored view old) old new release result checks
+pub later_is_refused : {D : Type 0} → LaterIsRefused D
+later_is_refused {D} old new release result (inl imports) = imported AnyRow old new release result imports
+later_is_refused {D} old new release result (inr checks) = checked AnyRow old new release result checks

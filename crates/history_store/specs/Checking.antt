@@ -12,7 +12,7 @@ use Rattle.history_store.specs.Stored.{IsStored}
 use Rattle.history_store.specs.StoreValue.{StoreValue, IsAcknowledged}
 use Rattle.history_store.specs.Prepared.{IsNotSpent, IsForLater}
 use Rattle.history_store.specs.Meters.{IsMeteredReading}
-use Rattle.history_store.specs.Answers.{IsTakenAs, IsTakenByKey, IsRefused, IsStill}
+use Rattle.history_store.specs.Answers.{AnyRow, IsTakenAs, IsTakenByKey, IsRefused, IsStill}
 use Rattle.history_store.specs.Answers.{IsRefusedFor, IsNotTaken, IsNotTakenByKey}
 use Rattle.history_store.specs.Answers.{IsImportOf, IsImportOnAnyDisk}
 
@@ -73,12 +73,13 @@ DependsOnReading (Err refusals.Damaged) = Unit {0}
 DependsOnReading (Err (refusals.Contradiction file line)) = Unit {0}
 DependsOnReading answer = HasFailed answer
 
--- the same on every disk, unless one of the two results depends on stored rows that were read
-abbrev pub CheckedIsImportedOnAnyDisk : {D : Type 0} → (D → DiskView) → Type 0
-CheckedIsImportedOnAnyDisk {D} view = (old checked new : StoreValue D) (release : Release)
+-- the same on every disk and whichever rows may be stored, unless one of the two results depends on
+-- stored rows that were read
+abbrev pub CheckedIsImportedOnAnyDisk : Type 0 → Type 0
+CheckedIsImportedOnAnyDisk D = (old checked new : StoreValue D) (release : Release)
     (answer result : Result Receipt Refusal)
-    → IsCheckingOnAnyDisk (IsStored view old) answer old checked release
-    → IsImportOnAnyDisk (IsStored view checked) result checked new release
+    → IsCheckingOnAnyDisk AnyRow answer old checked release
+    → IsImportOnAnyDisk AnyRow result checked new release
     → (result ≡ answer) ⊎ (DependsOnReading answer ⊎ DependsOnReading result)
 
 -- ---- when a release is refused as one for a later layout
@@ -89,9 +90,9 @@ IsTooEarly s release = (s.needs_reopen ≡ false)
     × IsNotSpent s.history.imports s.catalog.epoch × IsForLater s.catalog.layout release
 
 -- Exactly then an import and a check are refused with `LaterVersion`, on every disk.
-abbrev pub LaterIsRefused : {D : Type 0} → (D → DiskView) → Type 0
-LaterIsRefused {D} view =
+abbrev pub LaterIsRefused : Type 0 → Type 0
+LaterIsRefused D =
     (old new : StoreValue D) (release : Release) (result : Result Receipt Refusal)
-    → IsImportOnAnyDisk (IsStored view old) result old new release
-    ⊎ IsCheckingOnAnyDisk (IsStored view old) result old new release
+    → IsImportOnAnyDisk AnyRow result old new release
+    ⊎ IsCheckingOnAnyDisk AnyRow result old new release
     → (result ≡ Err refusals.LaterVersion) ↔ IsTooEarly old release
