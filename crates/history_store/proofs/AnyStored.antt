@@ -1,7 +1,6 @@
 -- What is left of the answers on any disk if it isn't said which rows may be stored.
-use Rattle.std.proofs.Common.{◌≡◌, ◌⊎◌, inl, inr, List, Result, Ok, Err}
+use Rattle.std.proofs.Common.{inl, inr, Result, Ok, Err}
 use Rattle.rf2_values.specs.Row.{RowValue}
-use Rattle.rf2_values.specs.declared.key.Key.{Key}
 use Rattle.history_model.specs.declared.receipt.Receipt.{Receipt}
 use Rattle.history_model.specs.History.{History, full}
 use Rattle.import_check.specs.declared.release.Release.{Release}
