@@ -213,7 +213,8 @@ IsNotTaken h catalog release e = WhyNotTaken (WouldBeTakenBut h catalog release)
 -- is read; and the disk also if `Writes` holds.
 abbrev pub IsNotTakenByKey : (may_be : RowValue → Type 0) → (Writes : Type 0) → History → Catalog
     → Release → Refusal → Type 0
-IsNotTakenByKey may_be Writes h catalog release e = WhyNotTaken (LacksByKey may_be h catalog release)
+IsNotTakenByKey may_be Writes h catalog release e = WhyNotTaken
+    (LacksByKey may_be h catalog release)
     (λ file line. (key : Key) × HasPossibleContradiction (full h) may_be release file line key)
     (ReadsStored h release ⊎ Writes) (IsAdmitted h catalog release × ReadsStored h release)
     h catalog release e

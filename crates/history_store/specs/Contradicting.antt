@@ -37,10 +37,10 @@ IsUnlisted honest known may_be e release = (fault : ImportFault) × (e ≡ refus
 
 -- The contradictions of a release were listed, unless the store has to be opened again, a file
 -- isn't a valid release file, or a row can't be read. On every disk each listed line is one of the
--- release, and the other row is stored or on an earlier line. Whatever the result, history and catalog are
--- unchanged, and only a disk failure closes the store. A store that has to be opened again is left
--- unchanged. As long as no call has failed, what a crash may leave represents what the store holds.
--- Only reads are made.
+-- release, and the other row is stored or on an earlier line. Whatever the result, history and
+-- catalog are unchanged, and only a disk failure closes the store. A store that has to be opened
+-- again is left unchanged. As long as no call has failed, what a crash may leave represents what
+-- the store holds. Only reads are made.
 pub record IsListing {D : Type 0} (result : Result Contradictions Refusal) (release : Release)
     (limit : ℕ) (view : D → DiskView) (old new : StoreValue D) : Type 0 where
   pub found : (view old.disk).is_honest

@@ -299,7 +299,8 @@ impl<D: Disk> Store<D> {
         // What is promised on every disk.
         // promise: a_refusal_names_its_cause, a_release_is_taken_whole_or_not_at_all
         // promise: members_need_layout_3, older_layouts_stay_readable, no_damage_is_invented
-        ensures kept { IsImportOnAnyDisk (IsStored D.view self.old) result self.old self.new release }
+        ensures kept { IsImportOnAnyDisk (IsStored D.view self.old) result self.old self.new
+            release }
         // A store below layout 3 is left unchanged, if the release has members of reference sets.
         ensures later { IsForLater self.old.catalog.layout release → self.new ≡ self.old }
         // A crash at any moment leaves the history from before in the layout from before, or the

@@ -33,8 +33,8 @@ pub record AreNewByKey (known : List RowValue) (may_be : RowValue → Type 0) (r
       → Has fresh.rows.items row ⊎ MayBeKnown known may_be row
   pub counted : length fresh.rows.items + fresh.repeated ≡ length rows
 
--- rows that are accepted: they are consistent with each other and with the known ones, and these are
--- the new ones
+-- rows that are accepted: they are consistent with each other and with the known ones, and these
+-- are the new ones
 pub record AreAcceptedAs (known rows : List RowValue) (fresh : NewRows) : Type 0 where
   pub consistent : IsConsistent (known ++ rows)
   pub fresh_is : AreNewRows known rows fresh.rows.items fresh.repeated
@@ -70,8 +70,8 @@ IsRefusal honest known release (importfault.Contradiction file line key) =
     IsRead release × (honest → HasContradiction known release file line key)
 
 -- Why a release is refused, whatever rows are returned for known keys: a known row can't be read
--- only if a line has the key of one, and a line contradicts only if it differs from another row with
--- its key, which may be known or is on an earlier line.
+-- only if a line has the key of one, and a line contradicts only if it differs from another row
+-- with its key, which may be known or is on an earlier line.
 abbrev pub IsRefusalByKey : List RowValue → (may_be : RowValue → Type 0) → Release → ImportFault
     → Type 0
 IsRefusalByKey known may_be release (importfault.Known fault) = (rows : List RowValue)

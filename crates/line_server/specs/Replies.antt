@@ -18,7 +18,8 @@ use Rattle.history_store.specs.declared.refusal.Refusal.TheVariants as store
 use Rattle.history_store.specs.Catalog.{Merge as CatalogMerge}
 use Rattle.history_store.specs.StoreValue.{StoreValue}
 use Rattle.store_digest.specs.Digest.{digest_of, IsDigestByKey}
-use Rattle.history_store.specs.Answers.{AnyRow, IsImportOf, IsImportOnAnyDisk, IsReadRefusal, IsRefused}
+use Rattle.history_store.specs.Answers.{AnyRow, IsImportOf, IsImportOnAnyDisk, IsReadRefusal}
+use Rattle.history_store.specs.Answers.{IsRefused}
 use Rattle.history_store.specs.Queries.{IsWithoutRead}
 use Rattle.history_store.specs.Checking.{IsCheckingOf, IsCheckingOnAnyDisk}
 use Rattle.history_store.specs.MergeAnswers.{IsBeginningOf, IsSteppingOf, IsPublishingOf}

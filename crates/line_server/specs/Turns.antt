@@ -144,10 +144,10 @@ ComparesStored view releases name outcome old =
 -- nothing after it. CHECK and STEP look up blocks as a question does, and STEP may then drop those
 -- from the cache that the merge reserved. On every disk and whatever the outcome, CHECK and IMPORT
 -- read no rows but those with the keys of the release, with which they compare it, and IMPORT one
--- byte besides; STEP reads no more than the output has bytes and two blocks for each row, PUBLISH one byte at most, and TRIM
--- none; besides reads, STEP makes one call at most, PUBLISH seven, and TRIM three. A question in a
--- session that sees `seen` imports leaves the disk as `LeavesAsked` says, and every other command
--- leaves the disk unchanged.
+-- byte besides; STEP reads no more than the output has bytes and two blocks for each row, PUBLISH
+-- one byte at most, and TRIM none; besides reads, STEP makes one call at most, PUBLISH seven, and
+-- TRIM three. A question in a session that sees `seen` imports leaves the disk as `LeavesAsked`
+-- says, and every other command leaves the disk unchanged.
 abbrev pub LeavesDisk : {D : Type 0} → (D → DiskView) → Releases → ℕ → Command
     → Result Answer LineRefusal → StoreValue D → StoreValue D → Type 0
 LeavesDisk view releases seen (Ask question) outcome old new =

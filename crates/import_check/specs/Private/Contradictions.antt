@@ -18,8 +18,8 @@ use Rattle.import_check.specs.Contradictions.{rank_cmp}
 use Rattle.import_check.specs.Release.{row_of}
 use Rattle.import_check.specs.Private.Sweep.{IsEarliest}
 
--- for lines in any order: the row is one that `Knows` says is known; or its key isn't known, and the
--- row is that of the earliest line with the key
+-- for lines in any order: the row is one that `Knows` says is known; or its key isn't known, and
+-- the row is that of the earliest line with the key
 abbrev pub CountsAmong : (Knows : RowValue → Type 0) → List RowValue → List PlacedLine → OtherRow
     → Type 0
 CountsAmong Knows known lines (others.Known row) = Knows row

@@ -179,9 +179,9 @@ pub record IsOwn (known : List RowValue) (rest : List PlacedLine) (s : Sweep) : 
       → (row_cmp row line.row ≡ Less)
       ⊎ ((key_of row ≡ key_of line.row) × (s.key ≡ Some (key_of row)))
 
--- The new rows are rows of the lines so far. If no line contradicts, each other row of the lines may
--- be known. `known_row` is only set to a row that may be known and has the last key; otherwise the
--- row that counts is that of a line with this key.
+-- The new rows are rows of the lines so far. If no line contradicts, each other row of the lines
+-- may be known. `known_row` is only set to a row that may be known and has the last key; otherwise
+-- the row that counts is that of a line with this key.
 pub record IsGathered (known : List RowValue) (may_be : RowValue → Type 0) (done : List PlacedLine)
     (s : Sweep) : Type 0 where
   pub from_lines : (row : RowValue) → Has s.fresh.items row → Has (rows_of done) row
@@ -211,7 +211,8 @@ pub record GoesOnWithKnown (known : List RowValue) (may_be : RowValue → Type 0
   pub verdict : IsVerdict (Some found) old.first line new.first
 
 -- no known row has the line's key, and its row is new
-pub record GoesOnWithNew (known : List RowValue) (line : PlacedLine) (old new : Sweep) : Type 0 where
+pub record GoesOnWithNew (known : List RowValue) (line : PlacedLine) (old new : Sweep)
+    : Type 0 where
   pub other : IsSomeAnd old.key (λ last. last ≡ key_of line.row) → ⊥
   pub unknown : IsUnknown known (key_of line.row)
   pub known_row : new.known_row ≡ None

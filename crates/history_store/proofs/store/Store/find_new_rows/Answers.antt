@@ -61,12 +61,11 @@ returns-after-matches-clause-refused g c =
     let stored =
     stored_so g.D.Disk.view store lent.disk.now lent.cache.now lent.entries.now
     (r.disk ∙ ap (λ (s : StoreValue g.row.D.Denot). s.disk) c.self.view_is) (r.cache ∙ ap (λ (s : StoreValue g.row.D.Denot). s.cache) c.self.view_is) (r.entries ∙ ap (λ (s : StoreValue g.row.D.Denot). s.catalog.entries) c.self.view_is) in
-    let rows = ap rows_of r.shown ∙ ap (λ (s : StoreValue g.row.D.Denot). full s.history) c.self.view_is in
-    (
+    let rows = ap rows_of r.shown ∙ ap (λ (s : StoreValue g.row.D.Denot). full s.history) c.self.view_is in (
       c.in-Err.fault,
       c.from.ensures,
       rw (← c.self.view_is) (subst (λ l. IsRefusal (g.D.Disk.view c.self.inside.disk).is_honest (rows_of l) c.args.release c.in-Err.fault) c.new-reader.ensures.shown
-      (refused_less _ _ _ _ c.in-Err.fault (λ up. ((reader_honest g.D.Disk.view _ _ _ _ _ _ _ _ _ _ c.self.invariant.0 c.new-reader.ensures.disk c.new-reader.ensures.cache c.new-reader.ensures.entries c.new-reader.ensures.shown up still (g.met.D.Disk.now_is_image c.self.inside.disk up)), sound.0, sound.1)) c.in-Err.ensures.refused)),
+          (refused_less _ _ _ _ c.in-Err.fault (λ up. ((reader_honest g.D.Disk.view _ _ _ _ _ _ _ _ _ _ c.self.invariant.0 c.new-reader.ensures.disk c.new-reader.ensures.cache c.new-reader.ensures.entries c.new-reader.ensures.shown up still (g.met.D.Disk.now_is_image c.self.inside.disk up)), sound.0, sound.1)) c.in-Err.ensures.refused)),
       more_refused (full store.history) Lent (IsStored g.D.Disk.view store) stored c.args.release c.in-Err.fault
           (subst (λ known. IsRefusalByKey known Lent c.args.release c.in-Err.fault) rows (c.in-Err.ensures.causes sound.0 sound.1)),
     )
