@@ -81,7 +81,7 @@ fits layouts.Two release kinds.Concrete not_later has = tt
 fits layouts.Two release kinds.Member not_later has = absurd (not_later has)
 fits layouts.Three release kind not_later has = tt
 
-pub admitted_kinds : (layout : Layout) (release : Release) (known : List RowValue) (fresh : NewRows) (k : ℕ) → (IsForLater layout release → ⊥) → BringsByKey known release fresh → AreOfLayout (next_layout layout) (stamped k fresh.rows.items)
+pub admitted_kinds : {may_be : RowValue → Type 0} (layout : Layout) (release : Release) (known : List RowValue) (fresh : NewRows) (k : ℕ) → (IsForLater layout release → ⊥) → BringsByKey known may_be release fresh → AreOfLayout (next_layout layout) (stamped k fresh.rows.items)
 admitted_kinds layout release known fresh k not_later brings = All-from_recursion Fits (stamped k fresh.rows.items) (all_from_has Fits (stamped k fresh.rows.items) each) where
   Fits : StampedRow → Type 0
   Fits s = HasKind (next_layout layout) (kind_of s.row)

@@ -18,7 +18,7 @@ use Rattle.history_store.specs.declared.refusal.Refusal.TheVariants as refusals
 use Rattle.history_store.specs.Catalog.{Catalog, IsCatalogAfter, IsPlaced, HasNoEntry, HasNoPlace}
 use Rattle.history_store.specs.StoreValue.{StoreValue, last_import, last_epoch}
 use Rattle.history_store.specs.Prepared.{IsNotSpent}
-use Rattle.history_store.specs.Answers.{IsTaken, IsNotTaken, WouldBeTaken, IsRefusedFor, IsRefused, IsStill, IsImportOf}
+use Rattle.history_store.specs.Answers.{IsTakenAs, IsNotTaken, WouldBeTaken, IsRefusedFor, IsRefused, IsStill, IsImportOf}
 use Rattle.history_store.specs.Checking.{HasFailed, CheckedIsImported}
 
 -- ---- at one history and one catalog a release has one answer
@@ -154,7 +154,7 @@ module _ (h : History) (catalog : Catalog) (release : Release) where
 
 -- ---- the store in between
 
-would_be : (h after : History) (catalog next : Catalog) (release : Release) (receipt : Receipt) → IsTaken h after catalog next release receipt → WouldBeTaken h catalog release
+would_be : (h after : History) (catalog next : Catalog) (release : Release) (receipt : Receipt) → IsTakenAs h after catalog next release receipt → WouldBeTaken h catalog release
 would_be h after catalog next release receipt taken = record {
   room = taken.room;
   accepted = taken.accepted;
@@ -162,7 +162,7 @@ would_be h after catalog next release receipt taken = record {
   catalog_is = taken.catalog_is;
 }
 
-pub one_receipt : (h after end : History) (catalog next last : Catalog) (release : Release) (r q : Receipt) → IsTaken h after catalog next release r → IsTaken h end catalog last release q → q ≡ r
+pub one_receipt : (h after end : History) (catalog next last : Catalog) (release : Release) (r q : Receipt) → IsTakenAs h after catalog next release r → IsTakenAs h end catalog last release q → q ≡ r
 one_receipt h after end catalog next last release r q first second =
     let rows = one_list release second.accepted.rows first.accepted.rows second.accepted.is_release first.accepted.is_release in
     let same = one_receipt_for_a_release h first.accepted.rows q.number q.new q.repeated r.number r.new r.repeated (subst (λ (l : List RowValue). ReceiptOf h l q.number q.new q.repeated) rows second.receipt_is) first.receipt_is in
@@ -216,8 +216,8 @@ checked_is_imported {D} old checked new release (Ok r) result is imported = each
   still : IsStill old checked
   still = is.1
 
-  here : (h : History) (c : Catalog) → h ≡ old.history → c ≡ old.catalog → IsTaken h is.0.0 c is.0.1 release r
-  here h c same_history same_catalog = subst (λ (k : History). IsTaken k is.0.0 c is.0.1 release r) (sym same_history) (subst (λ (x : Catalog). IsTaken old.history is.0.0 x is.0.1 release r) (sym same_catalog) is.0.2)
+  here : (h : History) (c : Catalog) → h ≡ old.history → c ≡ old.catalog → IsTakenAs h is.0.0 c is.0.1 release r
+  here h c same_history same_catalog = subst (λ (k : History). IsTakenAs k is.0.0 c is.0.1 release r) (sym same_history) (subst (λ (x : Catalog). IsTakenAs old.history is.0.0 x is.0.1 release r) (sym same_catalog) is.0.2)
 
   each : (x : Result Receipt Refusal) → IsImportOf x checked new release → (x ≡ Ok r) ⊎ (HasFailed (Ok r) ⊎ HasFailed x)
   each (Ok q) so = inl (ap Ok (one_receipt checked.history is.0.0 new.history checked.catalog is.0.1 new.catalog release r q (here checked.history checked.catalog still.history still.catalog) so.0))

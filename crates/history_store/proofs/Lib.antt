@@ -32,6 +32,7 @@ mod Listing
 mod ReadyImports
 pub mod Foreseen
 mod ForeseenByKey
+pub mod AnyStored
 mod Later
 mod KeptBlocks
 mod Forgotten

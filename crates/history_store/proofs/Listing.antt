@@ -21,12 +21,15 @@ use Rattle.import_check.specs.declared.contradicting.Contradictions.{Contradicti
 use Rattle.import_check.specs.Known.{already_known}
 use Rattle.import_check.specs.Release.{IsReleaseOf}
 use Rattle.import_check.specs.NewRows.{IsRefusalByKey, IsRead, CountsAnyDiskFault}
-use Rattle.import_check.specs.Contradictions.{AreContradictionsOf, IsNotListed}
+use Rattle.import_check.specs.Contradictions.{AreContradictionsOf, ArePossibleContradictions, IsNotListed}
+use Rattle.import_check.proofs.MoreStored.{more_listed, more_refusals}
 use Rattle.history_store.specs.declared.refusal.Refusal.{Refusal}
 use Rattle.history_store.specs.declared.refusal.Refusal.TheVariants as refusals
 use Rattle.history_store.specs.Refusals.{refusal_of}
 use Rattle.history_store.specs.Reading.{row_cost}
-use Rattle.history_store.specs.Private.Reading.{AreThere, MomentsStay, rows_of, Early}
+use Rattle.history_store.specs.Private.Reading.{AreThere, MomentsStay, rows_of, Early, MayBeRead}
+use Rattle.history_store.specs.Stored.{MayBe, IsStored}
+use Rattle.history_store.proofs.Returned.{stored_so}
 use Rattle.history_store.specs.StoreValue.{StoreValue, IsAcknowledged}
 use Rattle.history_store.specs.Queries.{is_listed}
 use Rattle.history_store.specs.Answers.{Counts, IsRefused, IsStill}
@@ -69,6 +72,7 @@ module _ {D : Type 0} (view : D → DiskView) (release : Release) (limit : ℕ) 
   pub closed_listing : (s : StoreValue D) → s.needs_reopen ≡ true → IsListing (Err refusals.ReopenNeeded) release limit view s s
   closed_listing s needs = record {
     found = λ up. tt;
+    compared = tt;
     read = tt;
     refused = inl (refl, needs);
     left = record { history = refl; catalog = refl; closed = λ same. absurd (cc); still = λ other. refl };
@@ -82,13 +86,18 @@ module _ {D : Type 0} (view : D → DiskView) (release : Release) (limit : ℕ) 
     abbrev IsHonestReader : Type 0
     IsHonestReader = (view lent).is_honest × AgreesWith lent_cache (view lent).moments.state.now × AreThere entries shown (view lent).moments.state.now
 
+    -- what may be read of the lent disk
+    abbrev Lent : RowValue → Type 0
+    Lent = MayBeRead (MayBe (view lent).reads_as lent_cache entries)
+
     pub listed_so : old.history.rows ≡ listed lists → old.needs_reopen ≡ false
         → lent ≡ old.disk → lent_cache ≡ old.cache → entries ≡ old.catalog.entries → shown ≡ lists
         → Lists places shown × Early pin shown → ((view old.disk).is_honest → IsHonestReader)
         → (IsHonestReader → Lists places shown → Early pin shown → IfOk read (AreContradictionsOf (rows_of shown) release limit))
         → IfOk read (λ found. IsRead release)
         → IfErr read (IsNotListed (IsHonestReader × Lists places shown × Early pin shown) release)
-        → (Lists places shown → Early pin shown → IfErr read (IsRefusalByKey (rows_of shown) release))
+        → (Lists places shown → Early pin shown → IfOk read (ArePossibleContradictions (rows_of shown) Lent release limit))
+        → (Lists places shown → Early pin shown → IfErr read (IsRefusalByKey (rows_of shown) Lent release))
         → (Lists places shown → Early pin shown → (rows : List RowValue) → IsReleaseOf release rows → (view disk).bytes_read ≤ (view lent).bytes_read + sum_by row_cost (already_known (rows_of shown) rows))
         → ((IsRead release → ⊥) → (view disk).bytes_read ≤ (view lent).bytes_read)
         → CountsBy CountsAnyDiskFault read (view lent).failures (view disk).failures
@@ -99,17 +108,20 @@ module _ {D : Type 0} (view : D → DiskView) (release : Release) (limit : ℕ) 
         → MatchResult result (λ found. IsStill (record old { disk = disk; cache = cache }) new) (λ e. IsRefused e (record old { disk = disk; cache = cache }) new)
         → new.disk ≡ disk → new.cache ≡ cache → ((view disk).is_honest → new.needs_reopen ≡ false → IsAcknowledged view new)
         → IsListing result release limit view old new
-    listed_so rows_are still lent_is lent_cache_is entries_are shown_is sound lends found is_read why by_key work none_read counted stays looked_up calls answers left same kept acknowledged =
+    listed_so rows_are still lent_is lent_cache_is entries_are shown_is sound lends found is_read why possible by_key work none_read counted stays looked_up calls answers left same kept acknowledged =
         let rows_so : rows_of shown ≡ full old.history = ap rows_of shown_is ∙ sym (ap (map (λ (s : StampedRow). s.row)) rows_are) in
+        let stored = stored_so view old lent lent_cache entries lent_is lent_cache_is entries_are in
         let stay = subst (λ x. MomentsStay (view x).is_honest (view disk).is_honest (view x).moments (view disk).moments) lent_is stays in
         let before = ap (λ d. (view d).bytes_read) lent_is in
         let after = ap (λ d. (view d).bytes_read) same in
         record {
           found = λ up. ok_so (AreContradictionsOf (full old.history) release limit) read result answers (subst (λ rows. IfOk read (AreContradictionsOf rows release limit)) rows_so (found (lends up) sound.0 sound.1));
+          compared = ok_so (ArePossibleContradictions (full old.history) (IsStored view old) release limit) read result answers
+              (more_listed (full old.history) Lent (IsStored view old) stored release limit read (subst (λ rows. IfOk read (ArePossibleContradictions rows Lent release limit)) rows_so (possible sound.0 sound.1)));
           read = ok_so (λ found. IsRead release) read result answers is_read;
-          refused = err_so (λ fault. IsNotListed (IsHonestReader × Lists places shown × Early pin shown) release fault × IsRefusalByKey (full old.history) release fault) (λ e. ((e ≡ refusals.ReopenNeeded) × (old.needs_reopen ≡ true)) ⊎ ((old.needs_reopen ≡ false) × IsUnlisted (view old.disk).is_honest (full old.history) e release)) read result answers
+          refused = err_so (λ fault. IsNotListed (IsHonestReader × Lists places shown × Early pin shown) release fault × IsRefusalByKey (full old.history) (IsStored view old) release fault) (λ e. ((e ≡ refusals.ReopenNeeded) × (old.needs_reopen ≡ true)) ⊎ ((old.needs_reopen ≡ false) × IsUnlisted (view old.disk).is_honest (full old.history) (IsStored view old) e release)) read result answers
               (λ fault h. inr (still, (fault, refl, unlisted_less (IsHonestReader × Lists places shown × Early pin shown) (view old.disk).is_honest release fault (λ up. (lends up, sound.0, sound.1)) h.0, h.1)))
-              (err_both _ _ read why (subst (λ rows. IfErr read (IsRefusalByKey rows release)) rows_so (by_key sound.0 sound.1)));
+              (err_both _ _ read why (more_refusals (full old.history) Lent (IsStored view old) stored release read (subst (λ rows. IfErr read (IsRefusalByKey rows Lent release)) rows_so (by_key sound.0 sound.1))));
           left = left_so result old new disk cache left;
           closed = λ closed. absurd (false≢true (sym still ∙ closed));
           acknowledged = λ up. acknowledged (stay.0.0 up);

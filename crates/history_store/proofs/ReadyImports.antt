@@ -18,7 +18,7 @@ use Rattle.history_store.specs.Catalog.{IsCatalogAfter, catalog_of}
 use Rattle.history_store.specs.StoreValue.{StoreValue}
 use Rattle.history_store.specs.Private.StoreValue.{with_imports, with_rows}
 use Rattle.history_store.specs.Private.Prepared.{IsPreparedFor}
-use Rattle.history_store.specs.Private.Ready.{IsMadeReady, IsNext}
+use Rattle.history_store.specs.Private.Ready.{IsMadeReady, IsNextFor}
 use Rattle.history_store.specs.Written.{StemsWithinAll}
 use Rattle.history_store.specs.Meters.{calls_for}
 use Rattle.history_store.specs.Answers.{IsStill, IsImportOf, IsImportOnAnyDisk, IsBeforeOrAfter, StemsWithinNew}
@@ -29,11 +29,11 @@ use Rattle.history_store.proofs.ImportWrites.{after_reading, slots_written, segm
 use Rattle.history_store.proofs.Checked.{at_ready, room_ready, brings_ready}
 use Rattle.history_store.proofs.MeteredImports.{calls_for_rows}
 
-module _ {D : Type 0} (honest : Type 0) (old mid : StoreValue D) (release : Release) (ready : Ready) (is : IsMadeReady honest mid release ready) (still : IsStill old mid) where
+module _ {D : Type 0} {may_be : RowValue → Type 0} (honest : Type 0) (old mid : StoreValue D) (release : Release) (ready : Ready) (is : IsMadeReady honest may_be mid release ready) (still : IsStill old mid) where
   -- no row is new
   module _ (d : DirectoryValue) (e : ready.next ≡ nexts.WithoutSegment d) where
-    none_ready : IsNext mid is.fresh (nexts.WithoutSegment d)
-    none_ready = subst (λ next. IsNext mid is.fresh next) e is.next_is
+    none_ready : IsNextFor mid is.fresh (nexts.WithoutSegment d)
+    none_ready = subst (λ next. IsNextFor mid is.fresh next) e is.next_is
 
     catalog_without : (new : StoreValue D) → new.catalog ≡ catalog_of d mid.catalog.merge → IsCatalogAfter (stamped (mid.history.imports + 1) is.fresh.rows.items) mid.catalog new.catalog
     catalog_without new same = none_after is.fresh.rows.items (mid.history.imports + 1) mid.catalog new.catalog none_ready.0 (same ∙ ap (λ l. catalog_of l mid.catalog.merge) none_ready.1)
@@ -46,9 +46,9 @@ module _ {D : Type 0} (honest : Type 0) (old mid : StoreValue D) (release : Rele
         subst (λ receipt. IsImportOf (Ok receipt) old new release) (sym is.receipt_is)
         (taken old mid release is.fresh new.history new.catalog (mid.history.imports + 1) (length is.fresh.rows.items) still (at_ready honest mid release ready is still.open_still up) (history_without new step.0) (catalog_without new step.1) refl refl, still.open_before, step.2)
 
-    pub kept_without : (new : StoreValue D) → (new.history ≡ with_imports mid.history d.imports) × (new.catalog ≡ catalog_of d mid.catalog.merge) × (new.needs_reopen ≡ false) → IsImportOnAnyDisk (Ok ready.receipt) old new release
+    pub kept_without : (new : StoreValue D) → (new.history ≡ with_imports mid.history d.imports) × (new.catalog ≡ catalog_of d mid.catalog.merge) × (new.needs_reopen ≡ false) → IsImportOnAnyDisk may_be (Ok ready.receipt) old new release
     kept_without new step =
-        subst (λ receipt. IsImportOnAnyDisk (Ok receipt) old new release) (sym is.receipt_is)
+        subst (λ receipt. IsImportOnAnyDisk may_be (Ok receipt) old new release) (sym is.receipt_is)
         (taken_by_key old old mid release is.fresh new.history new.catalog (mid.history.imports + 1) (length is.fresh.rows.items) refl (room_ready honest mid release ready is old still) still (brings_ready honest mid release ready is old still) (history_without new step.0) (catalog_without new step.1) refl refl, still.open_before, step.2)
 
     -- the calls of a publication
@@ -69,8 +69,8 @@ module _ {D : Type 0} (honest : Type 0) (old mid : StoreValue D) (release : Rele
 
   -- a segment of the new rows
   module _ (p : Prepared) (e : ready.next ≡ nexts.WithSegment p) where
-    segment_ready : IsNext mid is.fresh (nexts.WithSegment p)
-    segment_ready = subst (λ next. IsNext mid is.fresh next) e is.next_is
+    segment_ready : IsNextFor mid is.fresh (nexts.WithSegment p)
+    segment_ready = subst (λ next. IsNextFor mid is.fresh next) e is.next_is
 
     pub for_ready : IsPreparedFor mid p
     for_ready = prepared_for mid mid mid.history release is.fresh p refl is.history refl is.room.not_later is.brings segment_ready.1
@@ -80,9 +80,9 @@ module _ {D : Type 0} (honest : Type 0) (old mid : StoreValue D) (release : Rele
         subst (λ receipt. IsImportOf (Ok receipt) old new release) (sym is.receipt_is)
         (extended old mid mid release is.fresh p new.history new.catalog (mid.history.imports + 1) (length is.fresh.rows.items) refl still (at_ready honest mid release ready is still.open_still up) segment_ready.1.index_is segment_ready.1.placed segment_ready.0 step.0 step.1 refl refl, still.open_before, step.2)
 
-    pub kept_with : (new : StoreValue D) → (new.history ≡ with_rows mid.history p.index) × (new.catalog ≡ catalog_of p.directory mid.catalog.merge) × (new.needs_reopen ≡ false) → IsImportOnAnyDisk (Ok ready.receipt) old new release
+    pub kept_with : (new : StoreValue D) → (new.history ≡ with_rows mid.history p.index) × (new.catalog ≡ catalog_of p.directory mid.catalog.merge) × (new.needs_reopen ≡ false) → IsImportOnAnyDisk may_be (Ok ready.receipt) old new release
     kept_with new step =
-        subst (λ receipt. IsImportOnAnyDisk (Ok receipt) old new release) (sym is.receipt_is)
+        subst (λ receipt. IsImportOnAnyDisk may_be (Ok receipt) old new release) (sym is.receipt_is)
         (extended_by_key old old mid mid release is.fresh p new.history new.catalog (mid.history.imports + 1) (length is.fresh.rows.items) refl (room_ready honest mid release ready is old still) refl is.history still (brings_ready honest mid release ready is old still) segment_ready.1.index_is segment_ready.1.placed segment_ready.0 step.0 step.1 refl refl, still.open_before, step.2)
 
     -- the calls that write a segment, and those of a publication

@@ -17,7 +17,8 @@ use Rattle.directory.specs.declared.entry.Entry.{Entry}
 use Rattle.as_of_index.specs.Reader.{ReaderView, IsReadFor, ArePutInOrder, AreFor}
 use Rattle.as_of_index.proofs.Returned.{zip_weaker}
 use Rattle.index_answers.specs.Keys.{AreSameKeys}
-use Rattle.history_store.specs.Stored.{IsRecordOf, MayBe}
+use Rattle.history_store.specs.Stored.{IsRecordOf, MayBe, IsStored}
+use Rattle.history_store.specs.Private.Reading.{MayBeRead}
 use Rattle.history_store.specs.StoreValue.{StoreValue}
 use Rattle.history_store.specs.Queries.{IsStoredFor}
 
@@ -45,6 +46,19 @@ module _ (R : RowValue → RowValue → Type 0) (so : (x y : RowValue) → R x y
   keyed_for false given wanted each = keyed_same given wanted each
   keyed_for true given wanted moved = keyed_moved given wanted moved
 
+-- what is at a place, by what is read of a store's disk through its cache, is stored
+pub stored_so : {D : Type 0} (view : D → DiskView) (old : StoreValue D) (lent : D) (cache : LruCache ℕ (List ℕ)) (entries : List Entry) → lent ≡ old.disk → cache ≡ old.cache → entries ≡ old.catalog.entries
+    → (row : RowValue) → MayBeRead (MayBe (view lent).reads_as cache entries) row → IsStored view old row
+stored_so view old lent cache entries lent_is cache_is entries_are row m = (
+  m.0,
+  m.1,
+  m.2,
+  m.3,
+  λ file shows.
+      subst (λ (e : List Entry). IsRecordOf e m.2 m.0 m.3 file) entries_are
+      (m.4 file (subst (λ d. ShowsFile (view d).reads_as cache file) (sym lent_is) (subst (λ c. ShowsFile (view old.disk).reads_as c file) (sym cache_is) shows))),
+)
+
 module _ (shown : ReaderView) where
   exact_for : shown.is_honest → (row wanted : RowValue) → IsReadFor shown row wanted → wanted ≡ row
   exact_for honest row wanted r = r.wanted_is ∙ ap (λ (s : StampedRow). s.row) (sym (r.returned.exact honest r.there r.stands)) ∙ sym r.row_is
@@ -60,14 +74,5 @@ module _ (shown : ReaderView) where
     pub stored_for : (row wanted : RowValue) → IsReadFor shown row wanted → IsStoredFor view old row wanted
     stored_for row wanted r = record {
       key = ap key_of r.row_is ∙ r.returned.keyed ∙ (says 0 r.stands.rows (r.there, r.at) r.stands.there).key_is ∙ ap key_of (sym r.wanted_is);
-      stored = (
-        r.read,
-        r.row_is,
-        r.segment,
-        r.at,
-        λ file shows.
-            subst (λ (e : List Entry). IsRecordOf e r.segment r.read r.at file) entries_are
-            (of_disk r.segment r.at r.read r.returned.may_be file
-            (subst (λ d. ShowsFile (view d).reads_as cache file) (sym lent_is) (subst (λ c. ShowsFile (view old.disk).reads_as c file) (sym cache_is) shows))),
-      );
+      stored = stored_so view old lent cache entries lent_is cache_is entries_are row (r.read, r.row_is, r.segment, r.at, of_disk r.segment r.at r.read r.returned.may_be);
     }

@@ -23,7 +23,7 @@ use Rattle.history_store.proofs.Imported.{extended_catalog}
 
 -- ---- rows with new keys are a release of their own
 
-module _ (h : History) (rows : List RowValue) (fresh : NewRows) (is : IsHistory h) (new : AreNewByKey (full h) rows fresh) where
+module _ {may_be : RowValue → Type 0} (h : History) (rows : List RowValue) (fresh : NewRows) (is : IsHistory h) (new : AreNewByKey (full h) may_be rows fresh) where
   own : AreNewRows (full h) fresh.rows.items fresh.rows.items 0
   own = record {
     ascending = new.ascending;
@@ -53,7 +53,7 @@ module _ (h : History) (rows : List RowValue) (fresh : NewRows) (is : IsHistory 
 room_of : {D : Type 0} (u old : StoreValue D) (release : Release) → u ≡ old → IsAdmitted u.history u.catalog release → IsAdmitted old.history old.catalog release
 room_of {D} u old release same left = subst (λ (x : StoreValue D). IsAdmitted x.history x.catalog release) same left
 
-lacking : {D : Type 0} (Writes : Type 0) (s : StoreValue D) (release : Release) (fresh : NewRows) (e : Refusal) → s.needs_reopen ≡ false → IsAdmitted s.history s.catalog release → BringsByKey (full s.history) release fresh → IsUnprepared e (stamped (s.history.imports + 1) fresh.rows.items) s.catalog → IsRefusedFor (IsNotTakenByKey Writes s.history s.catalog release) e s
+lacking : {D : Type 0} {may_be : RowValue → Type 0} (Writes : Type 0) (s : StoreValue D) (release : Release) (fresh : NewRows) (e : Refusal) → s.needs_reopen ≡ false → IsAdmitted s.history s.catalog release → BringsByKey (full s.history) may_be release fresh → IsUnprepared e (stamped (s.history.imports + 1) fresh.rows.items) s.catalog → IsRefusedFor (IsNotTakenByKey may_be Writes s.history s.catalog release) e s
 lacking Writes s release fresh refusals.OutOfMemory still room brings lacks = (still, room)
 lacking Writes s release fresh refusals.DiskFault still room brings lacks = absurd lacks
 lacking Writes s release fresh refusals.ReopenNeeded still room brings lacks = absurd lacks
@@ -72,8 +72,8 @@ lacking Writes s release fresh refusals.LaterVersion still room brings lacks = a
 lacking Writes s release fresh (refusals.Line file line fault) still room brings lacks = absurd lacks
 lacking Writes s release fresh (refusals.Contradiction file line) still room brings lacks = absurd lacks
 
-pub not_prepared_at_all : {D : Type 0} (Writes : Type 0) (u old v mid : StoreValue D) (release : Release) (fresh : NewRows) (e : Refusal) → u ≡ old → IsAdmitted u.history u.catalog release → v ≡ mid → IsStill old mid → BringsByKey (full old.history) release fresh → IsUnprepared e (stamped (v.history.imports + 1) fresh.rows.items) v.catalog → IsRefusedFor (IsNotTakenByKey Writes old.history old.catalog release) e old
-not_prepared_at_all {D} Writes u old v mid release fresh e first left same still brings why =
+pub not_prepared_at_all : {D : Type 0} {may_be : RowValue → Type 0} (Writes : Type 0) (u old v mid : StoreValue D) (release : Release) (fresh : NewRows) (e : Refusal) → u ≡ old → IsAdmitted u.history u.catalog release → v ≡ mid → IsStill old mid → BringsByKey (full old.history) may_be release fresh → IsUnprepared e (stamped (v.history.imports + 1) fresh.rows.items) v.catalog → IsRefusedFor (IsNotTakenByKey may_be Writes old.history old.catalog release) e old
+not_prepared_at_all {D} {may_be} Writes u old v mid release fresh e first left same still brings why =
     let at_mid : IsUnprepared e (stamped (mid.history.imports + 1) fresh.rows.items) mid.catalog = subst (λ (x : StoreValue D). IsUnprepared e (stamped (x.history.imports + 1) fresh.rows.items) x.catalog) same why in
     let here : IsUnprepared e (stamped (old.history.imports + 1) fresh.rows.items) old.catalog =
     subst (λ (h : History). IsUnprepared e (stamped (h.imports + 1) fresh.rows.items) old.catalog) still.history
@@ -82,9 +82,9 @@ not_prepared_at_all {D} Writes u old v mid release fresh e first left same still
 
 -- ---- what is taken
 
-pub taken_by_key : {D : Type 0} (u old s : StoreValue D) (release : Release) (fresh : NewRows) (after : History) (next : Catalog) (number new : ℕ) → u ≡ old → IsAdmitted u.history u.catalog release → IsStill old s → BringsByKey (full old.history) release fresh
+pub taken_by_key : {D : Type 0} {may_be : RowValue → Type 0} (u old s : StoreValue D) (release : Release) (fresh : NewRows) (after : History) (next : Catalog) (number new : ℕ) → u ≡ old → IsAdmitted u.history u.catalog release → IsStill old s → BringsByKey (full old.history) may_be release fresh
     → after ≡ after_release s.history fresh.rows.items → IsCatalogAfter (stamped (s.history.imports + 1) fresh.rows.items) s.catalog next → number ≡ s.history.imports + 1 → new ≡ length fresh.rows.items
-    → IsTakenByKey old.history after old.catalog next release (record { number = number; new = new; repeated = fresh.repeated })
+    → IsTakenByKey may_be old.history after old.catalog next release (record { number = number; new = new; repeated = fresh.repeated })
 taken_by_key u old s release fresh after next number new first left still brings history catalog number_is count =
     let numbers : number ≡ old.history.imports + 1 = number_is ∙ ap (λ (h : History). h.imports + 1) still.history in
     record {
@@ -98,13 +98,13 @@ taken_by_key u old s release fresh after next number new first left still brings
           (subst (λ (x : Catalog). IsCatalogAfter (stamped (s.history.imports + 1) fresh.rows.items) x next) still.catalog catalog);
     }
 
-pub extended_by_key : {D : Type 0} (u old v s : StoreValue D) (release : Release) (fresh : NewRows) (p : Prepared) (after : History) (next : Catalog) (number new : ℕ) → u ≡ old → IsAdmitted u.history u.catalog release → v ≡ s → IsHistory v.history → IsStill old s → BringsByKey (full old.history) release fresh
+pub extended_by_key : {D : Type 0} {may_be : RowValue → Type 0} (u old v s : StoreValue D) (release : Release) (fresh : NewRows) (p : Prepared) (after : History) (next : Catalog) (number new : ℕ) → u ≡ old → IsAdmitted u.history u.catalog release → v ≡ s → IsHistory v.history → IsStill old s → BringsByKey (full old.history) may_be release fresh
     → p.index ≡ stamped (v.history.imports + 1) fresh.rows.items → IsPlaced (stamped (v.history.imports + 1) fresh.rows.items) v.catalog (catalog_of p.directory v.catalog.merge) → 1 ≤ length fresh.rows.items
     → after ≡ with_rows s.history p.index → next ≡ catalog_of p.directory s.catalog.merge → number ≡ v.history.imports + 1 → new ≡ length fresh.rows.items
-    → IsTakenByKey old.history after old.catalog next release (record { number = number; new = new; repeated = fresh.repeated })
-extended_by_key {D} u old v s release fresh p after next number new first left same is still brings shown placed some history catalog number_is count =
+    → IsTakenByKey may_be old.history after old.catalog next release (record { number = number; new = new; repeated = fresh.repeated })
+extended_by_key {D} {may_be} u old v s release fresh p after next number new first left same is still brings shown placed some history catalog number_is count =
     let own_history : IsHistory s.history = subst (λ (x : StoreValue D). IsHistory x.history) same is in
-    let keys : AreNewByKey (full s.history) brings.rows fresh = subst (λ (h : History). AreNewByKey (full h) brings.rows fresh) (sym still.history) brings.new_by_key in
+    let keys : AreNewByKey (full s.history) may_be brings.rows fresh = subst (λ (h : History). AreNewByKey (full h) may_be brings.rows fresh) (sym still.history) brings.new_by_key in
     let all : p.index ≡ stamped (s.history.imports + 1) fresh.rows.items = shown ∙ ap (λ (x : StoreValue D). stamped (x.history.imports + 1) fresh.rows.items) same in
     taken_by_key u old s release fresh after next number new first left still brings
     (history ∙ ap (λ (l : List StampedRow). with_rows s.history l) all ∙ with_by_key s.history brings.rows fresh own_history keys)

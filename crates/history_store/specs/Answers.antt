@@ -110,7 +110,7 @@ IsOpeningOf (Err e) bytes = IsNotOpened e.0 bytes
 -- A release that is accepted: each file is a valid release file, its rows and those of the history
 -- are consistent, the next history has the release's rows, which the receipt counts, and the next
 -- catalog has a segment of the new rows if there are any.
-pub record IsTaken (h after : History) (catalog next : Catalog) (release : Release)
+pub record IsTakenAs (h after : History) (catalog next : Catalog) (release : Release)
     (receipt : Receipt) : Type 0 where
   pub room : IsAdmitted h catalog release
   pub accepted : IsAccepted (full h) release
@@ -118,14 +118,18 @@ pub record IsTaken (h after : History) (catalog next : Catalog) (release : Relea
   pub receipt_is : ReceiptOf h accepted.rows receipt.number receipt.new receipt.repeated
   pub catalog_is : IsCatalogAfter (new_rows h accepted.rows) catalog next
 
+-- any row may be stored: it isn't said which
+abbrev pub AnyRow : RowValue → Type 0
+AnyRow row = Unit {0}
+
 -- A release that is accepted, as far as that can be said on every disk: each file is a valid
 -- release file, the next history has the rows whose keys are new, which the receipt counts, and the
--- next catalog has a segment of these if there are any.
-pub record IsTakenByKey (h after : History) (catalog next : Catalog) (release : Release)
-    (receipt : Receipt) : Type 0 where
+-- next catalog has a segment of these if there are any. Each other row may be stored.
+pub record IsTakenByKey (may_be : RowValue → Type 0) (h after : History) (catalog next : Catalog)
+    (release : Release) (receipt : Receipt) : Type 0 where
   pub room : IsAdmitted h catalog release
   pub fresh : NewRows
-  pub brings : BringsByKey (full h) release fresh
+  pub brings : BringsByKey (full h) may_be release fresh
   pub history : after ≡ after_release h fresh.rows.items
   pub receipt_is : receipt ≡ record {
     number = h.imports + 1;
@@ -136,11 +140,11 @@ pub record IsTakenByKey (h after : History) (catalog next : Catalog) (release : 
 
 -- A release whose rows with new keys can't be added, for the reason `Lacks`. This holds on every
 -- disk.
-pub record LacksByKey (h : History) (catalog : Catalog) (release : Release)
-    (Lacks : List StampedRow → Catalog → Type 0) : Type 0 where
+pub record LacksByKey (may_be : RowValue → Type 0) (h : History) (catalog : Catalog)
+    (release : Release) (Lacks : List StampedRow → Catalog → Type 0) : Type 0 where
   pub room : IsAdmitted h catalog release
   pub fresh : NewRows
-  pub brings : BringsByKey (full h) release fresh
+  pub brings : BringsByKey (full h) may_be release fresh
   pub lacks : Lacks (stamped (h.imports + 1) fresh.rows.items) catalog
 
 -- a release that would be accepted, if its new rows could be added: `Lacks` says why they can't
@@ -158,10 +162,11 @@ pub record WouldBeTaken (h : History) (catalog : Catalog) (release : Release) : 
   pub catalog_is : IsCatalogAfter (new_rows h accepted.rows) catalog next
 
 -- a release of which, by their keys, the new rows have a place, or that has no new rows
-pub record WouldBeTakenByKey (h : History) (catalog : Catalog) (release : Release) : Type 0 where
+pub record WouldBeTakenByKey (may_be : RowValue → Type 0) (h : History) (catalog : Catalog)
+    (release : Release) : Type 0 where
   pub room : IsAdmitted h catalog release
   pub fresh : NewRows
-  pub brings : BringsByKey (full h) release fresh
+  pub brings : BringsByKey (full h) may_be release fresh
   pub next : Catalog
   pub catalog_is : IsCatalogAfter (stamped (h.imports + 1) fresh.rows.items) catalog next
 
@@ -203,12 +208,14 @@ IsNotTaken h catalog release e = WhyNotTaken (WouldBeTakenBut h catalog release)
     (IsRead release) ⊥ h catalog release e
 
 -- Why a release isn't accepted, as far as that can be said on every disk. Which row a line
--- contradicts depends on what the disk returns, but a stored row has the line's key, or an earlier
--- line has it with another row. The disk fails, or a row is damaged, only if a stored row is read;
--- and the disk also if `Writes` holds.
-abbrev pub IsNotTakenByKey : (Writes : Type 0) → History → Catalog → Release → Refusal → Type 0
-IsNotTakenByKey Writes h catalog release e = WhyNotTaken (LacksByKey h catalog release)
-    (λ file line. (key : Key) × HasPossibleContradiction (full h) release file line key)
+-- contradicts depends on what the disk returns, but it is another row with the line's key, which
+-- may be stored or is on an earlier line. The disk fails, or a row is damaged, only if a stored row
+-- is read; and the disk also if `Writes` holds.
+abbrev pub IsNotTakenByKey : (may_be : RowValue → Type 0) → (Writes : Type 0) → History → Catalog
+    → Release → Refusal → Type 0
+IsNotTakenByKey may_be Writes h catalog release e = WhyNotTaken
+    (LacksByKey may_be h catalog release)
+    (λ file line. (key : Key) × HasPossibleContradiction (full h) may_be release file line key)
     (ReadsStored h release ⊎ Writes) (IsAdmitted h catalog release × ReadsStored h release)
     h catalog release e
 
@@ -236,7 +243,7 @@ KeepsMoments view (Err e) old new = e ≢ refusals.DiskFault
 abbrev pub IsImportOf : {D : Type 0} → Result Receipt Refusal → StoreValue D → StoreValue D
     → Release → Type 0
 IsImportOf (Ok receipt) old new release =
-    IsTaken old.history new.history old.catalog new.catalog release receipt
+    IsTakenAs old.history new.history old.catalog new.catalog release receipt
     × (old.needs_reopen ≡ false) × (new.needs_reopen ≡ false)
 IsImportOf (Err e) old new release =
     IsRefusedFor (IsNotTaken old.history old.catalog release) e old × IsRefused e old new
@@ -279,12 +286,13 @@ abbrev pub IsReadingOf : {T D : Type 0} → Result T Refusal → StoreValue D �
 IsReadingOf (Ok x) old new = IsStill old new
 IsReadingOf (Err e) old new = IsReadRefusal e old × IsRefused e old new
 
--- the result of an import on every disk, and the store after it
-abbrev pub IsImportOnAnyDisk : {D : Type 0} → Result Receipt Refusal → StoreValue D → StoreValue D
-    → Release → Type 0
-IsImportOnAnyDisk (Ok receipt) old new release =
-    IsTakenByKey old.history new.history old.catalog new.catalog release receipt
+-- the result of an import on every disk, and the store after it; `may_be` says which rows may be
+-- stored
+abbrev pub IsImportOnAnyDisk : {D : Type 0} → (may_be : RowValue → Type 0)
+    → Result Receipt Refusal → StoreValue D → StoreValue D → Release → Type 0
+IsImportOnAnyDisk may_be (Ok receipt) old new release =
+    IsTakenByKey may_be old.history new.history old.catalog new.catalog release receipt
     × (old.needs_reopen ≡ false) × (new.needs_reopen ≡ false)
-IsImportOnAnyDisk (Err e) old new release =
-    IsRefusedFor (IsNotTakenByKey (WouldBeTakenByKey old.history old.catalog release)
+IsImportOnAnyDisk may_be (Err e) old new release = IsRefusedFor
+    (IsNotTakenByKey may_be (WouldBeTakenByKey may_be old.history old.catalog release)
     old.history old.catalog release) e old × IsRefused e old new

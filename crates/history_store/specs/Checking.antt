@@ -7,10 +7,12 @@ use Rattle.import_check.specs.declared.release.Release.{Release}
 use Rattle.history_store.specs.declared.refusal.Refusal.{Refusal}
 use Rattle.history_store.specs.declared.refusal.Refusal.TheVariants as refusals
 use Rattle.history_store.specs.Catalog.{Catalog}
+use Rattle.rf2_values.specs.Row.{RowValue}
+use Rattle.history_store.specs.Stored.{IsStored}
 use Rattle.history_store.specs.StoreValue.{StoreValue, IsAcknowledged}
 use Rattle.history_store.specs.Prepared.{IsNotSpent, IsForLater}
 use Rattle.history_store.specs.Meters.{IsMeteredReading}
-use Rattle.history_store.specs.Answers.{IsTaken, IsTakenByKey, IsRefused, IsStill}
+use Rattle.history_store.specs.Answers.{AnyRow, IsTakenAs, IsTakenByKey, IsRefused, IsStill}
 use Rattle.history_store.specs.Answers.{IsRefusedFor, IsNotTaken, IsNotTakenByKey}
 use Rattle.history_store.specs.Answers.{IsImportOf, IsImportOnAnyDisk}
 
@@ -21,18 +23,19 @@ abbrev pub IsCheckingOf : {D : Type 0} → Result Receipt Refusal → StoreValue
     → Release → Type 0
 IsCheckingOf (Ok receipt) old new release =
     ((after : History) × (next : Catalog)
-    × IsTaken old.history after old.catalog next release receipt) × IsStill old new
+    × IsTakenAs old.history after old.catalog next release receipt) × IsStill old new
 IsCheckingOf (Err e) old new release =
     IsRefusedFor (IsNotTaken old.history old.catalog release) e old × IsRefused e old new
 
 -- the same on every disk
-abbrev pub IsCheckingOnAnyDisk : {D : Type 0} → Result Receipt Refusal → StoreValue D
-    → StoreValue D → Release → Type 0
-IsCheckingOnAnyDisk (Ok receipt) old new release =
+abbrev pub IsCheckingOnAnyDisk : {D : Type 0} → (may_be : RowValue → Type 0)
+    → Result Receipt Refusal → StoreValue D → StoreValue D → Release → Type 0
+IsCheckingOnAnyDisk may_be (Ok receipt) old new release =
     ((after : History) × (next : Catalog)
-    × IsTakenByKey old.history after old.catalog next release receipt) × IsStill old new
-IsCheckingOnAnyDisk (Err e) old new release =
-    IsRefusedFor (IsNotTakenByKey ⊥ old.history old.catalog release) e old × IsRefused e old new
+    × IsTakenByKey may_be old.history after old.catalog next release receipt) × IsStill old new
+IsCheckingOnAnyDisk may_be (Err e) old new release =
+    IsRefusedFor (IsNotTakenByKey may_be ⊥ old.history old.catalog release) e old
+    × IsRefused e old new
 
 -- A release was checked. Whatever the result, history and catalog are unchanged, and only a disk
 -- failure closes the store. The store is left unchanged if it has to be opened again, or if the
@@ -41,7 +44,7 @@ IsCheckingOnAnyDisk (Err e) old new release =
 pub record IsChecking {D : Type 0} (result : Result Receipt Refusal) (release : Release)
     (view : D → DiskView) (old new : StoreValue D) : Type 0 where
   pub answer : (view old.disk).is_honest → IsCheckingOf result old new release
-  pub kept : IsCheckingOnAnyDisk result old new release
+  pub kept : IsCheckingOnAnyDisk (IsStored view old) result old new release
   pub closed : old.needs_reopen ≡ true → new ≡ old
   pub later : IsForLater old.catalog.layout release → new ≡ old
   pub acknowledged : (view old.disk).is_honest → new.needs_reopen ≡ false → IsAcknowledged view new
@@ -70,11 +73,13 @@ DependsOnReading (Err refusals.Damaged) = Unit {0}
 DependsOnReading (Err (refusals.Contradiction file line)) = Unit {0}
 DependsOnReading answer = HasFailed answer
 
--- the same on every disk, unless one of the two results depends on stored rows that were read
+-- the same on every disk and whichever rows may be stored, unless one of the two results depends on
+-- stored rows that were read
 abbrev pub CheckedIsImportedOnAnyDisk : Type 0 → Type 0
 CheckedIsImportedOnAnyDisk D = (old checked new : StoreValue D) (release : Release)
     (answer result : Result Receipt Refusal)
-    → IsCheckingOnAnyDisk answer old checked release → IsImportOnAnyDisk result checked new release
+    → IsCheckingOnAnyDisk AnyRow answer old checked release
+    → IsImportOnAnyDisk AnyRow result checked new release
     → (result ≡ answer) ⊎ (DependsOnReading answer ⊎ DependsOnReading result)
 
 -- ---- when a release is refused as one for a later layout
@@ -88,5 +93,6 @@ IsTooEarly s release = (s.needs_reopen ≡ false)
 abbrev pub LaterIsRefused : Type 0 → Type 0
 LaterIsRefused D =
     (old new : StoreValue D) (release : Release) (result : Result Receipt Refusal)
-    → IsImportOnAnyDisk result old new release ⊎ IsCheckingOnAnyDisk result old new release
+    → IsImportOnAnyDisk AnyRow result old new release
+    ⊎ IsCheckingOnAnyDisk AnyRow result old new release
     → (result ≡ Err refusals.LaterVersion) ↔ IsTooEarly old release

@@ -14,13 +14,12 @@ use Rattle.blocks.specs.declared.slots.Slot.{Slot}
 use Rattle.blocks.specs.Slots.{slot_extent}
 use Rattle.directory.specs.declared.entry.Entry.{Entry}
 use Rattle.directory.specs.Places.{extent_of}
-use Rattle.segment.specs.declared.place.RowPlace.{RowPlace}
 use Rattle.as_of_index.specs.Reader.{AreFor}
 use Rattle.history_store.specs.declared.refusal.Refusal.{Refusal}
 use Rattle.history_store.specs.declared.refusal.Refusal.TheVariants as refusals
 use Rattle.history_store.specs.Catalog.{reserved_by}
 use Rattle.history_store.specs.Reading.{row_cost}
-use Rattle.history_store.specs.Stored.{MayBe}
+use Rattle.history_store.specs.Stored.{IsStored}
 use Rattle.history_store.specs.Written.{added_entries}
 use Rattle.history_store.specs.StoreValue.{StoreValue, IsAcknowledged}
 use Rattle.history_store.specs.Answers.{Counts, IsReadingOf}
@@ -95,13 +94,11 @@ IsWithoutRead refusals.DiskFault = ⊥
 IsWithoutRead refusals.Damaged = ⊥
 IsWithoutRead _ = Unit {0}
 
--- The row has the key of the wanted one, and its record is in a listed segment of the file that is
--- read of the disk through the cache, if there is one.
+-- the row has the key of the wanted one, and is stored
 pub record IsStoredFor {D : Type 0} (view : D → DiskView) (store : StoreValue D)
     (row wanted : RowValue) : Type 0 where
   pub key : key_of row ≡ key_of wanted
-  pub stored : (s : StampedRow) × (row ≡ s.row) × (segment : ℕ) × (at : RowPlace)
-      × MayBe (view store.disk).reads_as store.cache store.catalog.entries segment at s
+  pub stored : IsStored view store row
 
 -- A query for rows: `rows_of` gives the rows of an answer, and `wanted` those that should be in it,
 -- from the store's rows with the numbers of their imports. On an honest disk both are equal. On

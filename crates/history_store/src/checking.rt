@@ -29,13 +29,15 @@ pub(crate) struct Ready {
 impl<D: Disk> Store<D> {
     ghost use Rattle.history_store.specs.Checking.{IsChecking};
     ghost use Rattle.history_store.specs.StoreValue.{IsAcknowledged};
+    ghost use Rattle.history_store.specs.Stored.{IsStored};
     ghost use Rattle.history_store.specs.Private.Ready.{IsMadeReady, checked};
 
     /// Finds the new rows of a release, and makes in memory all that an import of it would publish.
     pub(crate) fn make_ready(&mut self, release: Release) -> Result<Ready, Refusal>
         ensures checking { IsChecking (checked result) release D.view self.old self.new }
         ensures ready { IfOk result
-            (IsMadeReady (D.view self.old.disk).is_honest self.new release) }
+            (IsMadeReady (D.view self.old.disk).is_honest (IsStored D.view self.old) self.new
+            release) }
         // A crash before the call would have left what the store held then.
         ensures stood { (D.view self.old.disk).is_honest → self.old.needs_reopen ≡ false
             → IsAcknowledged D.view self.old }
@@ -71,7 +73,7 @@ impl<D: Disk> Store<D> {
     /// refuses a write.
     pub fn check(&mut self, release: Release) -> Result<Receipt, Refusal>
         // promise: a_refusal_names_its_cause, a_check_foretells_the_import, members_need_layout_3
-        // promise: a_failed_disk_is_told
+        // promise: a_failed_disk_is_told, no_damage_is_invented
         ensures answer { IsChecking result release D.view self.old self.new }
     {
         let ready = self.make_ready(release)?;

@@ -53,6 +53,7 @@ impl<D: Disk> Store<D> {
         limit: usize,
     ) -> Result<Contradictions, Refusal>
         // promise: a_refusal_names_its_cause, all_contradictions_are_listed, a_failed_disk_is_told
+        // promise: no_damage_is_invented
         ensures answer { IsListing result release limit D.view self.old self.new }
     {
         if self.needs_reopen {

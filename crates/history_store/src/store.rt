@@ -92,6 +92,7 @@ impl<D: Disk> Store<D> {
     ghost use Rattle.history_store.specs.Answers.{IsImportOf, IsImportOnAnyDisk};
     ghost use Rattle.history_store.specs.Answers.{IsBeforeOrAfter, KeepsMoments, StemsWithinNew};
     ghost use Rattle.history_store.specs.Queries.{ForgetsWritten};
+    ghost use Rattle.history_store.specs.Stored.{IsStored};
 
     /// Makes a store of layout 2 on an empty disk, as `create_in` does.
     pub fn create(alloc: Global, disk: D) -> Result<Store<D>, (Refusal, D)>
@@ -175,11 +176,12 @@ impl<D: Disk> Store<D> {
         requires still { self.old.needs_reopen ≡ false }
         ensures accepted { (D.view self.old.disk).is_honest
             → IfOk result (IsAcceptedAs (full self.old.history) release) }
-        // On every disk the new rows are those with new keys.
-        ensures brings { IfOk result (BringsByKey (full self.old.history) release) }
+        // On every disk the new rows are those with new keys, and each other row may be stored.
+        ensures brings { IfOk result
+            (BringsByKey (full self.old.history) (IsStored D.view self.old) release) }
         ensures is_read { IfOk result (λ fresh. IsRead release) }
-        ensures refused { IfErr result (λ e. IsNotFresh (D.view self.old.disk).is_honest e
-            (full self.old.history) release) }
+        ensures refused { IfErr result (λ e. IsNotFresh (D.view self.old.disk).is_honest
+            (IsStored D.view self.old) e (full self.old.history) release) }
         ensures still { IfOk result (λ fresh. IsStill self.old self.new) }
         ensures closed { IfErr result (λ e. IsRefused e self.old self.new) }
         ensures meters { IsMeteredReading result release D.view self.old self.new }
@@ -296,8 +298,9 @@ impl<D: Disk> Store<D> {
             → IsImportOf result self.old self.new release }
         // What is promised on every disk.
         // promise: a_refusal_names_its_cause, a_release_is_taken_whole_or_not_at_all
-        // promise: members_need_layout_3, older_layouts_stay_readable
-        ensures kept { IsImportOnAnyDisk result self.old self.new release }
+        // promise: members_need_layout_3, older_layouts_stay_readable, no_damage_is_invented
+        ensures kept { IsImportOnAnyDisk (IsStored D.view self.old) result self.old self.new
+            release }
         // A store below layout 3 is left unchanged, if the release has members of reference sets.
         ensures later { IsForLater self.old.catalog.layout release → self.new ≡ self.old }
         // A crash at any moment leaves the history from before in the layout from before, or the

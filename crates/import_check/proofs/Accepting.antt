@@ -14,8 +14,8 @@ use Rattle.import_check.specs.declared.contradicting.OtherRow.TheVariants as oth
 use Rattle.import_check.specs.declared.contradicting.ContradictingLine.{ContradictingLine}
 use Rattle.import_check.specs.declared.contradicting.Contradictions.{Contradictions}
 use Rattle.import_check.specs.Known.{IsUnknown, has_key}
-use Rattle.import_check.specs.Release.{IsFirstContradiction, placed_lines, rows_of}
-use Rattle.import_check.specs.Contradictions.{CountsForKey, IsContradiction, row_of}
+use Rattle.import_check.specs.Release.{IsFirstContradiction, placed_lines, rows_of, row_of}
+use Rattle.import_check.specs.Contradictions.{CountsForKey, IsContradiction}
 use Rattle.import_check.specs.Laws.{AcceptedHasNone}
 use Rattle.import_check.proofs.Asking.{has_from, no_key}
 use Rattle.import_check.proofs.Deciding.{same_or_other_key, consistent_or_not}

@@ -12,7 +12,7 @@ use Rattle.history_model.proofs.Keys.{rows_total}
 use Rattle.import_check.specs.declared.release.PlacedLine.{PlacedLine}
 use Rattle.import_check.specs.declared.sweep.Sweep.{Sweep}
 use Rattle.import_check.specs.Known.{IsUnknown}
-use Rattle.import_check.specs.Private.Sweep.{IsApart, IsOwn}
+use Rattle.import_check.specs.Private.Sweep.{IsApart, IsOwn, GoesOn}
 use Rattle.import_check.specs.Private.Sweep.{IsRising}
 use Rattle.import_check.specs.Contradictions.{rank_cmp}
 use Rattle.import_check.proofs.Sweeping.{rank_split, ascending-push}
@@ -73,3 +73,8 @@ module _ (known : List RowValue) (line : PlacedLine) (rest : List PlacedLine) (o
           ]
         ];
       }
+
+pub own_goes_on : (known : List RowValue) (may_be : RowValue → Type 0) (line : PlacedLine) (rest : List PlacedLine) (old new : Sweep) → IsRising rank_cmp (line ∷ rest) → IsOwn known (line ∷ rest) old → GoesOn known may_be line old new → IsOwn known rest new
+own_goes_on known may_be line rest old new rising own (inl same) = own_same known line rest old new (ap (λ (s : Sweep). s.key) same.kept) (ap (λ (s : Sweep). s.fresh.items) same.kept) own
+own_goes_on known may_be line rest old new rising own (inr (inl k)) = own_known known line rest old new rising own k.other k.fresh
+own_goes_on known may_be line rest old new rising own (inr (inr n)) = own_new known line rest old new rising own n.other n.key n.fresh n.unknown

@@ -1,6 +1,6 @@
 -- What is known is asked once for each key.
 use Rattle.std.proofs.Common.{◌≡◌, ℕ, ◌+◌, ◌≤◌, Bool, true, false, List, [], ◌∷◌, ◌++◌, refl, sym, ap, subst, inl, inr, ◌∙◌, arith}
-use Rattle.std.specs.Prelude.{Option, Some, None, MatchOption, IsSomeAnd, cond, ◌||◌}
+use Rattle.std.specs.Prelude.{Option, Some, None, MatchOption, IfSome, IsSomeAnd, cond, ◌||◌, ◌↔◌, ◌⊎◌}
 use Rattle.std.specs.List.{filter, sum_by}
 use Rattle.std.specs.Ordering.{is_eq}
 use Rattle.std.specs.declared.cmp.Ordering.{Ordering}
@@ -16,7 +16,7 @@ use Rattle.history_model.proofs.Filtered.{Has-map, Has-map_from}
 use Rattle.history_model.proofs.Keys.{rows_total, same_key, tie_of_same}
 use Rattle.history_model.proofs.Items.{Has-permuted}
 use Rattle.import_check.specs.declared.release.PlacedLine.{PlacedLine}
-use Rattle.import_check.specs.Known.{IsUnknown, has_key, already_known}
+use Rattle.import_check.specs.Known.{IsUnknown, IsKnown, MayBeKnown, IsReturnedFor, KnownView, has_key, already_known}
 use Rattle.import_check.specs.Release.{rows_of}
 use Rattle.import_check.specs.Private.Sweep.{AsksOnce, IsAhead, standing_row}
 use Rattle.import_check.specs.Private.Sweep.{IsRising}
@@ -105,6 +105,21 @@ has_to (x ∷ xs) key row (inr t) e = by (is_eq (key_cmp (key_of x) key)) (has_t
 
 pub no_key : (rows : List RowValue) (key : Key) → has_key rows key ≡ false → IsUnknown rows key
 no_key rows key none row h e = let yes : true ≡ false = sym (has_to rows key row h e) ∙ none in absurd (cc)
+
+known_or_not : (rows : List RowValue) (key : Key) → IsKnown rows key ⊎ IsUnknown rows key
+known_or_not rows key = by (has_key rows key) refl where
+  by : (b : Bool) → has_key rows key ≡ b → IsKnown rows key ⊎ IsUnknown rows key
+  by true e = inl (has_from rows key e)
+  by false e = inr (no_key rows key e)
+
+-- a row that is returned for a key may be known, and has the key
+pub returned_known : (view : KnownView) (key : Key) (found : Option RowValue) (row : RowValue) → found ≡ Some row → IfSome found (IsReturnedFor view key) → ((found ≡ None) ↔ IsUnknown view.rows key) → MayBeKnown view.rows view.may_be row × (key_of row ≡ key)
+returned_known view key found row some returned absent =
+    let is = subst (λ o. IfSome o (IsReturnedFor view key)) some returned in
+    elim (known_or_not view.rows key) [
+      | inl k ↦ ((subst (λ k. IsKnown view.rows k) (sym is.keyed) k, is.may_be), is.keyed)
+      | inr unknown ↦ absurd (let none = absent.1 unknown in cc)
+    ]
 
 more_keys : (rows others : List RowValue) → ((row : RowValue) → Has rows row → Has others row) → (key : Key) → has_key rows key ≡ true → has_key others key ≡ true
 more_keys rows others each key h = let r = has_from rows key h in has_to others key r.0 (each r.0 r.1) r.2

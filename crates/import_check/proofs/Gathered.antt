@@ -15,10 +15,10 @@ use Rattle.import_check.specs.declared.release.PlacedLine.{PlacedLine}
 use Rattle.import_check.specs.declared.found.NewRows.{NewRows}
 use Rattle.import_check.specs.declared.fault.ImportFault.{ImportFault}
 use Rattle.import_check.specs.declared.fault.ImportFault.TheVariants as importfault
-use Rattle.import_check.specs.Known.{IsUnknown}
+use Rattle.import_check.specs.Known.{MayBeKnown}
 use Rattle.import_check.specs.Release.{rows_of}
 use Rattle.import_check.specs.NewRows.{AreNewByKey}
-use Rattle.import_check.specs.Private.Sweep.{IsApart, IsGathered, IsOutcome, IsVerdict, standing_row, standing_of}
+use Rattle.import_check.specs.Private.Sweep.{IsApart, IsGathered, GoesOn, GoesOnWithKey, GoesOnWithKnown, GoesOnWithNew, IsOutcome, IsVerdict, standing_row, standing_of}
 use Rattle.import_check.proofs.Asking.{more_rows}
 use Rattle.import_check.proofs.Sweeping.{last_pushed}
 
@@ -34,11 +34,11 @@ last_more : (done : List PlacedLine) (line : PlacedLine) (fresh : List RowValue)
 last_more done line fresh None is = tt
 last_more done line fresh (Some k) is = (is.0, Has-append_left done (line ∷ []) is.0 is.1, is.2, is.3)
 
-pub gathered_none : (known : List RowValue) (s : Sweep) → s.fresh.items ≡ [] → s.known_row ≡ None → s.key ≡ None → IsGathered known [] s
-gathered_none known s none unread at = record {
+pub gathered_none : (known : List RowValue) (may_be : RowValue → Type 0) (s : Sweep) → s.fresh.items ≡ [] → s.known_row ≡ None → s.key ≡ None → IsGathered known may_be [] s
+gathered_none known may_be s none unread at = record {
   from_lines = λ row h. absurd (subst (λ rows. Has rows row) none h);
-  each = λ first row h unknown. absurd h;
-  known_key = λ row e. absurd (cc);
+  each = λ first row h. absurd h;
+  known_row = λ row e. absurd (cc);
   new_key = λ e. subst (λ o. IfSome o (LastIs [] s.fresh.items)) (sym at) tt;
 }
 
@@ -62,66 +62,76 @@ agreed : (standing : Option RowValue) (first : Option Contradiction) (line : Pla
 agreed standing first line now (inl p) none = (p.0, sym p.1 ∙ none)
 agreed standing first line now (inr p) none = let found = p.2 in absurd (cc)
 
-pub key_known : (key : Option Key) (known : List RowValue) (k : Key) → IsSomeAnd key (λ key. IsUnknown known key → ⊥) → IsSomeAnd key (λ last. last ≡ k) → IsUnknown known k → ⊥
-key_known None known k at same unknown = absurd at
-key_known (Some last) known k at same unknown = at (subst (λ key. IsUnknown known key) (sym same) unknown)
+-- a line that agrees with the row that counts is new, or may be known
+agrees_with : (known : List RowValue) (may_be : RowValue → Type 0) (known_row : Option RowValue) (fresh : List RowValue) (row : RowValue) → ((r : RowValue) → known_row ≡ Some r → MayBeKnown known may_be r) → standing_row known_row fresh ≡ Some row
+    → Has fresh row ⊎ MayBeKnown known may_be row
+agrees_with known may_be None fresh row shown standing = inl (Has-slice_get fresh (length fresh - 1) row standing)
+agrees_with known may_be (Some r) fresh row shown standing = let same : r ≡ row = cc in inr (subst (λ (x : RowValue). MayBeKnown known may_be x) same (shown r refl))
 
-stands_new : (known : List RowValue) (key : Option Key) (known_row : Option RowValue) (fresh : List RowValue) (row : RowValue)
-    → ((r : RowValue) → known_row ≡ Some r → IsSomeAnd key (λ key. IsUnknown known key → ⊥)) → IsSomeAnd key (λ last. last ≡ key_of row)
-    → standing_row known_row fresh ≡ Some row → IsUnknown known (key_of row) → Has fresh row
-stands_new known key None fresh row known_key at standing unknown = Has-slice_get fresh (length fresh - 1) row standing
-stands_new known key (Some r) fresh row known_key at standing unknown = absurd (key_known key known (key_of row) (known_key r refl) at unknown)
-
-module _ (known : List RowValue) (done : List PlacedLine) (line : PlacedLine) (old new : Sweep) (g : IsGathered known done old) where
-  pub gathered_same : IsSomeAnd old.key (λ last. last ≡ key_of line.row) → new ≡ record old { first = new.first } → IsVerdict (standing_of old) old.first line new.first → IsGathered known (done ++ line ∷ []) new
-  gathered_same at kept verdict =
-      let rows : new.fresh.items ≡ old.fresh.items = ap (λ (s : Sweep). s.fresh.items) kept in
+module _ (known : List RowValue) (may_be : RowValue → Type 0) (done : List PlacedLine) (line : PlacedLine) (old new : Sweep) (g : IsGathered known may_be done old) where
+  gathered_same : GoesOnWithKey line old new → IsGathered known may_be (done ++ line ∷ []) new
+  gathered_same same =
+      let rows : new.fresh.items ≡ old.fresh.items = ap (λ (s : Sweep). s.fresh.items) same.kept in
       record {
         from_lines = λ row h. rows_before done line row (g.from_lines row (subst (λ x. Has x row) rows h));
-        each = λ none row h unknown.
-            let so = agreed (standing_of old) old.first line new.first verdict none in
-            subst (λ x. Has x row) (sym rows) (elim (rows_cases done line row h) as (λ _. Has old.fresh.items row) [
-              | inl before ↦ g.each so.1 row before unknown
-              | inr e ↦ subst (λ (r : RowValue). Has old.fresh.items r) e (stands_new known old.key old.known_row old.fresh.items line.row g.known_key at so.0 (subst (λ (r : RowValue). IsUnknown known (key_of r)) (sym e) unknown))
+        each = λ none row h.
+            let so = agreed (standing_of old) old.first line new.first same.verdict none in
+            subst (λ x. Has x row ⊎ MayBeKnown known may_be row) (sym rows) (elim (rows_cases done line row h) as (λ _. Has old.fresh.items row ⊎ MayBeKnown known may_be row) [
+              | inl before ↦ g.each so.1 row before
+              | inr e ↦ subst (λ (r : RowValue). Has old.fresh.items r ⊎ MayBeKnown known may_be r) e (agrees_with known may_be old.known_row old.fresh.items line.row (λ r is. (g.known_row r is).1) so.0)
             ]);
-        known_key = λ row e. subst (λ k. IsSomeAnd k (λ key. IsUnknown known key → ⊥)) (sym (ap (λ (s : Sweep). s.key) kept)) (g.known_key row (sym (ap (λ (s : Sweep). s.known_row) kept) ∙ e));
+        known_row = λ row e.
+            let was = g.known_row row (sym (ap (λ (s : Sweep). s.known_row) same.kept) ∙ e) in
+            (subst (λ k. IsSomeAnd k (λ key. key_of row ≡ key)) (sym (ap (λ (s : Sweep). s.key) same.kept)) was.0, was.1);
         new_key = λ e.
-            subst (λ o. IfSome o (LastIs (done ++ line ∷ []) new.fresh.items)) (sym (ap (λ (s : Sweep). s.key) kept))
-            (subst (λ fresh. IfSome old.key (LastIs (done ++ line ∷ []) fresh)) (sym rows) (last_more done line old.fresh.items old.key (g.new_key (sym (ap (λ (s : Sweep). s.known_row) kept) ∙ e))));
+            subst (λ o. IfSome o (LastIs (done ++ line ∷ []) new.fresh.items)) (sym (ap (λ (s : Sweep). s.key) same.kept))
+            (subst (λ fresh. IfSome old.key (LastIs (done ++ line ∷ []) fresh)) (sym rows) (last_more done line old.fresh.items old.key (g.new_key (sym (ap (λ (s : Sweep). s.known_row) same.kept) ∙ e))));
       }
 
-  -- a known row has the key
-  pub gathered_known : (first : Option Contradiction) (standing : Option RowValue) (found : RowValue) → new.known_row ≡ Some found → first ≡ old.first → new.fresh.items ≡ old.fresh.items → new.key ≡ Some (key_of line.row) → IsVerdict standing first line new.first
-      → (IsUnknown known (key_of line.row) → ⊥) → IsGathered known (done ++ line ∷ []) new
-  gathered_known first standing found found_is same rows at verdict there = record {
-    from_lines = λ row h. rows_before done line row (g.from_lines row (subst (λ x. Has x row) rows h));
-    each = λ none row h unknown. elim (rows_cases done line row h) as (λ _. Has new.fresh.items row) [
-      | inl before ↦ subst (λ x. Has x row) (sym rows) (g.each (sym same ∙ (agreed standing first line new.first verdict none).1) row before unknown)
-      | inr e ↦ absurd (there (subst (λ (r : RowValue). IsUnknown known (key_of r)) (sym e) unknown))
-    ];
-    known_key = λ row e. subst (λ k. IsSomeAnd k (λ key. IsUnknown known key → ⊥)) (sym at) there;
-    new_key = λ e. absurd (cc);
+  gathered_known : GoesOnWithKnown known may_be line old new → IsGathered known may_be (done ++ line ∷ []) new
+  gathered_known k = record {
+    from_lines = λ row h. rows_before done line row (g.from_lines row (subst (λ x. Has x row) k.fresh h));
+    each = λ none row h.
+        let so = agreed (Some k.found) old.first line new.first k.verdict none in
+        subst (λ x. Has x row ⊎ MayBeKnown known may_be row) (sym k.fresh) (elim (rows_cases done line row h) as (λ _. Has old.fresh.items row ⊎ MayBeKnown known may_be row) [
+          | inl before ↦ g.each so.1 row before
+          | inr e ↦ let agrees = so.0 in let same : k.found ≡ line.row = cc in inr (subst (λ (r : RowValue). MayBeKnown known may_be r) (same ∙ e) k.may_be_known)
+        ]);
+    known_row = λ row e.
+        let at = k.known_row in
+        let same : k.found ≡ row = cc in (
+          subst (λ (r : RowValue). IsSomeAnd new.key (λ key. key_of r ≡ key)) same (subst (λ o. IsSomeAnd o (λ key. key_of k.found ≡ key)) (sym k.key) k.same_key),
+          subst (λ (r : RowValue). MayBeKnown known may_be r) same k.may_be_known,
+        );
+    new_key = λ e. let at = k.known_row in absurd (cc);
   }
 
-  -- no known row has the key
-  pub gathered_new : new.first ≡ old.first → new.known_row ≡ None → new.key ≡ Some (key_of line.row) → new.fresh.items ≡ old.fresh.items ++ line.row ∷ [] → IsGathered known (done ++ line ∷ []) new
-  gathered_new same none at rows = record {
-    from_lines = λ row h. elim (Has-append_cases old.fresh.items (line.row ∷ []) row (subst (λ x. Has x row) rows h)) as (λ _. Has (rows_of (done ++ line ∷ [])) row) [
+  gathered_new : GoesOnWithNew known line old new → IsGathered known may_be (done ++ line ∷ []) new
+  gathered_new n = record {
+    from_lines = λ row h. elim (Has-append_cases old.fresh.items (line.row ∷ []) row (subst (λ x. Has x row) n.fresh h)) as (λ _. Has (rows_of (done ++ line ∷ [])) row) [
       | inl before ↦ rows_before done line row (g.from_lines row before)
-      | inr t ↦ elim t [ inl e ↦ subst (λ r. Has (rows_of (done ++ line ∷ [])) r) e (row_last done line) | inr n ↦ absurd n ]
+      | inr t ↦ elim t [ inl e ↦ subst (λ r. Has (rows_of (done ++ line ∷ [])) r) e (row_last done line) | inr never ↦ absurd never ]
     ];
-    each = λ first row h unknown. subst (λ x. Has x row) (sym rows) (elim (rows_cases done line row h) as (λ _. Has (old.fresh.items ++ line.row ∷ []) row) [
-      | inl before ↦ Has-append_left old.fresh.items (line.row ∷ []) row (g.each (sym same ∙ first) row before unknown)
-      | inr e ↦ Has-append_right old.fresh.items (line.row ∷ []) row (inl e)
+    each = λ none row h. subst (λ x. Has x row ⊎ MayBeKnown known may_be row) (sym n.fresh) (elim (rows_cases done line row h) as (λ _. Has (old.fresh.items ++ line.row ∷ []) row ⊎ MayBeKnown known may_be row) [
+      | inl before ↦ elim (g.each (sym n.first ∙ none) row before) as (λ _. Has (old.fresh.items ++ line.row ∷ []) row ⊎ MayBeKnown known may_be row) [
+        | inl fresh ↦ inl (Has-append_left old.fresh.items (line.row ∷ []) row fresh)
+        | inr may ↦ inr may
+      ]
+      | inr e ↦ inl (Has-append_right old.fresh.items (line.row ∷ []) row (inl e))
     ]);
-    known_key = λ row e. absurd (cc);
-    new_key = λ e. subst (λ o. IfSome o (LastIs (done ++ line ∷ []) new.fresh.items)) (sym at) (line, Has-append_right done (line ∷ []) line (inl refl), ap (standing_row None) rows ∙ last_pushed old.fresh.items line.row, refl);
+    known_row = λ row e. let none = n.known_row in absurd (cc);
+    new_key = λ e. subst (λ o. IfSome o (LastIs (done ++ line ∷ []) new.fresh.items)) (sym n.key) (line, Has-append_right done (line ∷ []) line (inl refl), ap (standing_row None) n.fresh ∙ last_pushed old.fresh.items line.row, refl);
   }
+
+  pub gathered_on : GoesOn known may_be line old new → IsGathered known may_be (done ++ line ∷ []) new
+  gathered_on (inl same) = gathered_same same
+  gathered_on (inr (inl k)) = gathered_known k
+  gathered_on (inr (inr n)) = gathered_new n
 
 -- what a pass over the lines in another order ends with, where none contradicts
-pub outcome_by_key : (known : List RowValue) (lines sorted : List PlacedLine) (s : Sweep) (count : ℕ) (r : Result NewRows ImportFault) → IsPermutation lines sorted → count ≡ length lines → length s.fresh.items ≤ length sorted → length sorted ≡ length lines
-    → IsApart known s.fresh.items → IsGathered known sorted s → IsOutcome s count r → IfOk r (AreNewByKey known (rows_of lines))
-outcome_by_key known lines sorted s count r permuted count_is few same apart g outcome = by s.first refl r outcome where
+pub outcome_by_key : (known : List RowValue) (may_be : RowValue → Type 0) (lines sorted : List PlacedLine) (s : Sweep) (count : ℕ) (r : Result NewRows ImportFault) → IsPermutation lines sorted → count ≡ length lines → length s.fresh.items ≤ length sorted → length sorted ≡ length lines
+    → IsApart known s.fresh.items → IsGathered known may_be sorted s → IsOutcome s count r → IfOk r (AreNewByKey known may_be (rows_of lines))
+outcome_by_key known may_be lines sorted s count r permuted count_is few same apart g outcome = by s.first refl r outcome where
   here : (row : RowValue) → Has (rows_of sorted) row → Has (rows_of lines) row
   here = more_rows sorted lines (λ l h. Has-permuted lines sorted permuted l h)
 
@@ -134,14 +144,14 @@ outcome_by_key known lines sorted s count r permuted count_is few same apart g o
 
   by : (first : Option Contradiction) → s.first ≡ first → (r : Result NewRows ImportFault)
       → MatchOption first (IsOkAnd r (λ f. (f.rows.items ≡ s.fresh.items) × (f.repeated ≡ count - length s.fresh.items))) (λ c. r ≡ Err (importfault.Contradiction c.file c.line c.key))
-      → IfOk r (AreNewByKey known (rows_of lines))
+      → IfOk r (AreNewByKey known may_be (rows_of lines))
   by None none (Ok f) ok =
       let rows : f.rows.items ≡ s.fresh.items = ok.0 in
       record {
         ascending = (subst (λ x. IsApart known x) (sym rows) apart).ascending;
         from_release = λ row h. here row (g.from_lines row (subst (λ x. Has x row) rows h));
         unknown = (subst (λ x. IsApart known x) (sym rows) apart).unknown;
-        each = λ row h unknown. subst (λ x. Has x row) (sym rows) (g.each none row (back row h) unknown);
+        each = λ row h. subst (λ x. Has x row ⊎ MayBeKnown known may_be row) (sym rows) (g.each none row (back row h));
         counted = let all = length_rows lines in let own : length f.rows.items ≡ length s.fresh.items = ap length rows in let left = ok.1 in omega (arith, all, own, left, few, same, count_is);
       }
   by None none (Err e) ok = tt

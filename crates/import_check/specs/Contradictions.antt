@@ -1,6 +1,6 @@
 -- The contradictions of a release: lines for whose key a different row is known, or on an earlier
 -- line.
-use Rattle.std.specs.Prelude.{◌≡◌, ◌≢◌, ◌↔◌, ℕ, ◌-◌, List, [], ◌∷◌, ◌++◌, length, take}
+use Rattle.std.specs.Prelude.{◌≡◌, ◌≢◌, ◌↔◌, ◌⊎◌, ℕ, ◌-◌, List, [], ◌∷◌, ◌++◌, length, take}
 use Rattle.std.specs.Ordering.{nat_cmp, ordering_then}
 use Rattle.std.specs.declared.cmp.Ordering.{Ordering}
 use Rattle.rf2_values.specs.Row.{RowValue}
@@ -15,8 +15,9 @@ use Rattle.import_check.specs.declared.contradicting.ContradictingLine.{Contradi
 use Rattle.import_check.specs.declared.contradicting.Contradictions.{Contradictions}
 use Rattle.import_check.specs.declared.fault.ImportFault.{ImportFault}
 use Rattle.import_check.specs.declared.fault.ImportFault.TheVariants as importfault
-use Rattle.import_check.specs.Known.{IsUnknown}
-use Rattle.import_check.specs.Release.{SpellFiles, placed_lines, rows_of}
+use Rattle.import_check.specs.Known.{IsUnknown, MayBeKnown}
+use Rattle.import_check.specs.Release.{SpellFiles, placed_lines, rows_of, row_of}
+use Rattle.import_check.specs.Release.{MayContradict}
 use Rattle.import_check.specs.NewRows.{IsRefusal}
 
 -- the order of lines in the release: by file, then by line
@@ -26,10 +27,6 @@ place_cmp a b = ordering_then (nat_cmp a.file b.file) (nat_cmp a.line b.line)
 -- the order of lines by key, then by file and line
 abbrev pub rank_cmp : PlacedLine → PlacedLine → Ordering
 rank_cmp a b = ordering_then (row_cmp a.row b.row) (place_cmp a b)
-
-abbrev pub row_of : OtherRow → RowValue
-row_of (others.Known row) = row
-row_of (others.Line first) = first.row
 
 -- The row counts for its key: either it is known, or it is that of a line, and its key is neither
 -- known nor on an earlier line.
@@ -56,6 +53,29 @@ pub record AreContradictionsOf (known : List RowValue) (release : Release) (limi
   pub all : List ContradictingLine
   pub ascending : IsAscending (λ a b. rank_cmp a.line b.line) all
   pub each : (c : ContradictingLine) → Has all c ↔ IsContradiction known (placed_lines lists) c
+  pub listed : found.listed.items ≡ take limit all
+  pub further : found.further ≡ length all - limit
+
+-- the row may be known; or no known row has its key, and it is that of the first line with the key
+abbrev pub MayAgree : List RowValue → (may_be : RowValue → Type 0) → List PlacedLine → RowValue
+    → Type 0
+MayAgree known may_be lines row = MayBeKnown known may_be row
+    ⊎ ((first : PlacedLine) × CountsForKey known lines (others.Line first) × (first.row ≡ row))
+
+-- The same whatever rows are returned for known keys: of lines that may contradict, in the order of
+-- keys, files and lines, the first are listed, up to the limit, and the others are counted. Each
+-- other line may agree.
+pub record ArePossibleContradictions (known : List RowValue) (may_be : RowValue → Type 0)
+    (release : Release) (limit : ℕ) (found : Contradictions) : Type 0 where
+  pub lists : List (List RowValue)
+  pub spelled : SpellFiles release.files.items lists
+  pub all : List ContradictingLine
+  pub ascending : IsAscending (λ a b. rank_cmp a.line b.line) all
+  pub each : (c : ContradictingLine) → Has all c
+      → MayContradict known may_be (placed_lines lists) c
+  pub rest : (line : PlacedLine) → Has (placed_lines lists) line
+      → ((c : ContradictingLine) × Has all c × (c.line ≡ line))
+      ⊎ MayAgree known may_be (placed_lines lists) line.row
   pub listed : found.listed.items ≡ take limit all
   pub further : found.further ≡ length all - limit
 

@@ -5,15 +5,16 @@ ghost use Rattle.std.specs.Prelude.{OnOk, IfOk, IfErr, Some, None, IsSomeAnd, Ma
 ghost use Rattle.std.specs.List.{sum_by};
 ghost use Rattle.rf2_values.specs.Row.{RowValue};
 ghost use Rattle.rf2_values.specs.Key.{key_of};
-ghost use Rattle.history_model.specs.InOrder.{IsAscending};
+ghost use Rattle.history_model.specs.InOrder.{Has, IsAscending};
 ghost use Rattle.import_check.specs.NewRows.{IsRead, IsRefusalByKey};
 ghost use Rattle.import_check.specs.NewRows.{CountsAnyDiskFault, CountsAnyDamage};
-ghost use Rattle.import_check.specs.Contradictions.{place_cmp, rank_cmp, row_of};
+ghost use Rattle.import_check.specs.Contradictions.{place_cmp, rank_cmp};
 ghost use Rattle.import_check.specs.Contradictions.{AreContradictionsOf, IsNotListed};
-ghost use Rattle.import_check.specs.Known.{already_known, IsUnknown, LeavesKnown};
-ghost use Rattle.import_check.specs.Release.{IsReleaseOf, rows_of};
+ghost use Rattle.import_check.specs.Contradictions.{ArePossibleContradictions};
+ghost use Rattle.import_check.specs.Known.{already_known, IsUnknown, MayBeKnown, LeavesKnown};
+ghost use Rattle.import_check.specs.Release.{IsReleaseOf, rows_of, row_of};
 ghost use Rattle.import_check.specs.Private.Sweep.{IsCutShort, AsksOnce, IsWithoutRead};
-ghost use Rattle.import_check.specs.Private.Contradictions.{IsFoundFor, IsNext, last_key};
+ghost use Rattle.import_check.specs.Private.Contradictions.{IsFoundFor, IsCountingFor, last_key};
 ghost use Rattle.import_check.specs.Private.Contradictions.{IsNoted, AreSifted};
 
 use crate::fault::ImportFault;
@@ -93,8 +94,11 @@ fn kept(last: Option<Counting>, key: Key) -> Option<Counting>
 
 /// The row that counts for a line's key, if no line before it had the key.
 fn find<K: Known>(alloc: Global, line: &PlacedLine, known: &mut K) -> Result<OtherRow, ImportFault>
-    ensures found { (K.view known.old).is_honest
-        → IfOk result (IsFoundFor (K.view known.old).rows line.now) }
+    ensures found { (K.view known.old).is_honest → IfOk result
+        (IsFoundFor (Has (K.view known.old).rows) (K.view known.old).rows line.now) }
+    ensures possible { (K.view known.old).is_sound → IfOk result (IsFoundFor
+        (MayBeKnown (K.view known.old).rows (K.view known.old).may_be)
+        (K.view known.old).rows line.now) }
     ensures asks { (K.view known.old).is_sound → AsksOnce K.cost (K.view known.old).rows None
         line.now (K.view known.old).work (K.view known.new).work }
     ensures cut_short { IfErr result (IsCutShort (K.view known.old).is_honest) }
@@ -118,8 +122,11 @@ fn next<K: Known>(
     line: &PlacedLine,
     known: &mut K,
 ) -> Result<Counting, ImportFault>
-    ensures next { (K.view known.old).is_honest
-        → IfOk result (IsNext (K.view known.old).rows line.now last) }
+    ensures next { (K.view known.old).is_honest → IfOk result
+        (IsCountingFor (Has (K.view known.old).rows) (K.view known.old).rows line.now last) }
+    ensures possible { (K.view known.old).is_sound → IfOk result (IsCountingFor
+        (MayBeKnown (K.view known.old).rows (K.view known.old).may_be)
+        (K.view known.old).rows line.now last) }
     ensures key { IfOk result (λ counting. counting.key ≡ key_of line.now.row) }
     ensures asks_once { (K.view known.old).is_sound
         → AsksOnce K.cost (K.view known.old).rows (last_key last) line.now (K.view known.old).work
@@ -174,7 +181,11 @@ fn compare_all<K: Known>(
     limit: usize,
 ) -> Result<Contradictions, ImportFault>
     ensures sifted { (K.view known.old).is_honest → IsAscending rank_cmp lines.items
-        → IfOk result (AreSifted (K.view known.old).rows limit lines.items) }
+        → IfOk result (AreSifted (Has (K.view known.old).rows) (K.view known.old).rows limit
+        lines.items) }
+    ensures possible { (K.view known.old).is_sound → IsAscending rank_cmp lines.items
+        → IfOk result (AreSifted (MayBeKnown (K.view known.old).rows (K.view known.old).may_be)
+        (K.view known.old).rows limit lines.items) }
     ensures work { (K.view known.old).is_sound → IsAscending rank_cmp lines.items
         → (K.view known.new).work ≤ (K.view known.old).work
         + sum_by K.cost (already_known (K.view known.old).rows (rows_of lines.items)) }
@@ -214,13 +225,19 @@ pub fn find_contradictions<K: Known>(
     // promise: all_contradictions_are_listed
     ensures found { (K.view known.old).is_honest
         → IfOk result (AreContradictionsOf (K.view known.old).rows release limit) }
+    // Whatever rows are returned for known keys: each line that is listed or counted differs from a
+    // row with its key that may be stored, or from that of an earlier line; and each other line has
+    // a row that may be stored, or that of the first line with its key.
+    // promise: all_contradictions_are_listed, no_damage_is_invented
+    ensures possible { (K.view known.old).is_sound → IfOk result (ArePossibleContradictions
+        (K.view known.old).rows (K.view known.old).may_be release limit) }
     ensures read { IfOk result (λ found. IsRead release) }
     // promise: all_contradictions_are_listed
     ensures refused { IfErr result (IsNotListed (K.view known.old).is_honest release) }
     // A known row can't be read only if a line has the key of one.
     // promise: a_refusal_names_its_cause
     ensures causes { (K.view known.old).is_sound
-        → IfErr result (IsRefusalByKey (K.view known.old).rows release) }
+        → IfErr result (IsRefusalByKey (K.view known.old).rows (K.view known.old).may_be release) }
     // Whatever the result: each known row whose key is in the release is read at most once, and no
     // other row is read. If a file isn't a valid release file, none is read.
     // promise: all_contradictions_are_listed

@@ -1,13 +1,14 @@
 //! The rows that are known before a release is imported.
 
-ghost use Rattle.std.specs.Prelude.{◌≡◌, ◌≢◌, ◌↔◌, ◌+◌, ◌≤◌, ℕ, IfOk, IfErr, None};
+ghost use Rattle.std.specs.Prelude.{◌≡◌, ◌≢◌, ◌↔◌, ◌+◌, ◌≤◌, ℕ, IfOk, IfErr, IfSome, None};
 ghost use Rattle.fault_counts.specs.declared.fault.ReadFault.TheVariants as readfault;
 ghost use Rattle.rf2_values.specs.Row.{RowValue};
 ghost use Rattle.rf2_values.specs.Key.{key_of};
 ghost use Rattle.history_model.specs.InOrder.{Has};
 ghost use Rattle.history_model.specs.History.{IsConsistent};
 ghost use Rattle.fault_counts.specs.Counting.{CountsDiskFault, CountsDamage};
-ghost use Rattle.import_check.specs.Known.{IsRowAt, IsUnknown, KnownView, LeavesKnown};
+ghost use Rattle.import_check.specs.Known.{IsRowAt, IsUnknown, IsReturnedFor};
+ghost use Rattle.import_check.specs.Known.{KnownView, LeavesKnown};
 
 use fault_counts::ReadFault;
 use rf2_values::{Key, Row};
@@ -28,6 +29,10 @@ pub trait Known {
     fn row(&mut self, alloc: Global, key: &Key) -> Result<Option<Row>, ReadFault>
         ensures found { (view self.old).is_honest
             → IfOk result (IsRowAt (view self.old).rows key.now) }
+        // Honest or not, it returns only a row that has the key and may be stored for it.
+        // promise: no_damage_is_invented
+        ensures returned { IfOk result
+            (λ found. IfSome found (IsReturnedFor (view self.old) key.now)) }
         // An honest one fails only because of the disk or memory.
         ensures undamaged { (view self.old).is_honest → IfErr result (λ e. e ≢ readfault.Damaged) }
         // If no known row has the key, none is read, and only memory may run out.

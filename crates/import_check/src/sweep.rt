@@ -10,15 +10,15 @@ ghost use Rattle.history_model.specs.InOrder.{IsAscending};
 ghost use Rattle.rf2_values.specs.Row.{RowValue};
 ghost use Rattle.rf2_values.specs.Key.{key_of};
 ghost use Rattle.import_check.specs.declared.release.PlacedLine.{PlacedLine};
-ghost use Rattle.import_check.specs.NewRows.{IsTaken, AreNewByKey};
+ghost use Rattle.import_check.specs.NewRows.{AreAcceptedAs, AreNewByKey};
 ghost use Rattle.import_check.specs.NewRows.{CountsAnyDiskFault, CountsAnyDamage};
 ghost use Rattle.import_check.specs.Release.{rows_of};
 ghost use Rattle.import_check.specs.Private.Sweep.{IsEarlierOf, IsVerdict, standing_of};
 ghost use Rattle.import_check.specs.Private.Sweep.{StandsBy};
 ghost use Rattle.import_check.specs.Private.Sweep.{IsSwept, TakesLine, IsOutcome};
-ghost use Rattle.import_check.specs.Private.Sweep.{KeepsApart, IsCutShort, IsRefusalOf};
+ghost use Rattle.import_check.specs.Private.Sweep.{GoesOn, IsCutShort, IsRefusalOf};
 ghost use Rattle.import_check.specs.Private.Sweep.{IsRising};
-ghost use Rattle.import_check.specs.Private.Sweep.{IsApart, IsGathered, Gathers, Blames};
+ghost use Rattle.import_check.specs.Private.Sweep.{IsApart, IsGathered};
 ghost use Rattle.import_check.specs.Private.Sweep.{IsBlameable, IsWithoutRead};
 ghost use Rattle.import_check.specs.Private.Sweep.{IsRefusalOfByKey};
 ghost use Rattle.import_check.specs.Contradictions.{place_cmp, rank_cmp};
@@ -90,7 +90,8 @@ impl Sweep {
             → IsSwept known lines [] result }
         ensures empty { result.fresh.items ≡ [] }
         ensures blameless { result.first ≡ None }
-        ensures gathered { (known : List RowValue) → IsGathered known [] result }
+        ensures key { result.key ≡ None }
+        ensures known_row { result.known_row ≡ None }
         ensures in_step { IsInStep result }
     {
         Sweep {
@@ -169,13 +170,9 @@ impl Sweep {
         ensures asks_once { (K.view known.old).is_sound
             → AsksOnce K.cost (K.view known.old).rows self.old.key line (K.view known.old).work
             (K.view known.new).work }
-        ensures apart { (K.view known.old).is_sound
-            → OnOk result (KeepsApart (K.view known.old).rows line self.old self.new) }
-        ensures gathers { (K.view known.old).is_sound
-            → OnOk result (Gathers (K.view known.old).rows line self.old self.new) }
+        ensures goes_on { (K.view known.old).is_sound → OnOk result
+            (GoesOn (K.view known.old).rows (K.view known.old).may_be line self.old self.new) }
         ensures few { OnOk result (length self.new.fresh.items ≤ length self.old.fresh.items + 1) }
-        ensures blames { (K.view known.old).is_sound
-            → OnOk result (Blames (K.view known.old).rows line self.old self.new) }
         ensures cut_short { IfErr result (IsCutShort (K.view known.old).is_honest) }
         ensures causes { (K.view known.old).is_sound
             → IsUnknown (K.view known.old).rows (key_of line.row) → IfErr result IsWithoutRead }
@@ -237,14 +234,15 @@ fn take_all<K: Known>(
     ensures apart { (K.view known.old).is_sound → IsRising rank_cmp lines.items
         → IfOk result (λ sweep. IsApart (K.view known.old).rows sweep.fresh.items) }
     ensures gathered { (K.view known.old).is_sound
-        → IfOk result (IsGathered (K.view known.old).rows lines.items) }
+        → IfOk result (IsGathered (K.view known.old).rows (K.view known.old).may_be lines.items) }
     ensures few { IfOk result (λ sweep. length sweep.fresh.items ≤ length lines.items) }
     ensures work { (K.view known.old).is_sound → IsRising rank_cmp lines.items
         → (K.view known.new).work ≤ (K.view known.old).work
         + sum_by K.cost (already_known (K.view known.old).rows (rows_of lines.items)) }
     ensures blamed { (K.view known.old).is_sound → IsRising rank_cmp lines.items
         → IfOk result (λ sweep.
-        IfSome sweep.first (IsBlameable (K.view known.old).rows lines.items)) }
+        IfSome sweep.first
+        (IsBlameable (K.view known.old).rows (K.view known.old).may_be lines.items)) }
     ensures cut_short { IfErr result (IsCutShort (K.view known.old).is_honest) }
     ensures causes { (K.view known.old).is_sound
         → already_known (K.view known.old).rows (rows_of lines.items) ≡ []
@@ -268,13 +266,15 @@ pub(crate) fn unite<K: Known>(
 ) -> Result<NewRows, ImportFault>
     requires { IsAscending place_cmp lines.items }
     ensures taken { IfOk result (λ fresh. (K.view known.old).is_honest
-        → IsTaken (K.view known.old).rows (rows_of lines.items) fresh) }
+        → AreAcceptedAs (K.view known.old).rows (rows_of lines.items) fresh) }
     ensures new_by_key { (K.view known.old).is_sound
-        → IfOk result (AreNewByKey (K.view known.old).rows (rows_of lines.items)) }
+        → IfOk result (AreNewByKey (K.view known.old).rows (K.view known.old).may_be
+        (rows_of lines.items)) }
     ensures refused { IfErr result
         (IsRefusalOf (K.view known.old).is_honest (K.view known.old).rows lines.items) }
     ensures causes { (K.view known.old).is_sound
-        → IfErr result (IsRefusalOfByKey (K.view known.old).rows lines.items) }
+        → IfErr result (IsRefusalOfByKey (K.view known.old).rows (K.view known.old).may_be
+        lines.items) }
     ensures work { (K.view known.old).is_sound → (K.view known.new).work
         ≤ (K.view known.old).work
         + sum_by K.cost (already_known (K.view known.old).rows (rows_of lines.items)) }

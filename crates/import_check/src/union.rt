@@ -35,20 +35,21 @@ pub fn new_rows<K: Known>(
     // promise: a_release_is_taken_whole_or_not_at_all
     ensures accepted { IfOk result (λ fresh. IsRead release
         × ((K.view known.old).is_honest → IsAcceptedAs (K.view known.old).rows release fresh)) }
-    // The new rows are those whose keys are unknown, whatever rows are returned for known keys.
-    // promise: a_receipt_counts_the_new_rows
+    // The new rows are those whose keys are unknown, whatever rows are returned for known keys; and
+    // each other row may be stored.
+    // promise: a_receipt_counts_the_new_rows, no_damage_is_invented
     ensures new_by_key { (K.view known.old).is_sound
-        → IfOk result (BringsByKey (K.view known.old).rows release) }
+        → IfOk result (BringsByKey (K.view known.old).rows (K.view known.old).may_be release) }
     // All files are read before any known row is looked up. The line in an error is the first
     // faulty one, or else the first that contradicts.
     // promise: a_refusal_names_its_cause
     ensures refused { IfErr result
         (IsRefusal (K.view known.old).is_honest (K.view known.old).rows release) }
-    // A known row can't be read only if a line has the key of one; and the line in an error has a
-    // known key, or that of an earlier line with another row.
-    // promise: a_refusal_names_its_cause
+    // A known row can't be read only if a line has the key of one; and the line in an error differs
+    // from a row with its key that may be stored, or from that of an earlier line.
+    // promise: a_refusal_names_its_cause, no_damage_is_invented
     ensures causes { (K.view known.old).is_sound
-        → IfErr result (IsRefusalByKey (K.view known.old).rows release) }
+        → IfErr result (IsRefusalByKey (K.view known.old).rows (K.view known.old).may_be release) }
     // Whatever the result: each known row whose key is in the release is read at most once, and no
     // other row is read. If a file isn't a valid release file, none is read.
     // promise: reading_is_bounded

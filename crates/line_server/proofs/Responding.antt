@@ -272,8 +272,8 @@ module _ {D : Type 0} (source : SourceView) (view : D → DiskView) (line : List
   module _ (session : ℕ) (command : Command) (s : Server D) (asks : Asks line session command) where
     -- the command is held back
     held_left : (releases : Releases) (seen : ℕ) (c : Command) → IsHeldBack c → LeavesDisk view releases seen c (Err (refusals.Store store.Damaged)) s.store s.store
-    held_left releases seen (Import name) h = (λ up. refl, none_known view releases name 1 s.store)
-    held_left releases seen (Check name) h = ((λ up. refl, none_looks_up (is_listed s.store.catalog.entries) s.store.cache (view s.store.disk).bytes_read), none_known view releases name 0 s.store)
+    held_left releases seen (Import name) h = (λ up. refl, none_known view releases name 1 s.store, λ release has. tt)
+    held_left releases seen (Check name) h = ((λ up. refl, none_looks_up (is_listed s.store.catalog.entries) s.store.cache (view s.store.disk).bytes_read), none_known view releases name 0 s.store, λ release has. tt)
     held_left releases seen Merge h = refl
     held_left releases seen (Step rows) h = (λ up. refl, (s.store.cache, none_looks_up (is_listed s.store.catalog.entries) s.store.cache (view s.store.disk).bytes_read, inl refl), (omega arith, omega arith))
     held_left releases seen Publish h = (λ up. refl, (omega arith, omega arith))

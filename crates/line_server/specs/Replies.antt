@@ -18,7 +18,8 @@ use Rattle.history_store.specs.declared.refusal.Refusal.TheVariants as store
 use Rattle.history_store.specs.Catalog.{Merge as CatalogMerge}
 use Rattle.history_store.specs.StoreValue.{StoreValue}
 use Rattle.store_digest.specs.Digest.{digest_of, IsDigestByKey}
-use Rattle.history_store.specs.Answers.{IsImportOf, IsImportOnAnyDisk, IsReadRefusal, IsRefused}
+use Rattle.history_store.specs.Answers.{AnyRow, IsImportOf, IsImportOnAnyDisk, IsReadRefusal}
+use Rattle.history_store.specs.Answers.{IsRefused}
 use Rattle.history_store.specs.Queries.{IsWithoutRead}
 use Rattle.history_store.specs.Checking.{IsCheckingOf, IsCheckingOnAnyDisk}
 use Rattle.history_store.specs.MergeAnswers.{IsBeginningOf, IsSteppingOf, IsPublishingOf}
@@ -103,12 +104,13 @@ abbrev pub IsPinned : {D : Type 0} → Server D → Server D → ℕ → Option 
 IsPinned old new session pin = new ≡ record old { pins = slice_set old.pins session pin }
 
 -- An import of the release of this name, in the scope of the store's layout, had this result: on
--- every disk as far as files and counts go, and on an honest disk in every respect.
+-- every disk as far as files and counts go, and on an honest disk in every respect. (Which rows it
+-- was compared with is said by `ComparesStored`.)
 pub record IsImported {D : Type 0} (honest : Type 0) (releases : Releases) (name : List ℕ)
     (result : Result Receipt Refusal) (old new : Server D) : Type 0 where
   pub release : Release
   pub has : releases (scope_of old.store.catalog.layout) name ≡ Some (files_of release)
-  pub at_all : IsImportOnAnyDisk result old.store new.store release
+  pub at_all : IsImportOnAnyDisk AnyRow result old.store new.store release
   pub imported : honest → IsImportOf result old.store new.store release
   pub pins : new.pins ≡ old.pins
 
@@ -118,7 +120,7 @@ pub record IsChecked {D : Type 0} (honest : Type 0) (releases : Releases) (name 
     (result : Result Receipt Refusal) (old new : Server D) : Type 0 where
   pub release : Release
   pub has : releases (scope_of old.store.catalog.layout) name ≡ Some (files_of release)
-  pub at_all : IsCheckingOnAnyDisk result old.store new.store release
+  pub at_all : IsCheckingOnAnyDisk AnyRow result old.store new.store release
   pub checked : honest → IsCheckingOf result old.store new.store release
   pub pins : new.pins ≡ old.pins
 

@@ -5,9 +5,12 @@ use Rattle.disk_model.specs.View.{DiskView, AtMost}
 use Rattle.std.specs.List.{flat_map}
 use Rattle.import_check.specs.declared.scope.Scope.{Scope}
 use Rattle.import_check.specs.declared.release.Release.{Release}
-use Rattle.import_check.specs.Release.{files_of}
+use Rattle.import_check.specs.declared.found.NewRows.{NewRows}
+use Rattle.import_check.specs.Release.{files_of, HasPossibleContradiction}
+use Rattle.import_check.specs.NewRows.{BringsByKey}
 use Rattle.history_store.specs.declared.refusal.Refusal.TheVariants as store
 use Rattle.history_store.specs.StoreValue.{StoreValue}
+use Rattle.history_store.specs.Stored.{IsStored}
 use Rattle.history_store.specs.Answers.{CountsRefusal}
 use Rattle.history_store.specs.Meters.{ReadsKnown}
 use Rattle.history_store.specs.Merging.{trimmed_len, step_cost}
@@ -16,8 +19,9 @@ use Rattle.as_of_index.specs.Reader.{AreFor}
 use Rattle.index_answers.specs.Keys.{is_put_in_order}
 use Rattle.history_store.specs.Reading.{row_cost}
 use Rattle.rf2_values.specs.Row.{RowValue}
+use Rattle.rf2_values.specs.declared.key.Key.{Key}
 use Rattle.history_model.specs.Exports.{added}
-use Rattle.history_model.specs.History.{rows_at}
+use Rattle.history_model.specs.History.{rows_at, full}
 use Rattle.question_model.specs.Questions.{Question, ForRows, ForIds, Dates, Digest, Receipt, Added}
 use Rattle.question_model.specs.Questions.{RowQuestion, AllRows}
 use Rattle.question_model.specs.Wanted.{rows_for}
@@ -115,16 +119,35 @@ ReadsKnownOf view releases name besides old new =
     (release : Release) → releases (scope_of old.catalog.layout) name ≡ Some (files_of release)
     → ReadsKnown view besides release old new
 
+-- The release was compared with rows that may be stored: after `OK` each of its rows that isn't new
+-- may be, and a line that is named as a contradiction differs from one that may be, or from an
+-- earlier line.
+abbrev pub IsComparedWith : List RowValue → (may_be : RowValue → Type 0) → Release
+    → Result Answer LineRefusal → Type 0
+IsComparedWith known may_be release (Ok answer) =
+    (fresh : NewRows) × BringsByKey known may_be release fresh
+IsComparedWith known may_be release (Err (refusals.Store (store.Contradiction file line))) =
+    (key : Key) × HasPossibleContradiction known may_be release file line key
+IsComparedWith known may_be release _ = Unit {0}
+
+-- the release of the name, in the scope of the store's layout, was compared with rows that are
+-- stored
+abbrev pub ComparesStored : {D : Type 0} → (D → DiskView) → Releases → List ℕ
+    → Result Answer LineRefusal → StoreValue D → Type 0
+ComparesStored view releases name outcome old =
+    (release : Release) → releases (scope_of old.catalog.layout) name ≡ Some (files_of release)
+    → IsComparedWith (full old.history) (IsStored view old) release outcome
+
 -- What a command leaves of the disk. On an honest one IMPORT, STEP and PUBLISH may change what a
 -- crash leaves, but not if they are refused for a reason other than a disk failure. After TRIM a
 -- read returns what it returned before, up to the last block that is listed or reserved, and
 -- nothing after it. CHECK and STEP look up blocks as a question does, and STEP may then drop those
 -- from the cache that the merge reserved. On every disk and whatever the outcome, CHECK and IMPORT
--- read no rows but those with the keys of the release, and IMPORT one byte besides; STEP reads no
--- more than the output has bytes and two blocks for each row, PUBLISH one byte at most, and TRIM
--- none; besides reads, STEP makes one call at most, PUBLISH seven, and TRIM three. A question in a
--- session that sees `seen` imports leaves the disk as `LeavesAsked` says, and every other command
--- leaves the disk unchanged.
+-- read no rows but those with the keys of the release, with which they compare it, and IMPORT one
+-- byte besides; STEP reads no more than the output has bytes and two blocks for each row, PUBLISH
+-- one byte at most, and TRIM none; besides reads, STEP makes one call at most, PUBLISH seven, and
+-- TRIM three. A question in a session that sees `seen` imports leaves the disk as `LeavesAsked`
+-- says, and every other command leaves the disk unchanged.
 abbrev pub LeavesDisk : {D : Type 0} → (D → DiskView) → Releases → ℕ → Command
     → Result Answer LineRefusal → StoreValue D → StoreValue D → Type 0
 LeavesDisk view releases seen (Ask question) outcome old new =
@@ -134,9 +157,10 @@ LeavesDisk view releases seen (At number question) outcome old new =
 LeavesDisk view releases seen (Import name) outcome old new =
     ((view old.disk).is_honest
     → IfRefused outcome ((view new.disk).moments ≡ (view old.disk).moments))
-    × ReadsKnownOf view releases name 1 old new
+    × ReadsKnownOf view releases name 1 old new × ComparesStored view releases name outcome old
 LeavesDisk view releases seen (Check name) outcome old new =
     LeavesQueried view old new × ReadsKnownOf view releases name 0 old new
+    × ComparesStored view releases name outcome old
 LeavesDisk view releases seen (Step rows) outcome old new =
     ((view old.disk).is_honest
     → IfRefused outcome ((view new.disk).moments ≡ (view old.disk).moments))

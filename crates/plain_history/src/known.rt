@@ -49,11 +49,13 @@ impl<'a> KnownRows<'a> {
 impl Known for KnownRows<'_> {
     ghost use Rattle.std.specs.Prelude.{◌≡◌};
     ghost use Rattle.std.proofs.Common.{refl, ◌∙◌};
+    ghost use Rattle.history_model.specs.InOrder.{Has};
 
     ghost view = { λ known. record {
       rows = map (λ s. s.row) known.rows.now;
       is_honest = IsConsistent (map (λ s. s.row) known.rows.now);
       is_sound = Unit {0};
+      may_be = Has (map (λ s. s.row) known.rows.now);
       work = 0;
       disk_faults = 0;
       damages = 0;

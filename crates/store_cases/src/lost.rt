@@ -44,6 +44,7 @@ impl Known for Lost {
       rows = [];
       is_honest = ⊥;
       is_sound = ⊥;
+      may_be = λ _. ⊥;
       work = 0;
       disk_faults = lost.disk_faults;
       damages = lost.damages;

@@ -31,6 +31,7 @@ impl Known for Unknown {
       rows = [];
       is_honest = ⊥;
       is_sound = ⊥;
+      may_be = λ _. ⊥;
       work = 0;
       disk_faults = 0;
       damages = 0;

@@ -15,15 +15,16 @@ use Rattle.directory.specs.declared.layout.Layout.{Layout}
 use Rattle.directory.specs.declared.layout.Layout.TheVariants as layouts
 use Rattle.import_check.specs.declared.release.ReleaseFile.{ReleaseFile}
 use Rattle.import_check.specs.declared.release.Release.{Release}
-use Rattle.import_check.specs.Release.{IsAccepted, SpellFiles, IsReleaseOf, IsFaultOfRelease, HasContradiction}
+use Rattle.import_check.specs.declared.found.NewRows.{NewRows}
+use Rattle.import_check.specs.Release.{IsAccepted, SpellFiles, IsReleaseOf, IsFaultOfRelease, HasContradiction, HasPossibleContradiction}
 use Rattle.import_check.specs.Release.{files_of}
-use Rattle.import_check.specs.NewRows.{IsRead}
+use Rattle.import_check.specs.NewRows.{IsRead, BringsByKey}
 use Rattle.history_store.specs.declared.refusal.Refusal.{Refusal}
 use Rattle.history_store.specs.declared.refusal.Refusal.TheVariants as store
 use Rattle.history_store.specs.Catalog.{Catalog}
 use Rattle.history_store.specs.StoreValue.{StoreValue}
 use Rattle.history_store.specs.Prepared.{IsForLater, IsAdmitted}
-use Rattle.history_store.specs.Answers.{IsTaken, WouldBeTakenBut, IsImportOf}
+use Rattle.history_store.specs.Answers.{IsTakenAs, WouldBeTakenBut, IsImportOf}
 use Rattle.history_store.specs.Checking.{HasFailed}
 
 abbrev FileBytes : Type 0
@@ -113,6 +114,16 @@ module _ (release other : Release) (same : files_of release ≡ files_of other) 
   contradiction_alike : {known : List RowValue} {file line : ℕ} {key : Key} → HasContradiction known release file line key → HasContradiction known other file line key
   contradiction_alike c = record { lists = c.lists; spelled = spell_alike release.files.items other.files.items c.lists same c.spelled; first = c.first }
 
+  pub brought_alike : {known : List RowValue} {may_be : RowValue → Type 0} {fresh : NewRows} → BringsByKey known may_be release fresh → BringsByKey known may_be other fresh
+  brought_alike b = record { rows = b.rows; rows_are = release_alike b.rows_are; new_by_key = b.new_by_key }
+
+  pub possible_alike : {known : List RowValue} {may_be : RowValue → Type 0} {file line : ℕ} {key : Key} → HasPossibleContradiction known may_be release file line key → HasPossibleContradiction known may_be other file line key
+  possible_alike c = record {
+    lists = c.lists;
+    spelled = spell_alike release.files.items other.files.items c.lists same c.spelled;
+    possible = c.possible;
+  }
+
   fault_alike : {file line : ℕ} {fault : LineFault} → IsFaultOfRelease release file line fault → IsFaultOfRelease other file line fault
   fault_alike {file} {line} {fault} f =
       let c = cut_alike f.before f.after f.faulty other.files.items (ap all_bytes (sym f.files_are) ∙ same) in
@@ -143,7 +154,7 @@ module _ (release other : Release) (same : files_of release ≡ files_of other) 
   abbrev accepted_alike : {known : List RowValue} → IsAccepted known release → IsAccepted known other
   accepted_alike a = record { rows = a.rows; is_release = release_alike a.is_release; consistent = a.consistent }
 
-  taken_alike : {h after : History} {catalog next : Catalog} {receipt : Receipt} → IsTaken h after catalog next release receipt → IsTaken h after catalog next other receipt
+  taken_alike : {h after : History} {catalog next : Catalog} {receipt : Receipt} → IsTakenAs h after catalog next release receipt → IsTakenAs h after catalog next other receipt
   taken_alike t = record { room = admitted_alike t.room; accepted = accepted_alike t.accepted; history = t.history; receipt_is = t.receipt_is; catalog_is = t.catalog_is }
 
   unplaced_alike : {h : History} {catalog : Catalog} {Lacks : List StampedRow → Catalog → Type 0} → WouldBeTakenBut h catalog release Lacks → WouldBeTakenBut h catalog other Lacks

@@ -13,6 +13,7 @@ use Rattle.store_image.specs.Images.{RepresentsAs, RepresentsHistory}
 use Rattle.history_store.specs.declared.refusal.Refusal.{Refusal}
 use Rattle.history_store.specs.declared.refusal.Refusal.TheVariants as store
 use Rattle.history_store.specs.StoreValue.{StoreValue, IsAcknowledged}
+use Rattle.history_store.specs.Stored.{IsStored}
 use Rattle.history_store.specs.Answers.{IsStill, IsRefused, IsImportOf, IsImportOnAnyDisk, IsBeforeOrAfter, IsReadingOf}
 use Rattle.history_store.specs.Crashes.{IsCrashSafe}
 use Rattle.history_store.specs.Checking.{IsCheckingOnAnyDisk}
@@ -77,7 +78,7 @@ module _ {D : Type 0} (view : D → DiskView) (old new : StoreValue D) (release 
   before_or_after c (inr w) = inr (next_layout old.catalog.layout, w)
 
   -- the store took it
-  imported : (receipt : Receipt) → IsImportOnAnyDisk (Ok receipt) old new release → ((view old.disk).is_honest → IsImportOf (Ok receipt) old new release) → IsCall view old (Imported release) new
+  imported : (receipt : Receipt) → IsImportOnAnyDisk (IsStored view old) (Ok receipt) old new release → ((view old.disk).is_honest → IsImportOf (Ok receipt) old new release) → IsCall view old (Imported release) new
   imported receipt at_all answer = record {
     history = λ of_any. elim of_any [ inl none ↦ absurd (cc) | inr h ↦ (let t = (answer h).0 in (t.accepted, t.history)) ];
     needs_reopen = at_all.2;
@@ -108,7 +109,7 @@ module _ {D : Type 0} (view : D → DiskView) where
 
   -- ---- checks
 
-  same_checked : (release : Release) (result : Result Receipt Refusal) (old new : StoreValue D) → IsCheckingOnAnyDisk result old new release → new.history ≡ old.history
+  same_checked : (release : Release) (result : Result Receipt Refusal) (old new : StoreValue D) → IsCheckingOnAnyDisk (IsStored view old) result old new release → new.history ≡ old.history
   same_checked release (Ok receipt) old new kept = kept.1.history
   same_checked release (Err e) old new kept = kept.1.history
 

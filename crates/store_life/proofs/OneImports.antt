@@ -13,7 +13,7 @@ use Rattle.history_store.specs.declared.refusal.Refusal.{Refusal}
 use Rattle.history_store.specs.declared.refusal.Refusal.TheVariants as refusals
 use Rattle.history_store.specs.Catalog.{Catalog, IsCatalogAfter, next_catalog}
 use Rattle.history_store.specs.StoreValue.{StoreValue}
-use Rattle.history_store.specs.Answers.{IsTaken, IsNotTaken, IsRefused, IsRefusedFor, IsImportOf}
+use Rattle.history_store.specs.Answers.{IsTakenAs, IsNotTaken, IsRefused, IsRefusedFor, IsImportOf}
 use Rattle.history_store.specs.Checking.{HasFailed}
 use Rattle.history_store.proofs.Foreseen.{one_receipt, refused_again, not_taken_then}
 use Rattle.store_life.specs.Laws.{OneImport}
@@ -37,7 +37,7 @@ module _ (D : Type 0) (needs : Bool) (h : History) (catalog : Catalog) (release 
   abbrev store_of : StoreValue D → StoreValue D
   store_of s = record s { history = h; catalog = catalog; needs_reopen = needs }
 
-  same_rows : {after next : History} {c d : Catalog} {r q : Receipt} (t : IsTaken h after catalog c release r) (u : IsTaken h next catalog d release q) → u.accepted.rows ≡ t.accepted.rows
+  same_rows : {after next : History} {c d : Catalog} {r q : Receipt} (t : IsTakenAs h after catalog c release r) (u : IsTakenAs h next catalog d release q) → u.accepted.rows ≡ t.accepted.rows
   same_rows t u = one_list release u.accepted.rows t.accepted.rows u.accepted.is_release t.accepted.is_release
 
   -- a refusal that isn't the disk's leaves the store as it was

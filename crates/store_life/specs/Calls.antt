@@ -9,6 +9,7 @@ use Rattle.store_image.specs.Images.{RepresentsAs}
 use Rattle.history_store.specs.declared.refusal.Refusal.{Refusal}
 use Rattle.history_store.specs.declared.refusal.Refusal.TheVariants as refusals
 use Rattle.history_store.specs.StoreValue.{StoreValue, IsAcknowledged}
+use Rattle.history_store.specs.Stored.{IsStored}
 use Rattle.history_store.specs.Answers.{IsImportOf, IsImportOnAnyDisk, IsBeforeOrAfter}
 use Rattle.history_store.specs.Answers.{KeepsMoments}
 use Rattle.history_store.specs.Crashes.{IsCrashSafe}
@@ -31,7 +32,7 @@ abbrev pub ImportIsACall : (D : Type 0) → (D → DiskView) → Type 0
 ImportIsACall D view =
     (old new : StoreValue D) (release : Release) (result : Result Receipt Refusal)
     → ((view old.disk).is_honest → IsImportOf result old new release)
-    → IsImportOnAnyDisk result old new release
+    → IsImportOnAnyDisk (IsStored view old) result old new release
     → IsCrashSafe view (IsBeforeOrAfter old.catalog.layout old.history release) old new
     → ((view old.disk).is_honest → KeepsMoments view result old new)
     → ((view old.disk).is_honest ↔ (view new.disk).is_honest)

@@ -22,9 +22,10 @@ IsStep (Err e) old new after next =
     (e ≡ refusals.DiskFault) × IsRefused e old new
 
 -- why the new rows of a release can't be found: a fault of the files, a contradiction that is
--- possible by the keys, or a stored row that can't be read; and on an honest disk a contradiction
--- but no damage
-abbrev pub IsNotFresh : Type 0 → Refusal → List RowValue → Release → Type 0
-IsNotFresh honest e known release =
+-- possible by what may be stored, or a stored row that can't be read; and on an honest disk a
+-- contradiction but no damage
+abbrev pub IsNotFresh : Type 0 → (may_be : RowValue → Type 0) → Refusal → List RowValue → Release
+    → Type 0
+IsNotFresh honest may_be e known release =
     (fault : ImportFault) × (e ≡ refusal_of fault) × IsRefusal honest known release fault
-    × IsRefusalByKey known release fault
+    × IsRefusalByKey known may_be release fault

@@ -13,6 +13,7 @@ use Rattle.directory.specs.declared.entry.Entry.{Entry}
 use Rattle.directory.specs.Listings.{IsEntry}
 use Rattle.store_image.specs.Pieces.{HoldsAll}
 use Rattle.store_image.specs.Kept.{AreSegments, pieces_of}
+use Rattle.segment.specs.declared.place.RowPlace.{RowPlace}
 use Rattle.history_store.specs.Queries.{is_listed}
 
 -- an honest disk stays honest, and its moments are unchanged
@@ -46,6 +47,11 @@ pub record AreThere (entries : List Entry) (lists : List (List StampedRow))
 -- the rows of the lists
 abbrev pub rows_of : List (List StampedRow) → List RowValue
 rows_of lists = map (λ (s : StampedRow). s.row) (listed lists)
+
+-- the row may be at some place of some list, if `may_be` says which rows may be at which places
+abbrev pub MayBeRead : (may_be : ℕ → RowPlace → StampedRow → Type 0) → RowValue → Type 0
+MayBeRead may_be row = (s : StampedRow) × (row ≡ s.row) × (segment : ℕ) × (at : RowPlace)
+    × may_be segment at s
 
 -- no row has an import number greater than `pin`
 abbrev pub Early : ℕ → List (List StampedRow) → Type 0

@@ -21,9 +21,11 @@ use Rattle.import_check.specs.declared.found.NewRows.{NewRows}
 use Rattle.import_check.specs.declared.fault.ImportFault.{ImportFault}
 use Rattle.import_check.specs.declared.fault.ImportFault.TheVariants as importfault
 use Rattle.fault_counts.specs.declared.fault.ReadFault.TheVariants as readfault
-use Rattle.import_check.specs.Release.{IsFirstContradiction, IsPossibleContradiction}
+use Rattle.import_check.specs.Release.{IsFirstContradiction, IsPossibleContradiction, row_of}
+use Rattle.import_check.specs.declared.contradicting.OtherRow.{OtherRow}
+use Rattle.import_check.specs.declared.contradicting.OtherRow.TheVariants as others
 use Rattle.import_check.specs.Contradictions.{rank_cmp}
-use Rattle.import_check.specs.Known.{IsUnknown, already_known}
+use Rattle.import_check.specs.Known.{IsUnknown, MayBeKnown, already_known}
 use Rattle.import_check.specs.Release.{rows_of}
 
 -- a line is the other one, or comes before it in the release
@@ -177,29 +179,51 @@ pub record IsOwn (known : List RowValue) (rest : List PlacedLine) (s : Sweep) : 
       → (row_cmp row line.row ≡ Less)
       ⊎ ((key_of row ≡ key_of line.row) × (s.key ≡ Some (key_of row)))
 
--- the new rows are still in ascending order, unknown, and less than the later lines, after one more
--- line is taken
-abbrev pub KeepsApart : List RowValue → PlacedLine → Sweep → Sweep → Type 0
-KeepsApart known line old new =
-    (rest : List PlacedLine) → IsRising rank_cmp (line ∷ rest) → IsOwn known (line ∷ rest) old
-    → IsOwn known rest new
-
--- The new rows are rows of the lines so far. If no line contradicts, each row of the lines whose
--- key is unknown is among them. `known_row` is only set if a known row has the last key; otherwise
+-- The new rows are rows of the lines so far. If no line contradicts, each other row of the lines
+-- may be known. `known_row` is only set to a row that may be known and has the last key; otherwise
 -- the row that counts is that of a line with this key.
-pub record IsGathered (known : List RowValue) (done : List PlacedLine) (s : Sweep) : Type 0 where
+pub record IsGathered (known : List RowValue) (may_be : RowValue → Type 0) (done : List PlacedLine)
+    (s : Sweep) : Type 0 where
   pub from_lines : (row : RowValue) → Has s.fresh.items row → Has (rows_of done) row
   pub each : s.first ≡ None → (row : RowValue) → Has (rows_of done) row
-      → IsUnknown known (key_of row) → Has s.fresh.items row
-  pub known_key : (row : RowValue) → s.known_row ≡ Some row
-      → IsSomeAnd s.key (λ key. IsUnknown known key → ⊥)
+      → Has s.fresh.items row ⊎ MayBeKnown known may_be row
+  pub known_row : (row : RowValue) → s.known_row ≡ Some row
+      → IsSomeAnd s.key (λ key. key_of row ≡ key) × MayBeKnown known may_be row
   pub new_key : s.known_row ≡ None → IfSome s.key (λ key. (first : PlacedLine) × Has done first
       × (standing_row None s.fresh.items ≡ Some first.row) × (key_of first.row ≡ key))
 
--- the same holds after one more line is taken
-abbrev pub Gathers : List RowValue → PlacedLine → Sweep → Sweep → Type 0
-Gathers known line old new = (done : List PlacedLine) → IsGathered known done old
-    → IsGathered known (done ++ line ∷ []) new
+-- the line has the key of the one before it, and is compared with the same row
+pub record GoesOnWithKey (line : PlacedLine) (old new : Sweep) : Type 0 where
+  pub at : IsSomeAnd old.key (λ last. last ≡ key_of line.row)
+  pub kept : new ≡ record old { first = new.first }
+  pub verdict : IsVerdict (standing_of old) old.first line new.first
+
+-- a row that may be known was returned for the line's key, and the line is compared with it
+pub record GoesOnWithKnown (known : List RowValue) (may_be : RowValue → Type 0) (line : PlacedLine)
+    (old new : Sweep) : Type 0 where
+  pub other : IsSomeAnd old.key (λ last. last ≡ key_of line.row) → ⊥
+  pub found : RowValue
+  pub may_be_known : MayBeKnown known may_be found
+  pub same_key : key_of found ≡ key_of line.row
+  pub known_row : new.known_row ≡ Some found
+  pub fresh : new.fresh.items ≡ old.fresh.items
+  pub key : new.key ≡ Some (key_of line.row)
+  pub verdict : IsVerdict (Some found) old.first line new.first
+
+-- no known row has the line's key, and its row is new
+pub record GoesOnWithNew (known : List RowValue) (line : PlacedLine) (old new : Sweep)
+    : Type 0 where
+  pub other : IsSomeAnd old.key (λ last. last ≡ key_of line.row) → ⊥
+  pub unknown : IsUnknown known (key_of line.row)
+  pub known_row : new.known_row ≡ None
+  pub fresh : new.fresh.items ≡ old.fresh.items ++ line.row ∷ []
+  pub key : new.key ≡ Some (key_of line.row)
+  pub first : new.first ≡ old.first
+
+-- one more line is taken, whatever rows are returned for known keys
+abbrev pub GoesOn : List RowValue → (RowValue → Type 0) → PlacedLine → Sweep → Sweep → Type 0
+GoesOn known may_be line old new = GoesOnWithKey line old new
+    ⊎ (GoesOnWithKnown known may_be line old new ⊎ GoesOnWithNew known line old new)
 
 -- why taking lines ended early: memory ran out, or a known row couldn't be read
 abbrev pub IsCutShort : (honest : Type 0) → ImportFault → Type 0
@@ -217,21 +241,23 @@ IsRefusalOf honest known lines (importfault.Row file line fault) = ⊥
 IsRefusalOf honest known lines (importfault.Contradiction file line key) =
     honest → IsFirstContradiction known lines file line key
 
--- a line whose key is known, or whose row isn't that of a line with its key that comes no later
-pub record IsBlameable (known : List RowValue) (lines : List PlacedLine) (c : Contradiction)
-    : Type 0 where
+-- the row may be known, or is that of one of these lines, which comes no later than the line
+abbrev pub MayCountFor : List RowValue → (RowValue → Type 0) → List PlacedLine → PlacedLine
+    → OtherRow → Type 0
+MayCountFor known may_be lines line (others.Known row) = MayBeKnown known may_be row
+MayCountFor known may_be lines line (others.Line first) =
+    Has lines first × StandsBy first.file first.line line.file line.line
+
+-- a line whose row differs from one that may count for its key
+pub record IsBlameable (known : List RowValue) (may_be : RowValue → Type 0)
+    (lines : List PlacedLine) (c : Contradiction) : Type 0 where
   pub line : PlacedLine
   pub there : Has lines line
-  pub cause : (IsUnknown known (key_of line.row) → ⊥) ⊎ ((first : PlacedLine) × Has lines first
-      × StandsBy first.file first.line line.file line.line × (key_of first.row ≡ key_of line.row)
-      × (first.row ≢ line.row))
+  pub other : OtherRow
+  pub counts : MayCountFor known may_be lines line other
+  pub same_key : key_of (row_of other) ≡ key_of line.row
+  pub differs : row_of other ≢ line.row
   pub is : c ≡ contradiction_at line
-
--- after one more line is taken, a contradiction is still such a line
-abbrev pub Blames : List RowValue → PlacedLine → Sweep → Sweep → Type 0
-Blames known line old new = (lines done rest : List PlacedLine) → lines ≡ done ++ line ∷ rest
-    → IsRising rank_cmp lines → IsGathered known done old
-    → IfSome old.first (IsBlameable known lines) → IfSome new.first (IsBlameable known lines)
 
 -- if a known row couldn't be read, only because memory ran out
 abbrev pub IsWithoutRead : ImportFault → Type 0
@@ -239,9 +265,10 @@ IsWithoutRead (importfault.Known fault) = fault ≡ readfault.OutOfMemory
 IsWithoutRead _ = ⊤
 
 -- why lines give no new rows, whatever rows are returned for known keys
-abbrev pub IsRefusalOfByKey : List RowValue → List PlacedLine → ImportFault → Type 0
-IsRefusalOfByKey known lines (importfault.Known fault) =
+abbrev pub IsRefusalOfByKey : List RowValue → (RowValue → Type 0) → List PlacedLine → ImportFault
+    → Type 0
+IsRefusalOfByKey known may_be lines (importfault.Known fault) =
     already_known known (rows_of lines) ≡ [] → fault ≡ readfault.OutOfMemory
-IsRefusalOfByKey known lines (importfault.Contradiction file line key) =
-    IsPossibleContradiction known lines file line key
-IsRefusalOfByKey known lines _ = ⊤
+IsRefusalOfByKey known may_be lines (importfault.Contradiction file line key) =
+    IsPossibleContradiction known may_be lines file line key
+IsRefusalOfByKey known may_be lines _ = ⊤

@@ -4,16 +4,16 @@ use Rattle.std.specs.List.{sum_by}
 use Rattle.rf2_values.specs.declared.key.Key.{Key}
 use Rattle.rf2_values.specs.Row.{RowValue}
 use Rattle.import_check.specs.declared.release.PlacedLine.{PlacedLine}
-use Rattle.import_check.specs.Known.{already_known}
+use Rattle.import_check.specs.Known.{already_known, MayBeKnown}
 use Rattle.import_check.specs.Release.{rows_of}
 use Rattle.history_model.specs.InOrder.{Has}
 use Rattle.history_model.proofs.InOrder.{Has-append_left, Has-append_right}
 use Rattle.import_check.specs.Contradictions.{rank_cmp}
 use Rattle.import_check.specs.Private.Sweep.{IsRising, IsAhead, AsksOnce}
-use Rattle.import_check.specs.Private.Contradictions.{IsNext, last_key}
+use Rattle.import_check.specs.Private.Contradictions.{IsCountingFor, last_key}
 use Rattle.import_check.proofs.Asking.{ahead_more, asked_more, more_lines}
-use Rattle.import_check.proofs.Differing.{next_top, noted_more, rising_from_ascending}
-use Rattle.import_check.proofs.Knowing.{has_asked, asked_so, asked_in_vain}
+use Rattle.import_check.proofs.Differing.{sifted_on, more_counting, rising_from_ascending}
+use Rattle.import_check.proofs.Knowing.{known_before, has_asked, asked_so, asked_in_vain}
 use Rattle.rf2_values.specs.Key.{key_of}
 use Rattle.import_check.specs.Known.{IsUnknown}
 use Rattle.history_model.proofs.Filtered.{Has-map_from}
@@ -38,19 +38,15 @@ loop-line-preserved g c =
     let noted = c.in_ok-note.ensures in
     record {
       sifted = λ honest strict.
-          let so = before.sifted honest strict in
           let rows = (g.K.Known.view c.args.known.now).rows in
-          let lines_are = so.1 ∙ ap (λ left. so.0 ++ left) steps in
-          let is = subst (λ known. IsNext known c.in-Some.line c.loop-line.last c.in_ok-counting.counting) before.known.rows (next.next (before.known.honesty honest)) in
-          let top = next_top rows c.args.lines.items so.0 c.in-Some.line c.next.new.self lines_are strict c.loop-line.last c.in_ok-counting.counting so.2 is in
-          let more = noted_more rows c.args.lines.items so.0 c.in-Some.line c.next.new.self lines_are strict c.args.limit so.3 c.in_ok-counting.counting c.loop-line.found c.note.new.found top is.0 noted.noted so.4 so.5 in (
-            so.0 ++ c.in-Some.line ∷ [],
-            lines_are ∙ sym (append_assoc so.0 (c.in-Some.line ∷ []) c.next.new.self),
-            top,
-            more.0,
-            more.1,
-            more.2,
-          );
+          let is = subst (λ known. IsCountingFor (Has known) known c.in-Some.line c.loop-line.last c.in_ok-counting.counting) before.known.rows (next.next (before.known.honesty honest)) in
+          sifted_on (Has rows) rows c.args.limit c.args.lines.items c.loop-line.line-iterator c.in-Some.line c.next.new.self c.loop-line.last c.in_ok-counting.counting c.loop-line.found c.note.new.found steps strict is noted.noted (before.sifted honest strict);
+      possible = λ sound strict.
+          let was = g.K.Known.view c.args.known.now in
+          let seen = g.K.Known.view c.loop-line.known in
+          let found = more_counting (MayBeKnown seen.rows seen.may_be) (MayBeKnown was.rows was.may_be) seen.rows c.in-Some.line c.loop-line.last c.in_ok-counting.counting (known_before before.known) (next.possible (before.known.soundness sound)) in
+          let is = subst (λ known. IsCountingFor (MayBeKnown was.rows was.may_be) known c.in-Some.line c.loop-line.last c.in_ok-counting.counting) before.known.rows found in
+          sifted_on (MayBeKnown was.rows was.may_be) was.rows c.args.limit c.args.lines.items c.loop-line.line-iterator c.in-Some.line c.next.new.self c.loop-line.last c.in_ok-counting.counting c.loop-line.found c.note.new.found steps strict is noted.noted (before.possible sound strict);
       asked = λ sound strict.
           let so = before.asked sound strict in
           let rows = (g.K.Known.view c.args.known.now).rows in

@@ -6,7 +6,7 @@ use Rattle.import_check.proofs.Asking.{more_sorted}
 use Rattle.import_check.proofs.Receipts.{one_list}
 use Rattle.import_check.proofs.Refusals.{ascending, of_release, was_read}
 use Rattle.import_check.proofs.Differing.{sorted_ascends, listed_of}
-use Rattle.import_check.proofs.Blaming.{refused_by_key, cut_short_by_key, none_sorted}
+use Rattle.import_check.proofs.Blaming.{listed_possible, refused_by_key, cut_short_by_key, none_sorted}
 use Rattle.import_check.proofs.contradicting.find_contradictions.Goals as goal
 
 pub returns-clause-found : goal.returns-clause-found
@@ -17,6 +17,15 @@ returns-clause-found g c = λ honest.
     let placed = ascending c.args.release lines c.in_ok-lines.ensures.ok in
     let up = sorted_ascends lines sorted placed c.sort.ensures.permutation c.sort.ensures.rising in
     listed_of rows c.args.release c.args.limit lines sorted (g.met.K.Known.consistent c.args.known.now honest) c.in_ok-lines.ensures.ok placed c.sort.ensures.permutation c.compare_all.result (c.compare_all.ensures.sifted honest up)
+
+pub returns-clause-possible : goal.returns-clause-possible
+returns-clause-possible g c = λ sound.
+    let known = g.K.Known.view c.args.known.now in
+    let lines = c.in_ok-lines.lines.items in
+    let sorted = c.sort.new.lines.items in
+    let placed = ascending c.args.release lines c.in_ok-lines.ensures.ok in
+    let up = sorted_ascends lines sorted placed c.sort.ensures.permutation c.sort.ensures.rising in
+    listed_possible known.rows known.may_be lines sorted placed c.sort.ensures.permutation c.args.release c.args.limit c.in_ok-lines.ensures.ok c.compare_all.result (c.compare_all.ensures.possible sound up)
 
 pub returns-clause-work : goal.returns-clause-work
 returns-clause-work g c = λ sound rows are.
@@ -34,10 +43,10 @@ returns-clause-work_unread g c = λ unread. absurd (unread (was_read (g.K.Known.
 
 pub returns-clause-causes : goal.returns-clause-causes
 returns-clause-causes g c = λ sound.
-    let known = (g.K.Known.view c.args.known.now).rows in
+    let known = g.K.Known.view c.args.known.now in
     let lines = c.in_ok-lines.lines.items in
     let sorted = c.sort.new.lines.items in
     let up = sorted_ascends lines sorted (ascending c.args.release lines c.in_ok-lines.ensures.ok) c.sort.ensures.permutation c.sort.ensures.rising in
-    refused_by_key known c.args.release lines c.in_ok-lines.ensures.ok c.compare_all.result
-    (cut_short_by_key (g.K.Known.view c.args.known.now).is_honest known lines c.compare_all.result c.compare_all.ensures.cut_short
-    (λ none. c.compare_all.ensures.causes sound up (none_sorted known lines sorted c.sort.ensures.permutation none)))
+    refused_by_key known.rows known.may_be c.args.release lines c.in_ok-lines.ensures.ok c.compare_all.result
+    (cut_short_by_key known.is_honest known.rows known.may_be lines c.compare_all.result c.compare_all.ensures.cut_short
+    (λ none. c.compare_all.ensures.causes sound up (none_sorted known.rows lines sorted c.sort.ensures.permutation none)))

@@ -16,8 +16,8 @@ invariant-loop-line g l = record {
       (done : List PlacedLine) × (l.fn.lines.items ≡ done ++ l.line-iterator) × IsSwept (g.K.Known.view l.fn.known).rows l.fn.lines.items done l.sweep;
   apart : (g.K.Known.view l.fn.known).is_sound → IsRising rank_cmp l.fn.lines.items → IsOwn (g.K.Known.view l.fn.known).rows l.line-iterator l.sweep × IsRising rank_cmp l.line-iterator;
   gathered : (g.K.Known.view l.fn.known).is_sound →
-      (done : List PlacedLine) × (l.fn.lines.items ≡ done ++ l.line-iterator) × IsGathered (g.K.Known.view l.fn.known).rows done l.sweep
-      × (IsRising rank_cmp l.fn.lines.items → IfSome l.sweep.first (IsBlameable (g.K.Known.view l.fn.known).rows l.fn.lines.items));
+      (done : List PlacedLine) × (l.fn.lines.items ≡ done ++ l.line-iterator) × IsGathered (g.K.Known.view l.fn.known).rows (g.K.Known.view l.fn.known).may_be done l.sweep
+      × (IsRising rank_cmp l.fn.lines.items → IfSome l.sweep.first (IsBlameable (g.K.Known.view l.fn.known).rows (g.K.Known.view l.fn.known).may_be l.fn.lines.items));
   in_step : (g.K.Known.view l.fn.known).is_honest → IsInStep l.sweep;
   asked : (g.K.Known.view l.fn.known).is_sound → IsRising rank_cmp l.fn.lines.items →
       (done : List PlacedLine) × (l.fn.lines.items ≡ done ++ l.line-iterator) × IsAhead done l.sweep.key l.line-iterator

@@ -24,7 +24,7 @@ returns g c = record {
       refl c.if-self.false r.disk r.cache r.entries r.shown
       (lent_sound _ _ _ _ _ _ _ c.self.invariant.0 c.places.result.now c.new-reader.result.shown.now c.imports-pin.result c.places.ensures r.shown c.imports-pin.ensures)
       (λ up. reader_honest g.D.Disk.view _ _ _ _ _ _ _ _ _ _ c.self.invariant.0 r.disk r.cache r.entries r.shown up c.if-self.false (g.met.D.Disk.now_is_image c.self.inside.disk up))
-      e.found e.read e.refused e.causes e.meters.work e.meters.work_unread e.meters.disk_faults e.stays.0 e.stays.5 e.stays.6 a.same a.left a.disk a.cache a.acknowledged);
+      e.found e.read e.refused e.possible e.causes e.meters.work e.meters.work_unread e.meters.disk_faults e.stays.0 e.stays.5 e.stays.6 a.same a.left a.disk a.cache a.acknowledged);
 }
 
 pub returns-then-self : goal.returns-then-self
