@@ -13,6 +13,7 @@ use Rattle.line_server.specs.declared.refusal.LineRefusal.TheVariants.{Store}
 use Rattle.line_server.specs.declared.serving.ServeFault.{ServeFault}
 use Rattle.line_server.specs.Sources.{SourceView, no_releases}
 use Rattle.line_server.specs.ReplyValue.{Answer, Done as AllDone}
+use Rattle.line_server.specs.declared.held.Held.TheVariants as holds
 use Rattle.line_server.specs.StateValue.{StateValue, fresh}
 use Rattle.line_server.specs.Replies.{server, status_of}
 use Rattle.line_server.specs.Turns.{HasTurn}
@@ -94,7 +95,7 @@ pub record IsInputServed {D : Type 0} (source : SourceView) (view : D → DiskVi
   pub result : Result ℕ ServeFault
   pub ends : ended ≡ ended_by result
   pub after : StoreValue D
-  pub served : IsServed result most_reads source view streams store after
+  pub served : IsServed result most_reads holds.Nothing source view streams store after
   pub left_so : left ≡ after.disk
 
 -- what work that doesn't read the input does with an open store

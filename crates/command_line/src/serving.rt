@@ -7,7 +7,7 @@ ghost use Rattle.command_line.specs.Tasks.{IsInputServed, IsServingNew};
 use crate::endings::{Ending, refuse};
 use disk_model::Disk;
 use history_store::Store;
-use line_server::{ServeFault, Source, serve};
+use line_server::{Held, ServeFault, Source, serve};
 use std::alloc::Global;
 use std::io::{Read, Write};
 
@@ -27,7 +27,7 @@ pub(crate) fn serve_all<D: Disk + Drop, S: Source, I: Read, O: Write>(
         (streams (I.remaining input.old) (I.remaining input.new)
         (O.contents output.old) (O.contents output.new)) }
 {
-    match serve(alloc, input, output, source, store, MOST_READS) {
+    match serve(alloc, input, output, source, store, MOST_READS, Held::Nothing) {
         Ok(_) => Ok(Ending::Done),
         Err(fault) => Err(fault),
     }

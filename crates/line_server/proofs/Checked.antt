@@ -28,10 +28,10 @@ use Rattle.line_server.proofs.Importing.{same_server, refused_imports}
 use Rattle.line_server.proofs.KnownRead.{none_known, known_of}
 use Rattle.line_server.proofs.Queried.{carried_out, refused_as, refused_by, lack_is_no_fault}
 
-module _ {D : Type 0} (source : SourceView) (view : D → DiskView) (name : List ℕ) (session : ℕ) (state : StateValue) (free : HoldsBack state.met_damage (Check name) → ⊥) where
+module _ {D : Type 0} (source : SourceView) (view : D → DiskView) (name : List ℕ) (session : ℕ) (state : StateValue) (free : HoldsBack state.held (Check name) → ⊥) where
   -- the disk wasn't used
   unread : (s : StoreValue D) → LeavesQueried view s s
-  unread s = (λ h. refl, none_looks_up (is_listed s.catalog.entries) s.cache (view s.disk).bytes_read)
+  unread s = (λ h. refl, none_looks_up (is_listed s.catalog.entries) s.cache (view s.disk).bytes_read, refl)
 
   -- the source had no memory
   lacking : (s : StoreValue D) → IsResponse (Err (refusals.Store store.OutOfMemory)) source view session (Check name) (server state s) (server state s)
@@ -61,7 +61,7 @@ module _ {D : Type 0} (source : SourceView) (view : D → DiskView) (name : List
 
     -- whatever came of it, the disk was left so
     left : {result : Result Receipt Refusal} (releases : Releases) → releases (scope_of old.catalog.layout) name ≡ Some (files_of release) → IsChecking result release view old new → LeavesQueried view old new × ReadsKnownOf view releases name 0 old new
-    left releases has c = ((c.meters.counts.moments, c.meters.looked_up), known_of view 0 old new release releases name has c.meters.known)
+    left releases has c = ((c.meters.counts.moments, c.meters.looked_up, c.meters.counts.other_calls), known_of view 0 old new release releases name has c.meters.known)
 
     -- an import of it would be taken
     pub checked : (receipt : Receipt) (reply : ReplyValue) → IsChecking (Ok receipt) release view old new

@@ -26,8 +26,9 @@ use Rattle.line_server.specs.Sources.{Releases, SourceView, source_view}
 use Rattle.line_server.specs.ReplyValue.{Answer, Done, ReplyValue, reply_value}
 use Rattle.line_server.specs.Replies.{IsUnseen, Server, imports_seen, IsFound, IsAnswer, IsAnswerAt, IsRefusalAt, IsClosed, IsLacking, IsOutOfRange, NeedsLater, Replies, receipt_of, status_of, server}
 use Rattle.store_life.specs.Life.{Other}
-use Rattle.line_server.specs.Turns.{CountsOutcome, GoesBy, HasTurn, IsToldBy, LeavesAsked, LeavesDisk}
-use Rattle.line_server.specs.StateValue.{StateValue, IsHeldBack, HoldsBack}
+use Rattle.line_server.specs.Turns.{CountsOutcome, GoesBy, HasTurn, IfRefused, IsToldBy, LeavesAsked, LeavesDisk}
+use Rattle.line_server.specs.StateValue.{StateValue, IsChange, HoldsBack, reason_of}
+use Rattle.line_server.proofs.Held.{change_of, reason_kept, reason_counts}
 use Rattle.line_server.specs.Private.{IsResponse, IsQueried, IsCarriedOut, AsksIndex}
 use Rattle.line_server.proofs.Alike.{turn_of}
 use Rattle.store_life.proofs.Made.{unmade}
@@ -168,9 +169,9 @@ unasked_left : {D : Type 0} (view : D → DiskView) (seen : ℕ) (question : Que
 unasked_left view seen (ForIds ids) refusal s = refl
 unasked_left view seen Dates refusal s = refl
 unasked_left view seen (AskReceipt other) refusal s = refl
-unasked_left view seen (Added number kind after limit) refusal s = ((λ h. refl, none_looks_up (is_listed s.catalog.entries) s.cache (view s.disk).bytes_read), tt, omega arith)
-unasked_left view seen Digest refusal s = ((λ h. refl, none_looks_up (is_listed s.catalog.entries) s.cache (view s.disk).bytes_read), omega arith)
-unasked_left view seen (ForRows question) refusal s = ((λ h. refl, none_looks_up (is_listed s.catalog.entries) s.cache (view s.disk).bytes_read), tt, omega arith)
+unasked_left view seen (Added number kind after limit) refusal s = ((λ h. refl, none_looks_up (is_listed s.catalog.entries) s.cache (view s.disk).bytes_read, refl), tt, omega arith)
+unasked_left view seen Digest refusal s = ((λ h. refl, none_looks_up (is_listed s.catalog.entries) s.cache (view s.disk).bytes_read, refl), omega arith)
+unasked_left view seen (ForRows question) refusal s = ((λ h. refl, none_looks_up (is_listed s.catalog.entries) s.cache (view s.disk).bytes_read, refl), tt, omega arith)
 
 -- ---- ADDED
 
@@ -270,19 +271,22 @@ module _ {D : Type 0} (source : SourceView) (view : D → DiskView) (line : List
       }
 
   module _ (session : ℕ) (command : Command) (s : Server D) (asks : Asks line session command) where
-    -- the command is held back
-    held_left : (releases : Releases) (seen : ℕ) (c : Command) → IsHeldBack c → LeavesDisk view releases seen c (Err (refusals.Store store.Damaged)) s.store s.store
-    held_left releases seen (Import name) h = (λ up. refl, none_known view releases name 1 s.store)
-    held_left releases seen (Check name) h = ((λ up. refl, none_looks_up (is_listed s.store.catalog.entries) s.store.cache (view s.store.disk).bytes_read), none_known view releases name 0 s.store)
-    held_left releases seen Merge h = refl
-    held_left releases seen (Step rows) h = (λ up. refl, (s.store.cache, none_looks_up (is_listed s.store.catalog.entries) s.store.cache (view s.store.disk).bytes_read, inl refl), (omega arith, omega arith))
-    held_left releases seen Publish h = (λ up. refl, (omega arith, omega arith))
-    held_left releases seen c h = absurd h
+    -- a change is refused, and the disk didn't fail
+    change_left : (refusal : LineRefusal) → ((so : Type 0) → so → IfRefused (Err refusal) so) → (releases : Releases) (seen : ℕ) (c : Command) → IsChange c → LeavesDisk view releases seen c (Err refusal) s.store s.store
+    change_left refusal kept releases seen (Import name) h = (λ up. kept _ refl, none_known view releases name 1 s.store)
+    change_left refusal kept releases seen (Check name) h = ((λ up. refl, none_looks_up (is_listed s.store.catalog.entries) s.store.cache (view s.store.disk).bytes_read), none_known view releases name 0 s.store)
+    change_left refusal kept releases seen Merge h = refl
+    change_left refusal kept releases seen (Step rows) h = (λ up. kept _ refl, (s.store.cache, none_looks_up (is_listed s.store.catalog.entries) s.store.cache (view s.store.disk).bytes_read, inl refl), (omega arith, omega arith))
+    change_left refusal kept releases seen Publish h = (λ up. kept _ refl, (omega arith, omega arith))
+    change_left refusal kept releases seen Abandon h = refl
+    change_left refusal kept releases seen Trim h = (λ up. (tt, kept _ refl), refl, omega arith)
+    change_left refusal kept releases seen c h = absurd h
 
-    pub held_back : HoldsBack s.met_damage command → HasTurn source view line s s (λ turn. IsToldBy (Err (refusals.Store store.Damaged)) turn.outcome)
+    -- the command is held back
+    pub held_back : HoldsBack s.held command → HasTurn source view line s s (λ turn. IsToldBy (Err (reason_of s.held)) turn.outcome)
     held_back held =
-        refused_turn session command s (refusals.Store store.Damaged) asks (λ releases. inl (session, command, asks, inl (record { held_back = held; refused = refl; unchanged = refl })))
-        (λ releases. held_left releases (imports_seen s session) command held.1) refl
+        refused_turn session command s (reason_of s.held) asks (λ releases. inl (session, command, asks, inl (record { held_back = held; refused = refl; unchanged = refl })))
+        (λ releases. change_left (reason_of s.held) (reason_kept s.held) releases (imports_seen s session) command (change_of s.held command held)) (reason_counts s.held (view s.store.disk).failures)
 
     -- the command needs a later layout
     later_left : (releases : Releases) (seen : ℕ) (c : Command) → NeedsLater c s.store → LeavesDisk view releases seen c (Err (refusals.Store store.LaterVersion)) s.store s.store

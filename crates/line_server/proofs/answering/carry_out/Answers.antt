@@ -36,7 +36,7 @@ returns-in-Err-respond-clause-unasked g c = λ line reads only.
 pub returns-then-holds_back-clause-turn : goal.returns-then-holds_back-clause-turn
 returns-then-holds_back-clause-turn g c = λ line reads.
     let asks = rw c.in-Ok.is at reads in
-    held_back (source_view (g.S.Source.is_honest c.args.source.now) (g.S.Source.releases c.args.source.now)) g.D.Disk.view line c.in-Ok.request.session (command_of c.in-Ok.request.command) (server c.args.state.now c.args.store.now) asks (c.holds_back.ensures.0 c.if-holds_back.true)
+    rw c.reason.ensures (held_back (source_view (g.S.Source.is_honest c.args.source.now) (g.S.Source.releases c.args.source.now)) g.D.Disk.view line c.in-Ok.request.session (command_of c.in-Ok.request.command) (server c.args.state.now c.args.store.now) asks (c.holds_back.ensures.0 c.if-holds_back.true))
 
 pub returns-then-needs_later-clause-turn : goal.returns-then-needs_later-clause-turn
 returns-then-needs_later-clause-turn g c = λ line reads.

@@ -50,7 +50,7 @@ returns-then-n-eq0-clause-served g c =
     let line_is = rw c.as_bytes-then-n-eq0.ensures at step.1 in
     let turn = turn_on _ _ _ _ step.0 _ line_is step.2 in
     let gives = turn_now step.0.outcome step.0.call _ _ source g.D.Disk.view _ _ i.7 turn in
-    let unasked = unasked_on _ _ c.loop-reads.state.met_damage c.as_bytes-then-n-eq0.ensures c.answer_line.ensures.unasked in
+    let unasked = unasked_on _ _ c.loop-reads.state.held c.as_bytes-then-n-eq0.ensures c.answer_line.ensures.unasked in
     elim c.match-answer_line.branch [
       | in-Ok-answer_line w ↦ rw (w.result-is, w.saturating_add.ensures)
           (ended_within source g.D.Disk.view _ _ _ _ _ _ _ _ _ _ _ i.0 _ _ i.3 e.0 (few_before _ _ _ i.8 c.loop-reads-test.true) i.1 i.11 i.12 e.1 makes lt step.0.outcome step.0.call _ _ _ some gives (λ none so. unasked none ∙ so) (rw w.in-Ok-answer_line.is at step.3))
