@@ -10,7 +10,7 @@ use Rattle.line_server.specs.ReplyValue.{Answer}
 use Rattle.line_server.specs.Replies.{Server, IsAnswerAt, IsRefusalAt, IsUnseen, IsOutcome, IsAskedOf, imports_seen}
 use Rattle.line_server.specs.declared.held.Held.{Held}
 use Rattle.line_server.specs.StateValue.{IsChange, HoldsBack}
-use Rattle.line_server.proofs.Held.{change_of}
+use Rattle.line_server.proofs.HeldBack.{change_of}
 use Rattle.line_server.specs.Turns.{LeavesAsked, LeavesDisk}
 
 -- how a question comes out that is asked of the first `seen` imports

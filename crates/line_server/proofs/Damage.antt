@@ -17,7 +17,7 @@ use Rattle.line_server.specs.StateValue.{HoldsBack, reason_of, met_by, met_after
 use Rattle.line_server.specs.Replies.{Server, Replies, IsOutcome, IsStoreRefusal, IsRefusalAt, IsClosed, IsLacking, imports_seen}
 use Rattle.line_server.specs.Turns.{Turn, Run}
 use Rattle.line_server.specs.Laws.{DamageHoldsBack, HonestMeetsNoDamage}
-use Rattle.line_server.proofs.Held.{change_of, not_both, reason_stays, held_stays}
+use Rattle.line_server.proofs.HeldBack.{change_of, not_both, reason_stays, held_stays}
 use Rattle.line_server.proofs.Pinned.{Settles, asked_outcome}
 
 abbrev is_damage : Refusal → Bool

@@ -13,7 +13,7 @@ use Rattle.store_life.proofs.OneImports.{one_import}
 use Rattle.store_life.proofs.AlikeReleases.{import_alike}
 use Rattle.line_server.specs.declared.held.Held.{Held}
 use Rattle.line_server.specs.StateValue.{HoldsBack, reason_of}
-use Rattle.line_server.proofs.Held.{as_import, as_check}
+use Rattle.line_server.proofs.HeldBack.{as_import, as_check}
 use Rattle.line_server.proofs.Damage.{outcome_undamaged}
 use Rattle.line_server.proofs.OneReplies.{said, same_release, NoRelease, WithRelease, WithCheck, foreseen, stays_checked, import_told, check_told}
 use Rattle.line_server.proofs.Pinned.{Settles, asked_outcome}

@@ -21,7 +21,7 @@ use Rattle.line_server.specs.Laws.{GivesNoMembers, OnlyMembersNeedLater}
 use Rattle.line_server.specs.declared.held.Held.{Held}
 use Rattle.line_server.specs.declared.held.Held.TheVariants as holds
 use Rattle.line_server.specs.StateValue.{reason_of}
-use Rattle.line_server.proofs.Held.{change_of, not_both}
+use Rattle.line_server.proofs.HeldBack.{change_of, not_both}
 use Rattle.line_server.proofs.Pinned.{Settles, asked_outcome}
 
 abbrev is_later : Refusal → Bool

@@ -34,7 +34,7 @@ use Rattle.store_life.proofs.AlikeReleases.{import_alike}
 use Rattle.line_server.proofs.AskedOf.{OutcomeAt, outcome_at}
 use Rattle.line_server.proofs.AddedRows.{added_out, one_added}
 use Rattle.line_server.proofs.Finding.{AsksFound, same_from, found_out, one_way}
-use Rattle.line_server.proofs.Held.{change_of, not_both}
+use Rattle.line_server.proofs.HeldBack.{change_of, not_both}
 use Rattle.line_server.proofs.Pinned.{Settles}
 use Rattle.line_server.proofs.Received.{receipt_out, one_receipt}
 use Rattle.store_life.proofs.OneImports.{one_import}

@@ -13,7 +13,7 @@ use Rattle.line_server.specs.StateValue.{HoldsBack, IsChange, reason_of}
 use Rattle.line_server.specs.Replies.{Server, Replies, imports_seen}
 use Rattle.line_server.specs.Turns.{Turn, IsTurn, Run, LeavesAsked, LeavesDisk}
 use Rattle.line_server.specs.Laws.{OnlyReads, ReadingWritesNothing, ReadingHasNoChange}
-use Rattle.line_server.proofs.Held.{held_stays}
+use Rattle.line_server.proofs.HeldBack.{held_stays}
 use Rattle.line_server.proofs.Damage.{met_by_line, not_nothing, refused_as_held}
 use Rattle.line_server.proofs.Pinned.{asked_outcome}
 

@@ -28,7 +28,7 @@ use Rattle.line_server.specs.Replies.{IsUnseen, Server, imports_seen, IsFound, I
 use Rattle.store_life.specs.Life.{Other}
 use Rattle.line_server.specs.Turns.{CountsOutcome, GoesBy, HasTurn, IfRefused, IsToldBy, LeavesAsked, LeavesDisk}
 use Rattle.line_server.specs.StateValue.{StateValue, IsChange, HoldsBack, reason_of}
-use Rattle.line_server.proofs.Held.{change_of, reason_kept, reason_counts}
+use Rattle.line_server.proofs.HeldBack.{change_of, reason_kept, reason_counts}
 use Rattle.line_server.specs.Private.{IsResponse, IsQueried, IsCarriedOut, AsksIndex}
 use Rattle.line_server.proofs.Alike.{turn_of}
 use Rattle.store_life.proofs.Made.{unmade}
