@@ -42,7 +42,7 @@ noted_by holds.Nothing free = refl
 noted_by holds.Confirming free = refl
 noted_by holds.Changing free = absurd (free refl)
 
-holds_nothing : Held → Bool
+abbrev pub holds_nothing : Held → Bool
 holds_nothing holds.Nothing = true
 holds_nothing held = false
 

@@ -2,7 +2,7 @@
 use Rattle.std.proofs.Common.{◌≡◌, ◌≢◌, ◌↔◌, ℕ, List, [], ◌∷◌, Result, Ok, Err, refl, sym, ap, subst, ◌∙◌, inl, inr}
 use Rattle.disk_model.specs.View.{DiskView}
 use Rattle.history_store.specs.StoreValue.{StoreValue}
-use Rattle.question_model.specs.Questions.{Question, Dates, Digest, Receipt, ForIds, ForRows}
+use Rattle.question_model.specs.Questions.{Question, Dates, Digest, Receipt, Added, ForIds, ForRows}
 use Rattle.line_commands.specs.Commands.{Command, Ask, At, Import, Check, Pin, Unpin, Merge, Step, Publish, Abandon, Trim, Status}
 use Rattle.line_server.specs.declared.held.Held.{Held}
 use Rattle.line_server.specs.declared.held.Held.TheVariants as holds
@@ -27,10 +27,11 @@ same_reads {D} view old new e = (ap (λ (d : D). (view d).other_calls) e, λ up.
 module _ {D : Type 0} (view : D → DiskView) (seen : ℕ) (outcome : Result Answer LineRefusal) (old new : StoreValue D) where
   asked_reads : (question : Question) → LeavesAsked view seen question outcome old new → Reads view old.disk new.disk
   asked_reads (ForIds ids) h = same_reads view old.disk new.disk h
-  asked_reads (ForRows rows) h = (h.0.1, h.0.0.0)
+  asked_reads (ForRows rows) h = (h.0.2, h.0.0)
   asked_reads Dates h = same_reads view old.disk new.disk h
   asked_reads (Receipt number) h = same_reads view old.disk new.disk h
-  asked_reads Digest h = (h.0.1, h.0.0.0)
+  asked_reads (Added number kind after limit) h = (h.0.2, h.0.0)
+  asked_reads Digest h = (h.0.2, h.0.0)
 
 -- a command that is no change only reads
 command_reads : {D : Type 0} (view : D → DiskView) (releases : Releases) (seen : ℕ) (command : Command) (outcome : Result Answer LineRefusal) (old new : StoreValue D) → (IsChange command → ⊥) → LeavesDisk view releases seen command outcome old new → Reads view old.disk new.disk

@@ -328,7 +328,7 @@ module _ {D : Type 0} (source : SourceView) (view : D → DiskView) where
 
   -- ---- the ways out
 
-  module _ {held : Held} (most : ℕ) (input rest old : Option (List ℕ)) (begun made : Option (List Reading)) (before : StoreValue D) where
+  module _ (held : Held) (most : ℕ) (input rest old : Option (List ℕ)) (begun made : Option (List Reading)) (before : StoreValue D) where
     abbrev start : Server D
     start = server (fresh_holding held) before
 
@@ -449,7 +449,7 @@ module _ {D : Type 0} (source : SourceView) (view : D → DiskView) where
   pub not_started : {held : Held} (same : Type 0) → same → (most : ℕ) (input old : Option (List ℕ)) (begun : Option (List Reading)) (before : StoreValue D)
       → (s : IsServed (Err faults.OutOfMemory) most held source view (with_reads (streams input input old old) begun begun) before before) × (AskNoRelease held s.turns → same)
   not_started {held} same unchanged most input old begun before =
-      out {held} most input input old begun begun before (Err faults.OutOfMemory) old (fresh_holding held) before [] refl (first_lines input input [] [] [] faults.OutOfMemory (Consumes-nil input) (λ more. (lines_in more, refl)))
+      out held most input input old begun begun before (Err faults.OutOfMemory) old (fresh_holding held) before [] refl (first_lines input input [] [] [] faults.OutOfMemory (Consumes-nil input) (λ more. (lines_in more, refl)))
       [] (Consumes-nil input) (omega arith) (refl, refl) (Appends-nil old) tt
       [] (makes_none begun) (omega arith) refl refl (λ none. unchanged)
 

@@ -16,7 +16,7 @@ use Rattle.blocks.proofs.Looked.{none_looks_up}
 use Rattle.history_store.specs.Answers.{CountsRefusal}
 use Rattle.line_commands.specs.declared.unread.Unread.{Unread}
 use Rattle.question_model.specs.Questions.{Question, Dates, Digest, Receipt as AskReceipt, Added, ForRows, ForIds}
-use Rattle.line_commands.specs.Commands.{Command, Ask, At, Import, Check, Pin, Unpin, Merge, Step, Publish, Status}
+use Rattle.line_commands.specs.Commands.{Command, Ask, At, Import, Check, Pin, Unpin, Merge, Step, Publish, Abandon, Trim, Status}
 use Rattle.line_commands.specs.Requests.{Asks, IsUnread}
 use Rattle.line_commands.proofs.Readings.{asked_is_read, one_reading}
 use Rattle.line_server.specs.declared.refusal.LineRefusal.{LineRefusal}
@@ -121,7 +121,7 @@ repinned state session pin = record state { pins = slice_set state.pins session 
 module _ {D : Type 0} (source : SourceView) (view : D → DiskView) (session : ℕ) (state : StateValue) (s : StoreValue D) where
   pub unpinned : (reply : ReplyValue) → reply ≡ reply_value (Ok (Done [])) → IsResponse (Ok reply) source view session Unpin (server state s) (server (repinned state session None) s)
   unpinned reply told = any_source source view (Ok reply) session Unpin (server state s) (server (repinned state session None) s)
-      (responded view (Ok reply) source.releases session Unpin (Ok (Done [])) (server state s) (server (repinned state session None) s) (λ h. h.1) (λ later. later) refl told (refl, refl) (unmade view s) refl refl (omega arith))
+      (responded view (Ok reply) source.releases session Unpin (Ok (Done [])) (server state s) (server (repinned state session None) s) (change_of state.held Unpin) (λ later. later) refl told (refl, refl) (unmade view s) refl refl (omega arith))
 
 -- ---- PIN
 
@@ -129,7 +129,7 @@ module _ {D : Type 0} (view : D → DiskView) (session : ℕ) (state : StateValu
   pub pinned : (pin : ℕ) (reply : ReplyValue) → (pin ≤ s.history.imports) × (pin ≡ unwrap_or number s.history.imports) → reply ≡ reply_value (Ok (Done (decimal pin ∷ [])))
       → IsResponse (Ok reply) (source_view (Unit {0}) has) view session (Pin number) (server state s) (server (repinned state session (Some pin)) s)
   pinned pin reply h told =
-      responded view (Ok reply) has session (Pin number) (Ok (Done (decimal pin ∷ []))) (server state s) (server (repinned state session (Some pin)) s) (λ h. h.1) (λ later. later) refl told
+      responded view (Ok reply) has session (Pin number) (Ok (Done (decimal pin ∷ []))) (server state s) (server (repinned state session (Some pin)) s) (change_of state.held (Pin number)) (λ later. later) refl told
       (answered_so number h) (unmade view s) refl refl (omega arith) where
         answered_so : (number : Option ℕ) → (pin ≤ s.history.imports) × (pin ≡ unwrap_or number s.history.imports)
             → IsAnswer (view s.disk).is_honest has session (Pin number) (Done (decimal pin ∷ [])) (server state s) (server (repinned state session (Some pin)) s)
@@ -138,7 +138,7 @@ module _ {D : Type 0} (view : D → DiskView) (session : ℕ) (state : StateValu
 
   pub out_of_range : (n : ℕ) × (number ≡ Some n) × (s.history.imports < n) → IsResponse (Err refusals.PinRange) (source_view (Unit {0}) has) view session (Pin number) (server state s) (server state s)
   out_of_range h =
-      responded view (Err refusals.PinRange) has session (Pin number) (Err refusals.PinRange) (server state s) (server state s) (λ h. h.1) (λ later. later) refl refl
+      responded view (Err refusals.PinRange) has session (Pin number) (Err refusals.PinRange) (server state s) (server state s) (change_of state.held (Pin number)) (λ later. later) refl refl
       (subst (λ (o : Option ℕ). IsOutOfRange session (Pin o) (server state s)) (sym h.1) h.2, refl) (unmade view s) refl refl (omega arith)
 
 -- ---- RECEIPT
@@ -274,7 +274,7 @@ module _ {D : Type 0} (source : SourceView) (view : D → DiskView) (line : List
     -- a change is refused, and the disk didn't fail
     change_left : (refusal : LineRefusal) → ((so : Type 0) → so → IfRefused (Err refusal) so) → (releases : Releases) (seen : ℕ) (c : Command) → IsChange c → LeavesDisk view releases seen c (Err refusal) s.store s.store
     change_left refusal kept releases seen (Import name) h = (λ up. kept _ refl, none_known view releases name 1 s.store)
-    change_left refusal kept releases seen (Check name) h = ((λ up. refl, none_looks_up (is_listed s.store.catalog.entries) s.store.cache (view s.store.disk).bytes_read), none_known view releases name 0 s.store)
+    change_left refusal kept releases seen (Check name) h = ((λ up. refl, none_looks_up (is_listed s.store.catalog.entries) s.store.cache (view s.store.disk).bytes_read, refl), none_known view releases name 0 s.store)
     change_left refusal kept releases seen Merge h = refl
     change_left refusal kept releases seen (Step rows) h = (λ up. kept _ refl, (s.store.cache, none_looks_up (is_listed s.store.catalog.entries) s.store.cache (view s.store.disk).bytes_read, inl refl), (omega arith, omega arith))
     change_left refusal kept releases seen Publish h = (λ up. kept _ refl, (omega arith, omega arith))
